@@ -1,0 +1,141 @@
+-- A message under a new serial or reply serial is its bytes with another number at one place.
+use Rattle.std.proofs.Common.{◌≡◌, ℕ, zero, suc, ◌+◌, ◌^◌, ◌<◌, ◌≤◌, Bool, true, false, cond, IsSome, List, [], ◌∷◌, ◌++◌, length, take, drop, Option, Some, None, refl, sym, ap, ◌∙◌, append_assoc, arith}
+use Rattle.std.specs.Prelude.{◌==◌, is_some, option_and_then, option_map}
+use Rattle.std.specs.Int.{w32}
+use Rattle.std.proofs.lemmas.List.{length-append, take_at, drop_at, drop-drop}
+use Rattle.dbus_values.specs.Values.{Value, number_bytes, padding, spelled}
+use Rattle.dbus_values.specs.declared.Order.{Order}
+use Rattle.dbus_values.specs.declared.Order.TheVariants.{Little, Big}
+use Rattle.dbus_values.proofs.ValueRead.{AreBytes}
+use Rattle.dbus_values.proofs.ValueLaws.{wide_32}
+use Rattle.dbus_header.specs.Message.{Message, Valid, spell, with_serial, with_reply_serial, reply_serial, reply_place, with_number, Field, field_value, field_in, number_in, has_field, number_place}
+use Rattle.dbus_header.specs.Plain.{Plain, plain_parts, IsSerialPlace, IsReplySerialPlace, plain_of, is_plain, is_little, has_plain_flags, is_plain_field}
+use Rattle.dbus_header.proofs.StreamLaws.{front_parts, Fronts}
+use Rattle.dbus_header.proofs.PlainMessages.{plain_of-is, OfBytes, plain_order}
+use Rattle.dbus_header.proofs.MessageLaws.{spell-with_serial}
+use Rattle.dbus_header.proofs.ReplyLaws.{OneNumber, spell-with_reply_serial}
+
+-- a new serial stands at place 8
+pub serial_patched : (n : ℕ) (m : Message) → spell (with_serial n m) ≡ with_number m.order 8 n (spell m)
+serial_patched n m = spell-with_serial n m
+
+patched : (o : Order) (x n place : ℕ) (before after old new : List ℕ) → old ≡ before ++ (number_bytes o w32 x ++ after) → new ≡ before ++ (number_bytes o w32 n ++ after) → place ≡ length before → new ≡ with_number o place n old
+patched o x n place before after old new old_is new_is at =
+    let front : take place old ≡ before = ap (take place) old_is ∙ take_at before (number_bytes o w32 x ++ after) place (sym at) in
+    let behind : drop (place + 4) old ≡ after =
+    sym (drop-drop 4 place old)
+    ∙ ap (λ (t : List ℕ). drop 4 (drop place t)) old_is
+    ∙ ap (drop 4) (drop_at before (number_bytes o w32 x ++ after) place (sym at))
+    ∙ drop_at (number_bytes o w32 x) after 4 (wide_32.len o x) in
+    new_is
+    ∙ sym (append_assoc before (number_bytes o w32 n) after)
+    ∙ ap (λ (t : List ℕ). t ++ number_bytes o w32 n ++ after) (sym front)
+    ∙ ap (λ (t : List ℕ). take place old ++ number_bytes o w32 n ++ t) (sym behind)
+
+place_is : (place n : ℕ) → ◌≡◌ {A = Option ℕ} (Some place) (Some (0 + n)) → place ≡ n
+place_is place n e = let h : place ≡ 0 + n = cc in omega (arith, h)
+
+pub record ReplyPatched (n place : ℕ) (m : Message) : Type 0 where
+  pub bytes : spell (with_reply_serial n m) ≡ with_number m.order place n (spell m)
+  pub inside : place + 4 ≤ length (spell m)
+
+-- and a new reply serial where its number stands
+pub reply_patched : (n x place : ℕ) (m : Message) → Valid m → reply_serial m ≡ Some x → reply_place m ≡ Some place → ReplyPatched n place m
+reply_patched n x place m v r e =
+    let one = spell-with_reply_serial n x m v r in
+    let at : place ≡ length one.before = place_is place (length one.before) (sym e ∙ one.place_is) in
+    record {
+      bytes = patched m.order x n place one.before one.after (spell m) (spell (with_reply_serial n m)) one.old_is one.new_is at;
+      inside = omega (arith, at, ap length one.old_is, length-append one.before (number_bytes m.order w32 x ++ one.after), length-append (number_bytes m.order w32 x) one.after, wide_32.len m.order x);
+    }
+
+-- ---- plain messages
+
+-- a reply serial's number stands somewhere exactly where there is one
+place_stands : (o : Order) (p : ℕ) (fs : List Field) → is_some (number_place o p fs) ≡ has_field 5 fs
+place_stands o p [] = refl
+place_stands o p (f ∷ fs) = go (f.code == 5) (place_stands o (p + length (spelled o p (field_value f))) fs)
+  where
+    go : (b : Bool) → is_some (number_place o (p + length (spelled o p (field_value f))) fs) ≡ has_field 5 fs → is_some (cond b (Some (p + padding 8 p + 4)) (number_place o (p + length (spelled o p (field_value f))) fs)) ≡ is_some (cond b (Some f.value) (field_in 5 fs))
+    go true e = refl
+    go false e = e
+
+pub there : {A : Type 0} (o : Option A) → is_some o ≡ true → (x : A) × (o ≡ Some x)
+there None e = absurd cc
+there (Some x) e = (x, refl)
+
+some_true : {A : Type 0} (o : Option A) → IsSome o → is_some o ≡ true
+some_true None s = absurd cc
+some_true (Some x) s = refl
+
+pub reply_stands : (m : Message) (x : ℕ) → reply_serial m ≡ Some x → (place : ℕ) × (reply_place m ≡ Some place)
+reply_stands m x e = there (reply_place m) (place_stands m.order 16 m.fields ∙ holds (field_in 5 m.fields) e)
+  where
+    holds : (o : Option Value) → number_in o ≡ Some x → is_some o ≡ true
+    holds None e = absurd cc
+    holds (Some v) e = refl
+
+-- with a new serial
+set_serial-is : (n : ℕ) (bytes : List ℕ) (m : Message) → AreBytes bytes → plain_of bytes ≡ Some m → with_number Little 8 n bytes ≡ spell (with_serial n m)
+set_serial-is n bytes m are e =
+    let f = plain_of-is bytes m are e in
+    ap (with_number Little 8 n) f.bytes_are ∙ ap (λ (o : Order). with_number o 8 n (spell m)) (sym (plain_order m f.plain)) ∙ sym (serial_patched n m)
+
+-- a plain message has sixteen bytes and more, so the serial has its place
+pub serial_at : (bytes : List ℕ) → AreBytes bytes → IsSome (plain_of bytes) → IsSerialPlace bytes 8
+serial_at bytes are s =
+    let m = there (plain_of bytes) (some_true (plain_of bytes) s) in
+    let f = plain_of-is bytes m.0 are m.1 in
+    let long : 16 ≤ length bytes = (front_parts bytes m.0 [] f.front_is).long in
+    record { inside = omega arith; patched = λ n k is. set_serial-is n bytes k are is }
+
+-- with a new reply serial
+pub reply_at : (bytes : List ℕ) (place : ℕ) → AreBytes bytes → IsSome (option_and_then reply_serial (plain_of bytes)) → option_and_then reply_place (plain_of bytes) ≡ Some place → IsReplySerialPlace bytes place
+reply_at bytes place are s e = go (plain_of bytes) refl s e
+  where
+    go : (o : Option Message) → plain_of bytes ≡ o → IsSome (option_and_then reply_serial o) → option_and_then reply_place o ≡ Some place → IsReplySerialPlace bytes place
+    go None is s e = absurd cc
+    go (Some m) is s e =
+        let f = plain_of-is bytes m are is in
+        let x = there (reply_serial m) (some_true (reply_serial m) s) in
+        let inside = (reply_patched 0 x.0 place m f.valid x.1 e).inside in
+        record {
+          inside = omega (arith, inside, ap length f.bytes_are);
+          patched = λ n k same.
+              let k_is : m ≡ k = message_some m k (sym is ∙ same) in
+              ap (with_number Little place n) f.bytes_are
+              ∙ ap (λ (o : Order). with_number o place n (spell m)) (sym (plain_order m f.plain))
+              ∙ sym (reply_patched n x.0 place m f.valid x.1 e).bytes
+              ∙ ap (λ (y : Message). spell (with_reply_serial n y)) k_is;
+        }
+      where
+        message_some : (a b : Message) → ◌≡◌ {A = Option Message} (Some a) (Some b) → a ≡ b
+        message_some a b e = cc
+
+-- so the place is found where the message has a reply serial
+pub reply_none : (bytes : List ℕ) → IsSome (option_and_then reply_serial (plain_of bytes)) → option_and_then reply_place (plain_of bytes) ≡ None → ⊥
+reply_none bytes s e = go (plain_of bytes) s e
+  where
+    go : (o : Option Message) → IsSome (option_and_then reply_serial o) → option_and_then reply_place o ≡ None → ⊥
+    go None s e = absurd cc
+    go (Some m) s e =
+        let x = there (reply_serial m) (some_true (reply_serial m) s) in
+        let p = reply_stands m x.0 x.1 in
+        let h : Some p.0 ≡ None = sym p.1 ∙ e in
+        cc
+
+-- where the number of a plain message's reply serial stands, four bytes do
+pub reply_inside : (bytes : List ℕ) (q : Plain) → AreBytes bytes → option_map plain_parts (plain_of bytes) ≡ Some q →
+    (x place : ℕ) → q.parts.reply_serial ≡ Some x → q.reply_place ≡ Some place → place + 4 ≤ length bytes
+reply_inside bytes q are e x place number at = go (plain_of bytes) refl e
+  where
+    go : (o : Option Message) → plain_of bytes ≡ o → option_map plain_parts o ≡ Some q → place + 4 ≤ length bytes
+    go None is s = absurd cc
+    go (Some m) is s =
+        let same : plain_parts m ≡ q = plain_some (plain_parts m) q s in
+        let f = plain_of-is bytes m are is in
+        let inside = (reply_patched 0 x place m f.valid (ap (λ (p : Plain). p.parts.reply_serial) same ∙ number) (ap (λ (p : Plain). p.reply_place) same ∙ at)).inside in
+        omega (arith, inside, ap length f.bytes_are)
+      where
+        plain_some : (a b : Plain) → ◌≡◌ {A = Option Plain} (Some a) (Some b) → a ≡ b
+        plain_some a b e = cc

@@ -1,0 +1,12 @@
+-- Places in a message: behind the padding to a multiple of 8 there is none to a multiple of 4.
+use Rattle.std.proofs.Common.{◌≡◌, ℕ, zero, suc, ◌+◌, ◌-◌, ◌%◌, ◌<◌, ◌≤◌, List, [], ◌∷◌, ◌++◌, refl, ap, ◌∙◌, sym, arith, replicate, length}
+use Rattle.dbus_values.specs.Values.{padding, zeros}
+
+pub aligned_8 : (p : ℕ) → (p + padding 8 p) % 8 ≡ 0
+aligned_8 p = omega arith
+
+pub no_gap_4 : (q : ℕ) → q % 8 ≡ 0 → padding 4 (q + 4) ≡ 0
+no_gap_4 q e = omega arith
+
+pub no_gap_1 : (q : ℕ) → padding 1 q ≡ 0
+no_gap_1 q = omega arith

@@ -1,0 +1,80 @@
+//! D-Bus messages: their parts, their spelling, which are valid, and the laws between spelling and reading.
+#![tactic(auto)]
+
+mod decode;
+mod fields;
+mod message;
+mod numbers;
+
+ghost use Rattle.std.specs.Prelude.{◌≡◌, ℕ, ◌++◌, ◌<◌, List, Some, slice_index};
+ghost use Rattle.dbus_header.specs.Message.{Message as MessageTree, Valid, spell};
+ghost use Rattle.dbus_header.specs.Malformed.{front};
+ghost use Rattle.dbus_header.specs.Stream.{Splits, split, messages, bad};
+ghost use Rattle.dbus_header.specs.declared.Malformed.{Malformed as Fault};
+
+pub use decode::decode_plain;
+pub use message::Message;
+pub use numbers::{SERIAL_PLACE, set_reply_serial, set_serial, write_u32};
+
+/// What is wrong with a message that isn't valid (D-Bus Specification, "Message Format").
+#[derive(Clone, Copy, Debug, PartialEq, Eq)]
+pub enum MalformedKind {
+    /// The first byte is neither `l` nor `B`.
+    ByteOrder,
+    /// The message type is 0, which is invalid.
+    MessageType,
+    /// The protocol version isn't 1.
+    Version,
+    /// The header fields are longer than 2^26 bytes, or the whole message than 2^27.
+    Length,
+    /// The serial is 0.
+    Serial,
+    /// The header fields aren't a spelled `a(yv)`, one of them is invalid, or the padding after them isn't zero.
+    Fields,
+    /// A header field that the type needs is absent.
+    Required,
+    /// The body isn't exactly the values that SIGNATURE states.
+    Body,
+    /// UNIX_FDS stands and isn't 0: descriptors aren't passed on.
+    Descriptors,
+}
+
+/// A message that isn't valid, by what is wrong with it and the place in its bytes, from 0.
+#[derive(Clone, Copy, Debug, PartialEq, Eq)]
+pub struct Malformed {
+    pub kind: MalformedKind,
+    pub at: u32,
+}
+
+/// What a refused call is answered with, in place of the bus's answer to the ping that was sent for it.
+#[derive(Clone, Copy, Debug, PartialEq, Eq)]
+pub enum Instead {
+    /// The error `org.freedesktop.DBus.Error.AccessDenied`.
+    AccessDenied,
+    /// The error `org.freedesktop.DBus.Error.NameHasNoOwner`.
+    NameHasNoOwner,
+    /// The error `org.freedesktop.DBus.Error.ServiceUnknown`.
+    ServiceUnknown,
+    /// A return with the boolean false.
+    False,
+}
+
+/// What a valid message spells is read as that message, whatever follows.
+pub fn spelled_is_read()
+    ensures { (m : MessageTree) (rest : List ℕ) → Valid m → front (spell m ++ rest) ≡ Some (m, rest) }
+{}
+
+/// What is read is a valid message and is spelled so, and what follows is left.
+pub fn read_is_spelled()
+    ensures { (bytes : List ℕ) (m : MessageTree) (rest : List ℕ) → ((i : ℕ) → slice_index bytes i < 256) → front bytes ≡ Some (m, rest) → Valid m × (bytes ≡ spell m ++ rest) }
+{}
+
+/// A stream has one splitting into valid messages and a rest that begins with none.
+pub fn one_splitting()
+    ensures { (messages : List MessageTree) (bytes rest : List ℕ) → ((i : ℕ) → slice_index bytes i < 256) → Splits bytes messages rest → split bytes ≡ (messages, rest) }
+{}
+
+/// A fault of a stream stays when more bytes come, and so do the messages before it.
+pub fn fault_stays()
+    ensures { (bytes more : List ℕ) (f : Fault) → bad bytes ≡ Some f → (messages (bytes ++ more) ≡ messages bytes) × (bad (bytes ++ more) ≡ Some f) }
+{}

@@ -1,0 +1,5 @@
+pub mod NameBytes
+pub mod NameKinds
+pub mod NamesExamples
+pub mod NamesFrom
+pub mod OnePass

@@ -1,0 +1,24 @@
+-- Elements by the kinds of bytes that may stand in them, as one pass over a text reads them.
+use Rattle.std.specs.Prelude.{ℕ, Bool, false, not, ◌==◌, ◌&&◌, nat_le, cond, List, [], ◌∷◌, length, slice_index, Option, Some, None, bit_and}
+use Rattle.std.specs.List.{list_all}
+use Rattle.dbus_names.specs.declared.TheConstants.{KINDS}
+use Rattle.dbus_names.specs.Names.{parts_at}
+
+-- whether a byte is of one of the kinds, by the code's table: a letter or '_' for the bit 1, a digit for 2, and '-' for 4
+unfoldable pub is_among : ℕ → ℕ → Bool
+is_among kinds c = not (bit_and (slice_index KINDS c) kinds == 0)
+
+-- the first byte is of the kinds `first`, and the others are of the kinds `rest`
+abbrev pub is_element_of : ℕ → ℕ → List ℕ → Bool
+is_element_of first rest [] = false
+is_element_of first rest (c ∷ text) = is_among first c && list_all (is_among rest) text
+
+-- how many parts a text has, where each of them is an element
+unfoldable pub element_count : ℕ → ℕ → ℕ → List ℕ → Option ℕ
+element_count first rest separator text =
+    cond (list_all (is_element_of first rest) (parts_at separator text)) (Some (length (parts_at separator text))) None
+
+-- two or more elements joined by dots
+unfoldable pub are_two_elements : ℕ → ℕ → List ℕ → Bool
+are_two_elements first rest text =
+    nat_le 2 (length (parts_at 46 text)) && list_all (is_element_of first rest) (parts_at 46 text)

@@ -1,0 +1,216 @@
+//! The grammars of D-Bus names and object paths, as tests on bytes.
+//!
+//! A test reads a text once, allocates nothing, and stops at the first byte that is wrong.
+#![tactic(auto)]
+
+ghost use Rattle.std.specs.Prelude.{◌≡◌};
+ghost use Rattle.std.specs.List.{list_all};
+ghost use Rattle.dbus_names.specs.Elements.{are_two_elements, element_count, is_element_of, is_among as is_among_kinds};
+ghost use Rattle.dbus_names.specs.Names.{is_bus_name as is_either_bus_name, is_error_name as is_name_of_error, is_interface as is_interface_name, is_member as is_member_name, is_path as is_object_path, is_unique as is_unique_name, is_well_known as is_well_known_name};
+
+/// The most bytes that a name may have.
+const LONGEST_NAME: usize = 255;
+
+// The kinds of bytes that stand in elements, one bit each: a letter or `_`, a digit, and `-`.
+const LETTER: u8 = 1;
+
+const DIGIT: u8 = 2;
+
+const DASH: u8 = 4;
+
+const WORD: u8 = LETTER | DIGIT;
+
+const ANY: u8 = WORD | DASH;
+
+// The kind of each byte as a digit, whose three lowest bits in ASCII are the kind's.
+static KINDS: [u8; 256] = *b"\
+    00000000000000000000000000000000\
+    00000000000004002222222222000000\
+    01111111111111111111111111100001\
+    01111111111111111111111111100000\
+    00000000000000000000000000000000\
+    00000000000000000000000000000000\
+    00000000000000000000000000000000\
+    00000000000000000000000000000000";
+
+/// Whether the text is a unique bus name, as a bus gives one to each connection: a colon and two
+/// or more elements joined by dots, each of one or more of `[A-Za-z0-9_-]`, at most 255 bytes in
+/// all (D-Bus Specification, "Message Protocol", "Valid Names").
+pub fn is_unique(text: &[u8]) -> bool
+    ensures { result ≡ is_unique_name text.now }
+{
+    match text {
+        [b':', elements @ ..] => {
+            text.len() <= LONGEST_NAME && has_two_elements(elements, ANY, ANY)
+        }
+        _ => false,
+    }
+}
+
+/// Whether the text is a well-known bus name: two or more elements joined by dots, each of one or
+/// more of `[A-Za-z0-9_-]` with no digit at its start, at most 255 bytes in all (D-Bus
+/// Specification, "Message Protocol", "Valid Names").
+pub fn is_well_known(text: &[u8]) -> bool
+    ensures { result ≡ is_well_known_name text.now }
+{
+    text.len() <= LONGEST_NAME && has_two_elements(text, LETTER | DASH, ANY)
+}
+
+/// Whether the text is a bus name of either kind, as a destination or a sender is: unique where it
+/// begins with a colon, and else well-known (D-Bus Specification, "Message Protocol", "Valid
+/// Names").
+pub fn is_bus_name(text: &[u8]) -> bool
+    ensures { result ≡ is_either_bus_name text.now }
+{
+    match text {
+        [b':', ..] => is_unique(text),
+        _ => is_well_known(text),
+    }
+}
+
+/// Whether the text is an interface's name: two or more elements joined by dots, each of one or
+/// more of `[A-Za-z0-9_]` with no digit at its start, at most 255 bytes in all (D-Bus
+/// Specification, "Message Protocol", "Valid Names").
+pub fn is_interface(text: &[u8]) -> bool
+    ensures { result ≡ is_interface_name text.now }
+{
+    text.len() <= LONGEST_NAME && has_two_elements(text, LETTER, WORD)
+}
+
+/// Whether the text is an error's name, for which an interface's rule holds (D-Bus Specification,
+/// "Message Protocol", "Valid Names").
+pub fn is_error_name(text: &[u8]) -> bool
+    ensures { result ≡ is_name_of_error text.now }
+{
+    is_interface(text)
+}
+
+/// Whether the text is a member's name: one or more of `[A-Za-z0-9_]` with no digit at its start,
+/// at most 255 bytes (D-Bus Specification, "Message Protocol", "Valid Names").
+pub fn is_member(text: &[u8]) -> bool
+    ensures { result ≡ is_member_name text.now }
+{
+    text.len() <= LONGEST_NAME && is_element(text, LETTER, WORD)
+}
+
+/// Whether the text is an object path: `/` alone, or one or more elements with a `/` before each,
+/// each of one or more of `[A-Za-z0-9_]` (D-Bus Specification, "Message Protocol", "Valid Object
+/// Paths").
+pub fn is_path(text: &[u8]) -> bool
+    ensures { result ≡ is_object_path text.now }
+{
+    match text {
+        [b'/'] => true,
+        [b'/', elements @ ..] => count_elements(elements, b'/', WORD, WORD).is_some(),
+        _ => false,
+    }
+}
+
+#[inline]
+fn is_among(byte: u8, kinds: u8) -> bool
+    ensures { result ≡ is_among_kinds kinds byte }
+{
+    KINDS[byte as usize] & kinds != 0
+}
+
+fn are_among(text: &[u8], kinds: u8) -> bool
+    ensures { result ≡ list_all (is_among_kinds kinds) text.now }
+{
+    text.iter().all(|byte| is_among(*byte, kinds))
+}
+
+// Whether the text is one element, by the kinds of its first byte and of the others.
+fn is_element(text: &[u8], first: u8, rest: u8) -> bool
+    ensures { result ≡ is_element_of first rest text.now }
+{
+    match text {
+        [start, others @ ..] => is_among(*start, first) && are_among(others, rest),
+        [] => false,
+    }
+}
+
+// How many elements the separator joins in the text, where each part between separators is one.
+fn count_elements(text: &[u8], separator: u8, first: u8, rest: u8) -> Option<usize>
+    ensures { result ≡ element_count first rest separator text.now }
+{
+    let mut begins = true;
+    let mut separators = 0;
+    for byte in text {
+        if *byte == separator {
+            if begins {
+                return None;
+            }
+            begins = true;
+            separators += 1;
+        } else {
+            let kinds = if begins { first } else { rest };
+            if !is_among(*byte, kinds) {
+                return None;
+            }
+            begins = false;
+        }
+    }
+    if begins { None } else { Some(separators + 1) }
+}
+
+// Whether dots join two or more elements.
+fn has_two_elements(text: &[u8], first: u8, rest: u8) -> bool
+    ensures { result ≡ are_two_elements first rest text.now }
+{
+    match count_elements(text, b'.', first, rest) {
+        Some(count) => count >= 2,
+        None => false,
+    }
+}
+
+#[cfg(test)]
+mod tests {
+    use super::*;
+
+    #[test]
+    fn names_and_paths_are_told_apart(rt: HostRuntime) {
+        for (text, unique, well_known, interface, member, path) in [
+            ("org.freedesktop.DBus", false, true, true, false, false),
+            ("org", false, false, false, true, false),
+            ("org.a-b.C", false, true, false, false, false),
+            ("org.7a.C", false, false, false, false, false),
+            ("-.-", false, true, false, false, false),
+            (":1.42", true, false, false, false, false),
+            (":1", false, false, false, false, false),
+            ("1.42", false, false, false, false, false),
+            ("Foo2", false, false, false, true, false),
+            ("2Foo", false, false, false, false, false),
+            ("a.b", false, true, true, false, false),
+            ("a..b", false, false, false, false, false),
+            (".a.b", false, false, false, false, false),
+            ("a.b.", false, false, false, false, false),
+            ("org.\u{e9}.C", false, false, false, false, false),
+            ("org.a\0.C", false, false, false, false, false),
+            ("", false, false, false, false, false),
+            ("/", false, false, false, false, true),
+            ("/a/b_1", false, false, false, false, true),
+            ("/a/", false, false, false, false, false),
+            ("//a", false, false, false, false, false),
+        ] {
+            let bytes = text.as_bytes();
+            assert_eq!(rt; is_unique(bytes), unique, "{text}");
+            assert_eq!(rt; is_well_known(bytes), well_known, "{text}");
+            assert_eq!(rt; is_bus_name(bytes), unique || well_known, "{text}");
+            assert_eq!(rt; is_interface(bytes), interface, "{text}");
+            assert_eq!(rt; is_error_name(bytes), interface, "{text}");
+            assert_eq!(rt; is_member(bytes), member, "{text}");
+            assert_eq!(rt; is_path(bytes), path, "{text}");
+        }
+    }
+
+    #[test]
+    fn names_have_at_most_255_bytes(rt: HostRuntime) {
+        let mut name = [b'a'; 256];
+        assert!(rt; is_member(&name[..255]) && !is_member(&name));
+        name[2] = b'.';
+        assert!(rt; is_interface(&name[..255]) && !is_interface(&name));
+        assert!(rt; is_bus_name(&name[..255]) && !is_bus_name(&name));
+        name[0] = b':';
+        assert!(rt; is_bus_name(&name[..255]) && !is_bus_name(&name));
+    }
+}

@@ -1,0 +1,3 @@
+pub mod SignatureLaws
+pub mod SignatureRead
+pub mod SignatureExamples

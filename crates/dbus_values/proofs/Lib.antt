@@ -1,0 +1,4 @@
+pub mod ValueLaws
+pub mod ValueAgain
+pub mod ValueRead
+pub mod ValueIs

@@ -1,0 +1,7 @@
+pub mod EachWord
+pub mod FileWords
+pub mod OptionWords
+mod PolicyExamples
+pub mod TalkEntries
+pub mod Talks
+mod WordsExamples

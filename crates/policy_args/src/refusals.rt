@@ -1,0 +1,74 @@
+//! Why words are refused.
+ghost use Rattle.std.specs.Prelude.{◌≡◌};
+ghost use Rattle.policy_args.specs.Gives.{refusal_at};
+
+use crate::{BadWord, WordKind};
+use std::alloc::{AllocError, AllocFailed};
+
+/// Why words were not read.
+#[derive(Debug, Drop)]
+pub enum LineRefusal {
+    /// A word is none of the options, or not as its option wants it.
+    Bad(BadWord),
+    /// Memory ran out.
+    Memory,
+}
+
+impl From<AllocError> for LineRefusal {
+    ghost use Rattle.policy_args.specs.declared.refusals.LineRefusal.TheVariants.{Memory};
+
+    ghost from_gives = { λ _ e. e ≡ Memory };
+
+    fn from(_error: AllocError) -> LineRefusal {
+        LineRefusal::Memory
+    }
+}
+
+impl<T: Drop> From<AllocFailed<T>> for LineRefusal {
+    ghost use Rattle.policy_args.specs.declared.refusals.LineRefusal.TheVariants.{Memory};
+
+    ghost from_gives = { λ _ e. e ≡ Memory };
+
+    fn from(_error: AllocFailed<T>) -> LineRefusal {
+        LineRefusal::Memory
+    }
+}
+
+// Why one word was refused.
+#[derive(Drop)]
+pub(crate) enum WordRefusal {
+    Bad(WordKind),
+    Memory,
+}
+
+impl WordRefusal {
+    // The same of the word at an index.
+    pub(crate) fn at(self, index: usize) -> LineRefusal
+        ensures { result ≡ refusal_at index self }
+    {
+        match self {
+            WordRefusal::Bad(kind) => LineRefusal::Bad(BadWord { index, kind }),
+            WordRefusal::Memory => LineRefusal::Memory,
+        }
+    }
+}
+
+impl From<AllocError> for WordRefusal {
+    ghost use Rattle.policy_args.specs.declared.refusals.WordRefusal.TheVariants.{Memory};
+
+    ghost from_gives = { λ _ e. e ≡ Memory };
+
+    fn from(_error: AllocError) -> WordRefusal {
+        WordRefusal::Memory
+    }
+}
+
+impl<T: Drop> From<AllocFailed<T>> for WordRefusal {
+    ghost use Rattle.policy_args.specs.declared.refusals.WordRefusal.TheVariants.{Memory};
+
+    ghost from_gives = { λ _ e. e ≡ Memory };
+
+    fn from(_error: AllocFailed<T>) -> WordRefusal {
+        WordRefusal::Memory
+    }
+}

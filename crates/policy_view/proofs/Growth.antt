@@ -1,0 +1,63 @@
+-- A history grows at its front, and the bytes that it gives out at their end.
+use Rattle.std.proofs.Common.{◌≡◌, List, [], ◌∷◌, ◌++◌, Option, Some, None, refl, ap, ◌∙◌, sym, append_assoc, append-nil}
+use Rattle.policy_args.specs.Policy.{Policy}
+use Rattle.policy_view.specs.Past.{Item, History, past}
+use Rattle.policy_view.specs.History.{Event, history, end_of, followed_by, followed_unless, followed_by_all, placed, arrived}
+use Rattle.policy_view.specs.Outputs.{bus_bytes, client_bytes, to_bus, to_client}
+use Rattle.policy_view.specs.Laws.{IsPrefixOf, OnlyGrows}
+use Rattle.policy_view.specs.declared.End.{End}
+use Rattle.policy_view.specs.declared.Mode.{Mode}
+
+abbrev IsGrown : History → History → Type 0
+IsGrown before now = (added : History) × (now ≡ added ++ before)
+
+grown_unless : (end : Option End) (policy : Policy) (before : History) (item : Item) → IsGrown before (followed_unless end policy before item)
+grown_unless (Some end) policy before item = ([], refl)
+grown_unless None policy before item = (placed policy (past policy before) item ∷ [], refl)
+
+grown_by : (policy : Policy) (before : History) (item : Item) → IsGrown before (followed_by policy before item)
+unfolding followed_by
+grown_by policy before item = grown_unless (end_of before) policy before item
+
+grown_on : {one two three : History} → IsGrown one two → IsGrown two three → IsGrown one three
+grown_on (first, e) (second, f) = (second ++ first, f ∙ (ap (λ h. second ++ h) e ∙ sym (append_assoc second first _)))
+
+grown_by_all : (policy : Policy) (before : History) (items : List Item) → IsGrown before (followed_by_all policy before items)
+unfolding followed_by_all
+grown_by_all policy before [] = ([], refl)
+grown_by_all policy before (item ∷ items) =
+    grown_on (grown_by policy before item) (grown_by_all policy (followed_by policy before item) items)
+
+-- more items, more bytes at the end
+bus_grows : (policy : Policy) (before added : History) → IsPrefixOf (bus_bytes policy before) (bus_bytes policy (added ++ before))
+unfolding bus_bytes
+bus_grows policy before [] = ([], append-nil (bus_bytes policy before))
+bus_grows policy before (item ∷ added) =
+    let (rest, e) = bus_grows policy before added in
+    let t = to_bus policy (past policy (added ++ before)) item in
+    (rest ++ t, sym (append_assoc (bus_bytes policy before) rest t) ∙ ap (λ bytes. bytes ++ t) e)
+
+client_grows : (policy : Policy) (before added : History) → IsPrefixOf (client_bytes policy before) (client_bytes policy (added ++ before))
+unfolding client_bytes
+client_grows policy before [] = ([], append-nil (client_bytes policy before))
+client_grows policy before (item ∷ added) =
+    let (rest, e) = client_grows policy before added in
+    let t = to_client policy (past policy (added ++ before)) item in
+    (rest ++ t, sym (append_assoc (client_bytes policy before) rest t) ∙ ap (λ bytes. bytes ++ t) e)
+
+grown_over : (policy : Policy) (mode : Mode) (more events : List Event) →
+    IsGrown (history policy mode events) (history policy mode (more ++ events))
+unfolding history
+grown_over policy mode [] events = ([], refl)
+grown_over policy mode (event ∷ more) events =
+    grown_on (grown_over policy mode more events)
+    (grown_by_all policy (history policy mode (more ++ events)) (arrived mode (more ++ events) event))
+
+pub only_grows : (policy : Policy) (mode : Mode) (more events : List Event) → OnlyGrows policy mode more events
+only_grows policy mode more events =
+    let (added, e) = grown_over policy mode more events in
+    record {
+      items = (added, e);
+      to_bus = rw e (bus_grows policy (history policy mode events) added);
+      to_client = rw e (client_grows policy (history policy mode events) added);
+    }

@@ -1,0 +1,145 @@
+-- The events of a session and the history that they make.
+use Rattle.std.specs.Prelude.{ℕ, ◌+◌, ◌-◌, nat_lt, nat_le, Bool, true, false, not, ◌&&◌, ◌||◌, ◌==◌, List, [], ◌∷◌, ◌++◌, length, map, take, drop, if◌then◌else◌, Option, Some, None, is_some}
+use Rattle.dbus_names.specs.Names.{is_empty, is_well_known}
+use Rattle.dbus_header.specs.declared.Malformed.{Malformed}
+use Rattle.dbus_header.specs.Message.{Message, destination}
+use Rattle.dbus_header.specs.Stream.{messages, bad}
+use Rattle.dbus_header.specs.Plain.{is_plain, plain_of}
+use Rattle.policy_args.specs.Policy.{Policy, bus_name}
+use Rattle.policy_view.specs.Texts.{Text, is_text}
+use Rattle.policy_view.specs.Sent.{Past}
+use Rattle.policy_view.specs.Past.{Item, Msg, Ended, History, past, due}
+use Rattle.policy_view.specs.declared.Mode.{Mode}
+use Rattle.policy_view.specs.declared.Side.{Side}
+use Rattle.policy_view.specs.declared.Side.TheVariants.{Client, Bus}
+use Rattle.policy_view.specs.declared.Fault.{Fault}
+use Rattle.policy_view.specs.declared.Fault.TheVariants.{Message as MessageFault}
+use Rattle.policy_view.specs.declared.End.{End}
+use Rattle.policy_view.specs.declared.End.TheVariants.{ClientMalformed, BusMalformed, ClientEnd, BusEnd, SerialsSpent, NotBuilt}
+
+-- what happens to a session; events are kept newest first, as items are
+pub data Event : Type 0 where
+  Bytes : (side : Side) (piece : List ℕ) → Event
+  Finished : (side : Side) → Event
+  Stopped : (end : End) → Event
+
+abbrev pub longest_stream : ℕ
+longest_stream = 1152921504606846976
+
+abbrev pub most_sent : ℕ
+most_sent = 4294967295
+
+-- all bytes that the events bring of a side
+abbrev pub whole_stream : Side → List Event → List ℕ
+whole_stream side [] = []
+whole_stream Client (Bytes Client piece ∷ events) = whole_stream Client events ++ piece
+whole_stream Bus (Bytes Bus piece ∷ events) = whole_stream Bus events ++ piece
+whole_stream side (_ ∷ events) = whole_stream side events
+
+-- the stream of a side: these bytes up to its limit
+unfoldable pub stream : Side → List Event → List ℕ
+stream side events = take longest_stream (whole_stream side events)
+
+abbrev pub fault_of : Option Malformed → Option Fault
+fault_of None = None
+fault_of (Some m) = Some (MessageFault m)
+
+-- what is wrong with a side's stream
+unfoldable pub fault : Side → List Event → Option Fault
+fault side events = fault_of (bad (stream side events))
+
+abbrev pub malformed : Side → Fault → End
+malformed Client = ClientMalformed
+malformed Bus = BusMalformed
+
+abbrev pub finished : Side → End
+finished Client = ClientEnd
+finished Bus = BusEnd
+
+abbrev pub fault_end : Side → Option Fault → List Item
+fault_end side None = []
+fault_end side (Some f) = Ended (malformed side f) ∷ []
+
+-- what is new in a list that has grown
+abbrev pub new_in : {A : Type 0} → List A → List A → List A
+new_in before after = drop (length before) after
+
+-- the messages of a side's whole stream
+unfoldable pub found : Side → List Event → List Item
+found side events = map (Msg side) (messages (stream side events))
+
+-- the bytes would make the stream too long
+unfoldable pub is_over : Side → List Event → List ℕ → Bool
+is_over side events piece = nat_lt longest_stream (length (stream side events) + length piece)
+
+abbrev pub end_if : Bool → End → List Item
+end_if b end = if b then Ended end ∷ [] else []
+
+-- the bytes of a piece that its side's stream still takes
+unfoldable pub taken_of : Side → List Event → List ℕ → List ℕ
+taken_of side events piece = take (longest_stream - length (stream side events)) piece
+
+-- ---- what is built so far
+
+-- A message of the client is built where it is a plain call to a well-known name other than the bus's own.
+abbrev pub is_service : Option Text → Bool
+is_service None = false
+is_service (Some name) = is_well_known name && not (is_text (Some name) bus_name)
+
+abbrev pub is_built_for : Side → Message → Bool
+is_built_for Client m = m.kind == 1 && is_service (destination m)
+is_built_for Bus m = m.kind == 2 || m.kind == 3
+
+-- The forms of items that are built so far: plain messages alone, of the client those calls, of the bus returns and errors.
+abbrev pub is_built : Item → Bool
+is_built (Msg side m) = is_plain m && is_built_for side m
+is_built (Ended end) = true
+
+-- Of pieces those that are nothing, or exactly one plain message of a session that begins with messages and filters them.
+abbrev pub is_built_piece : Mode → List ℕ → Bool
+is_built_piece mode piece = is_empty piece || (not mode.auth && mode.filter && is_some (plain_of piece))
+
+-- ---- the history
+
+-- the items that a piece brings, in order: those that its side's whole stream has beyond those of before
+abbrev pub brought : Side → List Event → List ℕ → List Item
+brought side events piece =
+    new_in (found side events) (found side (Bytes side piece ∷ events))
+    ++ fault_end side (fault side (Bytes side piece ∷ events))
+    ++ end_if (is_over side events piece) (finished side)
+
+-- the items that an event brings; a piece that isn't built has End 13 in their place
+unfoldable pub arrived : Mode → List Event → Event → List Item
+arrived mode events (Bytes side piece) = if is_built_piece mode (taken_of side events piece) then brought side events piece else Ended NotBuilt ∷ []
+arrived mode events (Finished side) = Ended (finished side) ∷ []
+arrived mode events (Stopped end) = Ended end ∷ []
+
+-- the item, or the End that stands in its place
+unfoldable pub placed : Policy → Past → Item → Item
+placed policy before item =
+    if is_built item
+    then (if nat_le (length before.told.sent + length (due policy before item)) most_sent then item else Ended SerialsSpent)
+    else Ended NotBuilt
+
+-- the End that a history has
+abbrev pub end_of : History → Option End
+end_of [] = None
+end_of (Ended end ∷ before) = Some end
+end_of (Msg side m ∷ before) = end_of before
+
+-- nothing follows an End
+abbrev pub followed_unless : Option End → Policy → History → Item → History
+followed_unless (Some end) policy before item = before
+followed_unless None policy before item = placed policy (past policy before) item ∷ before
+
+unfoldable pub followed_by : Policy → History → Item → History
+followed_by policy before item = followed_unless (end_of before) policy before item
+
+unfoldable pub followed_by_all : Policy → History → List Item → History
+followed_by_all policy before [] = before
+followed_by_all policy before (item ∷ items) = followed_by_all policy (followed_by policy before item) items
+
+-- the history of the events; the last event stands first
+unfoldable pub history : Policy → Mode → List Event → History
+history policy mode [] = []
+history policy mode (event ∷ events) = followed_by_all policy (history policy mode events) (arrived mode events event)

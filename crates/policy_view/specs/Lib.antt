@@ -1,0 +1,10 @@
+pub mod Texts
+pub mod Levels
+pub mod Own
+pub mod Sent
+pub mod Verdicts
+pub mod Shown
+pub mod Past
+pub mod History
+pub mod Outputs
+pub mod Laws

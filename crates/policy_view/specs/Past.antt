@@ -1,0 +1,159 @@
+-- How each item adds to the past: the messages that are due, the facts, the calls and replies, the answers used up.
+use Rattle.std.specs.Prelude.{ℕ, nat_le, Bool, ◌&&◌, not, List, [], ◌∷◌, ◌++◌, length, map, if◌then◌else◌, Option, Some, None}
+use Rattle.std.specs.List.{list_any}
+use Rattle.policy_view.specs.Texts.{Text}
+use Rattle.dbus_header.specs.Message.{Message, sender, reply_serial, only_text, three_texts, text_list}
+use Rattle.dbus_names.specs.Names.{is_unique, is_well_known}
+use Rattle.policy_args.specs.Policy.{Policy, covers}
+use Rattle.policy_view.specs.Levels.{Fact, Owned, SelfId, Met}
+use Rattle.policy_view.specs.Sent.{Kind, Call, Return, Error, Signal, Other, kind_of, Past, Told, Exchange, nothing_before, Sent, Passed, Pinged, OwnOwner, own_calls, is_passed_hello, is_hello, asked, wants_reply}
+use Rattle.policy_view.specs.Verdicts.{ClientRole, Reply, client_role, verdict, reply_to}
+use Rattle.policy_view.specs.Shown.{BusRole, NoRole, Unexpected, MatchAnswer, OwnerAnswer, NamesAnswer, PingAnswer, NameList, OtherAnswer, CallIn, OwnerChange, SignalIn, BroadcastIn, bus_role}
+use Rattle.policy_view.specs.declared.Side.{Side}
+use Rattle.policy_view.specs.declared.Side.TheVariants.{Client, Bus}
+use Rattle.policy_view.specs.declared.Verdict.{Verdict}
+use Rattle.policy_view.specs.declared.Verdict.TheVariants.{Pass, Ping, Drop}
+use Rattle.policy_view.specs.declared.End.{End}
+
+-- what a session's history holds
+pub data Item : Type 0 where
+  Msg : (side : Side) (message : Message) → Item
+  Ended : (end : End) → Item
+
+-- Items and events are kept newest first: `item ∷ before` is an item and what stands before it.
+abbrev pub History : Type 0
+History = List Item
+
+-- the first Hello that passes is followed by the proxy's own calls
+abbrev pub is_first_hello : Told → Message → Bool
+is_first_hello told m = is_hello m && not (list_any is_passed_hello told.sent)
+
+abbrev pub due_on : Policy → Told → Message → Verdict → List Sent
+due_on policy told m Pass = Passed m ∷ (if is_first_hello told m then own_calls policy else [])
+due_on policy told m (Ping what reason) = Pinged m what ∷ []
+due_on policy told m (Drop reason) = []
+
+-- a reply that passes is no longer owed
+abbrev pub replied_on : Message → ClientRole → Verdict → List Exchange
+replied_on m Reply Pass = reply_to m ∷ []
+replied_on m _ _ = []
+
+-- what a client's message adds
+unfoldable pub with_client : Policy → Message → Told → Told
+with_client policy m told = record {
+  facts = told.facts;
+  sent = told.sent ++ due_on policy told m (verdict policy told m);
+  called = told.called;
+  replied = told.replied ++ replied_on m (client_role m) (verdict policy told m);
+}
+
+abbrev pub names_due : Policy → Option (List Text) → List Sent
+names_due policy None = []
+names_due policy (Some names) = map OwnOwner (asked policy names)
+
+-- a return's body; an error's is none
+abbrev pub if_return : {A : Type 0} → Kind → Option A → Option A
+if_return Return body = body
+if_return Call body = None
+if_return Error body = None
+if_return Signal body = None
+if_return Other body = None
+
+unfoldable pub returned_text : Message → Option Text
+returned_text m = if_return (kind_of m) (only_text m)
+
+unfoldable pub returned_names : Message → Option (List Text)
+returned_names m = if_return (kind_of m) (text_list m)
+
+-- the text where it is a unique name
+abbrev pub if_unique : Option Text → Option Text
+if_unique None = None
+if_unique (Some text) = if is_unique text then Some text else None
+
+abbrev pub fact_of : (Text → Fact) → Option Text → List Fact
+fact_of fact None = []
+fact_of fact (Some text) = fact text ∷ []
+
+abbrev pub is_covered : Policy → Text → Bool
+is_covered policy name = is_well_known name && list_any (λ e. covers e.pattern name) policy.entries
+
+-- an owner change of a covered name tells both owners
+abbrev pub owners_of : Policy → Option (Text × Text × Text) → List Fact
+owners_of policy None = []
+owners_of policy (Some texts) =
+    if is_covered policy texts.0
+    then fact_of (Owned texts.0) (if_unique (Some texts.1)) ++ fact_of (Owned texts.0) (if_unique (Some texts.2))
+    else []
+
+abbrev pub self_by : Bool → Message → List Fact
+self_by hello m = if hello then fact_of SelfId (if_unique (returned_text m)) else []
+
+abbrev pub met_by : Message → List Fact
+met_by m = fact_of Met (if_unique (sender m))
+
+-- the facts that a bus message gives: a row for each role
+abbrev pub learned_at : Policy → Message → BusRole → List Fact
+learned_at policy m NoRole = []
+learned_at policy m Unexpected = []
+learned_at policy m MatchAnswer = []
+learned_at policy m (OwnerAnswer name) = fact_of (Owned name) (if_unique (returned_text m))
+learned_at policy m NamesAnswer = []
+learned_at policy m (PingAnswer request what) = []
+learned_at policy m (NameList request) = []
+learned_at policy m (OtherAnswer request) = self_by (is_hello request) m
+learned_at policy m CallIn = met_by m
+learned_at policy m OwnerChange = owners_of policy (three_texts m)
+learned_at policy m SignalIn = met_by m
+learned_at policy m BroadcastIn = []
+
+-- the messages that a bus message causes
+abbrev pub due_at : Policy → Message → BusRole → List Sent
+due_at policy m NamesAnswer = names_due policy (returned_names m)
+due_at policy m _ = []
+
+-- a call of the bus asks for a reply
+abbrev pub called_at : Message → BusRole → List Exchange
+called_at m CallIn = if wants_reply m then record { peer = sender m; number = m.serial } ∷ [] else []
+called_at m _ = []
+
+-- what a bus message adds in its role
+abbrev pub with_bus : Policy → Message → BusRole → Told → Told
+with_bus policy m role told = record {
+  facts = told.facts ++ learned_at policy m role;
+  sent = told.sent ++ due_at policy m role;
+  called = told.called ++ called_at m role;
+  replied = told.replied;
+}
+
+-- a return or an error uses up the place that it names, where that was sent
+abbrev pub place_used : ℕ → Option ℕ → List ℕ
+place_used count None = []
+place_used count (Some r) = if nat_le r count then r ∷ [] else []
+
+abbrev pub used_at : ℕ → Kind → Option ℕ → List ℕ
+used_at count Return r = place_used count r
+used_at count Error r = place_used count r
+used_at count Call r = []
+used_at count Signal r = []
+used_at count Other r = []
+
+unfoldable pub used_by : Past → Message → List ℕ
+used_by past m = used_at (length past.told.sent) (kind_of m) (reply_serial m)
+
+-- the past after an item
+unfoldable pub after : Policy → Item → Past → Past
+after policy (Msg Client m) past = record { told = with_client policy m past.told; used = past.used }
+after policy (Msg Bus m) past =
+    record { told = with_bus policy m (bus_role past m) past.told; used = past.used ++ used_by past m }
+after policy (Ended end) past = past
+
+-- the past of a history
+unfoldable pub past : Policy → History → Past
+past policy [] = nothing_before
+past policy (item ∷ before) = after policy item (past policy before)
+
+-- the messages that an item causes
+unfoldable pub due : Policy → Past → Item → List Sent
+due policy past (Msg Client m) = due_on policy past.told m (verdict policy past.told m)
+due policy past (Msg Bus m) = due_at policy m (bus_role past m)
+due policy past (Ended end) = []

@@ -1,0 +1,32 @@
+-- Words on texts and options that the definitions share.
+use Rattle.std.specs.Prelude.{ℕ, nat_eq, Bool, false, ◌||◌, List, [], ◌∷◌, if◌then◌else◌, Option, Some, None}
+use Rattle.std.specs.Str.{bytes_eq}
+use Rattle.std.specs.List.{starts_with, list_any}
+use Rattle.policy_args.specs.Policy.{Rule, matches as rule_matches}
+
+-- a text or a name: its bytes
+abbrev pub Text : Type 0
+Text = List ℕ
+
+-- an optional text that stands and is this one
+abbrev pub is_text : Option Text → Text → Bool
+is_text None wanted = false
+is_text (Some text) wanted = bytes_eq text wanted
+
+abbrev pub is_one_of : Text → List Text → Bool
+is_one_of text texts = list_any (bytes_eq text) texts
+
+-- the word stands somewhere in the text
+abbrev pub stands_in : Text → Text → Bool
+stands_in word [] = starts_with nat_eq [] word
+stands_in word (b ∷ bs) = starts_with nat_eq (b ∷ bs) word || stands_in word bs
+
+-- one item where the test holds, else none
+abbrev pub only_if : {A : Type 0} → Bool → A → List A
+only_if {A} b x = if b then x ∷ [] else []
+
+-- a rule is asked of a message with a path and a member
+abbrev pub matches : Rule → Option Text → Option Text → Option Text → Bool
+matches r None interface member = false
+matches r (Some path) interface None = false
+matches r (Some path) interface (Some member) = rule_matches r path interface member

@@ -1,0 +1,207 @@
+-- The verdict on a client's message: the role that the message has by itself, and a row for each role.
+use Rattle.std.specs.Prelude.{ℕ, nat_lt, Bool, true, false, ◌||◌, List, [], ◌∷◌, if◌then◌else◌, Option, Some, None, codes, find}
+use Rattle.std.specs.Str.{bytes_eq}
+use Rattle.std.specs.List.{list_any}
+use Rattle.policy_view.specs.Texts.{Text, is_one_of, stands_in, matches}
+use Rattle.dbus_header.specs.Message.{Message, path, interface, member, destination, reply_serial, first_text}
+use Rattle.dbus_names.specs.Names.{is_unique}
+use Rattle.policy_args.specs.Policy.{Policy, Entry, Grant, to_see, to_talk, to_own, to_call, to_broadcast, at_least, bus_name}
+use Rattle.policy_view.specs.Levels.{Fact, level_of, entries, entry_at}
+use Rattle.policy_view.specs.Sent.{Kind, Call, Return, Error, Signal, Other, kind_of, Told, owed, Exchange, wants_reply, has_no_auto_start}
+use Rattle.policy_args.specs.declared.Level.{Level}
+use Rattle.policy_args.specs.declared.Level.TheVariants.{None as Hidden, See, Talk, Own}
+use Rattle.dbus_header.specs.declared.Instead.{Instead}
+use Rattle.dbus_header.specs.declared.Instead.TheVariants.{AccessDenied, NameHasNoOwner, ServiceUnknown, False}
+use Rattle.policy_view.specs.declared.Reason.{Reason}
+use Rattle.policy_view.specs.declared.Reason.TheVariants.{NotVisible, OnlySee, NoRule, BusMember, BusInterface, ArgNotVisible, ArgNotTalk, ArgNotOwn, Eavesdrop, NotOutstanding, UnknownType, BadArgument}
+use Rattle.policy_view.specs.declared.Verdict.{Verdict}
+use Rattle.policy_view.specs.declared.Verdict.TheVariants.{Pass, Ping, Drop}
+
+-- what a client's message is, by itself
+pub data ClientRole : Type 0 where
+  OfUnknownType : ClientRole
+  Reply : ClientRole
+  Broadcast : ClientRole
+  SignalTo : (name : Text) → ClientRole
+  StandardBusCall : ClientRole
+  OtherBusCall : ClientRole
+  BusCall : ClientRole
+  CallTo : (name : Text) → ClientRole
+
+abbrev pub standard_interfaces : List Text
+standard_interfaces =
+    codes "org.freedesktop.DBus.Peer" ∷ codes "org.freedesktop.DBus.Properties"
+    ∷ codes "org.freedesktop.DBus.Introspectable" ∷ []
+
+abbrev pub role_of_bus_call : Option Text → ClientRole
+role_of_bus_call None = BusCall
+role_of_bus_call (Some i) =
+    if is_one_of i standard_interfaces then StandardBusCall else (if bytes_eq i bus_name then BusCall else OtherBusCall)
+
+abbrev pub role_of_call : Option Text → Option Text → ClientRole
+role_of_call None interface = role_of_bus_call interface
+role_of_call (Some name) interface = if bytes_eq name bus_name then role_of_bus_call interface else CallTo name
+
+abbrev pub role_of_signal : Option Text → ClientRole
+role_of_signal None = Broadcast
+role_of_signal (Some name) = SignalTo name
+
+abbrev pub client_role_at : Kind → Message → ClientRole
+client_role_at Call m = role_of_call (destination m) (interface m)
+client_role_at Return m = Reply
+client_role_at Error m = Reply
+client_role_at Signal m = role_of_signal (destination m)
+client_role_at Other m = OfUnknownType
+
+unfoldable pub client_role : Message → ClientRole
+client_role m = client_role_at (kind_of m) m
+
+-- refused: dropped where no reply is wanted, else answered in a ping's place
+abbrev pub refused : Message → Instead → Reason → Verdict
+refused m what reason = if wants_reply m then Ping what reason else Drop reason
+
+abbrev pub number_or_0 : Option ℕ → ℕ
+number_or_0 None = 0
+number_or_0 (Some n) = n
+
+abbrev pub first_or_0 : List ℕ → ℕ
+first_or_0 [] = 0
+first_or_0 (n ∷ ns) = n
+
+-- a Call rule of the entry matches
+abbrev pub rule_matches : Message → Grant → Bool
+rule_matches m to_see = false
+rule_matches m to_talk = false
+rule_matches m to_own = false
+rule_matches m (to_call rule) = matches rule (path m) (interface m) (member m)
+rule_matches m (to_broadcast rule) = false
+
+-- the entry has a rule on calls
+abbrev pub rules_calls : Grant → Bool
+rules_calls to_see = false
+rules_calls to_talk = false
+rules_calls to_own = false
+rules_calls (to_call rule) = true
+rules_calls (to_broadcast rule) = false
+
+-- the entry of that number passes the test
+abbrev pub passes : (Grant → Bool) → Option Entry → Bool
+passes test None = false
+passes test (Some e) = test e.grant
+
+abbrev pub entry_passes : Policy → (Grant → Bool) → ℕ → Bool
+entry_passes policy test n = passes test (entry_at policy n)
+
+-- a call to a name that is only seen
+abbrev pub on_ruled_call : Message → Option ℕ → List ℕ → Verdict
+on_ruled_call m (Some n) numbers = refused m AccessDenied (NoRule n)
+on_ruled_call m None numbers = refused m AccessDenied (OnlySee (first_or_0 numbers))
+
+abbrev pub on_seen_call : Policy → Message → List ℕ → Verdict
+on_seen_call policy m numbers =
+    if list_any (entry_passes policy (rule_matches m)) numbers then Pass
+    else on_ruled_call m (find (entry_passes policy rules_calls) numbers) numbers
+
+abbrev pub not_visible : Message → Text → Verdict
+not_visible m name =
+    refused m (if is_unique name || has_no_auto_start m then NameHasNoOwner else ServiceUnknown) NotVisible
+
+abbrev pub on_call : Policy → Message → Text → List ℕ → Level → Verdict
+on_call policy m name numbers Hidden = not_visible m name
+on_call policy m name numbers See = on_seen_call policy m numbers
+on_call policy m name numbers Talk = Pass
+on_call policy m name numbers Own = Pass
+
+abbrev pub on_signal : List ℕ → Level → Verdict
+on_signal numbers Hidden = Drop NotVisible
+on_signal numbers See = Drop (OnlySee (first_or_0 numbers))
+on_signal numbers Talk = Pass
+on_signal numbers Own = Pass
+
+-- the members of the bus
+abbrev pub free_members : List Text
+free_members = codes "Hello" ∷ codes "GetId" ∷ codes "ListNames" ∷ codes "ListActivatableNames" ∷ []
+
+abbrev pub match_members : List Text
+match_members = codes "AddMatch" ∷ codes "RemoveMatch" ∷ []
+
+abbrev pub owner_members : List Text
+owner_members =
+    codes "GetNameOwner" ∷ codes "GetConnectionUnixUser" ∷ codes "GetConnectionUnixProcessID"
+    ∷ codes "GetConnectionCredentials" ∷ codes "GetAdtAuditSessionData" ∷ codes "GetConnectionSELinuxSecurityContext" ∷ []
+
+abbrev pub name_members : List Text
+name_members = codes "RequestName" ∷ codes "ReleaseName" ∷ codes "ListQueuedOwners" ∷ []
+
+-- what a member asks of its text
+pub data Demand : Type 0 where
+  Free : Demand
+  NoEavesdrop : Demand
+  SeenOwner : Demand
+  SeenName : Demand
+  Startable : Demand
+  Ownable : Demand
+  Unlisted : Demand
+
+unfoldable pub demand_of : Text → Demand
+demand_of member =
+    if is_one_of member free_members then Free
+    else (if is_one_of member match_members then NoEavesdrop
+    else (if is_one_of member owner_members then SeenOwner
+    else (if bytes_eq member (codes "NameHasOwner") then SeenName
+    else (if bytes_eq member (codes "StartServiceByName") then Startable
+    else (if is_one_of member name_members then Ownable else Unlisted)))))
+
+abbrev pub on_start : Message → Level → Verdict
+on_start m Hidden = refused m ServiceUnknown ArgNotTalk
+on_start m See = refused m AccessDenied ArgNotTalk
+on_start m Talk = Pass
+on_start m Own = Pass
+
+abbrev pub on_text : Message → Demand → Text → Level → Verdict
+on_text m Free text level = Pass
+on_text m NoEavesdrop text level =
+    if stands_in (codes "eavesdrop") text then refused m AccessDenied Eavesdrop else Pass
+on_text m SeenOwner text level = if at_least See level then Pass else refused m NameHasNoOwner ArgNotVisible
+on_text m SeenName text level = if at_least See level then Pass else refused m False ArgNotVisible
+on_text m Startable text level = on_start m level
+on_text m Ownable text level = if at_least Own level then Pass else refused m AccessDenied ArgNotOwn
+on_text m Unlisted text level = refused m AccessDenied BusMember
+
+-- every demand but the first and the last is on a text
+abbrev pub on_argument : Policy → List Fact → Message → Demand → Option Text → Verdict
+on_argument policy facts m demand None = refused m AccessDenied BadArgument
+on_argument policy facts m demand (Some text) = on_text m demand text (level_of policy facts text)
+
+abbrev pub on_bus_call : Policy → List Fact → Message → Demand → Verdict
+on_bus_call policy facts m Free = Pass
+on_bus_call policy facts m NoEavesdrop = on_argument policy facts m NoEavesdrop (first_text m)
+on_bus_call policy facts m SeenOwner = on_argument policy facts m SeenOwner (first_text m)
+on_bus_call policy facts m SeenName = on_argument policy facts m SeenName (first_text m)
+on_bus_call policy facts m Startable = on_argument policy facts m Startable (first_text m)
+on_bus_call policy facts m Ownable = on_argument policy facts m Ownable (first_text m)
+on_bus_call policy facts m Unlisted = refused m AccessDenied BusMember
+
+abbrev pub text_or_empty : Option Text → Text
+text_or_empty None = []
+text_or_empty (Some text) = text
+
+-- to whom and to what serial a message replies
+abbrev pub reply_to : Message → Exchange
+reply_to m = record { peer = destination m; number = number_or_0 (reply_serial m) }
+
+-- a row for each role
+abbrev pub verdict_at : Policy → Told → Message → ClientRole → Verdict
+verdict_at policy told m OfUnknownType = Drop UnknownType
+verdict_at policy told m Reply = if nat_lt 0 (owed told (reply_to m)) then Pass else Drop NotOutstanding
+verdict_at policy told m Broadcast = Pass
+verdict_at policy told m (SignalTo name) =
+    on_signal (entries policy told.facts name) (level_of policy told.facts name)
+verdict_at policy told m StandardBusCall = Pass
+verdict_at policy told m OtherBusCall = refused m AccessDenied BusInterface
+verdict_at policy told m BusCall = on_bus_call policy told.facts m (demand_of (text_or_empty (member m)))
+verdict_at policy told m (CallTo name) =
+    on_call policy m name (entries policy told.facts name) (level_of policy told.facts name)
+
+unfoldable pub verdict : Policy → Told → Message → Verdict
+verdict policy told m = verdict_at policy told m (client_role m)

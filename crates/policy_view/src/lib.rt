@@ -1,0 +1,147 @@
+//! The definitions of a filtering D-Bus proxy: what a session's events make of its history, what is sent to the bus and
+//! what the client is shown; the plain types in which the other crates speak of it; and the laws of the definitions.
+#![tactic(auto)]
+
+ghost use Rattle.std.specs.Prelude.{◌≡◌, ℕ, List};
+ghost use Rattle.policy_args.specs.Policy.{Policy};
+ghost use Rattle.policy_view.specs.History.{Event};
+ghost use Rattle.policy_view.specs.Laws.{OnlyGrows};
+ghost use Rattle.policy_view.specs.declared.Mode.{Mode as SessionMode};
+
+use dbus_header::{Instead, Malformed};
+use dbus_values::Order;
+
+/// A side of a session.
+#[derive(Clone, Copy, Debug, PartialEq, Eq)]
+pub enum Side {
+    /// The confined application.
+    Client,
+    /// The message bus.
+    Bus,
+}
+
+/// How a session treats its two streams.
+#[derive(Clone, Copy, Debug, PartialEq, Eq)]
+pub struct Mode {
+    /// Whether both streams begin with the lines of the authentication protocol; else they begin with messages.
+    pub auth: bool,
+    /// Whether messages are filtered.
+    pub filter: bool,
+}
+
+/// Why a message was refused or hidden; the numbers are entries of the policy, from 1, and 0 for none.
+#[derive(Clone, Copy, Debug, PartialEq, Eq)]
+pub enum Reason {
+    /// The policy gives the name no level.
+    NotVisible,
+    /// The policy only lets the name be seen.
+    OnlySee(u32),
+    /// No Call rule of the name matches.
+    NoRule(u32),
+    /// The bus's member isn't one that is let through.
+    BusMember,
+    /// The bus's interface isn't one that is let through.
+    BusInterface,
+    /// The name that the call speaks of isn't visible.
+    ArgNotVisible,
+    /// The name that the call speaks of may not be talked to.
+    ArgNotTalk,
+    /// The name that the call speaks of may not be owned.
+    ArgNotOwn,
+    /// The match rule asks for messages that are meant for others.
+    Eavesdrop,
+    /// Nothing waits for this reply of the client.
+    NotOutstanding,
+    /// The message's type is none that is known.
+    UnknownType,
+    /// The body isn't what the member needs.
+    BadArgument,
+    /// The sender of a broadcast may not be talked to, and no Broadcast rule matches.
+    SenderNotTalk,
+    /// The owner of a name changed that isn't visible.
+    NameHidden,
+    /// No call waits for this answer of the bus.
+    NotExpected,
+    /// The answer to a call of the proxy's own.
+    OwnAnswer,
+}
+
+/// The verdict on a client's message.
+#[derive(Clone, Copy, Debug, PartialEq, Eq)]
+pub enum Verdict {
+    /// It goes to the bus.
+    Pass,
+    /// A ping goes to the bus in its place, and its answer comes to the client as this.
+    Ping(Instead, Reason),
+    /// Nothing goes to the bus.
+    Drop(Reason),
+}
+
+/// What the client is shown of a bus message; the numbers are the client's serials.
+#[derive(Clone, Copy, Debug, PartialEq, Eq)]
+pub enum Showing {
+    /// The message as it is.
+    Whole,
+    /// The message as the answer to the client's call with this serial.
+    Reply(u32),
+    /// The same, with the names that are hidden cut from its list.
+    Cut(u32),
+    /// An answer in place of the message, in the order of the refused call and to its serial.
+    Instead {
+        order: Order,
+        reply: u32,
+        what: Instead,
+    },
+    /// Nothing.
+    Hide(Reason),
+}
+
+/// The decision on a message.
+#[derive(Clone, Copy, Debug, PartialEq, Eq)]
+pub enum Decision {
+    Judged(Verdict),
+    Shown(Showing),
+}
+
+/// What is wrong with a side's stream.
+#[derive(Clone, Copy, Debug, PartialEq, Eq)]
+pub enum Fault {
+    /// A message that isn't valid.
+    Message(Malformed),
+}
+
+/// Why a session ended.
+#[derive(Clone, Copy, Debug, PartialEq, Eq)]
+pub enum End {
+    /// The client's stream is malformed.
+    ClientMalformed(Fault),
+    /// The bus's stream is malformed.
+    BusMalformed(Fault),
+    /// The client's stream ended.
+    ClientEnd,
+    /// The bus's stream ended.
+    BusEnd,
+    /// There is no serial left for a message that is due.
+    SerialsSpent,
+    /// Memory was refused.
+    Memory,
+    /// The client's link could not be read.
+    ClientRead,
+    /// The client's link could not be written.
+    ClientWrite,
+    /// The bus's link could not be read.
+    BusRead,
+    /// The bus's link could not be written.
+    BusWrite,
+    /// The bus could not be connected.
+    BusConnect,
+    /// The log could not be written.
+    LogFault,
+    /// An item came whose form isn't built yet.
+    NotBuilt,
+}
+
+/// With more events, what either side was given stands, and only more follows it.
+pub fn bytes_only_grow()
+    ensures { (policy : Policy) (mode : SessionMode) (more events : List Event) → OnlyGrows policy mode more events }
+{}

@@ -1,0 +1,10 @@
+pub mod Maps
+pub mod OwnBytes
+pub mod LedgerLaws
+pub mod StreamSteps
+pub mod Knowing
+pub mod Placing
+pub mod CallSteps
+pub mod AnswerSteps
+pub mod Keeping
+pub mod Standing

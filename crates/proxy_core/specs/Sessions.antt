@@ -1,0 +1,126 @@
+-- What a session is seen as, and when it stands for events.
+use Rattle.std.specs.Prelude.{◌≡◌, ◌≤◌, ℕ, Bool, true, false, List, [], ◌∷◌, ◌++◌, length, Option, Some, None, Result, Ok, Err, slice_get}
+use Rattle.std.specs.Ordering.{nat_cmp}
+use Rattle.std.specs.FinMap.{FinMap, get, empty}
+use Rattle.dbus_header.specs.Message.{Message}
+use Rattle.dbus_header.specs.Plain.{is_plain}
+use Rattle.dbus_header.specs.Stream.{rest}
+use Rattle.dbus_header.specs.declared.Instead.{Instead}
+use Rattle.dbus_header.specs.declared.Instead.TheVariants.{ServiceUnknown}
+use Rattle.policy_args.specs.Policy.{Policy}
+use Rattle.policy_view.specs.Sent.{Sent, Passed, Pinged, OwnMatch, OwnOwner, OwnNames, Past, answered}
+use Rattle.policy_view.specs.Past.{History, past}
+use Rattle.policy_view.specs.History.{Event, stream, history, end_of, is_built_for, most_sent}
+use Rattle.policy_view.specs.Outputs.{bus_bytes, client_bytes}
+use Rattle.policy_view.specs.declared.Mode.{Mode}
+use Rattle.policy_view.specs.declared.Side.{Side}
+use Rattle.policy_view.specs.declared.Side.TheVariants.{Client, Bus}
+use Rattle.policy_view.specs.declared.End.{End}
+use Rattle.policy_view.specs.declared.End.TheVariants.{ClientMalformed, BusMalformed, ClientEnd, BusEnd, SerialsSpent, Memory, ClientRead, ClientWrite, BusRead, BusWrite, BusConnect, LogFault, NotBuilt}
+use Rattle.proxy_core.specs.declared.ledger.Expected.{Expected}
+use Rattle.proxy_core.specs.declared.ledger.Expected.TheVariants as expects
+
+-- ---- what a session is seen as
+
+pub record SessionView : Type 0 where
+  pub mode : Mode
+  -- what waits for either side
+  pub bus_side : List ℕ
+  pub client_side : List ℕ
+  pub ended : Option End
+  -- how many bytes came of either side
+  pub client_came : ℕ
+  pub bus_came : ℕ
+  -- how many messages were sent, and what is expected of their answers
+  pub sent : ℕ
+  pub expected : FinMap nat_cmp Expected
+
+abbrev pub at_start : Mode → SessionView
+at_start mode = record { mode = mode; bus_side = []; client_side = []; ended = None; client_came = 0; bus_came = 0; sent = 0; expected = empty }
+
+abbrev pub came_of : Side → SessionView → ℕ
+came_of Client view = view.client_came
+came_of Bus view = view.bus_came
+
+abbrev pub waits_for : Side → SessionView → List ℕ
+waits_for Client view = view.client_side
+waits_for Bus view = view.bus_side
+
+-- what was taken from a session
+pub record Taken : Type 0 where
+  pub bus_side : List ℕ
+  pub client_side : List ℕ
+
+abbrev pub nothing : Taken
+nothing = record { bus_side = []; client_side = [] }
+
+-- ---- what it keeps of the past
+
+-- a message that was sent, as far as such are built: the request is one that is built, and a ping is for an unknown service
+abbrev pub IsBuiltSent : Sent → Type 0
+IsBuiltSent (Passed request) = (is_plain request ≡ true) × (is_built_for Client request ≡ true)
+IsBuiltSent (Pinged request what) = (is_plain request ≡ true) × (what ≡ ServiceUnknown)
+IsBuiltSent (OwnMatch pattern) = ⊥
+IsBuiltSent (OwnOwner name) = ⊥
+IsBuiltSent OwnNames = ⊥
+
+-- what the answer to a sent message is for
+abbrev pub expected_by : Option Sent → Option Expected
+expected_by None = None
+expected_by (Some (Passed request)) = Some (expects.Call request.serial)
+expected_by (Some (Pinged request what)) = Some (expects.Ping request.serial)
+expected_by (Some (OwnMatch pattern)) = None
+expected_by (Some (OwnOwner name)) = None
+expected_by (Some OwnNames) = None
+
+pub record Knows (view : SessionView) (before : Past) : Type 0 where
+  pub count : view.sent ≡ length before.told.sent
+  pub fits : length before.told.sent ≤ most_sent
+  pub each : (r : ℕ) → get view.expected r ≡ expected_by (answered before (Some r))
+  pub built : (r : ℕ) (s : Sent) → slice_get before.told.sent r ≡ Some s → IsBuiltSent s
+
+-- ---- standing for events
+
+pub record IsFront (front whole : List ℕ) : Type 0 where
+  pub rest : List ℕ
+  pub is : front ++ rest ≡ whole
+
+abbrev pub is_memory : Option End → Bool
+is_memory None = false
+is_memory (Some (ClientMalformed fault)) = false
+is_memory (Some (BusMalformed fault)) = false
+is_memory (Some ClientEnd) = false
+is_memory (Some BusEnd) = false
+is_memory (Some SerialsSpent) = false
+is_memory (Some Memory) = true
+is_memory (Some ClientRead) = false
+is_memory (Some ClientWrite) = false
+is_memory (Some BusRead) = false
+is_memory (Some BusWrite) = false
+is_memory (Some BusConnect) = false
+is_memory (Some LogFault) = false
+is_memory (Some NotBuilt) = false
+
+-- what was taken and then what waits is what a history gives either side, and the session's End is the history's
+pub record Holds (policy : Policy) (view : SessionView) (items : History) (taken : Taken) : Type 0 where
+  pub for_bus : taken.bus_side ++ view.bus_side ≡ bus_bytes policy items
+  pub for_client : taken.client_side ++ view.client_side ≡ client_bytes policy items
+  pub end_is : view.ended ≡ end_of items
+  pub knows : view.ended ≡ None → Knows view (past policy items)
+
+-- a running session has taken all that came of either side, message by message
+pub record Follows (view : SessionView) (events : List Event) : Type 0 where
+  pub came : (side : Side) → came_of side view ≡ length (stream side events)
+  pub rest_is : (side : Side) → rest (stream side events) ≡ []
+
+-- A session stands for events: it holds their history. One that was refused memory holds a front of what that gives.
+pub record StandsFor (policy : Policy) (view : SessionView) (events : List Event) (taken : Taken) : Type 0 where
+  pub bus_front : IsFront (taken.bus_side ++ view.bus_side) (bus_bytes policy (history policy view.mode events))
+  pub client_front : IsFront (taken.client_side ++ view.client_side) (client_bytes policy (history policy view.mode events))
+  pub holds : is_memory view.ended ≡ false → Holds policy view (history policy view.mode events) taken
+  pub follows : view.ended ≡ None → Follows view events
+
+-- what a feed answers
+abbrev pub answer_of : Option End → Result (Unit {0}) End
+answer_of None = Ok tt
+answer_of (Some end) = Err end

@@ -1,0 +1,8 @@
+pub mod ByteLists
+pub mod Fronts
+pub mod RecordingLaws
+pub mod RecordingRead
+mod RecordingExamples
+pub mod Walk
+pub mod Sizes
+pub mod Spellings

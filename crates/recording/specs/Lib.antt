@@ -1,0 +1,4 @@
+pub mod Recording
+pub mod Seen
+pub mod Gives
+pub mod Passes
