@@ -1,0 +1,71 @@
+use crate::Session;
+use policy_args::{Options, read_options, words_of};
+use policy_view::{End, Mode};
+use std::alloc::Global;
+use std::test::Fail;
+
+/// A call to org.a.T, with serial 7.
+const CALL: [u8; 80] = *b"l\x01\x00\x01\x00\x00\x00\x00\x07\x00\x00\x00@\x00\x00\x00\x01\x01o\x00\x02\x00\x00\x00/p\x00\x00\x00\x00\x00\x00\x02\x01s\x00\x07\x00\x00\x00org.a.I\x00\x03\x01s\x00\x01\x00\x00\x00A\x00\x00\x00\x00\x00\x00\x00\x06\x01s\x00\x07\x00\x00\x00org.a.T\x00";
+
+/// A return to :1.40 with serial 60, the answer to serial 1.
+const RETURN: [u8; 56] = *b"l\x02\x01\x01\x00\x00\x00\x00<\x00\x00\x00%\x00\x00\x00\x05\x01u\x00\x01\x00\x00\x00\x06\x01s\x00\x05\x00\x00\x00:1.40\x00\x00\x00\x07\x01s\x00\x04\x00\x00\x00:1.7\x00\x00\x00\x00";
+
+const FILTERED: Mode = Mode {
+    auth: false,
+    filter: true,
+};
+
+fn options_of(alloc: Global, words: &str) -> Result<Options, Fail> {
+    let words = words_of(alloc, words.as_bytes())?;
+    Ok(read_options(alloc, &words)?)
+}
+
+#[test]
+fn a_call_passes_and_its_answer_comes_once(rt: HostRuntime) -> Result<(), Fail> {
+    let options = options_of(rt.alloc(), "--filter\0--talk=org.a.T")?;
+    let mut session = Session::new(rt.alloc(), &options.policy, FILTERED)?;
+    session.feed_client(&options.policy, &CALL)?;
+    assert_eq!(rt; session.bus_waits(), 80);
+    assert_eq!(rt; &session.to_bus()[8..12], [1, 0, 0, 0].as_slice());
+    session.took_bus(80);
+    assert_eq!(rt; session.bus_waits(), 0);
+    session.feed_bus(&options.policy, &RETURN)?;
+    session.feed_bus(&options.policy, &RETURN)?;
+    assert_eq!(rt; session.client_waits(), 56);
+    assert_eq!(rt; &session.to_client()[20..24], [7, 0, 0, 0].as_slice());
+    session.took_client(56);
+    assert_eq!(rt; session.ended(), None);
+    Ok(())
+}
+
+#[test]
+fn a_hidden_call_is_a_ping_and_then_an_error(rt: HostRuntime) -> Result<(), Fail> {
+    let options = options_of(rt.alloc(), "--filter")?;
+    let mut session = Session::new(rt.alloc(), &options.policy, FILTERED)?;
+    session.feed_client(&options.policy, &CALL)?;
+    assert_eq!(rt; session.bus_waits(), 120);
+    assert_eq!(rt; session.client_waits(), 0);
+    session.feed_bus(&options.policy, &RETURN)?;
+    assert_eq!(rt; session.client_waits(), 140);
+    Ok(())
+}
+
+#[test]
+fn an_end_stays(rt: HostRuntime) -> Result<(), Fail> {
+    let options = options_of(rt.alloc(), "--filter")?;
+    let mut session = Session::new(rt.alloc(), &options.policy, FILTERED)?;
+    assert_eq!(rt; session.client_ended(), End::ClientEnd);
+    assert_eq!(rt; session.bus_ended(), End::ClientEnd);
+    assert_eq!(rt; session.feed_client(&options.policy, &CALL), Err(End::ClientEnd));
+    assert_eq!(rt; session.bus_waits(), 0);
+    Ok(())
+}
+
+#[test]
+fn what_is_not_built_ends_the_session(rt: HostRuntime) -> Result<(), Fail> {
+    let options = options_of(rt.alloc(), "--filter")?;
+    let mut session = Session::new(rt.alloc(), &options.policy, FILTERED)?;
+    assert_eq!(rt; session.feed_client(&options.policy, &RETURN), Err(End::NotBuilt));
+    assert_eq!(rt; session.ended(), Some(End::NotBuilt));
+    Ok(())
+}
