@@ -1,4 +1,4 @@
-//! The session.
+//! The session: each message of the client is judged and sent, each answer of the bus is matched and shown.
 ghost use Rattle.std.specs.Prelude.{◌≡◌, ◌⊎◌, ◌≤◌, ◌<◌, ◌+◌, ◌*◌, ◌∷◌, ◌++◌, ℕ, List, [], Option, Some, None, IfOk, OnOk, OnErr, length, take, drop, option_map};
 ghost use Rattle.policy_view.specs.History.{Event, Bytes, Finished, finished as finished_by, is_service as service, longest_stream, most_sent};
 ghost use Rattle.policy_view.specs.declared.End.{End as SessionEnd};
@@ -246,7 +246,7 @@ impl Session {
         self.ended = Some(end);
     }
 
-    /// What a call is answered with goes to the bus and is expected: the call itself where it may pass, else a ping.
+    /// The call goes to the bus where it passes, else a ping; and its answer is expected.
     fn send(&mut self, message: &Message<'_>, passes: bool) -> Result<(), AllocError>
         requires { self.old.sent < most_sent }
         ensures ok { OnOk result (self.new ≡ with_sent (outgoing passes (message_seen message.now) message.now.bytes.now (self.old.sent + 1)) self.old) }
@@ -269,7 +269,7 @@ impl Session {
         Ok(())
     }
 
-    /// A call of the client goes to the bus, or a ping in its place.
+    /// Takes a message of the client: a call of a service is sent, or a ping in its place.
     fn take_call(&mut self, policy: &Policy, message: &Message<'_>)
         requires { self.old.ended ≡ None }
         ensures { Took (with_call policy.now (message_seen message.now) message.now.bytes.now self.old) self.old self.new }
@@ -309,7 +309,7 @@ impl Session {
         }
     }
 
-    /// An answer of the bus comes to the client, where the client waits for it.
+    /// Takes a message of the bus: an answer comes to the client where the client waits for it, once.
     fn take_answer(&mut self, message: &Message<'_>)
         requires { self.old.ended ≡ None }
         ensures { Took (with_bus_message (message_seen message.now) message.now.bytes.now self.old) self.old self.new }
@@ -328,7 +328,7 @@ impl Session {
         }
     }
 
-    /// The first message of the bytes is all of them.
+    /// Takes bytes that are one message.
     fn take_bytes(&mut self, policy: &Policy, side: Side, bytes: &[u8])
         requires { self.old.ended ≡ None }
         ensures { Took (with_bytes policy.now side bytes.now self.old) self.old self.new }

@@ -5,10 +5,12 @@ use std::alloc::Global;
 use std::test::Fail;
 
 /// A call to org.a.T, with serial 7.
-const CALL: [u8; 80] = *b"l\x01\x00\x01\x00\x00\x00\x00\x07\x00\x00\x00@\x00\x00\x00\x01\x01o\x00\x02\x00\x00\x00/p\x00\x00\x00\x00\x00\x00\x02\x01s\x00\x07\x00\x00\x00org.a.I\x00\x03\x01s\x00\x01\x00\x00\x00A\x00\x00\x00\x00\x00\x00\x00\x06\x01s\x00\x07\x00\x00\x00org.a.T\x00";
+const CALL: [u8; 80] =
+    *b"l\x01\x00\x01\x00\x00\x00\x00\x07\x00\x00\x00@\x00\x00\x00\x01\x01o\x00\x02\x00\x00\x00/p\x00\x00\x00\x00\x00\x00\x02\x01s\x00\x07\x00\x00\x00org.a.I\x00\x03\x01s\x00\x01\x00\x00\x00A\x00\x00\x00\x00\x00\x00\x00\x06\x01s\x00\x07\x00\x00\x00org.a.T\x00";
 
 /// A return to :1.40 with serial 60, the answer to serial 1.
-const RETURN: [u8; 56] = *b"l\x02\x01\x01\x00\x00\x00\x00<\x00\x00\x00%\x00\x00\x00\x05\x01u\x00\x01\x00\x00\x00\x06\x01s\x00\x05\x00\x00\x00:1.40\x00\x00\x00\x07\x01s\x00\x04\x00\x00\x00:1.7\x00\x00\x00\x00";
+const RETURN: [u8; 56] =
+    *b"l\x02\x01\x01\x00\x00\x00\x00<\x00\x00\x00%\x00\x00\x00\x05\x01u\x00\x01\x00\x00\x00\x06\x01s\x00\x05\x00\x00\x00:1.40\x00\x00\x00\x07\x01s\x00\x04\x00\x00\x00:1.7\x00\x00\x00\x00";
 
 const FILTERED: Mode = Mode {
     auth: false,
@@ -56,7 +58,10 @@ fn an_end_stays(rt: HostRuntime) -> Result<(), Fail> {
     let mut session = Session::new(rt.alloc(), &options.policy, FILTERED)?;
     assert_eq!(rt; session.client_ended(), End::ClientEnd);
     assert_eq!(rt; session.bus_ended(), End::ClientEnd);
-    assert_eq!(rt; session.feed_client(&options.policy, &CALL), Err(End::ClientEnd));
+    assert_eq!(rt;
+        session.feed_client(&options.policy, &CALL),
+        Err(End::ClientEnd)
+    );
     assert_eq!(rt; session.bus_waits(), 0);
     Ok(())
 }
@@ -65,7 +70,10 @@ fn an_end_stays(rt: HostRuntime) -> Result<(), Fail> {
 fn what_is_not_built_ends_the_session(rt: HostRuntime) -> Result<(), Fail> {
     let options = options_of(rt.alloc(), "--filter")?;
     let mut session = Session::new(rt.alloc(), &options.policy, FILTERED)?;
-    assert_eq!(rt; session.feed_client(&options.policy, &RETURN), Err(End::NotBuilt));
+    assert_eq!(rt;
+        session.feed_client(&options.policy, &RETURN),
+        Err(End::NotBuilt)
+    );
     assert_eq!(rt; session.ended(), Some(End::NotBuilt));
     Ok(())
 }
