@@ -1,7 +1,7 @@
 -- A message of the bus: what the session does is what the history has.
-use Rattle.std.proofs.Common.{ℕ, ◌≡◌, ◌+◌, ◌≤◌, nat_le, Bool, true, false, cond, List, [], ◌∷◌, ◌++◌, length, slice_get, Option, Some, None, refl, ap, ◌∙◌, sym, subst, arith, append-nil, append_assoc, inl, inr}
-use Rattle.std.specs.Prelude.{◌⊎◌, ◌==◌, ◌&&◌, ◌||◌, not, flat_map}
-use Rattle.std.specs.FinMap.{get, remove}
+use Rattle.std.proofs.Common.{ℕ, ◌≡◌, ◌+◌, nat_le, Bool, true, false, cond, List, [], ◌∷◌, ◌++◌, length, Option, Some, None, refl, ap, ◌∙◌, sym, subst, arith, append-nil, append_assoc, inl, inr}
+use Rattle.std.specs.Prelude.{◌⊎◌, ◌==◌, ◌&&◌, ◌||◌, flat_map}
+use Rattle.std.specs.FinMap.{get}
 use Rattle.std.proofs.lemmas.Bool.Decides.{nat_tests}
 use Rattle.std.proofs.lemmas.Bool.{eqb-true}
 use Rattle.dbus_values.specs.declared.Order.{Order}
@@ -14,7 +14,7 @@ use Rattle.dbus_header.proofs.NumberLaws.{reply_patched, reply_stands}
 use Rattle.dbus_header.proofs.PlainMessages.{plain_order}
 use Rattle.policy_args.specs.Policy.{Policy}
 use Rattle.policy_view.specs.Own.{answer_in_place}
-use Rattle.policy_view.specs.Sent.{Kind, Call, Return, Error, Signal, Other, kind_of, Sent, Passed, Pinged, OwnMatch, OwnOwner, OwnNames, Past, answered, call_at, spelled_from}
+use Rattle.policy_view.specs.Sent.{Kind, Call, Return, Error, Signal, Other, kind_of, Sent, Passed, Pinged, OwnMatch, OwnOwner, OwnNames, answered, call_at, spelled_from}
 use Rattle.policy_view.specs.Past.{Item, Msg, Ended, History, past, after, due, due_at, used_by, used_at, place_used}
 use Rattle.policy_view.specs.Shown.{BusRole, NoRole, Unexpected, OtherAnswer, PingAnswer, NameList, bus_role, bus_role_at, seen, seen_as, shown, showing_at}
 use Rattle.policy_view.specs.History.{end_of, followed_by, is_built, is_built_for, most_sent}
@@ -22,10 +22,8 @@ use Rattle.policy_view.specs.Outputs.{bus_bytes, client_bytes, to_bus, to_client
 use Rattle.policy_view.specs.declared.Side.TheVariants.{Bus}
 use Rattle.policy_view.specs.declared.End.TheVariants.{NotBuilt}
 use Rattle.policy_view.proofs.BuiltLaws.{service_call, service_no_list}
-use Rattle.proxy_core.specs.Sessions.{SessionView, Taken, Holds, Knows, IsBuiltSent, expected_by}
-use Rattle.proxy_core.specs.Steps.{ended_by, incoming, with_answer, with_reply, with_bus_message}
-use Rattle.proxy_core.specs.declared.ledger.Expected.{Expected}
-use Rattle.proxy_core.specs.declared.ledger.Expected.TheVariants as expects
+use Rattle.proxy_core.specs.Sessions.{SessionView, Taken, Holds, IsBuiltSent, expected_by}
+use Rattle.proxy_core.specs.Steps.{ended_by, incoming, with_reply, with_bus_message}
 use Rattle.proxy_core.proofs.LedgerLaws.{answered_sent}
 use Rattle.proxy_core.proofs.Knowing.{answered_is, knows_answered, knows_same}
 use Rattle.proxy_core.proofs.Placing.{followed, placed_itself, placed_not_built, ended_holds, moved}

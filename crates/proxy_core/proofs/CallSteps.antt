@@ -1,12 +1,12 @@
 -- A message of the client: what the session does is what the history has.
-use Rattle.std.proofs.Common.{ℕ, ◌≡◌, ◌+◌, ◌≤◌, nat_le, Bool, true, false, cond, List, [], ◌∷◌, ◌++◌, length, Option, Some, None, refl, ap, ◌∙◌, sym, arith, append-nil, append_assoc, inl, inr}
+use Rattle.std.proofs.Common.{ℕ, ◌≡◌, ◌+◌, ◌≤◌, nat_le, Bool, true, false, cond, List, [], ◌∷◌, ◌++◌, length, Some, None, refl, ap, ◌∙◌, sym, arith, append-nil, append_assoc, inl, inr}
 use Rattle.std.specs.Prelude.{◌⊎◌, ◌==◌, ◌&&◌, not}
 use Rattle.std.specs.List.{list_any}
 use Rattle.std.proofs.lemmas.Bool.Decides.{nat_tests}
-use Rattle.std.proofs.lemmas.Bool.{eqb-true, eqb-false}
+use Rattle.std.proofs.lemmas.Bool.{eqb-true}
 use Rattle.dbus_values.specs.declared.Order.{Order}
 use Rattle.dbus_values.specs.declared.Order.TheVariants.{Little}
-use Rattle.dbus_header.specs.Message.{Message, Valid, spell, with_serial, with_number, destination}
+use Rattle.dbus_header.specs.Message.{Message, spell, with_serial, with_number, destination}
 use Rattle.dbus_header.specs.Plain.{is_plain, plain_parts}
 use Rattle.dbus_header.specs.declared.Instead.TheVariants.{ServiceUnknown}
 use Rattle.dbus_header.proofs.NumberLaws.{serial_patched}
@@ -14,20 +14,18 @@ use Rattle.dbus_header.proofs.PlainMessages.{plain_order}
 use Rattle.policy_args.specs.Policy.{Policy, level, at_least}
 use Rattle.policy_args.specs.declared.Level.{Level}
 use Rattle.policy_args.specs.declared.Level.TheVariants.{None as NoLevel, Talk}
-use Rattle.policy_view.specs.Own.{ping}
-use Rattle.policy_view.specs.Sent.{Sent, Passed, Pinged, Told, Past, message_of, spelled_from, expects_answer, is_passed_hello, own_calls, wants_reply}
+use Rattle.policy_view.specs.Sent.{Sent, Passed, Pinged, message_of, spelled_from, expects_answer, is_passed_hello, own_calls, wants_reply}
 use Rattle.policy_view.specs.Past.{Item, Msg, Ended, History, past, after, due, due_on, with_client}
 use Rattle.policy_view.specs.Verdicts.{verdict}
-use Rattle.policy_view.specs.History.{end_of, followed_by, placed, is_built, is_built_for, is_service, most_sent}
+use Rattle.policy_view.specs.History.{end_of, followed_by, is_built, is_built_for, most_sent}
 use Rattle.policy_view.specs.Outputs.{bus_bytes, client_bytes, to_bus, to_client, seen_of}
 use Rattle.policy_view.specs.declared.Side.TheVariants.{Client}
 use Rattle.policy_view.specs.declared.End.TheVariants.{SerialsSpent, NotBuilt}
 use Rattle.policy_view.proofs.BuiltLaws.{IsServiceCall, service_call, verdict_hidden, verdict_talk, service_no_hello, plain_wants_reply}
 use Rattle.policy_view.proofs.PastLaws.{used_sent}
-use Rattle.proxy_core.specs.Sessions.{SessionView, Taken, Holds, Knows, IsBuiltSent, expected_by}
+use Rattle.proxy_core.specs.Sessions.{SessionView, Taken, Holds, IsBuiltSent, expected_by}
 use Rattle.proxy_core.specs.Steps.{ended_by, may_talk, outgoing, with_sent, with_call}
 use Rattle.proxy_core.specs.declared.ledger.Expected.{Expected}
-use Rattle.proxy_core.specs.declared.ledger.Expected.TheVariants as expects
 use Rattle.proxy_core.proofs.Knowing.{knows_sent}
 use Rattle.proxy_core.proofs.Placing.{followed, placed_itself, placed_spent, placed_not_built, ended_holds, moved}
 

@@ -1,5 +1,5 @@
 -- What a piece leaves as it was, and how much more waits at most.
-use Rattle.std.proofs.Common.{ℕ, zero, suc, ◌≡◌, ◌+◌, ◌*◌, ◌≤◌, Bool, true, false, cond, List, [], ◌∷◌, ◌++◌, length, take, drop, map, Option, Some, None, refl, ap, ◌∙◌, sym, arith, length-append}
+use Rattle.std.proofs.Common.{ℕ, zero, suc, ◌≡◌, ◌+◌, ◌*◌, ◌≤◌, Bool, true, false, cond, List, [], ◌∷◌, ◌++◌, length, take, drop, Option, Some, None, refl, ap, ◌∙◌, sym, arith, length-append}
 use Rattle.std.specs.Int.{w32}
 use Rattle.std.proofs.lemmas.List.{length-drop, take-append-drop}
 use Rattle.dbus_values.proofs.ValueLaws.{wide_32}
@@ -18,16 +18,14 @@ use Rattle.dbus_header.proofs.StreamLaws.{front_parts}
 use Rattle.policy_args.specs.Policy.{Policy}
 use Rattle.policy_view.specs.Own.{ping, answer_in_place}
 use Rattle.policy_view.specs.History.{is_service, most_sent, finished}
-use Rattle.policy_view.specs.declared.Mode.{Mode}
 use Rattle.policy_view.specs.declared.End.{End}
 use Rattle.policy_view.specs.declared.End.TheVariants.{SerialsSpent, NotBuilt}
 use Rattle.policy_view.specs.declared.Side.{Side}
 use Rattle.policy_view.specs.declared.Side.TheVariants.{Client, Bus}
-use Rattle.proxy_core.specs.Sessions.{SessionView, came_of}
-use Rattle.proxy_core.specs.Steps.{ended_by, may_talk, outgoing, with_sent, with_call, incoming, with_answer, with_reply, with_bus_message, with_message, with_read, with_bytes, with_came, end_unless, closed_if, room_of, with_piece}
+use Rattle.proxy_core.specs.Sessions.{SessionView}
+use Rattle.proxy_core.specs.Steps.{ended_by, may_talk, outgoing, with_sent, with_call, incoming, with_reply, with_message, with_read, with_bytes, with_came, end_unless, closed_if, room_of, with_piece}
 use Rattle.proxy_core.specs.declared.ledger.Expected.{Expected}
 use Rattle.proxy_core.specs.declared.ledger.Expected.TheVariants as expects
-use Rattle.proxy_core.specs.declared.own.TheConstants.{PING, SERVICE_UNKNOWN}
 use Rattle.proxy_core.proofs.OwnBytes.{ping_bytes, service_unknown_bytes}
 
 -- the same mode and counts, and at most so many bytes more for either side

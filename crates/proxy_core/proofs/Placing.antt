@@ -1,5 +1,5 @@
 -- What stands in an item's place in a history that runs.
-use Rattle.std.proofs.Common.{ℕ, ◌≡◌, ◌+◌, nat_le, Bool, true, false, cond, List, [], ◌∷◌, ◌++◌, length, Option, Some, None, refl, ap, ◌∙◌, sym, subst, append-nil}
+use Rattle.std.proofs.Common.{◌≡◌, ◌+◌, nat_le, Bool, true, false, cond, ◌∷◌, length, Option, None, refl, ap, ◌∙◌, sym, subst, append-nil}
 use Rattle.policy_args.specs.Policy.{Policy}
 use Rattle.policy_view.specs.Sent.{Past}
 use Rattle.policy_view.specs.Past.{Item, Ended, History, past, due}

@@ -1,23 +1,23 @@
 -- A session that stands for events, and one event more.
 use Rattle.std.proofs.Common.{ℕ, zero, suc, ◌≡◌, ◌+◌, ◌-◌, ◌≤◌, nat_le, Bool, true, false, cond, List, [], ◌∷◌, ◌++◌, length, take, drop, Option, Some, None, is_some, refl, ap, ◌∙◌, sym, subst, arith, append-nil, append_assoc, length-append, inl, inr}
-use Rattle.std.specs.Prelude.{◌⊎◌, ◌==◌, ◌&&◌, ◌||◌, not, nat_lt, min}
+use Rattle.std.specs.Prelude.{◌⊎◌, ◌&&◌, ◌||◌, not, nat_lt, min}
 use Rattle.std.specs.Option.{option_map}
-use Rattle.std.specs.FinMap.{empty, get-empty}
+use Rattle.std.specs.FinMap.{get-empty}
 use Rattle.std.specs.Ordering.{nat_cmp}
 use Rattle.std.proofs.lemmas.Bool.Decides.{nat_tests}
 use Rattle.std.proofs.lemmas.List.{length-take, take-append-drop}
 use Rattle.dbus_names.specs.Names.{is_empty}
 use Rattle.dbus_values.proofs.ValueRead.{AreBytes, AreBytes-take}
-use Rattle.dbus_header.specs.Message.{Message, Valid, spell}
+use Rattle.dbus_header.specs.Message.{Message}
 use Rattle.dbus_header.specs.Malformed.{front}
-use Rattle.dbus_header.specs.Plain.{Plain, plain_of, plain_parts, is_plain}
-use Rattle.dbus_header.specs.Stream.{split, messages, rest}
+use Rattle.dbus_header.specs.Plain.{plain_of, plain_parts}
+use Rattle.dbus_header.specs.Stream.{split, rest}
 use Rattle.dbus_header.proofs.PlainMessages.{OfBytes, plain_of-is}
 use Rattle.policy_args.specs.Policy.{Policy, level}
 use Rattle.policy_args.specs.declared.Level.TheVariants.{None as NoLevel, Talk}
-use Rattle.policy_view.specs.Sent.{Past, answered, call_at, nothing_before, Sent}
+use Rattle.policy_view.specs.Sent.{answered, call_at, nothing_before}
 use Rattle.policy_view.specs.Past.{Item, Msg, Ended, History, past, due}
-use Rattle.policy_view.specs.History.{Event, Bytes, Finished, longest_stream, whole_stream, stream, taken_of, is_over, brought, end_if, finished, is_built, is_built_piece, arrived, end_of, followed_by, followed_unless, followed_by_all, history, most_sent}
+use Rattle.policy_view.specs.History.{Event, Bytes, Finished, longest_stream, whole_stream, stream, taken_of, is_over, brought, end_if, finished, is_built_piece, arrived, end_of, followed_by, followed_unless, followed_by_all, history, most_sent}
 use Rattle.policy_view.specs.Laws.{IsPrefixOf}
 use Rattle.policy_view.specs.Outputs.{bus_bytes, client_bytes}
 use Rattle.policy_view.specs.declared.Mode.{Mode}
@@ -27,8 +27,8 @@ use Rattle.policy_view.specs.declared.Side.{Side}
 use Rattle.policy_view.specs.declared.Side.TheVariants.{Client, Bus}
 use Rattle.policy_view.proofs.Growth.{only_grows}
 use Rattle.policy_view.proofs.PastLaws.{ended_is_final}
-use Rattle.proxy_core.specs.Sessions.{SessionView, Taken, Holds, Knows, Follows, StandsFor, IsFront, at_start, nothing, came_of, is_memory, expected_by}
-use Rattle.proxy_core.specs.Steps.{ended_by, with_message, with_read, with_bytes, with_came, end_unless, closed_if, room_of, with_piece, IsRefused, Took}
+use Rattle.proxy_core.specs.Sessions.{SessionView, Taken, Holds, Follows, StandsFor, IsFront, at_start, nothing, came_of, is_memory, expected_by}
+use Rattle.proxy_core.specs.Steps.{ended_by, with_message, with_read, with_came, end_unless, closed_if, room_of, with_piece, IsRefused, Took}
 use Rattle.proxy_core.proofs.StreamSteps.{stream_more, one_brought, none_brought, rest_one, rest_none}
 use Rattle.proxy_core.proofs.Placing.{followed, placed_itself, ended_holds, moved}
 use Rattle.proxy_core.proofs.CallSteps.{call_holds}

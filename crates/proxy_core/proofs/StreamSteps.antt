@@ -1,10 +1,10 @@
 -- How a side's stream grows by a piece that is nothing or one message.
-use Rattle.std.proofs.Common.{ℕ, zero, suc, ◌≡◌, ◌+◌, ◌-◌, ◌≤◌, ◌<◌, Bool, true, false, List, [], ◌∷◌, ◌++◌, length, take, drop, map, Option, Some, None, refl, ap, ◌∙◌, sym, arith, append-nil, length-append}
-use Rattle.std.proofs.lemmas.List.{map-append, length-map, drop_at}
+use Rattle.std.proofs.Common.{ℕ, zero, suc, ◌≡◌, ◌-◌, ◌<◌, List, [], ◌∷◌, ◌++◌, length, take, map, Option, Some, None, refl, ap, ◌∙◌, arith, append-nil}
+use Rattle.std.proofs.lemmas.List.{map-append}
 use Rattle.dbus_header.specs.Message.{Message}
 use Rattle.dbus_header.specs.Malformed.{front, fault}
 use Rattle.dbus_header.specs.Stream.{split, split_by, more, messages, rest, bad}
-use Rattle.dbus_header.proofs.StreamLaws.{front_parts, front-shorter, split-append}
+use Rattle.dbus_header.proofs.StreamLaws.{front-shorter, split-append}
 use Rattle.policy_view.specs.Past.{Item, Msg}
 use Rattle.policy_view.specs.History.{Event, Bytes, longest_stream, whole_stream, stream, fault as fault_in, fault_of, found, taken_of, new_in, fault_end, brought, end_if, is_over, finished}
 use Rattle.policy_view.specs.declared.Side.{Side}

@@ -1,11 +1,9 @@
 -- What a session is seen as, and when it stands for events.
-use Rattle.std.specs.Prelude.{◌≡◌, ◌≤◌, ℕ, Bool, true, false, List, [], ◌∷◌, ◌++◌, length, Option, Some, None, Result, Ok, Err, slice_get}
+use Rattle.std.specs.Prelude.{◌≡◌, ◌≤◌, ℕ, Bool, true, false, List, [], ◌++◌, length, Option, Some, None, Result, Ok, Err, slice_get}
 use Rattle.std.specs.Ordering.{nat_cmp}
 use Rattle.std.specs.FinMap.{FinMap, get, empty}
-use Rattle.dbus_header.specs.Message.{Message}
 use Rattle.dbus_header.specs.Plain.{is_plain}
 use Rattle.dbus_header.specs.Stream.{rest}
-use Rattle.dbus_header.specs.declared.Instead.{Instead}
 use Rattle.dbus_header.specs.declared.Instead.TheVariants.{ServiceUnknown}
 use Rattle.policy_args.specs.Policy.{Policy}
 use Rattle.policy_view.specs.Sent.{Sent, Passed, Pinged, OwnMatch, OwnOwner, OwnNames, Past, answered}

@@ -8,10 +8,9 @@ use Rattle.dbus_header.specs.Message.{spell, with_serial, with_number}
 use Rattle.dbus_header.specs.Plain.{Plain, plain_of, plain_parts}
 use Rattle.dbus_header.specs.declared.Instead.TheVariants.{ServiceUnknown}
 use Rattle.policy_args.specs.Policy.{Policy, level, at_least}
-use Rattle.policy_args.specs.declared.Level.TheVariants.{None as NoLevel, Talk}
+use Rattle.policy_args.specs.declared.Level.TheVariants.{Talk}
 use Rattle.policy_view.specs.Own.{ping, answer_in_place}
 use Rattle.policy_view.specs.History.{is_service, longest_stream, most_sent, finished}
-use Rattle.policy_view.specs.declared.Mode.{Mode}
 use Rattle.policy_view.specs.declared.Side.{Side}
 use Rattle.policy_view.specs.declared.Side.TheVariants.{Client, Bus}
 use Rattle.policy_view.specs.declared.End.{End}

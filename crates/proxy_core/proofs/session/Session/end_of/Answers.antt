@@ -1,6 +1,6 @@
-use Rattle.std.proofs.Common.{◌≡◌, ap, ◌∙◌, sym, subst, ◌∷◌, Some, None}
+use Rattle.std.proofs.Common.{◌≡◌, ap, ◌∙◌, sym, Some, None}
 use Rattle.policy_view.specs.History.{Finished}
-use Rattle.proxy_core.specs.Sessions.{SessionView, StandsFor}
+use Rattle.proxy_core.specs.Sessions.{SessionView}
 use Rattle.proxy_core.proofs.Standing.{ended_stands, finish_stands}
 use Rattle.proxy_core.proofs.session.Session.end_of.Goals as goal
 

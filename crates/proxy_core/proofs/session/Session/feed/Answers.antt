@@ -1,8 +1,8 @@
-use Rattle.std.proofs.Common.{◌≡◌, ap, ◌∙◌, sym, ◌∷◌, Some, None, arith}
+use Rattle.std.proofs.Common.{◌≡◌, ap, ◌∙◌, sym, Some, None, arith}
 use Rattle.policy_view.specs.History.{Bytes}
 use Rattle.proxy_core.specs.Sessions.{SessionView}
 use Rattle.proxy_core.specs.Steps.{with_piece}
-use Rattle.proxy_core.proofs.Keeping.{IsBounded, piece_bounded}
+use Rattle.proxy_core.proofs.Keeping.{piece_bounded}
 use Rattle.proxy_core.proofs.Standing.{ended_stands, feed_stands, took_bounded}
 use Rattle.proxy_core.proofs.session.Session.feed.Goals as goal
 
