@@ -1,0 +1,95 @@
+//! Files, sinks, and what is done with them whatever they are.
+ghost use Rattle.std.specs.Prelude.{◌≡◌, ◌≤◌, ◌<◌, ℕ, List, [], Option, Err, length, take, OnOk, OnErr, IfOk, IfErr, IfSome, IsErrOf};
+ghost use Rattle.link_traits.specs.Told.{added, Rose, Part, Given};
+
+use std::alloc::Global;
+
+/// Why a file was not read.
+#[derive(Clone, Copy, Debug, PartialEq, Eq)]
+pub enum FileFault {
+    /// There is no such file, or it could not be read. The count of faults rises.
+    Failed,
+    /// The file has more bytes than the limit.
+    TooLong,
+    /// Memory was refused.
+    Memory,
+}
+
+/// A sink took nothing of a piece that has bytes. Its count of faults rises.
+#[derive(Clone, Copy, Debug, PartialEq, Eq)]
+pub struct SinkFault;
+
+/// Files by their paths.
+pub trait Files {
+    /// The bytes that a path holds, where that is told.
+    ghost told: { Self → List ℕ → Option (List ℕ) };
+
+    /// How often a read has failed, up to the greatest number that the count has.
+    ghost faults: { Self → ℕ };
+
+    /// Puts the whole file behind what `into` holds, in the caller's memory. A file of more than
+    /// `limit` bytes is refused, and what `into` held stays where a read is refused or fails.
+    fn read(&mut self, path: &str, limit: usize, into: &mut Vec<u8>) -> Result<(), FileFault>
+        ensures given { OnOk result (Given limit (told self.old path.now) into.old.items into.new.items) }
+        ensures too_long { IsErrOf result FileFault.TooLong → IfSome (told self.old path.now) (λ bytes. limit < length bytes) }
+        ensures cause { IsErrOf result FileFault.Failed → Rose (faults self.old) (faults self.new) }
+        ensures err { OnErr result (into.new.items ≡ into.old.items) }
+        ensures count { faults self.old ≤ faults self.new }
+        ensures kept { (p : List ℕ) → told self.new p ≡ told self.old p };
+}
+
+/// Where bytes are written, in pieces.
+pub trait Sink {
+    /// All bytes that were taken, where they are told.
+    ghost told: { Self → Option (List ℕ) };
+
+    /// How often a write has failed, up to the greatest number that the count has.
+    ghost faults: { Self → ℕ };
+
+    /// Takes a front of the piece, at least a byte where there is one, and answers how many bytes
+    /// it took. Where it fails it took none.
+    fn write(&mut self, piece: &[u8]) -> Result<usize, SinkFault>
+        ensures took { IfOk result (λ n. told self.new ≡ added (take n piece.now) (told self.old)) }
+        ensures within { IfOk result (λ n. n ≤ length piece.now) }
+        ensures progress { IfOk result (λ n. 0 < length piece.now → 0 < n) }
+        ensures cause { OnErr result (Rose (faults self.old) (faults self.new)) }
+        ensures err { OnErr result (told self.new ≡ told self.old) }
+        ensures count { faults self.old ≤ faults self.new };
+}
+
+/// The whole of a file, of at most `limit` bytes.
+pub fn read_whole<F: Files>(
+    alloc: Global,
+    files: &mut F,
+    path: &str,
+    limit: usize,
+) -> Result<Vec<u8>, FileFault>
+    ensures given { IfOk result (λ v. Given limit (F.told files.old path.now) [] v.items) }
+    ensures too_long { IsErrOf result FileFault.TooLong → IfSome (F.told files.old path.now) (λ bytes. limit < length bytes) }
+    ensures cause { IsErrOf result FileFault.Failed → Rose (F.faults files.old) (F.faults files.new) }
+    ensures count { F.faults files.old ≤ F.faults files.new }
+    ensures kept { (p : List ℕ) → F.told files.new p ≡ F.told files.old p }
+{
+    let mut bytes = Vec::new(alloc);
+    match files.read(path, limit, &mut bytes) {
+        Ok(()) => Ok(bytes),
+        Err(fault) => Err(fault),
+    }
+}
+
+/// Writes all bytes, in as many pieces as the sink takes. Where it fails, it got a front of them.
+pub fn write_all<S: Sink>(sink: &mut S, bytes: &[u8]) -> Result<(), SinkFault>
+    ensures ok { OnOk result (S.told sink.new ≡ added bytes.now (S.told sink.old)) }
+    ensures part { Part (S.told sink.old) (S.told sink.new) bytes.now }
+    ensures cause { OnErr result (Rose (S.faults sink.old) (S.faults sink.new)) }
+    ensures count { S.faults sink.old ≤ S.faults sink.new }
+{
+    let mut done = 0;
+    while done < bytes.len() {
+        match sink.write(&bytes[done..]) {
+            Ok(n) => done += n,
+            Err(fault) => return Err(fault),
+        }
+    }
+    Ok(())
+}

@@ -1,0 +1,103 @@
+-- A file that is told was read, or is above its limit; and what it means for a run where it stops that.
+use Rattle.std.proofs.Common.{◌≡◌, ◌<◌, ℕ, List, [], Option, Some, None, Result, Ok, Err, IfSome, refl, ap, sym, ◌∙◌, length, cond, nat_lt, arith, subst, Bool, true, false, bytes_eq}
+use Rattle.std.proofs.lemmas.Slice.Eq.{bytes_eq-Decides}
+use Rattle.std.proofs.lemmas.Bool.Decides.{nat_tests}
+use Rattle.link_traits.specs.Told.{Given}
+use Rattle.policy_args.specs.declared.BadWord.{BadWord}
+use Rattle.policy_args.specs.Words.{PolicyOptions}
+use Rattle.recording.specs.declared.BadRecording.{BadRecording}
+use Rattle.recording.specs.declared.TheConstants.{RECORDING_LIMIT}
+use Rattle.recording.specs.Recording.{Recording, recording_of}
+use Rattle.proxy_main.specs.declared.Refusal.{Refusal}
+use Rattle.proxy_main.specs.declared.Refusal.TheVariants.{Usage, PolicyWord, PolicyTooLong, Recording as BadFile}
+use Rattle.proxy_main.specs.declared.TheConstants.{POLICY_LIMIT}
+use Rattle.proxy_main.specs.declared.Stop.{Stop}
+use Rattle.proxy_main.specs.declared.Stop.TheVariants as stop
+use Rattle.proxy_main.specs.Answers.{Answer, Untold, Refused, then_go, then_read, options_in, checked_policy, checked_recording, or_refused, Agrees, IsSettled, without, answer_to}
+use Rattle.proxy_main.specs.Loads.{IsOfFile, IsOfWords, LoadStops, StopsBy}
+use Rattle.proxy_main.specs.Words.{Command, Replay}
+
+-- what was read is what is told
+pub read_told : {A : Type 0} (limit : ℕ) (told : Option (List ℕ)) (items : List ℕ) (check : List ℕ → Result A Refusal) (x : Result A Refusal) →
+    Given limit told [] items → check items ≡ x → IfSome told (λ bytes. check bytes ≡ x)
+read_told limit None items check x given is = tt
+read_told limit (Some bytes) items check x given is = ap check (sym given.is.0) ∙ is
+
+-- ---- what the checks say
+
+pub policy_long : (told : Option (List ℕ)) → IfSome told (λ bytes. POLICY_LIMIT < length bytes) → IfSome told (λ bytes. checked_policy bytes ≡ Err PolicyTooLong)
+unfolding checked_policy
+policy_long None long = tt
+policy_long (Some bytes) long = grind (arith, nat_tests)
+
+pub recording_long : (told : Option (List ℕ)) → IfSome told (λ bytes. RECORDING_LIMIT < length bytes) → IfSome told (λ bytes. checked_recording bytes ≡ Err BadFile)
+unfolding checked_recording recording_of
+recording_long None long = tt
+recording_long (Some bytes) long = grind (arith, nat_tests)
+
+-- a policy file that was read
+pub policy_read : (told : Option (List ℕ)) (items : List ℕ) (r : Result PolicyOptions BadWord) → Given POLICY_LIMIT told [] items → options_in items ≡ r →
+    IfSome told (λ bytes. checked_policy bytes ≡ or_refused PolicyWord r)
+unfolding checked_policy
+policy_read None items r given is = tt
+policy_read (Some bytes) items r given is =
+    let within : nat_lt POLICY_LIMIT (length bytes) ≡ false = grind (arith, nat_tests, given.is.1) in
+    ap (λ b. cond b (Err PolicyTooLong) (or_refused PolicyWord (options_in bytes))) within
+    ∙ ap (λ xs. or_refused PolicyWord (options_in xs)) (sym given.is.0) ∙ ap (or_refused PolicyWord) is
+
+-- a recording that was read
+pub recording_read : (bytes : List ℕ) (r : Result Recording BadRecording) → recording_of bytes ≡ r → checked_recording bytes ≡ or_refused (λ fault. BadFile) r
+unfolding checked_recording
+recording_read bytes r is = ap (or_refused (λ fault. BadFile)) is
+
+-- ---- why a run stops
+
+read_err : {A : Type 0} (t : Option (List ℕ)) (check : List ℕ → Result A Refusal) (r : Refusal) (go : A → Answer) → IfSome t (λ bytes. check bytes ≡ Err r) → Agrees (then_read t check go) (Refused r)
+read_err None check r go is = λ settled. absurd settled
+read_err (Some bytes) check r go is = λ settled. ap (λ x. then_go x go) is
+
+read_ok : {A : Type 0} (t : Option (List ℕ)) (check : List ℕ → Result A Refusal) (x : A) (go : A → Answer) → IfSome t (λ bytes. check bytes ≡ Ok x) → Agrees (then_read t check go) (go x)
+read_ok None check x go is = λ settled. absurd settled
+read_ok (Some bytes) check x go is = λ settled. ap (λ y. then_go y go) is
+
+agrees-then : (a b c : Answer) → Agrees a b → Agrees b c → Agrees a c
+agrees-then a b c f g = λ settled. f settled ∙ g (subst IsSettled (f settled) settled)
+
+bytes_eq-refl : (xs : List ℕ) → bytes_eq xs xs ≡ true
+bytes_eq-refl xs = (bytes_eq-Decides xs xs).1 refl
+
+without-path : (path : List ℕ) (told : List ℕ → Option (List ℕ)) → without path told path ≡ None
+without-path path told = ap (λ b. cond b None (told path)) (bytes_eq-refl path)
+
+of_words : (refusal : Refusal) (command : Option Command) → IsOfFile refusal → IsOfWords refusal command
+of_words Usage command is = absurd is
+of_words (PolicyWord bad) command is = tt
+of_words PolicyTooLong command is = tt
+of_words BadFile command is = tt
+
+untold-first : {A : Type 0} (t : Option (List ℕ)) (check : List ℕ → Result A Refusal) (go : A → Answer) → t ≡ None → then_read t check go ≡ Untold
+untold-first t check go e = ap (λ u. then_read u check go) e
+
+-- the second file isn't told, and the first is as it was or isn't told either
+untold-second : {A : Type 0} (b : Bool) (t : Option (List ℕ)) (check : List ℕ → Result A Refusal) (x : A) (go : A → Answer) → IfSome t (λ bytes. check bytes ≡ Ok x) → ((y : A) → go y ≡ Untold) →
+    then_read (cond b None t) check go ≡ Untold
+untold-second true t check x go is none = refl
+untold-second false None check x go is none = refl
+untold-second false (Some bytes) check x go is none = ap (λ y. then_go y go) is ∙ none x
+
+pub stops_policy : (told : List ℕ → Option (List ℕ)) (p r : List ℕ) (s : Stop) → LoadStops checked_policy (told p) p s → StopsBy told (Some (Replay p r)) s
+stops_policy told p r (stop.Refused refusal) is = (read_err (told p) checked_policy refusal _ is.0, of_words refusal _ is.1)
+stops_policy told p r (stop.File path) is =
+    subst (λ q. answer_to (without q told) (Some (Replay p r)) ≡ Untold) (sym is) (untold-first _ checked_policy _ (without-path p told))
+stops_policy told p r stop.Sink is = absurd is
+stops_policy told p r stop.Memory is = tt
+
+pub stops_recording : (told : List ℕ → Option (List ℕ)) (t : Option (List ℕ)) (p r : List ℕ) (o : PolicyOptions) (s : Stop) → IfSome (told p) (λ bytes. checked_policy bytes ≡ Ok o) → t ≡ told r →
+    LoadStops checked_recording t r s → StopsBy told (Some (Replay p r)) s
+stops_recording told t p r o (stop.Refused refusal) ok same is =
+    (agrees-then _ _ _ (read_ok (told p) checked_policy o _ ok) (read_err (told r) checked_recording refusal _ (subst (λ u. IfSome u (λ bytes. checked_recording bytes ≡ Err refusal)) same is.0)), of_words refusal _ is.1)
+stops_recording told t p r o (stop.File path) ok same is =
+    subst (λ q. answer_to (without q told) (Some (Replay p r)) ≡ Untold) (sym is)
+    (untold-second (bytes_eq p r) (told p) checked_policy o _ ok (λ y. untold-first _ checked_recording _ (without-path r told)))
+stops_recording told t p r o stop.Sink ok same is = absurd is
+stops_recording told t p r o stop.Memory ok same is = tt

@@ -1,0 +1,5 @@
+use Rattle.proxy_main.proofs.Fronts.{out_front}
+use Rattle.proxy_main.proofs.program.run.Goals as goal
+
+pub returns-clause-front : goal.returns-clause-front
+returns-clause-front g c = λ settled. out_front _ _ _ _ _ _ _ _ _ _ c.run_to_end.ensures settled

@@ -1,0 +1,5 @@
+use Rattle.proxy_main.proofs.Endings.{ends_stop}
+use Rattle.proxy_main.proofs.program.run_to_end.Goals as goal
+
+pub returns-in-Err : goal.returns-in-Err
+returns-in-Err g c = ends_stop _ _ _ _ _ _ _ _ _ _ c.in-Err.stop c.in-Err.ensures.stops c.in-Err.ensures.cause c.in-Err.ensures.keeps c.tell.ensures

@@ -1,0 +1,97 @@
+-- What a run answers, by its words and by what is told of the files.
+--
+-- The files are read in the order of the words, and each is read and checked before the next. The first fault is the answer.
+use Rattle.std.specs.Prelude.{◌≡◌, ℕ, nat_lt, List, [], length, Option, Some, None, Result, Ok, Err, bytes_eq, if◌then◌else◌}
+use Rattle.policy_args.specs.declared.BadWord.{BadWord}
+use Rattle.policy_args.specs.Words.{PolicyOptions, options_of, words_in, ◌>>=◌}
+use Rattle.recording.specs.Recording.{Recording, recording_of}
+use Rattle.replay.specs.Output.{output_of_recording}
+use Rattle.proxy_main.specs.declared.Refusal.{Refusal}
+use Rattle.proxy_main.specs.declared.Refusal.TheVariants.{Usage, PolicyWord, PolicyTooLong, Recording as BadRecording}
+use Rattle.proxy_main.specs.declared.TheConstants.{POLICY_LIMIT}
+use Rattle.proxy_main.specs.Words.{Command, Replay, reading}
+
+pub data Answer : Type 0 where
+  -- a file is needed of which nothing is told: the answer is not settled
+  Untold : Answer
+  -- the words or a file are refused
+  Refused : Refusal → Answer
+  -- the work is done, and these are the bytes of its output
+  Wrote : List ℕ → Answer
+
+-- ---- reading and checking
+
+-- what follows a check, where that refuses nothing
+abbrev pub then_go : {A : Type 0} → Result A Refusal → (A → Answer) → Answer
+then_go (Ok x) go = go x
+then_go (Err refusal) go = Refused refusal
+
+-- a file is read and checked, before what follows
+abbrev pub then_read : {A : Type 0} → Option (List ℕ) → (List ℕ → Result A Refusal) → (A → Answer) → Answer
+then_read None check go = Untold
+then_read (Some bytes) check go = then_go (check bytes) go
+
+abbrev pub or_refused : {A E : Type 0} → (E → Refusal) → Result A E → Result A Refusal
+or_refused refusal (Ok x) = Ok x
+or_refused refusal (Err e) = Err (refusal e)
+
+-- the options of a policy file: it is cut into words, and the words are options
+abbrev pub options_in : List ℕ → Result PolicyOptions BadWord
+options_in bytes = words_in bytes >>= options_of
+
+-- a policy file: it is within its limit, and has options
+unfoldable pub checked_policy : List ℕ → Result PolicyOptions Refusal
+checked_policy bytes =
+    if nat_lt POLICY_LIMIT (length bytes) then Err PolicyTooLong else or_refused PolicyWord (options_in bytes)
+
+-- a recording: whatever its fault is, also that it is above its limit, it is refused alike
+unfoldable pub checked_recording : List ℕ → Result Recording Refusal
+checked_recording bytes = or_refused (λ fault. BadRecording) (recording_of bytes)
+
+-- ---- answers
+
+unfoldable pub replayed : PolicyOptions → Recording → Answer
+replayed options recording = Wrote (output_of_recording options.policy options.filter recording)
+
+abbrev pub answer_to : (List ℕ → Option (List ℕ)) → Option Command → Answer
+answer_to told None = Refused Usage
+answer_to told (Some (Replay policy recording)) =
+    then_read (told policy) checked_policy (λ options. then_read (told recording) checked_recording (λ events. replayed options events))
+
+abbrev pub answer_of : List (List ℕ) → (List ℕ → Option (List ℕ)) → Answer
+answer_of words told = answer_to told (reading words)
+
+-- all that the answer needs is told
+abbrev pub IsSettled : Answer → Type 0
+IsSettled Untold = ⊥
+IsSettled (Refused refusal) = Unit {0}
+IsSettled (Wrote out) = Unit {0}
+
+-- where the answer is settled it is this one
+abbrev pub Agrees : Answer → Answer → Type 0
+Agrees answer this = IsSettled answer → answer ≡ this
+
+-- ---- what an answer means
+
+-- the status of a refusal
+abbrev pub refusal_code : Refusal → ℕ
+refusal_code Usage = 1
+refusal_code (PolicyWord bad) = 2
+refusal_code PolicyTooLong = 2
+refusal_code BadRecording = 3
+
+-- the status of an answer
+abbrev pub code_of : Answer → ℕ
+code_of Untold = 0
+code_of (Refused refusal) = refusal_code refusal
+code_of (Wrote out) = 0
+
+-- the output of an answer
+abbrev pub out_of : Answer → List ℕ
+out_of Untold = []
+out_of (Refused refusal) = []
+out_of (Wrote out) = out
+
+-- what is told where nothing is told of one path
+abbrev pub without : List ℕ → (List ℕ → Option (List ℕ)) → List ℕ → Option (List ℕ)
+without path told p = if bytes_eq p path then None else told p

@@ -1,0 +1,79 @@
+-- The ways in which a run ends.
+--
+--     0    the whole output was written, and nothing on err
+--     1    the words name nothing
+--     2    the policy file is refused
+--     3    the recording is refused
+--     4    a file could not be read
+--     6    the output could not be written
+--     8    memory ran out
+--
+-- A fault of err changes no status: err got a front of its line. Only what is told of the files settles what they hold.
+use Rattle.std.specs.Prelude.{◌≡◌, ◌⊎◌, ℕ, List, Option}
+use Rattle.link_traits.specs.Told.{added, Part}
+use Rattle.proxy_main.specs.declared.Refusal.{Refusal}
+use Rattle.proxy_main.specs.declared.Stop.{Stop}
+use Rattle.proxy_main.specs.declared.Stop.TheVariants as stop
+use Rattle.proxy_main.specs.Words.{Command}
+use Rattle.proxy_main.specs.Answers.{Untold, Refused, answer_to, IsSettled, Agrees, without, code_of, refusal_code}
+use Rattle.proxy_main.specs.Lines.{refusal_line, file_line, memory_line}
+use Rattle.proxy_main.specs.Loads.{IsOfWords, IsDone, IsFront}
+
+-- a sink got a line, or a front of it where its count of faults rose
+pub data Said (rose : Type 0) (old new : Option (List ℕ)) (line : List ℕ) : Type 0 where
+  Whole : new ≡ added line old → Said rose old new line
+  Cut : rose → Part old new line → Said rose old new line
+
+-- how a run of these words ended, by what is told of the files, the counts of faults that rose, and what out and err tell
+pub data Ends (told : List ℕ → Option (List ℕ)) (command : Option Command) (files_rose out_rose err_rose : Type 0) (out new_out err new_err : Option (List ℕ)) (code : ℕ) : Type 0 where
+  -- the whole output was written
+  Done : code ≡ 0
+      → IsDone (answer_to told command) out new_out
+      → new_err ≡ err
+      → Ends told command files_rose out_rose err_rose out new_out err new_err code
+  -- the words or a file were refused
+  Refuses : (refusal : Refusal) → code ≡ refusal_code refusal
+      → Agrees (answer_to told command) (Refused refusal) → IsOfWords refusal command
+      → new_out ≡ out → Said err_rose err new_err (refusal_line refusal)
+      → Ends told command files_rose out_rose err_rose out new_out err new_err code
+  -- a file failed without which nothing is settled
+  NoFile : (path : List ℕ) → code ≡ 4 → files_rose
+      → answer_to (without path told) command ≡ Untold
+      → new_out ≡ out → Said err_rose err new_err (file_line path)
+      → Ends told command files_rose out_rose err_rose out new_out err new_err code
+  -- out failed while the output was written
+  SinkFails : code ≡ 6 → out_rose
+      → (IsSettled (answer_to told command) → code_of (answer_to told command) ≡ 0)
+      → IsFront (answer_to told command) out new_out
+      → new_err ≡ err
+      → Ends told command files_rose out_rose err_rose out new_out err new_err code
+  -- memory ran out
+  NoMemory : code ≡ 8
+      → new_out ≡ out → Said err_rose err new_err memory_line
+      → Ends told command files_rose out_rose err_rose out new_out err new_err code
+
+-- ---- one status
+
+-- a status comes exactly where its cause stands, unless memory ran out
+abbrev pub Exactly : ℕ → ℕ → Type 0 → Type 0
+Exactly code this cause = (code ≡ this → cause) × (cause → (code ≡ this) ⊎ (code ≡ 8))
+
+-- .. or a file failed
+abbrev pub ExactlyOfFiles : ℕ → ℕ → Type 0 → Type 0
+ExactlyOfFiles code this cause = (code ≡ this → cause) × (cause → (code ≡ this) ⊎ ((code ≡ 4) ⊎ (code ≡ 8)))
+
+-- the statuses that a fault of the outside or of memory may give in place of another
+abbrev pub IsFree : ℕ → Type 0
+IsFree code = (code ≡ 4) ⊎ ((code ≡ 6) ⊎ (code ≡ 8))
+
+-- ---- saying why a run stopped
+
+-- a line was said with its status, or there was no memory for it and the line of 8 was
+abbrev pub IsTold : ℕ → List ℕ → Type 0 → Option (List ℕ) → Option (List ℕ) → ℕ → Type 0
+IsTold this line rose old new code = ((code ≡ this) × Said rose old new line) ⊎ ((code ≡ 8) × Said rose old new memory_line)
+
+abbrev pub StopTold : Type 0 → Option (List ℕ) → Option (List ℕ) → ℕ → Stop → Type 0
+StopTold rose old new code (stop.Refused refusal) = IsTold (refusal_code refusal) (refusal_line refusal) rose old new code
+StopTold rose old new code (stop.File path) = IsTold 4 (file_line path.now) rose old new code
+StopTold rose old new code stop.Sink = (code ≡ 6) × (new ≡ old)
+StopTold rose old new code stop.Memory = (code ≡ 8) × Said rose old new memory_line

@@ -1,0 +1,68 @@
+-- What reading the files gives, and why a run stops before its work is done.
+use Rattle.std.specs.Prelude.{◌≡◌, ℕ, List, Option, None, Result, Ok, Err, IfSome}
+use Rattle.link_traits.specs.Told.{added, Part}
+use Rattle.proxy_main.specs.declared.Refusal.{Refusal}
+use Rattle.proxy_main.specs.declared.Refusal.TheVariants.{Usage, PolicyWord, PolicyTooLong, Recording}
+use Rattle.proxy_main.specs.declared.Stop.{Stop}
+use Rattle.proxy_main.specs.declared.Stop.TheVariants.{Refused as Refuses, File, Sink, Memory}
+use Rattle.proxy_main.specs.Words.{Command}
+use Rattle.proxy_main.specs.Answers.{Answer, Untold, Refused, answer_to, Agrees, without, code_of, out_of, IsSettled}
+
+-- ---- one file
+
+-- a refusal of a file
+abbrev pub IsOfFile : Refusal → Type 0
+IsOfFile Usage = ⊥
+IsOfFile (PolicyWord bad) = Unit {0}
+IsOfFile PolicyTooLong = Unit {0}
+IsOfFile Recording = Unit {0}
+
+-- the file at the path is why a run stops: its check refuses what is told of it, or it was not read
+abbrev pub LoadStops : {A : Type 0} → (List ℕ → Result A Refusal) → Option (List ℕ) → List ℕ → Stop → Type 0
+LoadStops check told path (Refuses refusal) = IfSome told (λ bytes. check bytes ≡ Err refusal) × IsOfFile refusal
+LoadStops check told path (File p) = p.now ≡ path
+LoadStops check told path Sink = ⊥
+LoadStops check told path Memory = Unit {0}
+
+-- the file at the path was read and checked, or it is why a run stops
+abbrev pub Loads : {A X : Type 0} → (X → A) → (List ℕ → Result A Refusal) → Option (List ℕ) → List ℕ → Result X Stop → Type 0
+Loads view check told path (Ok x) = IfSome told (λ bytes. check bytes ≡ Ok (view x))
+Loads view check told path (Err stop) = LoadStops check told path stop
+
+-- ---- a whole run
+
+-- the words are refused only where they name nothing
+abbrev pub IsOfWords : Refusal → Option Command → Type 0
+IsOfWords Usage command = command ≡ None
+IsOfWords (PolicyWord bad) command = Unit {0}
+IsOfWords PolicyTooLong command = Unit {0}
+IsOfWords Recording command = Unit {0}
+
+-- why a run stops: what is told settles it so, or a file failed without which nothing is settled, or the work had begun
+abbrev pub StopsBy : (List ℕ → Option (List ℕ)) → Option Command → Stop → Type 0
+StopsBy told command (Refuses refusal) = Agrees (answer_to told command) (Refused refusal) × IsOfWords refusal command
+StopsBy told command (File path) = answer_to (without path.now told) command ≡ Untold
+StopsBy told command Sink = IsSettled (answer_to told command) → code_of (answer_to told command) ≡ 0
+StopsBy told command Memory = Unit {0}
+
+-- the count of faults that rose
+abbrev pub CausedBy : Type 0 → Type 0 → Stop → Type 0
+CausedBy files out (Refuses refusal) = Unit {0}
+CausedBy files out (File path) = files
+CausedBy files out Sink = out
+CausedBy files out Memory = Unit {0}
+
+-- a front of the output was written
+abbrev pub IsFront : Answer → Option (List ℕ) → Option (List ℕ) → Type 0
+IsFront answer out new_out = IsSettled answer → Part out new_out (out_of answer)
+
+-- what out got before a run stopped: nothing, unless out itself failed
+abbrev pub Keeps : Answer → Option (List ℕ) → Option (List ℕ) → Stop → Type 0
+Keeps answer out new_out (Refuses refusal) = new_out ≡ out
+Keeps answer out new_out (File path) = new_out ≡ out
+Keeps answer out new_out Sink = IsFront answer out new_out
+Keeps answer out new_out Memory = new_out ≡ out
+
+-- the whole output was written
+abbrev pub IsDone : Answer → Option (List ℕ) → Option (List ℕ) → Type 0
+IsDone answer out new_out = IsSettled answer → (code_of answer ≡ 0) × (new_out ≡ added (out_of answer) out)

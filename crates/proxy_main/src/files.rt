@@ -1,0 +1,98 @@
+//! The files that the words name.
+ghost use Rattle.std.specs.Prelude.{◌≡◌, ◌≤◌, ℕ, List, Some, IfOk, IfErr};
+ghost use Rattle.link_traits.specs.Told.{Rose};
+ghost use Rattle.policy_args.specs.Gives.{Gives};
+ghost use Rattle.policy_args.specs.Seen.{options_seen};
+ghost use Rattle.recording.specs.Seen.{recording_seen, size};
+ghost use Rattle.proxy_main.specs.Words.{Replay};
+ghost use Rattle.proxy_main.specs.Answers.{options_in, checked_policy, checked_recording, answer_to, replayed, Agrees};
+ghost use Rattle.proxy_main.specs.Loads.{Loads, StopsBy, CausedBy};
+
+use crate::{POLICY_LIMIT, Refusal, Stop};
+use link_traits::{FileFault, Files, read_whole};
+use policy_args::{LineRefusal, Options, read_options, words_of};
+use recording::{RECORDING_LIMIT, Recording, RecordingRefusal};
+use std::alloc::Global;
+
+/// What a replay works on.
+#[derive(Drop)]
+pub struct Loaded {
+    pub options: Options,
+    pub recording: Recording,
+}
+
+/// Reads and checks both files, one after the other.
+pub fn load<'a, F: Files>(
+    alloc: Global,
+    files: &mut F,
+    policy: &'a str,
+    recording: &'a str,
+) -> Result<Loaded, Stop<'a>>
+    ensures loaded { IfOk result (λ x. Agrees (answer_to (F.told files.old) (Some (Replay policy.now recording.now))) (replayed (options_seen x.options) (recording_seen x.recording))) }
+    ensures size { IfOk result (λ x. size (recording_seen x.recording).events ≤ RECORDING_LIMIT) }
+    ensures stops { IfErr result (λ stop. StopsBy (F.told files.old) (Some (Replay policy.now recording.now)) stop) }
+    ensures cause { IfErr result (λ stop. CausedBy (Rose (F.faults files.old) (F.faults files.new)) ⊥ stop) }
+    ensures count { F.faults files.old ≤ F.faults files.new }
+{
+    match load_policy(alloc, files, policy) {
+        Ok(options) => match load_recording(alloc, files, recording) {
+            Ok(recording) => Ok(Loaded { options, recording }),
+            Err(stop) => Err(stop),
+        },
+        Err(stop) => Err(stop),
+    }
+}
+
+/// Reads and checks the policy file.
+fn load_policy<'a, F: Files>(
+    alloc: Global,
+    files: &mut F,
+    path: &'a str,
+) -> Result<Options, Stop<'a>>
+    ensures loads { Loads options_seen checked_policy (F.told files.old path.now) path.now result }
+    ensures cause { IfErr result (λ stop. CausedBy (Rose (F.faults files.old) (F.faults files.new)) ⊥ stop) }
+    ensures count { F.faults files.old ≤ F.faults files.new }
+    ensures kept { (p : List ℕ) → F.told files.new p ≡ F.told files.old p }
+{
+    match read_whole(alloc, files, path, POLICY_LIMIT) {
+        Ok(bytes) => match policy_options(alloc, &bytes) {
+            Ok(options) => Ok(options),
+            Err(LineRefusal::Bad(word)) => Err(Stop::Refused(Refusal::PolicyWord(word))),
+            Err(LineRefusal::Memory) => Err(Stop::Memory),
+        },
+        Err(FileFault::TooLong) => Err(Stop::Refused(Refusal::PolicyTooLong)),
+        Err(FileFault::Failed) => Err(Stop::File(path)),
+        Err(FileFault::Memory) => Err(Stop::Memory),
+    }
+}
+
+/// The options that a policy file's words give.
+fn policy_options(alloc: Global, bytes: &[u8]) -> Result<Options, LineRefusal>
+    ensures { Gives options_seen result (options_in bytes.now) }
+{
+    let words = words_of(alloc, bytes)?;
+    read_options(alloc, &words)
+}
+
+/// Reads and checks the recording.
+fn load_recording<'a, F: Files>(
+    alloc: Global,
+    files: &mut F,
+    path: &'a str,
+) -> Result<Recording, Stop<'a>>
+    ensures loads { Loads recording_seen checked_recording (F.told files.old path.now) path.now result }
+    ensures size { IfOk result (λ r. size (recording_seen r).events ≤ RECORDING_LIMIT) }
+    ensures cause { IfErr result (λ stop. CausedBy (Rose (F.faults files.old) (F.faults files.new)) ⊥ stop) }
+    ensures count { F.faults files.old ≤ F.faults files.new }
+{
+    match read_whole(alloc, files, path, RECORDING_LIMIT) {
+        Ok(bytes) => match recording::read(alloc, &bytes) {
+            Ok(recording) => Ok(recording),
+            Err(RecordingRefusal::Bad(_)) => Err(Stop::Refused(Refusal::Recording)),
+            Err(RecordingRefusal::Memory) => Err(Stop::Memory),
+        },
+        Err(FileFault::TooLong) => Err(Stop::Refused(Refusal::Recording)),
+        Err(FileFault::Failed) => Err(Stop::File(path)),
+        Err(FileFault::Memory) => Err(Stop::Memory),
+    }
+}

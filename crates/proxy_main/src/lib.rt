@@ -1,0 +1,66 @@
+//! The program behind its command line.
+//!
+//! `replay POLICY RECORDING` plays a recorded session under a policy, and writes what its sides get
+//! on the standard output. A run ends with a status, and with a line on the standard error where
+//! the status says that something is wrong.
+#![tactic(auto)]
+
+mod disk_files;
+mod files;
+mod lines;
+mod program;
+mod std_sink;
+mod stops;
+#[cfg(test)]
+mod tests;
+mod words;
+mod work;
+
+ghost use Rattle.std.specs.Prelude.{◌≤◌};
+
+pub use disk_files::DiskFiles;
+use policy_args::BadWord;
+pub use program::run;
+pub use std_sink::StdSink;
+
+/// The most bytes that a policy file may have, 16 MiB: far more than the 65,535 entries of a
+/// policy take, and little beside the memory of a program.
+pub const POLICY_LIMIT: usize = 16_777_216;
+
+/// Why the words or a file are refused.
+#[derive(Clone, Copy, Debug, PartialEq, Eq)]
+pub enum Refusal {
+    /// The words name no command.
+    Usage,
+    /// A word of the policy file is bad.
+    PolicyWord(BadWord),
+    /// The policy file has more than `POLICY_LIMIT` bytes.
+    PolicyTooLong,
+    /// The recording has a fault, or more than `recording::RECORDING_LIMIT` bytes.
+    Recording,
+}
+
+/// Why a run stops before its work is done.
+#[derive(Clone, Copy, Debug, PartialEq, Eq)]
+pub(crate) enum Stop<'a> {
+    /// The words or a file are refused.
+    Refused(Refusal),
+    /// The file at this path was not read.
+    File(&'a str),
+    /// The output was not written.
+    Sink,
+    /// Memory ran out.
+    Memory,
+}
+
+/// The status of a run.
+///
+/// 0: the whole output was written. 1: the words name no command. 2: the policy file is refused.
+/// 3: the recording is refused. 4: a file was not read. 6: the output was not written. 8: memory
+/// ran out.
+#[derive(Clone, Copy, Debug, PartialEq, Eq)]
+pub struct Status {
+    /// The number that the process ends with.
+    pub code: u8,
+    ghost small: { code ≤ 8 },
+}

@@ -1,0 +1,60 @@
+//! The line on err of each status that has one.
+ghost use Rattle.std.specs.Prelude.{◌≡◌, IfOk, string_bytes};
+ghost use Rattle.link_traits.specs.Told.{Rose};
+ghost use Rattle.proxy_main.specs.Lines.{refusal_line, word_line, kind_name, file_line};
+ghost use Rattle.proxy_main.specs.Endings.{Said};
+
+use crate::Refusal;
+use link_traits::{Sink, write_all};
+use policy_args::WordKind;
+use std::alloc::{AllocError, Global};
+
+/// The line of a refusal.
+pub fn refusal_text(alloc: Global, refusal: Refusal) -> Result<String, AllocError>
+    ensures { IfOk result (λ text. string_bytes text ≡ refusal_line refusal) }
+{
+    match refusal {
+        Refusal::Usage => String::from_str(alloc, "error: usage\n"),
+        Refusal::PolicyWord(bad) => word_text(alloc, bad.index, name(bad.kind)),
+        Refusal::PolicyTooLong => String::from_str(alloc, "error: policy file too long\n"),
+        Refusal::Recording => String::from_str(alloc, "error: recording\n"),
+    }
+}
+
+/// The line of a file that was not read.
+#[tactic(auto, unfolding(crate::specs::Lines::file_line))]
+pub fn file_text(alloc: Global, path: &str) -> Result<String, AllocError>
+    ensures { IfOk result (λ text. string_bytes text ≡ file_line path.now) }
+{
+    format!(in alloc; "error: file {path}\n")
+}
+
+/// Says a line. Where the sink fails it got a front of it.
+pub fn say<E: Sink>(err: &mut E, line: &str)
+    ensures { Said (Rose (E.faults err.old) (E.faults err.new)) (E.told err.old) (E.told err.new) line.now }
+{
+    let _ = write_all(err, line.as_bytes());
+}
+
+/// The line of a bad word of a policy file.
+fn word_text(alloc: Global, index: usize, kind: &str) -> Result<String, AllocError>
+    ensures { IfOk result (λ text. string_bytes text ≡ word_line index kind.now) }
+{
+    format!(in alloc; "error: policy word {index}: {kind}\n")
+}
+
+/// The name of what is wrong with a word.
+fn name(kind: WordKind) -> &'static str
+    ensures { result.now ≡ kind_name kind }
+{
+    match kind {
+        WordKind::UnknownOption => "UnknownOption",
+        WordKind::BadName => "BadName",
+        WordKind::BadRule => "BadRule",
+        WordKind::BadAddress => "BadAddress",
+        WordKind::NoPath => "NoPath",
+        WordKind::OptionBeforeAddress => "OptionBeforeAddress",
+        WordKind::BadNumber => "BadNumber",
+        WordKind::TooMany => "TooMany",
+    }
+}

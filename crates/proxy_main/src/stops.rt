@@ -1,0 +1,69 @@
+//! What is said of a run that stopped, and its status.
+ghost use Rattle.std.specs.Prelude.{◌≡◌, ◌≤◌};
+ghost use Rattle.link_traits.specs.Told.{Rose};
+ghost use Rattle.proxy_main.specs.Answers.{refusal_code};
+ghost use Rattle.proxy_main.specs.Lines.{refusal_line, file_line, memory_line};
+ghost use Rattle.proxy_main.specs.Endings.{Said, IsTold, StopTold};
+
+use crate::lines::{file_text, refusal_text, say};
+use crate::{Refusal, Status, Stop};
+use link_traits::Sink;
+use std::alloc::Global;
+
+/// Says why a run stopped, and gives its status.
+pub fn tell<E: Sink>(alloc: Global, stop: Stop<'_>, err: &mut E) -> Status
+    ensures { StopTold (Rose (E.faults err.old) (E.faults err.new)) (E.told err.old) (E.told err.new) result.code stop.entry }
+{
+    match stop {
+        Stop::Refused(refusal) => tell_refusal(alloc, refusal, err),
+        Stop::File(path) => tell_file(alloc, path, err),
+        Stop::Sink => Status { code: 6 },
+        Stop::Memory => tell_memory(err),
+    }
+}
+
+/// Says the line of a refusal.
+fn tell_refusal<E: Sink>(alloc: Global, refusal: Refusal, err: &mut E) -> Status
+    ensures { IsTold (refusal_code refusal) (refusal_line refusal) (Rose (E.faults err.old) (E.faults err.new)) (E.told err.old) (E.told err.new) result.code }
+{
+    if let Ok(text) = refusal_text(alloc, refusal) {
+        say(err, text.as_str());
+        return Status {
+            code: code(refusal),
+        };
+    }
+    tell_memory(err)
+}
+
+/// Says the line of a file that was not read.
+fn tell_file<E: Sink>(alloc: Global, path: &str, err: &mut E) -> Status
+    ensures { IsTold 4 (file_line path.now) (Rose (E.faults err.old) (E.faults err.new)) (E.told err.old) (E.told err.new) result.code }
+{
+    if let Ok(text) = file_text(alloc, path) {
+        say(err, text.as_str());
+        return Status { code: 4 };
+    }
+    tell_memory(err)
+}
+
+/// Says that memory ran out.
+fn tell_memory<E: Sink>(err: &mut E) -> Status
+    ensures code { result.code ≡ 8 }
+    ensures said { Said (Rose (E.faults err.old) (E.faults err.new)) (E.told err.old) (E.told err.new) memory_line }
+{
+    say(err, "error: memory\n");
+    Status { code: 8 }
+}
+
+/// The status of a refusal.
+fn code(refusal: Refusal) -> u8
+    ensures code { result ≡ refusal_code refusal }
+    ensures small { result ≤ 8 }
+{
+    match refusal {
+        Refusal::Usage => 1,
+        Refusal::PolicyWord(_) => 2,
+        Refusal::PolicyTooLong => 2,
+        Refusal::Recording => 3,
+    }
+}

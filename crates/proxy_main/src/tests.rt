@@ -1,0 +1,277 @@
+//! Whole runs over files and sinks in memory.
+mod messages;
+
+use crate::{DiskFiles, POLICY_LIMIT, StdSink, run};
+use link_traits::{FileFault, Files, MemFile, MemFiles, MemSink, Sink};
+use messages::Message::{Call, OtherServiceUnknown, Ping, Return, ServiceUnknown, Signal};
+use messages::{Message, output, recording};
+use std::alloc::{AllocError, Global};
+use std::fs;
+use std::process::Abort;
+use std::test::Fail;
+
+const BUS: &str = "org.freedesktop.DBus";
+
+const FILTER: &[u8] = b"--filter";
+
+const TALK: &[u8] = b"--filter\0--talk=org.a.T\0";
+
+const EMPTY_RECORDING: &[u8] = b"DBPR\x01\0";
+
+const SIGNAL: (u8, Message<'static>) = (0, Signal(1, "/p", "org.a.I", "S"));
+
+const REPLAY: [&str; 3] = ["replay", "policy", "recording"];
+
+/// What a run ended with.
+#[derive(Drop)]
+struct Ended {
+    code: u8,
+    out: MemSink,
+    err: MemSink,
+}
+
+/// A run of these words over these files, with room for so many bytes of output.
+fn run_over(
+    alloc: Global,
+    words: &[&str],
+    files: &[(&str, &[u8])],
+    room: usize,
+) -> Result<Ended, AllocError> {
+    let mut files = mem_files(alloc, files)?;
+    let words = owned(alloc, words)?;
+    let mut out = MemSink::new(alloc, room)?;
+    let mut err = MemSink::new(alloc, 100)?;
+    let status = run(alloc, &words, &mut files, &mut out, &mut err);
+    Ok(Ended {
+        code: status.code,
+        out,
+        err,
+    })
+}
+
+fn owned(alloc: Global, words: &[&str]) -> Result<Vec<String>, AllocError> {
+    let mut owned = Vec::new(alloc);
+    for word in words {
+        owned.push(String::from_str(alloc, word)?)?;
+    }
+    Ok(owned)
+}
+
+fn mem_files(alloc: Global, files: &[(&str, &[u8])]) -> Result<MemFiles, AllocError> {
+    let mut all = Vec::new(alloc);
+    for (path, bytes) in files {
+        all.push(MemFile {
+            path: String::from_str(alloc, path)?,
+            bytes: Vec::from_slice(alloc, bytes)?,
+            fails: false,
+        })?;
+    }
+    Ok(MemFiles::new(all))
+}
+
+/// A replay of a recording under a policy, with room for so many bytes of output.
+fn replay(
+    alloc: Global,
+    policy: &[u8],
+    recording: &[u8],
+    room: usize,
+) -> Result<Ended, AllocError> {
+    let files = [("policy", policy), ("recording", recording)];
+    run_over(alloc, &REPLAY, &files, room)
+}
+
+fn assert_ends(rt: &impl Abort, ended: &Ended, code: u8, out: &[u8], err: &[u8]) {
+    assert_eq!(rt; ended.err.bytes.as_slice(), err);
+    assert_eq!(rt; ended.out.bytes.as_slice(), out);
+    assert_eq!(rt; ended.code, code);
+}
+
+/// Asserts which messages a replay of these items, of the client (0) and of the bus (1), gives to
+/// the bus and to the client.
+fn assert_gives(
+    rt: &impl Abort,
+    alloc: Global,
+    items: &[(u8, Message<'_>)],
+    to_bus: &[Message<'_>],
+    to_client: &[Message<'_>],
+) -> Result<(), AllocError> {
+    let ended = replay(alloc, TALK, &recording(alloc, items)?, 10_000)?;
+    assert_ends(rt, &ended, 0, &output(alloc, to_bus, to_client)?, b"");
+    Ok(())
+}
+
+#[test]
+fn empty_recording_gives_nothing(rt: HostRuntime) -> Result<(), Fail> {
+    let ended = replay(rt.alloc(), FILTER, EMPTY_RECORDING, 100)?;
+    assert_ends(&rt, &ended, 0, b"", b"");
+    Ok(())
+}
+
+#[test]
+fn replies_reach_their_own_calls_of_a_serial_used_twice(rt: HostRuntime) -> Result<(), Fail> {
+    let items = [
+        (0, Call(7, "org.a.T", "/p", "org.a.I", "A")),
+        (0, Call(7, "org.a.T", "/p", "org.a.I", "B")),
+        (1, Return(60, 2, ":1.7", ":1.40")),
+        (1, Return(61, 1, ":1.7", ":1.40")),
+        (1, Return(62, 1, ":1.7", ":1.40")),
+    ];
+    let to_bus = [
+        Call(1, "org.a.T", "/p", "org.a.I", "A"),
+        Call(2, "org.a.T", "/p", "org.a.I", "B"),
+    ];
+    let to_client = [
+        Return(60, 7, ":1.7", ":1.40"),
+        Return(61, 7, ":1.7", ":1.40"),
+    ];
+    assert_gives(&rt, rt.alloc(), &items, &to_bus, &to_client)?;
+    Ok(())
+}
+
+#[test]
+fn signal_of_the_client_is_not_built(rt: HostRuntime) -> Result<(), Fail> {
+    let recording = recording(rt.alloc(), &[SIGNAL])?;
+    let ended = replay(rt.alloc(), FILTER, &recording, 100)?;
+    assert_ends(&rt, &ended, 0, b"\x12\x01\0\0\0\x0d", b"");
+    Ok(())
+}
+
+#[test]
+fn error_stands_in_the_place_of_the_answer_to_its_ping(rt: HostRuntime) -> Result<(), Fail> {
+    let items = [
+        (0, Call(1, "org.a.T", "/p", "org.a.I", "A")),
+        (0, Call(2, "org.h.X", "/p", "org.a.I", "A")),
+        (0, Call(3, "org.a.T", "/p", "org.a.I", "B")),
+        (1, Return(50, 3, ":1.7", ":1.40")),
+        (1, Return(51, 2, BUS, ":1.40")),
+        (1, Return(52, 1, ":1.7", ":1.40")),
+    ];
+    let to_bus = [
+        Call(1, "org.a.T", "/p", "org.a.I", "A"),
+        Ping,
+        Call(3, "org.a.T", "/p", "org.a.I", "B"),
+    ];
+    let to_client = [
+        Return(50, 3, ":1.7", ":1.40"),
+        OtherServiceUnknown(51, 2),
+        Return(52, 1, ":1.7", ":1.40"),
+    ];
+    assert_gives(&rt, rt.alloc(), &items, &to_bus, &to_client)?;
+    Ok(())
+}
+
+#[test]
+fn hidden_call_is_a_ping_and_its_answer_an_error(rt: HostRuntime) -> Result<(), Fail> {
+    let items = [
+        (0, Call(9, "org.a.T", "/x", "org.h.I", "M")),
+        (0, Call(10, "org.h.X", "/x", "org.h.I", "M")),
+        (1, Return(101, 2, BUS, ":1.40")),
+    ];
+    let to_bus = [Call(1, "org.a.T", "/x", "org.h.I", "M"), Ping];
+    assert_gives(&rt, rt.alloc(), &items, &to_bus, &[ServiceUnknown])?;
+    Ok(())
+}
+
+#[test]
+fn output_without_room_is_cut_with_status_6(rt: HostRuntime) -> Result<(), Fail> {
+    let recording = recording(rt.alloc(), &[SIGNAL])?;
+    let ended = replay(rt.alloc(), FILTER, &recording, 3)?;
+    assert_ends(&rt, &ended, 6, b"\x12\x01\0", b"");
+    Ok(())
+}
+
+#[test]
+fn words_of_another_form_are_usage(rt: HostRuntime) -> Result<(), Fail> {
+    let cases: [&[&str]; 8] = [
+        &[],
+        &["play", "policy", "recording"],
+        &["replay"],
+        &["replay", "policy"],
+        &["replay", "policy", "recording", "more"],
+        &["replay", "--policy", "recording"],
+        &["replay", "policy", "-"],
+        &["--help"],
+    ];
+    let files = [("policy", FILTER), ("recording", EMPTY_RECORDING)];
+    for words in cases {
+        let ended = run_over(rt.alloc(), words, &files, 100)?;
+        assert_ends(&rt, &ended, 1, b"", b"error: usage\n");
+    }
+    Ok(())
+}
+
+#[test]
+fn bad_files_have_a_status_and_a_line(rt: HostRuntime) -> Result<(), Fail> {
+    let cases: [(&[u8], &[u8], u8, &[u8]); 7] = [
+        (
+            b"--filter\0--colour\0",
+            EMPTY_RECORDING,
+            2,
+            b"error: policy word 1: UnknownOption\n",
+        ),
+        (
+            b"--talk=org",
+            EMPTY_RECORDING,
+            2,
+            b"error: policy word 0: BadName\n",
+        ),
+        (
+            b"--filter\0\xff",
+            EMPTY_RECORDING,
+            2,
+            b"error: policy word 1: UnknownOption\n",
+        ),
+        (
+            b"--colour",
+            b"DBP",
+            2,
+            b"error: policy word 0: UnknownOption\n",
+        ),
+        (FILTER, b"DBP", 3, b"error: recording\n"),
+        (FILTER, b"DBPR\x09\0", 3, b"error: recording\n"),
+        (FILTER, b"DBPR\x01\0\x07", 3, b"error: recording\n"),
+    ];
+    for (policy, recording, code, line) in cases {
+        let ended = replay(rt.alloc(), policy, recording, 100)?;
+        assert_ends(&rt, &ended, code, b"", line);
+    }
+    Ok(())
+}
+
+#[test]
+fn the_first_missing_file_is_named(rt: HostRuntime) -> Result<(), Fail> {
+    let none = run_over(rt.alloc(), &REPLAY, &[], 100)?;
+    assert_ends(&rt, &none, 4, b"", b"error: file policy\n");
+    let one = run_over(rt.alloc(), &REPLAY, &[("policy", FILTER)], 100)?;
+    assert_ends(&rt, &one, 4, b"", b"error: file recording\n");
+    Ok(())
+}
+
+#[test]
+fn policy_file_above_its_limit_is_too_long(rt: HostRuntime) -> Result<(), Fail> {
+    let mut policy = Vec::new(rt.alloc());
+    policy.resize(POLICY_LIMIT + 1, 0)?;
+    let ended = replay(rt.alloc(), &policy, EMPTY_RECORDING, 100)?;
+    assert_ends(&rt, &ended, 2, b"", b"error: policy file too long\n");
+    Ok(())
+}
+
+#[test]
+fn disk_files_are_read_within_a_limit(rt: HostRuntime) -> Result<(), Fail> {
+    let path = "disk_files_are_read_within_a_limit";
+    fs::write(&rt, path, b"--filter")?;
+    let mut files = DiskFiles::new(&rt);
+    let mut into = Vec::new(rt.alloc());
+    assert_eq!(rt; files.read(path, 8, &mut into), Ok(()));
+    assert_eq!(rt; files.read(path, 7, &mut into), Err(FileFault::TooLong));
+    assert_eq!(rt; files.read("missing", 8, &mut into), Err(FileFault::Failed));
+    assert_eq!(rt; into.as_slice(), FILTER);
+    Ok(())
+}
+
+#[test]
+fn standard_output_takes_what_is_written(rt: HostRuntime) {
+    let mut out = StdSink::new(rt.stdout());
+    assert_eq!(rt; out.write(b""), Ok(0));
+    assert_eq!(rt; out.write(b"\n"), Ok(1));
+}

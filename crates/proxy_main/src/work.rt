@@ -1,0 +1,56 @@
+//! The work that the words ask for.
+ghost use Rattle.std.specs.Prelude.{◌≡◌, Some, map, string_bytes, IfErr, OnOk};
+ghost use Rattle.link_traits.specs.Told.{Rose};
+ghost use Rattle.proxy_main.specs.Words.{reading, Replay};
+ghost use Rattle.proxy_main.specs.Answers.{answer_of, answer_to};
+ghost use Rattle.proxy_main.specs.Loads.{StopsBy, CausedBy, Keeps, IsDone};
+
+use crate::files::load;
+use crate::words::{ReplayWords, read_words};
+use crate::{Refusal, Stop};
+use link_traits::{Files, Sink};
+use replay::{ReplayFault, replay};
+use std::alloc::Global;
+
+/// Reads the words and does what they ask for.
+pub fn work<'a, F: Files, O: Sink>(
+    alloc: Global,
+    words: &'a [String],
+    files: &mut F,
+    out: &mut O,
+) -> Result<(), Stop<'a>>
+    ensures done { OnOk result (IsDone (answer_of (map (λ w. string_bytes w) words.now) (F.told files.old)) (O.told out.old) (O.told out.new)) }
+    ensures stops { IfErr result (λ stop. StopsBy (F.told files.old) (reading (map (λ w. string_bytes w) words.now)) stop) }
+    ensures cause { IfErr result (λ stop. CausedBy (Rose (F.faults files.old) (F.faults files.new)) (Rose (O.faults out.old) (O.faults out.new)) stop) }
+    ensures keeps { IfErr result (λ stop. Keeps (answer_of (map (λ w. string_bytes w) words.now) (F.told files.old)) (O.told out.old) (O.told out.new) stop) }
+{
+    match read_words(words) {
+        Some(ReplayWords { policy, recording }) => {
+            work_replay(alloc, policy, recording, files, out)
+        }
+        None => Err(Stop::Refused(Refusal::Usage)),
+    }
+}
+
+/// Reads the files of a replay and plays it.
+fn work_replay<'a, F: Files, O: Sink>(
+    alloc: Global,
+    policy: &'a str,
+    recording: &'a str,
+    files: &mut F,
+    out: &mut O,
+) -> Result<(), Stop<'a>>
+    ensures done { OnOk result (IsDone (answer_to (F.told files.old) (Some (Replay policy.now recording.now))) (O.told out.old) (O.told out.new)) }
+    ensures stops { IfErr result (λ stop. StopsBy (F.told files.old) (Some (Replay policy.now recording.now)) stop) }
+    ensures cause { IfErr result (λ stop. CausedBy (Rose (F.faults files.old) (F.faults files.new)) (Rose (O.faults out.old) (O.faults out.new)) stop) }
+    ensures keeps { IfErr result (λ stop. Keeps (answer_to (F.told files.old) (Some (Replay policy.now recording.now))) (O.told out.old) (O.told out.new) stop) }
+{
+    match load(alloc, files, policy, recording) {
+        Ok(loaded) => match replay(alloc, &loaded.options, &loaded.recording, out) {
+            Ok(()) => Ok(()),
+            Err(ReplayFault::Out) => Err(Stop::Sink),
+            Err(ReplayFault::Memory) => Err(Stop::Memory),
+        },
+        Err(stop) => Err(stop),
+    }
+}

@@ -1,0 +1,4 @@
+pub mod Parts
+pub mod Events
+pub mod Sides
+pub mod Records

@@ -1,0 +1,17 @@
+use Rattle.std.proofs.Common.{◌≡◌, ◌≤◌, ◌++◌, ℕ, List, length}
+use Rattle.link_traits.specs.Told.{added}
+use Rattle.replay.specs.Waiting.{with_waiting}
+use Rattle.proxy_core.specs.Sessions.{waits_for}
+use Rattle.replay.proofs.writing.write_waiting.Given as goal
+
+abbrev pub invariant-loop-side : goal.invariant-loop-side
+invariant-loop-side g l = record {
+  written : List ℕ;
+  split : waits_for l.side l.fn.session ≡ written ++ waits_for l.side l.session;
+  got : g.O.Sink.told l.out ≡ added written (g.O.Sink.told l.fn.out);
+  same : l.session ≡ with_waiting l.side (waits_for l.side l.session) l.fn.session;
+  count : g.O.Sink.faults l.fn.out ≤ g.O.Sink.faults l.out;
+}
+
+abbrev pub decreases-loop-side : goal.decreases-loop-side
+decreases-loop-side g l = length (waits_for l.side l.session)

@@ -1,0 +1,92 @@
+-- What a replay writes: a record of the bytes for the bus, one of those for the client, and one of the session's End.
+use Rattle.std.specs.Prelude.{ℕ, ◌==◌, if◌then◌else◌, Bool, List, [], ◌∷◌, ◌++◌, length, map, reverse, Option, Some, None}
+use Rattle.std.specs.Int.{w32, w64, to_le_bytes}
+use Rattle.dbus_header.specs.declared.MalformedKind.{MalformedKind}
+use Rattle.dbus_header.specs.declared.MalformedKind.TheVariants.{ByteOrder, MessageType, Version, Length, Serial, Fields, Required, Body, Descriptors}
+use Rattle.policy_args.specs.Policy.{Policy}
+use Rattle.policy_view.specs.declared.Side.{Side}
+use Rattle.policy_view.specs.declared.Side.TheVariants.{Client, Bus}
+use Rattle.policy_view.specs.declared.Mode.{Mode}
+use Rattle.policy_view.specs.declared.Fault.{Fault}
+use Rattle.policy_view.specs.declared.Fault.TheVariants.{Message}
+use Rattle.policy_view.specs.declared.End.{End}
+use Rattle.policy_view.specs.declared.End.TheVariants.{ClientMalformed, BusMalformed, ClientEnd, BusEnd, SerialsSpent, Memory, ClientRead, ClientWrite, BusRead, BusWrite, BusConnect, LogFault, NotBuilt}
+use Rattle.policy_view.specs.History.{Event, Bytes, Finished, history, end_of}
+use Rattle.policy_view.specs.Outputs.{bus_bytes, client_bytes}
+use Rattle.recording.specs.declared.Side.{Side as RecordedSide}
+use Rattle.recording.specs.declared.Side.TheVariants as recorded_side
+use Rattle.recording.specs.Recording as recorded
+
+-- ---- the events of a recording
+
+abbrev pub side_of : RecordedSide → Side
+side_of recorded_side.Client = Client
+side_of recorded_side.Bus = Bus
+
+abbrev pub event_of : recorded.Event → Event
+event_of (recorded.Bytes side piece) = Bytes (side_of side) piece
+event_of (recorded.Finished side) = Finished (side_of side)
+
+-- what happens to the session, the newest first
+abbrev pub events_of : List recorded.Event → List Event
+events_of events = reverse (map event_of events)
+
+-- ---- records
+
+-- a kind byte and a length in four bytes, the lowest first
+unfoldable pub header : ℕ → ℕ → List ℕ
+header kind len = kind ∷ to_le_bytes w32 len
+
+abbrev pub record_of : ℕ → List ℕ → List ℕ
+record_of kind bytes = header kind (length bytes) ++ bytes
+
+-- a record where there are bytes
+abbrev pub record_where_any : ℕ → List ℕ → List ℕ
+record_where_any kind bytes = if length bytes == 0 then [] else record_of kind bytes
+
+-- ---- the record of an End
+
+abbrev pub malformed_number : MalformedKind → ℕ
+malformed_number ByteOrder = 1
+malformed_number MessageType = 2
+malformed_number Version = 3
+malformed_number Length = 4
+malformed_number Serial = 5
+malformed_number Fields = 6
+malformed_number Required = 7
+malformed_number Body = 8
+malformed_number Descriptors = 9
+
+-- a byte for the form of the fault, which is 1 for a message's, a byte for its kind, and its place in eight bytes
+abbrev pub fault_bytes : Fault → List ℕ
+fault_bytes (Message m) = 1 ∷ malformed_number m.kind ∷ to_le_bytes w64 m.at
+
+-- the End's number, and what is wrong with a malformed stream
+abbrev pub end_bytes : End → List ℕ
+end_bytes (ClientMalformed fault) = 1 ∷ fault_bytes fault
+end_bytes (BusMalformed fault) = 2 ∷ fault_bytes fault
+end_bytes ClientEnd = 3 ∷ []
+end_bytes BusEnd = 4 ∷ []
+end_bytes SerialsSpent = 5 ∷ []
+end_bytes Memory = 6 ∷ []
+end_bytes ClientRead = 7 ∷ []
+end_bytes ClientWrite = 8 ∷ []
+end_bytes BusRead = 9 ∷ []
+end_bytes BusWrite = 10 ∷ []
+end_bytes BusConnect = 11 ∷ []
+end_bytes LogFault = 12 ∷ []
+end_bytes NotBuilt = 13 ∷ []
+
+abbrev pub end_record : Option End → List ℕ
+end_record None = []
+end_record (Some end) = record_of 18 (end_bytes end)
+
+-- ---- the output
+
+-- All bytes for the bus, all bytes for the client, and the End, where there are any, of the history that a recording's
+-- events have under a policy.
+unfoldable pub output_of_recording : Policy → Bool → recorded.Recording → List ℕ
+output_of_recording policy filter recording =
+    let mode : Mode = record { auth = recording.auth; filter = filter } in
+    let h = history policy mode (events_of recording.events) in
+    record_where_any 16 (bus_bytes policy h) ++ record_where_any 17 (client_bytes policy h) ++ end_record (end_of h)

@@ -1,0 +1,94 @@
+//! Giving a session the events of a recording.
+ghost use Rattle.std.specs.Prelude.{◌≡◌, ◌≤◌, ◌<◌, ◌+◌, ◌*◌, ◌^◌, ◌∷◌, List, [], length, map, IfOk};
+ghost use Rattle.policy_args.specs.Policy.{Policy as PolicyValue};
+ghost use Rattle.policy_view.specs.History.{Event as SessionEvent, Bytes, Finished};
+ghost use Rattle.proxy_core.specs.Sessions.{StandsFor, Taken, nothing, is_memory as ended_for_memory};
+ghost use Rattle.recording.specs.Seen.{recording_seen, seen, size, size_of};
+ghost use Rattle.replay.specs.Output.{event_of, events_of, side_of, output_of_recording};
+ghost use Rattle.replay.specs.Waiting.{output_of};
+
+use policy_args::{Options, Policy};
+use policy_view::{End, Mode};
+use proxy_core::Session;
+use recording::{Event, RECORDING_LIMIT, Recording, Side};
+use std::alloc::{AllocError, Global};
+
+/// A piece of a side's stream came.
+fn feed(session: &mut Session, policy: &Policy, side: Side, piece: &[u8])
+    ensures stands { (events : List SessionEvent) (taken : Taken) → StandsFor policy.now session.old events taken → StandsFor policy.now session.new (Bytes (side_of side) piece.now ∷ events) taken }
+    ensures mode { session.new.mode ≡ session.old.mode }
+    ensures for_bus { length session.new.bus_side ≤ length session.old.bus_side + 9 * length piece.now }
+    ensures for_client { length session.new.client_side ≤ length session.old.client_side + 9 * length piece.now }
+{
+    let _ = match side {
+        Side::Client => session.feed_client(policy, piece),
+        Side::Bus => session.feed_bus(policy, piece),
+    };
+}
+
+/// A side's stream ended.
+fn finish(session: &mut Session, side: Side)
+    ensures stands { (policy : PolicyValue) (events : List SessionEvent) (taken : Taken) → StandsFor policy session.old events taken → StandsFor policy session.new (Finished (side_of side) ∷ events) taken }
+    ensures mode { session.new.mode ≡ session.old.mode }
+    ensures for_bus { session.new.bus_side ≡ session.old.bus_side }
+    ensures for_client { session.new.client_side ≡ session.old.client_side }
+{
+    let _ = match side {
+        Side::Client => session.client_ended(),
+        Side::Bus => session.bus_ended(),
+    };
+}
+
+/// Plays one event. A session that has ended takes it without an effect.
+fn play_event(session: &mut Session, policy: &Policy, event: &Event)
+    ensures stands { (events : List SessionEvent) (taken : Taken) → StandsFor policy.now session.old events taken → StandsFor policy.now session.new (event_of (seen event.now) ∷ events) taken }
+    ensures mode { session.new.mode ≡ session.old.mode }
+    ensures for_bus { length session.new.bus_side ≤ length session.old.bus_side + 9 * size_of (seen event.now) }
+    ensures for_client { length session.new.client_side ≤ length session.old.client_side + 9 * size_of (seen event.now) }
+{
+    match event {
+        Event::Bytes(side, bytes) => feed(session, policy, *side, bytes.as_slice()),
+        Event::Finished(side) => finish(session, *side),
+    }
+}
+
+/// Plays events in order on a session that has taken nothing.
+fn play_events(session: &mut Session, policy: &Policy, events: &[Event])
+    ensures stands { StandsFor policy.now session.old [] nothing → StandsFor policy.now session.new (events_of (map seen events.now)) nothing }
+    ensures mode { session.new.mode ≡ session.old.mode }
+    ensures for_bus { length session.new.bus_side ≤ length session.old.bus_side + 9 * size (map seen events.now) }
+    ensures for_client { length session.new.client_side ≤ length session.old.client_side + 9 * size (map seen events.now) }
+{
+    for event in events {
+        play_event(session, policy, event);
+    }
+}
+
+/// Whether a session ended for want of memory.
+fn is_memory(ended: Option<End>) -> bool
+    ensures { result ≡ ended_for_memory ended }
+{
+    match ended {
+        Some(End::Memory) => true,
+        _ => false,
+    }
+}
+
+/// The session of a recording, once all of its events were played. It is refused where memory is, in its midst too.
+pub fn play(alloc: Global, options: &Options, recording: &Recording) -> Result<Session, AllocError>
+    requires size { size (recording_seen recording.now).events ≤ RECORDING_LIMIT }
+    ensures output { IfOk result (λ s. output_of s ≡ output_of_recording options.now.policy options.now.filter (recording_seen recording.now)) }
+    ensures for_bus { IfOk result (λ s. length s.bus_side < 2 ^ 32) }
+    ensures for_client { IfOk result (λ s. length s.client_side < 2 ^ 32) }
+{
+    let mode = Mode {
+        auth: recording.auth,
+        filter: options.filter,
+    };
+    let mut session = Session::new(alloc, &options.policy, mode)?;
+    play_events(&mut session, &options.policy, &recording.events);
+    if is_memory(session.ended()) {
+        return Err(AllocError);
+    }
+    Ok(session)
+}

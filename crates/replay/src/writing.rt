@@ -1,0 +1,215 @@
+//! Writing what a session gives out, piece by piece as it lies in the session.
+ghost use Rattle.std.specs.Prelude.{◌≡◌, ◌≤◌, ◌<◌, ◌^◌, ◌∷◌, ◌++◌, [], length, drop, OnOk, OnErr};
+ghost use Rattle.link_traits.specs.Told.{added, Rose, Part};
+ghost use Rattle.proxy_core.specs.Sessions.{IsFront, waits_for};
+ghost use Rattle.replay.specs.Output.{header, record_of, record_where_any, malformed_number, fault_bytes, end_bytes, end_record};
+ghost use Rattle.replay.specs.Waiting.{with_waiting, kind_of, output_of};
+
+use dbus_header::{Malformed, MalformedKind};
+use link_traits::{Sink, SinkFault, write_all};
+use policy_view::{End, Fault, Side};
+use proxy_core::Session;
+
+/// The kind of the record that says why the session ended.
+const END_KIND: u8 = 18;
+
+/// How many bytes wait for a side.
+fn waiting(session: &Session, side: Side) -> u64
+    ensures { result ≡ length (waits_for side session.now) }
+{
+    match side {
+        Side::Client => session.client_waits(),
+        Side::Bus => session.bus_waits(),
+    }
+}
+
+/// The next piece that waits for a side.
+fn piece(session: &Session, side: Side) -> &[u8]
+    ensures front { IsFront result.now (waits_for side session.now) }
+    ensures all { length result.now ≡ 0 → waits_for side session.now ≡ [] }
+{
+    match side {
+        Side::Client => session.to_client(),
+        Side::Bus => session.to_bus(),
+    }
+}
+
+/// The first bytes that waited for a side were taken.
+fn took(session: &mut Session, side: Side, n: usize)
+    requires { n ≤ length (waits_for side session.old) }
+    ensures { session.new ≡ with_waiting side (drop n (waits_for side session.old)) session.old }
+{
+    match side {
+        Side::Client => session.took_client(n),
+        Side::Bus => session.took_bus(n),
+    }
+}
+
+/// The kind of a side's record.
+fn kind(side: Side) -> u8
+    ensures { result ≡ kind_of side }
+{
+    match side {
+        Side::Bus => 16,
+        Side::Client => 17,
+    }
+}
+
+/// Writes what waits for a side, piece by piece.
+fn write_waiting<O: Sink>(session: &mut Session, side: Side, out: &mut O) -> Result<(), SinkFault>
+    ensures ok { OnOk result (O.told out.new ≡ added (waits_for side session.old) (O.told out.old)) }
+    ensures part { Part (O.told out.old) (O.told out.new) (waits_for side session.old) }
+    ensures session { session.new ≡ with_waiting side (waits_for side session.new) session.old }
+    ensures cause { OnErr result (Rose (O.faults out.old) (O.faults out.new)) }
+    ensures count { O.faults out.old ≤ O.faults out.new }
+{
+    while waiting(session, side) > 0 {
+        let n = {
+            let next = piece(session, side);
+            write_all(out, next)?;
+            next.len()
+        };
+        took(session, side, n);
+    }
+    Ok(())
+}
+
+/// Writes a record's kind and length.
+#[tactic(auto, unfolding(crate::specs::Output::header))]
+fn write_header<O: Sink>(kind: u8, len: u64, out: &mut O) -> Result<(), SinkFault>
+    requires { len < 2 ^ 32 }
+    ensures ok { OnOk result (O.told out.new ≡ added (header kind len) (O.told out.old)) }
+    ensures part { Part (O.told out.old) (O.told out.new) (header kind len) }
+    ensures cause { OnErr result (Rose (O.faults out.old) (O.faults out.new)) }
+    ensures count { O.faults out.old ≤ O.faults out.new }
+{
+    let [a, b, c, d] = (len as u32).to_le_bytes();
+    write_all(out, &[kind, a, b, c, d])
+}
+
+/// Writes the record of what waits for a side.
+#[tactic(auto, using(crate::proofs::Parts::part_first, crate::proofs::Parts::part_second, crate::proofs::Parts::then_all))]
+fn write_record<O: Sink>(session: &mut Session, side: Side, out: &mut O) -> Result<(), SinkFault>
+    requires { length (waits_for side session.old) < 2 ^ 32 }
+    ensures ok { OnOk result (O.told out.new ≡ added (record_of (kind_of side) (waits_for side session.old)) (O.told out.old)) }
+    ensures part { Part (O.told out.old) (O.told out.new) (record_of (kind_of side) (waits_for side session.old)) }
+    ensures session { session.new ≡ with_waiting side (waits_for side session.new) session.old }
+    ensures cause { OnErr result (Rose (O.faults out.old) (O.faults out.new)) }
+    ensures count { O.faults out.old ≤ O.faults out.new }
+{
+    write_header(kind(side), waiting(session, side), out)?;
+    write_waiting(session, side, out)
+}
+
+/// Writes the record of what waits for a side, where something does.
+#[tactic(auto, using(crate::proofs::Parts::part_none))]
+fn write_side<O: Sink>(session: &mut Session, side: Side, out: &mut O) -> Result<(), SinkFault>
+    requires { length (waits_for side session.old) < 2 ^ 32 }
+    ensures ok { OnOk result (O.told out.new ≡ added (record_where_any (kind_of side) (waits_for side session.old)) (O.told out.old)) }
+    ensures part { Part (O.told out.old) (O.told out.new) (record_where_any (kind_of side) (waits_for side session.old)) }
+    ensures session { session.new ≡ with_waiting side (waits_for side session.new) session.old }
+    ensures cause { OnErr result (Rose (O.faults out.old) (O.faults out.new)) }
+    ensures count { O.faults out.old ≤ O.faults out.new }
+{
+    if waiting(session, side) == 0 {
+        return Ok(());
+    }
+    write_record(session, side, out)
+}
+
+/// The number of a kind of malformed message.
+fn malformed_kind(kind: MalformedKind) -> u8
+    ensures { result ≡ malformed_number kind }
+{
+    match kind {
+        MalformedKind::ByteOrder => 1,
+        MalformedKind::MessageType => 2,
+        MalformedKind::Version => 3,
+        MalformedKind::Length => 4,
+        MalformedKind::Serial => 5,
+        MalformedKind::Fields => 6,
+        MalformedKind::Required => 7,
+        MalformedKind::Body => 8,
+        MalformedKind::Descriptors => 9,
+    }
+}
+
+/// Writes the record of an End that is a number alone.
+#[tactic(auto, unfolding(crate::specs::Output::header))]
+fn write_number<O: Sink>(number: u8, out: &mut O) -> Result<(), SinkFault>
+    ensures ok { OnOk result (O.told out.new ≡ added (record_of END_KIND (number ∷ [])) (O.told out.old)) }
+    ensures part { Part (O.told out.old) (O.told out.new) (record_of END_KIND (number ∷ [])) }
+    ensures cause { OnErr result (Rose (O.faults out.old) (O.faults out.new)) }
+    ensures count { O.faults out.old ≤ O.faults out.new }
+{
+    write_all(out, &[END_KIND, 1, 0, 0, 0, number])
+}
+
+/// The malformed message of a fault.
+fn malformed_message(fault: Fault) -> Malformed
+    ensures { fault ≡ Fault.Message result }
+{
+    match fault {
+        Fault::Message(malformed) => malformed,
+    }
+}
+
+/// Writes the record of an End by a malformed stream.
+#[tactic(auto, unfolding(crate::specs::Output::header))]
+fn write_malformed<O: Sink>(number: u8, fault: Fault, out: &mut O) -> Result<(), SinkFault>
+    ensures ok { OnOk result (O.told out.new ≡ added (record_of END_KIND (number ∷ fault_bytes fault)) (O.told out.old)) }
+    ensures part { Part (O.told out.old) (O.told out.new) (record_of END_KIND (number ∷ fault_bytes fault)) }
+    ensures cause { OnErr result (Rose (O.faults out.old) (O.faults out.new)) }
+    ensures count { O.faults out.old ≤ O.faults out.new }
+{
+    let malformed = malformed_message(fault);
+    let kind = malformed_kind(malformed.kind);
+    let [a, b, c, d, e, f, g, h] = u64::from(malformed.at).to_le_bytes();
+    write_all(
+        out,
+        &[
+            END_KIND, 11, 0, 0, 0, number, 1, kind, a, b, c, d, e, f, g, h,
+        ],
+    )
+}
+
+/// Writes the record of the End, where the session ended.
+#[tactic(auto, using(crate::proofs::Parts::part_none))]
+fn write_end<O: Sink>(ended: Option<End>, out: &mut O) -> Result<(), SinkFault>
+    ensures ok { OnOk result (O.told out.new ≡ added (end_record ended) (O.told out.old)) }
+    ensures part { Part (O.told out.old) (O.told out.new) (end_record ended) }
+    ensures cause { OnErr result (Rose (O.faults out.old) (O.faults out.new)) }
+    ensures count { O.faults out.old ≤ O.faults out.new }
+{
+    match ended {
+        None => Ok(()),
+        Some(End::ClientMalformed(fault)) => write_malformed(1, fault, out),
+        Some(End::BusMalformed(fault)) => write_malformed(2, fault, out),
+        Some(End::ClientEnd) => write_number(3, out),
+        Some(End::BusEnd) => write_number(4, out),
+        Some(End::SerialsSpent) => write_number(5, out),
+        Some(End::Memory) => write_number(6, out),
+        Some(End::ClientRead) => write_number(7, out),
+        Some(End::ClientWrite) => write_number(8, out),
+        Some(End::BusRead) => write_number(9, out),
+        Some(End::BusWrite) => write_number(10, out),
+        Some(End::BusConnect) => write_number(11, out),
+        Some(End::LogFault) => write_number(12, out),
+        Some(End::NotBuilt) => write_number(13, out),
+    }
+}
+
+/// Writes all that waits, and the End.
+#[tactic(auto, using(crate::proofs::Parts::part_first, crate::proofs::Parts::part_second, crate::proofs::Parts::then_all))]
+pub fn write_output<O: Sink>(session: &mut Session, out: &mut O) -> Result<(), SinkFault>
+    requires bus { length session.old.bus_side < 2 ^ 32 }
+    requires client { length session.old.client_side < 2 ^ 32 }
+    ensures ok { OnOk result (O.told out.new ≡ added (output_of session.old) (O.told out.old)) }
+    ensures part { Part (O.told out.old) (O.told out.new) (output_of session.old) }
+    ensures cause { OnErr result (Rose (O.faults out.old) (O.faults out.new)) }
+    ensures count { O.faults out.old ≤ O.faults out.new }
+{
+    write_side(session, Side::Bus, out)?;
+    write_side(session, Side::Client, out)?;
+    write_end(session.ended(), out)
+}

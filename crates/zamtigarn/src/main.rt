@@ -1,0 +1,35 @@
+//! A filtering D-Bus proxy: its program.
+#![tactic(auto)]
+
+use proxy_main::{DiskFiles, StdSink, run};
+use std::alloc::AllocError;
+use std::env;
+use std::process::ExitCode;
+
+/// The status where memory is refused before the words are there.
+const MEMORY: u8 = 8;
+
+/// The words after the program's name.
+fn words(rt: &HostRuntime) -> Result<Vec<String>, AllocError> {
+    let mut words = Vec::new(rt.alloc());
+    let args = match env::args(rt) {
+        Ok(args) => args,
+        Err(_) => return Err(AllocError),
+    };
+    for word in args.skip(1) {
+        words.push(word)?;
+    }
+    Ok(words)
+}
+
+fn main(rt: HostRuntime) -> ExitCode {
+    let words = match words(&rt) {
+        Ok(words) => words,
+        Err(_) => return ExitCode::from(MEMORY),
+    };
+    let mut files = DiskFiles::new(&rt);
+    let mut out = StdSink::new(rt.stdout());
+    let mut err = StdSink::new(rt.stderr());
+    let status = run(rt.alloc(), &words, &mut files, &mut out, &mut err);
+    ExitCode::from(status.code)
+}
