@@ -1,8 +1,17 @@
 //! D-Bus types and signatures: their trees, their one spelling, and the laws between the two.
 #![tactic(auto)]
 
+mod codes;
+mod level;
+mod scan;
+mod signature;
+mod types;
+
 ghost use Rattle.std.specs.Prelude.{◌≡◌, ℕ, List, Some, IsTrue};
 ghost use Rattle.dbus_types.specs.Signature.{Complete, spelled_types, types_of, is_signature, signature_of};
+
+pub use signature::Signature;
+pub use types::behind_type;
 
 /// Why bytes are no signature (D-Bus Specification, "Type System", "Valid Signatures").
 #[derive(Clone, Copy, Debug, PartialEq, Eq)]
@@ -24,3 +33,6 @@ pub fn spelled_types_are_read()
 pub fn read_types_are_spelled()
     ensures { (bytes : List ℕ) (types : List Complete) → signature_of bytes ≡ Some types → (spelled_types types ≡ bytes) × IsTrue (is_signature types) }
 {}
+
+#[cfg(test)]
+mod tests;
