@@ -2,3 +2,11 @@ pub mod ValueLaws
 pub mod ValueAgain
 pub mod ValueRead
 pub mod ValueIs
+pub mod TextBytes
+pub mod Walks
+pub mod WalkBasic
+pub mod WalkLaws
+pub mod Shifts
+pub mod BodyLaws
+pub mod SpellingLaws
+pub mod BodyExamples

@@ -146,7 +146,7 @@ module _ (o : Order) (k : ℕ) (inner : Complete → At → Option (Value × At)
 
   -- ---- elements up to the end
 
-  elem_is : (t : Complete) (a : At) (x : Value × At) → is_element_type t ≡ true → AreBytes a.bytes → element_at inner t a ≡ Some x → Spelt o k t a x
+  pub elem_is : (t : Complete) (a : At) (x : Value × At) → is_element_type t ≡ true → AreBytes a.bytes → element_at inner t a ≡ Some x → Spelt o k t a x
   elem_is (basic b) a x c h e = reads (basic b) a x refl h e
   elem_is variant a x c h e = reads variant a x refl h e
   elem_is (array t) a x c h e = reads (array t) a x c h e

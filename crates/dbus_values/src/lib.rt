@@ -1,9 +1,30 @@
 //! D-Bus values: how one is spelled at a place of a message, how it is read from bytes, and the laws between the two.
 #![tactic(auto)]
 
+mod basic;
+mod containers;
+mod cursor;
+mod laws;
+mod steps;
+#[cfg(test)]
+mod tests;
+mod texts;
+mod values;
+
+pub use laws::{read_values_are_spelled, spelled_values_are_read, unread_values_are_not_spelled};
+pub use texts::{Texts, first_text, text_list, texts3};
+pub use values::value_end;
+
 /// The byte order of a message (D-Bus Specification, "Message Format": `l` is little, `B` is big).
 #[derive(Clone, Copy, Debug, PartialEq, Eq)]
 pub enum Order {
     Little,
     Big,
+}
+
+/// Bytes that aren't the values of a signature (D-Bus Specification, "Type System", "Marshaling").
+#[derive(Clone, Copy, Debug, PartialEq, Eq)]
+pub struct BadValue {
+    /// Where the last valid value of the signature's own types ended; where none did, where they were to begin.
+    pub at: usize,
 }

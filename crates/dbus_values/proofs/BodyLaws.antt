@@ -1,0 +1,341 @@
+-- The texts of a body, read at its start, are those of its values.
+use Rattle.std.proofs.Common.{◌≡◌, ℕ, zero, suc, ◌+◌, ◌<◌, ◌≤◌, ◌%◌, ◌^◌, cond, Bool, true, false, List, [], ◌∷◌, ◌++◌, length, take, drop, Option, Some, None, refl, sym, ap, subst, ◌∙◌, arith}
+use Rattle.std.specs.Prelude.{nat_le, IsSome}
+use Rattle.std.specs.Int.{w32}
+use Rattle.dbus_names.specs.Names.{is_empty}
+use Rattle.std.proofs.lemmas.Bool.{and_parts, leb-true}
+use Rattle.std.proofs.lemmas.List.{length-drop}
+use Rattle.std.specs.List.{list_all}
+use Rattle.dbus_types.specs.Signature.{byte, boolean, int16, uint16, int32, uint32, int64, uint64, double, handle, number, string, path, signature, Complete, basic, variant, array, struct, entry, spelled_type, spelled_types, is_complete, signature_fault}
+use Rattle.dbus_types.proofs.SignatureLaws.{spelled_types_is}
+use Rattle.dbus_values.specs.Values.{Value, a_number, a_string, a_path, a_signature, a_variant, an_array, a_struct, an_entry, Values, no_values, value, type_of, padding, is_text}
+use Rattle.dbus_values.specs.Reading.{At, ◌>>=◌, when, past, some_bytes, all_zero, aligned, number_of, a_width, ended_by_nul, text_at, to_the_end, value_at, values_at, and_then_all}
+use Rattle.dbus_values.specs.Walk.{front_code}
+use Rattle.dbus_values.specs.Bodies.{IsBody, first_text_of, three_of, three_at, strings, list_in, texts_at, texts_in, texts_or_none, elements_in}
+use Rattle.dbus_values.proofs.ValueRead.{AreBytes, some_is, bind_case, when_is, some_bytes-takes, aligned-takes, width-takes, read_32}
+use Rattle.dbus_values.proofs.ValueLaws.{then_is}
+use Rattle.dbus_values.proofs.ValueIs.{within-is}
+use Rattle.dbus_values.proofs.WalkLaws.{all_complete}
+use Rattle.dbus_values.proofs.Shifts.{shift, shifted, shifted_at, text-shift, texts-shift, elements-shift}
+use Rattle.dbus_values.specs.declared.Order.{Order}
+
+abbrev some : {A : Type 0} → A → Option A
+some x = Some x
+
+abbrev pub from_start : List ℕ → At
+from_start body = record { place = 0; bytes = body }
+
+abbrev pub from : ℕ → List ℕ → At
+from p body = record { place = p; bytes = body }
+
+pub shifted_start : (p : ℕ) (body : List ℕ) → from p body ≡ shift p (from_start body)
+shifted_start p body = let same : p ≡ p + 0 = omega arith in ap (λ (q : ℕ). from q body) same
+
+-- ---- a string in front
+
+abbrev pub text_only : List ℕ × At → Option (List ℕ)
+text_only x = Some x.0
+
+only-shift : (o : Order) (p : ℕ) (a : At) → p % 8 ≡ 0 → (text_at o (shift p a) >>= text_only) ≡ (text_at o a >>= text_only)
+only-shift o p a e = ap (λ (x : Option (List ℕ × At)). x >>= text_only) (text-shift o p a e) ∙ go (text_at o a)
+  where
+    go : (x : Option (List ℕ × At)) → (shifted p x >>= text_only) ≡ (x >>= text_only)
+    go None = refl
+    go (Some x) = refl
+
+string_in_front : (t : Complete) (rest : List ℕ) → front_code (spelled_type t ++ rest) ≡ 115 → t ≡ basic string
+string_in_front (basic (number byte)) rest e = absurd (omega (arith, e))
+string_in_front (basic (number boolean)) rest e = absurd (omega (arith, e))
+string_in_front (basic (number int16)) rest e = absurd (omega (arith, e))
+string_in_front (basic (number uint16)) rest e = absurd (omega (arith, e))
+string_in_front (basic (number int32)) rest e = absurd (omega (arith, e))
+string_in_front (basic (number uint32)) rest e = absurd (omega (arith, e))
+string_in_front (basic (number int64)) rest e = absurd (omega (arith, e))
+string_in_front (basic (number uint64)) rest e = absurd (omega (arith, e))
+string_in_front (basic (number double)) rest e = absurd (omega (arith, e))
+string_in_front (basic (number handle)) rest e = absurd (omega (arith, e))
+string_in_front (basic string) rest e = refl
+string_in_front (basic path) rest e = absurd (omega (arith, e))
+string_in_front (basic signature) rest e = absurd (omega (arith, e))
+string_in_front variant rest e = absurd (omega (arith, e))
+string_in_front (array t) rest e = absurd (omega (arith, e))
+string_in_front (struct t ts) rest e = absurd (omega (arith, e))
+string_in_front (entry k t) rest e = absurd (omega (arith, e))
+
+-- the first value is the string in front
+string_value : (o : Order) (ts : List Complete) (a : At) (values : List Value) → (values_at o (basic string ∷ ts) a).0 ≡ values → length values ≡ suc (length ts) → ((text_at o a >>= text_only) ≡ first_text_of values) × IsSome (text_at o a)
+string_value o ts a values is len = go (text_at o a) (sym is) len
+  where
+    go : (x : Option (List ℕ × At)) → values ≡ (and_then_all (x >>= λ y. Some (a_string y.0, y.1)) a (λ v rest. values_at o ts rest)).0 → length values ≡ suc (length ts) → ((x >>= text_only) ≡ first_text_of values) × IsSome x
+    go None e l = absurd (omega (arith, ap length e, l))
+    go (Some x) e l = (ap first_text_of (sym e), refl)
+
+pub first_string : (o : Order) (bytes body : List ℕ) (p : ℕ) (types : List Complete) (values : List Value) → IsBody o bytes body p types values → front_code bytes ≡ 115 → ((text_at o (from_start body) >>= text_only) ≡ first_text_of values) × IsSome (text_at o (from_start body))
+first_string o bytes body p [] values b front = absurd (omega (arith, sym (ap front_code b.spelled) ∙ front))
+first_string o bytes body p (t ∷ ts) values b front =
+    let is : t ≡ basic string = string_in_front t (spelled_types ts) (ap front_code (sym b.spelled) ∙ front) in
+    let read = subst (λ (u : Complete). (values_at o (u ∷ ts) (from p body)).0 ≡ values) is (ap (λ (x : List Value × At). x.0) b.read) in
+    let found = string_value o ts (from p body) values read b.all in
+    (sym (only-shift o p (from_start body) b.start) ∙ ap (λ (a : At). text_at o a >>= text_only) (sym (shifted_start p body)) ∙ found.0, unshifted (text_at o (from_start body)) (subst IsSome (ap (text_at o) (shifted_start p body) ∙ text-shift o p (from_start body) b.start) found.1))
+  where
+    unshifted : (x : Option (List ℕ × At)) → IsSome (shifted p x) → IsSome x
+    unshifted None e = e
+    unshifted (Some x) e = refl
+
+-- ---- another value in front
+
+no_text : (v : Value) (vs : List Value) → (type_of v ≡ basic string → ⊥) → None ≡ first_text_of (v ∷ vs)
+no_text (a_number n x) vs h = refl
+no_text (a_string text) vs h = absurd (h refl)
+no_text (a_path text) vs h = refl
+no_text (a_signature ts) vs h = refl
+no_text (a_variant v) vs h = refl
+no_text (an_array t ws) vs h = refl
+no_text (a_struct v ws) vs h = refl
+no_text (an_entry k v) vs h = refl
+
+other_value : (o : Order) (t : Complete) (ts : List Complete) (a : At) (values : List Value) → is_complete t ≡ true → AreBytes a.bytes → (t ≡ basic string → ⊥) → (values_at o (t ∷ ts) a).0 ≡ values → None ≡ first_text_of values
+other_value o t ts a values c h n is = go (value_at o t a) refl ∙ ap first_text_of is
+  where
+    go : (x : Option (Value × At)) → value_at o t a ≡ x → None ≡ first_text_of (and_then_all x a (λ v rest. values_at o ts rest)).0
+    go None e = refl
+    go (Some x) e = no_text x.0 (values_at o ts x.1).0 (λ s. n (sym (within-is 65 o t a x c h e).type ∙ s))
+
+pub first_other : (o : Order) (bytes body : List ℕ) (p : ℕ) (types : List Complete) (values : List Value) → IsBody o bytes body p types values → signature_fault bytes ≡ None → AreBytes body → (front_code bytes ≡ 115 → ⊥) → None ≡ first_text_of values
+first_other o bytes body p [] values b valid are n = ap first_text_of (ap (λ (x : List Value × At). x.0) b.read)
+first_other o bytes body p (t ∷ ts) values b valid are n =
+    let complete = and_parts (is_complete t) (list_all is_complete ts) (all_complete (t ∷ ts) (ap signature_fault (sym b.spelled) ∙ valid)) in
+    other_value o t ts (from p body) values complete.0 are (λ s. n (ap front_code b.spelled ∙ ap (λ (u : Complete). front_code (spelled_type u ++ spelled_types ts)) s)) (ap (λ (x : List Value × At). x.0) b.read)
+
+-- ---- three strings
+
+abbrev tripled : List ℕ → List ℕ → List ℕ × At → Option (List ℕ × List ℕ × List ℕ)
+tripled x y z = Some (x, y, z.0)
+
+abbrev third_of : Order → List ℕ → List ℕ × At → Option (List ℕ × List ℕ × List ℕ)
+third_of o x y = text_at o y.1 >>= tripled x y.0
+
+abbrev second_of : Order → List ℕ × At → Option (List ℕ × List ℕ × List ℕ)
+second_of o x = text_at o x.1 >>= third_of o x.0
+
+three-shift : (o : Order) (p : ℕ) (a : At) → p % 8 ≡ 0 → three_at o (shift p a) ≡ three_at o a
+three-shift o p a e = ap (λ (x : Option (List ℕ × At)). x >>= second_of o) (text-shift o p a e) ∙ first (text_at o a)
+  where
+    last : (x y : List ℕ) (z : Option (List ℕ × At)) → (shifted p z >>= tripled x y) ≡ (z >>= tripled x y)
+    last x y None = refl
+    last x y (Some z) = refl
+
+    middle : (x : List ℕ) (y : Option (List ℕ × At)) → (shifted p y >>= third_of o x) ≡ (y >>= third_of o x)
+    middle x None = refl
+    middle x (Some y) = ap (λ (z : Option (List ℕ × At)). z >>= tripled x y.0) (text-shift o p y.1 e) ∙ last x y.0 (text_at o y.1)
+
+    first : (x : Option (List ℕ × At)) → (shifted p x >>= second_of o) ≡ (x >>= second_of o)
+    first None = refl
+    first (Some x) = ap (λ (y : Option (List ℕ × At)). y >>= third_of o x.0) (text-shift o p x.1 e) ∙ middle x.0 (text_at o x.1)
+
+abbrev string_of : List ℕ × At → Option (Value × At)
+string_of x = Some (a_string x.0, x.1)
+
+abbrev pub three_strings : List Complete
+three_strings = basic string ∷ basic string ∷ basic string ∷ []
+
+three_values : (o : Order) (a : At) (values : List Value) → (values_at o three_strings a).0 ≡ values → length values ≡ 3 → (three_at o a ≡ three_of values) × IsSome (three_at o a)
+three_values o a values is len = first (text_at o a) (sym is) len
+  where
+    last : (x y : List ℕ × At) (z : Option (List ℕ × At)) → values ≡ a_string x.0 ∷ a_string y.0 ∷ (and_then_all (z >>= string_of) y.1 (λ v rest. values_at o [] rest)).0 → length values ≡ 3 → ((z >>= tripled x.0 y.0) ≡ three_of values) × IsSome (z >>= tripled x.0 y.0)
+    last x y None e l = absurd (omega (arith, ap length e, l))
+    last x y (Some z) e l = (ap three_of (sym e), refl)
+
+    middle : (x : List ℕ × At) (y : Option (List ℕ × At)) → values ≡ a_string x.0 ∷ (and_then_all (y >>= string_of) x.1 (λ v rest. values_at o (basic string ∷ []) rest)).0 → length values ≡ 3 → ((y >>= third_of o x.0) ≡ three_of values) × IsSome (y >>= third_of o x.0)
+    middle x None e l = absurd (omega (arith, ap length e, l))
+    middle x (Some y) e l = last x y (text_at o y.1) e l
+
+    first : (x : Option (List ℕ × At)) → values ≡ (and_then_all (x >>= string_of) a (λ v rest. values_at o (basic string ∷ basic string ∷ []) rest)).0 → length values ≡ 3 → ((x >>= second_of o) ≡ three_of values) × IsSome (x >>= second_of o)
+    first None e l = absurd (omega (arith, ap length e, l))
+    first (Some x) e l = middle x (text_at o x.1) e l
+
+pub three_in_body : (o : Order) (body : List ℕ) (p : ℕ) (types : List Complete) (values : List Value) → IsBody o (115 ∷ 115 ∷ 115 ∷ []) body p types values → (three_at o (from_start body) ≡ three_of values) × IsSome (three_at o (from_start body))
+three_in_body o body p types values b =
+    let is : types ≡ three_strings = spelled_types_is types three_strings (sym b.spelled) in
+    let read = subst (λ (ts : List Complete). (values_at o ts (from p body)).0 ≡ values) is (ap (λ (x : List Value × At). x.0) b.read) in
+    let found = three_values o (from p body) values read (b.all ∙ ap length is) in
+    let here : three_at o (from p body) ≡ three_at o (from_start body) = ap (three_at o) (shifted_start p body) ∙ three-shift o p (from_start body) b.start in
+    (sym here ∙ found.0, subst IsSome here found.1)
+
+-- ---- an array of strings
+
+abbrev string_array : Complete
+string_array = array (basic string)
+
+-- an element that is a string
+abbrev element : Order → At → Option (Value × At)
+element o a = text_at o a >>= string_of
+
+strings_read : (o : Order) (fuel : ℕ) (a : At) (vs : Values) → to_the_end (element o) fuel a ≡ Some vs → texts_at o fuel a ≡ Some (strings vs)
+strings_read o zero a vs e = absurd cc
+strings_read o (suc fuel) a vs e = go (is_empty a.bytes) (text_at o a) (λ b ws. strings_read o fuel b ws) e
+  where
+    valued : Value × At → Option Values
+    valued x = to_the_end (element o) fuel x.1 >>= λ xs. some (value x.0 xs)
+
+    told : List ℕ × At → Option (List (List ℕ))
+    told x = texts_at o fuel x.1 >>= λ texts. some (x.0 ∷ texts)
+
+    go : (b : Bool) (x : Option (List ℕ × At)) → ((c : At) (ws : Values) → to_the_end (element o) fuel c ≡ Some ws → texts_at o fuel c ≡ Some (strings ws))
+        → cond b (Some no_values) ((x >>= string_of) >>= valued) ≡ Some vs → cond b (Some []) (x >>= told) ≡ Some (strings vs)
+    go true x ih e = ap (λ (ws : Values). some (strings ws)) (some_is no_values vs e)
+    go false None ih e = absurd cc
+    go false (Some x) ih e = bind_case (to_the_end (element o) fuel x.1) (λ xs. some (value (a_string x.0) xs)) vs e (λ xs exs e1.
+        ap (λ (t : Option (List (List ℕ))). t >>= λ texts. some (x.0 ∷ texts)) (ih x.1 xs exs) ∙ ap (λ (ws : Values). some (strings ws)) (some_is (value (a_string x.0) xs) vs e1))
+
+-- the texts of an array's elements
+pub record Listed (o : Order) (a : At) (values : List Value) : Type 0 where
+  pub elements : At
+  pub there : elements_in o a ≡ Some elements
+  pub texts : texts_in o elements ≡ list_in values
+  pub all : IsSome (texts_in o elements)
+
+list_value : (o : Order) (a : At) (x : Value × At) → AreBytes a.bytes → value_at o string_array a ≡ Some x → Listed o a (x.0 ∷ [])
+list_value o a x are e =
+    bind_case (aligned 4 a) (λ s. a_width o w32 s >>= λ n. aligned 4 n.1 >>= λ f. some_bytes n.0 f >>= items n.0 f) x e (λ s es e1.
+    bind_case (a_width o w32 s) (λ n. aligned 4 n.1 >>= λ f. some_bytes n.0 f >>= items n.0 f) x e1 (λ n en e2.
+    bind_case (aligned 4 n.1) (λ f. some_bytes n.0 f >>= items n.0 f) x e2 (λ f ef e3.
+    bind_case (some_bytes n.0 f) (items n.0 f) x e3 (λ y ey e4.
+    bind_case (to_the_end (element o) (suc n.0) (record { place = f.place; bytes = y.0 })) (λ vs. when (nat_le n.0 (2 ^ 26)) (an_array (basic string) vs, y.1)) x e4 (λ vs evs e5.
+    let w = when_is (nat_le n.0 (2 ^ 26)) (an_array (basic string) vs, y.1) x e5 in
+    let pad = aligned-takes 4 a s are es in
+    let num = width-takes o w32 s n read_32 pad.are en in
+    let gap = aligned-takes 4 n.1 f num.are ef in
+    let body = some_bytes-takes n.0 f y gap.are ey in
+    let b : At = record { place = f.place; bytes = y.0 } in
+    let read : texts_in o b ≡ Some (strings vs) = ap (λ (m : ℕ). texts_at o (suc m) b) body.1 ∙ strings_read o (suc n.0) b vs evs in
+    record {
+      elements = b;
+      there = then_is _ _ _ _ es (then_is _ _ _ _ en (then_is _ _ _ _ ef (then_is _ _ _ _ ey refl)));
+      texts = read ∙ ap (λ (z : Value × At). list_in (z.0 ∷ [])) w.1;
+      all = subst IsSome (sym read) refl;
+    })))))
+  where
+    items : ℕ → At → List ℕ × At → Option (Value × At)
+    items n f y = to_the_end (element o) (suc n) (record { place = f.place; bytes = y.0 }) >>= λ vs. when (nat_le n (2 ^ 26)) (an_array (basic string) vs, y.1)
+
+alone : (o : Order) (a : At) (values : List Value) → AreBytes a.bytes → (values_at o (string_array ∷ []) a).0 ≡ values → length values ≡ 1 → Listed o a values
+alone o a values are is len = go (value_at o string_array a) refl (sym is) len
+  where
+    go : (x : Option (Value × At)) → value_at o string_array a ≡ x → values ≡ (and_then_all x a (λ v rest. values_at o [] rest)).0 → length values ≡ 1 → Listed o a values
+    go None e i l = absurd (omega (arith, ap length i, l))
+    go (Some x) e i l = subst (Listed o a) (sym i) (list_value o a x are e)
+
+pub list_in_body : (o : Order) (body : List ℕ) (p : ℕ) (types : List Complete) (values : List Value) → AreBytes body → IsBody o (97 ∷ 115 ∷ []) body p types values → Listed o (from_start body) values
+list_in_body o body p types values are b =
+    let is : types ≡ string_array ∷ [] = spelled_types_is types (string_array ∷ []) (sym b.spelled) in
+    let read = subst (λ (ts : List Complete). (values_at o ts (from p body)).0 ≡ values) is (ap (λ (x : List Value × At). x.0) b.read) in
+    let found = alone o (from p body) values are read (b.all ∙ ap length is) in
+    go found (elements_in o (from_start body)) (sym (elements-shift o p (from_start body) b.start) ∙ ap (elements_in o) (sym (shifted_start p body)) ∙ found.there) refl
+  where
+    go : (f : Listed o (from p body) values) → (x : Option At) → shifted_at p x ≡ Some f.elements → elements_in o (from_start body) ≡ x → Listed o (from_start body) values
+    go f None e i = absurd cc
+    go f (Some c) e i =
+        let same : shift p c ≡ f.elements = some_is (shift p c) f.elements e in
+        let texts : texts_in o c ≡ texts_in o f.elements = sym (texts-shift o p (suc (length c.bytes)) c b.start) ∙ ap (texts_in o) same in
+        record { elements = c; there = i; texts = texts ∙ f.texts; all = subst IsSome (sym texts) f.all }
+
+-- ---- one string after the other
+
+taken_len : (n : ℕ) (a : At) (x : List ℕ × At) → some_bytes n a ≡ Some x → length x.1.bytes + n ≡ length a.bytes
+taken_len n a x e =
+    let w = when_is (nat_le n (length a.bytes)) (take n a.bytes, past n a) x e in
+    subst (λ (y : List ℕ × At). length y.1.bytes + n ≡ length a.bytes) w.1 (omega (arith, length-drop n a.bytes, leb-true n (length a.bytes) w.0))
+
+aligned_len : (a b : At) → aligned 4 a ≡ Some b → length b.bytes ≤ length a.bytes
+aligned_len a b e = bind_case (some_bytes (padding 4 a.place) a) (λ x. when (all_zero x.0) x.1) b e (λ x ex e1.
+    let w = when_is (all_zero x.0) x.1 b e1 in
+    subst (λ (c : At). length c.bytes ≤ length a.bytes) w.1 (omega (arith, taken_len (padding 4 a.place) a x ex)))
+
+number_len : (o : Order) (a : At) (n : ℕ × At) → a_width o w32 a ≡ Some n → length n.1.bytes + 4 ≡ length a.bytes
+number_len o a n e = bind_case (some_bytes 4 a) (λ x. some {A = ℕ × At} (number_of o w32 x.0, x.1)) n e (λ x ex e1.
+    subst (λ (m : ℕ × At). length m.1.bytes + 4 ≡ length a.bytes) (some_is (number_of o w32 x.0, x.1) n e1) (taken_len 4 a x ex))
+
+nul_len : (n : ℕ) (a : At) (x : List ℕ × At) → ended_by_nul n a ≡ Some x → length x.1.bytes ≤ length a.bytes
+nul_len n a x e = bind_case (some_bytes n a) (λ y. some_bytes 1 y.1 >>= λ z. when (all_zero z.0) (y.0, z.1)) x e (λ y ey e1.
+    bind_case (some_bytes 1 y.1) (λ z. when (all_zero z.0) (y.0, z.1)) x e1 (λ z ez e2.
+    let w = when_is (all_zero z.0) (y.0, z.1) x e2 in
+    subst (λ (v : List ℕ × At). length v.1.bytes ≤ length a.bytes) w.1 (omega (arith, taken_len n a y ey, taken_len 1 y.1 z ez))))
+
+-- a string takes a byte at least
+passed_len : (o : Order) (a : At) (x : List ℕ × At) → text_at o a ≡ Some x → length x.1.bytes < length a.bytes
+passed_len o a x e = bind_case (aligned 4 a) (λ s. a_width o w32 s >>= λ n. ended_by_nul n.0 n.1 >>= λ y. when (is_text y.0) y) x e (λ s es e1.
+    bind_case (a_width o w32 s) (λ n. ended_by_nul n.0 n.1 >>= λ y. when (is_text y.0) y) x e1 (λ n en e2.
+    bind_case (ended_by_nul n.0 n.1) (λ y. when (is_text y.0) y) x e2 (λ y ey e3.
+    let w = when_is (is_text y.0) y x e3 in
+    subst (λ (v : List ℕ × At). length v.1.bytes < length a.bytes) w.1 (omega (arith, aligned_len a s es, number_len o s n en, nul_len n.0 n.1 y ey)))))
+
+-- more than enough changes nothing
+enough : (o : Order) (n m : ℕ) (a : At) → length a.bytes < n → length a.bytes < m → texts_at o n a ≡ texts_at o m a
+enough o zero m a h i = absurd (omega (arith, h))
+enough o (suc n) zero a h i = absurd (omega (arith, i))
+enough o (suc n) (suc m) a h i = ap (λ (x : Option (List (List ℕ))). cond (is_empty a.bytes) (Some []) x) (go (text_at o a) refl (λ b. enough o n m b))
+  where
+    go : (x : Option (List ℕ × At)) → text_at o a ≡ x → ((b : At) → length b.bytes < n → length b.bytes < m → texts_at o n b ≡ texts_at o m b)
+        → (x >>= λ y. texts_at o n y.1 >>= λ texts. some (y.0 ∷ texts)) ≡ (x >>= λ y. texts_at o m y.1 >>= λ texts. some (y.0 ∷ texts))
+    go None e ih = refl
+    go (Some x) e ih =
+        let less = passed_len o a x e in
+        ap (λ (t : Option (List (List ℕ))). t >>= λ texts. some (x.0 ∷ texts)) (ih x.1 (omega (arith, less, h)) (omega (arith, less, i)))
+
+pub record Next (o : Order) (a : At) : Type 0 where
+  pub text : List ℕ × At
+  pub there : text_at o a ≡ Some text
+  pub others : IsSome (texts_in o text.1)
+  pub first : texts_or_none (texts_in o a) ≡ text.0 ∷ texts_or_none (texts_in o text.1)
+
+pub next_text : (o : Order) (a : At) → is_empty a.bytes ≡ false → IsSome (texts_in o a) → Next o a
+next_text o a some_left all = go (text_at o a) refl (subst IsSome whole all)
+  where
+    told : List ℕ × At → Option (List (List ℕ))
+    told x = texts_at o (length a.bytes) x.1 >>= λ texts. some (x.0 ∷ texts)
+
+    whole : texts_in o a ≡ (text_at o a >>= told)
+    whole = ap (λ (b : Bool). cond b (Some []) (text_at o a >>= told)) some_left
+
+    joined : (x : List ℕ × At) (t : Option (List (List ℕ))) → IsSome (t >>= λ texts. some (x.0 ∷ texts)) → IsSome t × (texts_or_none (t >>= λ texts. some (x.0 ∷ texts)) ≡ x.0 ∷ texts_or_none t)
+    joined x None s = absurd cc
+    joined x (Some texts) s = (refl, refl)
+
+    go : (x : Option (List ℕ × At)) → text_at o a ≡ x → IsSome (x >>= told) → Next o a
+    go None e s = absurd cc
+    go (Some x) e s =
+        let less = passed_len o a x e in
+        let same : texts_at o (length a.bytes) x.1 ≡ texts_in o x.1 = enough o (length a.bytes) (suc (length x.1.bytes)) x.1 less (omega arith) in
+        let j = joined x (texts_at o (length a.bytes) x.1) s in
+        record {
+          text = x;
+          there = e;
+          others = subst IsSome same j.0;
+          first = ap texts_or_none (whole ∙ ap (λ (y : Option (List ℕ × At)). y >>= told) e) ∙ j.1 ∙ ap (λ (t : Option (List (List ℕ))). x.0 ∷ texts_or_none t) same;
+        }
+
+-- ---- where the elements are
+
+pub is_listed : (o : Order) (body : List ℕ) (values : List Value) → Listed o (from_start body) values → IsSome (elements_in o (from_start body))
+is_listed o body values l = subst IsSome (sym l.there) refl
+
+same_elements : (o : Order) (body : List ℕ) (values : List Value) (l : Listed o (from_start body) values) (a : At) → Some a ≡ elements_in o (from_start body) → l.elements ≡ a
+same_elements o body values l a e = some_is l.elements a (sym l.there ∙ sym e)
+
+pub listed_all : (o : Order) (body : List ℕ) (values : List Value) → Listed o (from_start body) values → (a : At) → Some a ≡ elements_in o (from_start body) → IsSome (texts_in o a)
+listed_all o body values l a e = subst (λ (b : At). IsSome (texts_in o b)) (same_elements o body values l a e) l.all
+
+some_texts : (t : Option (List (List ℕ))) → IsSome t → t ≡ Some (texts_or_none t)
+some_texts None s = absurd cc
+some_texts (Some texts) s = refl
+
+pub listed_texts : (o : Order) (body : List ℕ) (values : List Value) → Listed o (from_start body) values → (a : At) → Some a ≡ elements_in o (from_start body) → list_in values ≡ Some (texts_or_none (texts_in o a))
+listed_texts o body values l a e =
+    sym l.texts ∙ ap (texts_in o) (same_elements o body values l a e) ∙ some_texts (texts_in o a) (listed_all o body values l a e)
+
+pub text_passed : (o : Order) (a : At) (x : List ℕ × At) → is_empty a.bytes ≡ false → IsSome (texts_in o a) → Some x ≡ text_at o a → IsSome (texts_in o x.1) × (texts_or_none (texts_in o x.1) ≡ drop 1 (texts_or_none (texts_in o a)))
+text_passed o a x left all e =
+    let n = next_text o a left all in
+    let same : n.text ≡ x = some_is n.text x (sym n.there ∙ sym e) in
+    subst (λ (y : List ℕ × At). IsSome (texts_in o y.1) × (texts_or_none (texts_in o y.1) ≡ drop 1 (texts_or_none (texts_in o a)))) same (n.others, sym (ap (drop 1) n.first))

@@ -1,0 +1,171 @@
+//! Values of basic types.
+ghost use Rattle.std.specs.Prelude.{◌≡◌, ◌⊎◌, ◌<◌, ◌+◌, ◌^◌, Some, None, IfSome, option_map, length};
+ghost use Rattle.std.specs.Prelude.{nat_lt, is_none};
+ghost use Rattle.std.specs.List.{list_all};
+ghost use Rattle.std.specs.Str.{is_utf8 as is_utf8_text};
+ghost use Rattle.dbus_types.specs.Signature.{signature_fault};
+ghost use Rattle.dbus_names.specs.Names.{is_ascii_text_byte};
+ghost use Rattle.dbus_values.specs.Values.{is_text as is_text_value};
+ghost use Rattle.dbus_values.specs.Reading.{ended_by_nul, text_at};
+ghost use Rattle.dbus_values.specs.Counted.{counted_at};
+ghost use Rattle.dbus_values.specs.Walk.{number_width as width_by_code, walk_number, walk_boolean, walk_text, walk_path, walk_signature, walk_basic, read_signature};
+ghost use Rattle.dbus_values.specs.Seen.{place_seen, bytes_seen};
+ghost use Rattle.dbus_values.specs.Alignments.{IsAlignment};
+
+use crate::Order;
+use crate::cursor::Cursor;
+use dbus_names::is_path;
+use dbus_types::Signature;
+use std::str;
+
+/// How many bytes a number has whose bits may be any, by its type's code; 0 for another type.
+#[inline]
+pub(crate) fn number_width(code: u8) -> usize
+    ensures { result ≡ width_by_code code }
+{
+    match code {
+        b'y' => 1,
+        b'n' | b'q' => 2,
+        b'i' | b'u' | b'h' => 4,
+        b'x' | b't' | b'd' => 8,
+        _ => 0,
+    }
+}
+
+/// Whether all bytes are ASCII other than NUL.
+#[inline]
+fn is_ascii_text(text: &[u8]) -> bool
+    ensures { result ≡ list_all is_ascii_text_byte text.now }
+{
+    text.iter().all(|byte| *byte > 0 && *byte < 128)
+}
+
+#[inline]
+fn has_no_nul(text: &[u8]) -> bool
+    ensures { result ≡ list_all (nat_lt 0) text.now }
+{
+    text.iter().all(|byte| *byte > 0)
+}
+
+#[inline]
+fn is_utf8(text: &[u8]) -> bool
+    ensures { result ≡ is_utf8_text text.now }
+{
+    match str::from_utf8(text) {
+        Ok(_) => true,
+        Err(_) => false,
+    }
+}
+
+/// Whether the bytes are UTF-8 without NUL, as a string has to be. ASCII is looked at once.
+#[inline]
+pub(crate) fn is_text(text: &[u8]) -> bool
+    requires { length text.now < 2 ^ 32 }
+    ensures { result ≡ is_text_value text.now }
+{
+    is_ascii_text(text) || has_no_nul(text) && is_utf8(text)
+}
+
+/// Whether the bytes are a valid signature.
+#[inline]
+fn is_signature(types: &[u8]) -> bool
+    ensures { result ≡ is_none (signature_fault types.now) }
+{
+    Signature::read(types).is_ok()
+}
+
+impl<'a> Cursor<'a> {
+    /// So many bytes that a NUL ends, and the cursor behind the NUL.
+    #[inline]
+    fn ended_by_nul(self, len: usize) -> Option<(&'a [u8], Cursor<'a>)>
+        ensures { option_map bytes_seen result ≡ ended_by_nul len (place_seen self.entry) }
+    {
+        let (text, end) = self.take(len)?;
+        let (nul, behind) = end.take(1)?;
+        if nul[0] == 0 {
+            Some((text, behind))
+        } else {
+            None
+        }
+    }
+
+    /// The bytes of a string or a path: a length, the bytes, a NUL.
+    #[inline]
+    pub(crate) fn counted(self, order: Order) -> Option<(&'a [u8], Cursor<'a>)>
+        ensures bytes { option_map bytes_seen result ≡ counted_at order (place_seen self.entry) }
+        ensures short { IfSome result (λ x. length x.0.now < 2 ^ 32) }
+    {
+        let start = self.align(4)?;
+        let (len, text) = start.number(order)?;
+        text.ended_by_nul(len as usize)
+    }
+
+    #[inline]
+    fn text(self, order: Order) -> Option<Cursor<'a>>
+        ensures { option_map place_seen result ≡ walk_text order (place_seen self.entry) }
+    {
+        let (text, behind) = self.counted(order)?;
+        if is_text(text) { Some(behind) } else { None }
+    }
+
+    // A path's grammar lets ASCII alone pass.
+    #[inline]
+    fn path(self, order: Order) -> Option<Cursor<'a>>
+        ensures { option_map place_seen result ≡ walk_path order (place_seen self.entry) }
+    {
+        let (text, behind) = self.counted(order)?;
+        if is_path(text) { Some(behind) } else { None }
+    }
+
+    /// A signature: a length byte, the types, a NUL.
+    #[inline]
+    pub(crate) fn signature(self) -> Option<(&'a [u8], Cursor<'a>)>
+        ensures { option_map bytes_seen result ≡ read_signature (place_seen self.entry) }
+    {
+        let (len, types) = self.take(1)?;
+        let (types, behind) = types.ended_by_nul(len[0] as usize)?;
+        if is_signature(types) {
+            Some((types, behind))
+        } else {
+            None
+        }
+    }
+
+    #[inline]
+    fn boolean(self, order: Order) -> Option<Cursor<'a>>
+        ensures { option_map place_seen result ≡ walk_boolean order (place_seen self.entry) }
+    {
+        let (number, behind) = self.align(4)?.number(order)?;
+        if number < 2 { Some(behind) } else { None }
+    }
+
+    #[inline]
+    fn fixed(self, width: usize) -> Option<Cursor<'a>>
+        requires { IsAlignment width }
+        ensures { option_map place_seen result ≡ walk_number width (place_seen self.entry) }
+    {
+        let (_, behind) = self.align(width)?.take(width)?;
+        Some(behind)
+    }
+
+    /// The cursor behind a value of a basic type, by the type's code.
+    #[inline]
+    pub(crate) fn basic(self, order: Order, code: u8) -> Option<Cursor<'a>>
+        ensures { option_map place_seen result ≡ walk_basic order code (place_seen self.entry) }
+    {
+        match code {
+            b's' => self.text(order),
+            b'o' => self.path(order),
+            b'g' => match self.signature() {
+                Some((_, behind)) => Some(behind),
+                None => None,
+            },
+            b'b' => self.boolean(order),
+            b'y' => self.fixed(1),
+            b'n' | b'q' => self.fixed(2),
+            b'i' | b'u' | b'h' => self.fixed(4),
+            b'x' | b't' | b'd' => self.fixed(8),
+            _ => None,
+        }
+    }
+}

@@ -1,0 +1,89 @@
+//! The steps of a cursor: padding, bytes, numbers of four bytes.
+ghost use Rattle.std.specs.Prelude.{◌≡◌, ◌⊎◌, ◌≤◌, ◌<◌, ◌+◌, ◌^◌, Some, None, IfSome, option_map, length};
+ghost use Rattle.std.specs.Int.{w32};
+ghost use Rattle.dbus_values.specs.Values.{padding as padding_to};
+ghost use Rattle.dbus_values.specs.Reading.{all_zero, some_bytes, aligned, a_width, number_of};
+ghost use Rattle.dbus_values.specs.Seen.{place_seen, bytes_seen, number_seen};
+ghost use Rattle.dbus_values.specs.Alignments.{IsAlignment};
+
+use crate::Order;
+use crate::cursor::Cursor;
+
+/// How many bytes there are up to the next multiple of an alignment.
+#[inline]
+fn padding(alignment: usize, place: usize) -> usize
+    requires { IsAlignment alignment }
+    ensures { result ≡ padding_to alignment place }
+{
+    match alignment {
+        1 => 0,
+        2 => place % 2,
+        4 => (4 - place % 4) % 4,
+        _ => (8 - place % 8) % 8,
+    }
+}
+
+/// Whether all bytes are 0, as padding has to be.
+#[inline]
+fn is_zero(bytes: &[u8]) -> bool
+    ensures { result ≡ all_zero bytes.now }
+{
+    let mut rest = bytes;
+    while let [first, after @ ..] = rest {
+        if *first != 0 {
+            return false;
+        }
+        rest = after;
+    }
+    true
+}
+
+/// A number of four bytes.
+#[inline]
+fn number(order: Order, bytes: &[u8]) -> u32
+    requires { length bytes.now ≡ 4 }
+    ensures { result ≡ number_of order w32 bytes.now }
+{
+    let number = [bytes[0], bytes[1], bytes[2], bytes[3]];
+    match order {
+        Order::Little => u32::from_le_bytes(number),
+        Order::Big => u32::from_be_bytes(number),
+    }
+}
+
+impl<'a> Cursor<'a> {
+    /// The next so many bytes, and the cursor behind them.
+    #[inline]
+    pub(crate) fn take(self, len: usize) -> Option<(&'a [u8], Cursor<'a>)>
+        ensures { option_map bytes_seen result ≡ some_bytes len (place_seen self.entry) }
+    {
+        if len > self.bytes.len() {
+            return None;
+        }
+        let (bytes, rest) = self.bytes.split_at(len);
+        let behind = Cursor {
+            place: self.place + len,
+            bytes: rest,
+        };
+        Some((bytes, behind))
+    }
+
+    /// The cursor behind the zeros up to the next multiple of an alignment.
+    #[inline]
+    pub(crate) fn align(self, alignment: usize) -> Option<Cursor<'a>>
+        requires { IsAlignment alignment }
+        ensures { option_map place_seen result ≡ aligned alignment (place_seen self.entry) }
+    {
+        let (zeros, behind) = self.take(padding(alignment, self.place))?;
+        if is_zero(zeros) { Some(behind) } else { None }
+    }
+
+    /// A number of four bytes, aligned already.
+    #[inline]
+    pub(crate) fn number(self, order: Order) -> Option<(u32, Cursor<'a>)>
+        ensures { option_map number_seen result ≡ a_width order w32 (place_seen self.entry) }
+    {
+        let (bytes, behind) = self.take(4)?;
+        Some((number(order, bytes), behind))
+    }
+}

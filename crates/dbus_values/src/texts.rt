@@ -1,0 +1,150 @@
+//! The texts of bodies that are valid.
+ghost use Rattle.std.specs.Prelude.{◌≡◌, Some, None, IsSome, IfSome, ℕ, List, option_map, map, slice_get, drop, codes};
+ghost use Rattle.dbus_types.specs.Signature.{Complete};
+ghost use Rattle.dbus_values.specs.Values.{Value};
+ghost use Rattle.dbus_values.specs.Reading.{text_at};
+ghost use Rattle.dbus_values.specs.Bodies.{IsBody, HasBody, first_text_of, three_of, listed, three_at, list_in, elements_in, texts_in, texts_or_none};
+ghost use Rattle.dbus_values.specs.Seen.{place_seen, text_seen};
+
+use crate::Order;
+use crate::containers::front_code;
+use crate::cursor::Cursor;
+use dbus_types::Signature;
+use std::marker::Model;
+use std::str;
+
+/// The string that stands at the cursor, and the cursor behind it.
+pub(crate) fn text<'a>(order: Order, at: Cursor<'a>) -> (&'a str, Cursor<'a>)
+    requires { IsSome (text_at order (place_seen at)) }
+    ensures { Some (text_seen result) ≡ text_at order (place_seen at.entry) }
+{
+    match at.counted(order) {
+        Some((text, behind)) => (unsafe { str::from_utf8_unchecked(text) }, behind),
+        None => unreachable!(),
+    }
+}
+
+/// The three strings that stand at the cursor.
+fn three_texts<'a>(order: Order, at: Cursor<'a>) -> [&'a str; 3]
+    requires { IsSome (three_at order (place_seen at)) }
+    ensures { Some (map (λ t. t.now) result) ≡ option_map listed (three_at order (place_seen at.entry)) }
+{
+    let (first, at) = text(order, at);
+    let (second, at) = text(order, at);
+    let (third, _) = text(order, at);
+    [first, second, third]
+}
+
+/// The first value of a valid body, where that is a string: none exactly where its signature doesn't begin with `s`.
+pub fn first_text<'a>(order: Order, signature: Signature<'_>, body: &'a [u8]) -> Option<&'a str>
+    requires { HasBody order signature.bytes.now body.now }
+    ensures { (place : ℕ) (types : List Complete) (values : List Value) → IsBody order signature.entry.bytes.now body.now place types values → option_map (λ t. t.now) result ≡ first_text_of values }
+{
+    let at = Cursor {
+        place: 0,
+        bytes: body,
+    };
+    if front_code(signature.as_bytes()) == b's' {
+        Some(text(order, at).0)
+    } else {
+        None
+    }
+}
+
+/// The three strings of a valid body of the signature `sss`.
+pub fn texts3<'a>(order: Order, body: &'a [u8]) -> [&'a str; 3]
+    requires { HasBody order (codes "sss") body.now }
+    ensures { (place : ℕ) (types : List Complete) (values : List Value) → IsBody order (codes "sss") body.now place types values → option_map listed (three_of values) ≡ Some (map (λ t. t.now) result) }
+{
+    let at = Cursor {
+        place: 0,
+        bytes: body,
+    };
+    three_texts(order, at)
+}
+
+/// The strings of an array, one after the other.
+#[derive(Clone, Drop)]
+pub struct Texts<'a> {
+    order: Order,
+    at: Cursor<'a>,
+}
+
+impl<'a> Model for Texts<'a> {
+    ghost use Rattle.std.specs.Prelude.{ℕ, List, IsSome};
+    ghost use Rattle.dbus_values.specs.Bodies.{texts_in, texts_or_none};
+    ghost use Rattle.dbus_values.specs.Seen.{place_seen};
+
+    ghost Value = { List (List ℕ) };
+
+    ghost view = { λ t. texts_or_none (texts_in t.order (place_seen t.at)) };
+
+    ghost invariant = { λ t. IsSome (texts_in t.order (place_seen t.at)) };
+}
+
+impl<'a> Iterator for Texts<'a> {
+    type Item = &'a str;
+
+    ghost use Rattle.std.specs.Prelude.{◌≡◌, length, option_map, slice_get, drop};
+    ghost use Rattle.std.specs.Iterator.{at_most};
+
+    ghost remaining = { λ s. at_most (length s) };
+
+    ghost next_gives = { λ before next after. (option_map (λ t. t.now) next ≡ slice_get before 0) × (after ≡ drop 1 before) };
+
+    fn next(&mut self) -> Option<&'a str> {
+        let (text, behind) = text_if_left(self.order, self.at)?;
+        self.at = behind;
+        Some(text)
+    }
+}
+
+/// The string that stands at the cursor and the cursor behind it, where bytes are left.
+fn text_if_left<'a>(order: Order, at: Cursor<'a>) -> Option<(&'a str, Cursor<'a>)>
+    requires { IsSome (texts_in order (place_seen at)) }
+    ensures text { option_map (λ x. x.0.now) result ≡ slice_get (texts_or_none (texts_in order (place_seen at.entry))) 0 }
+    ensures others { IfSome result (λ x. IsSome (texts_in order (place_seen x.1)) × (texts_or_none (texts_in order (place_seen x.1)) ≡ drop 1 (texts_or_none (texts_in order (place_seen at.entry))))) }
+{
+    if at.bytes.is_empty() {
+        return None;
+    }
+    Some(text(order, at))
+}
+
+/// The strings of a valid body of the signature `as`.
+pub fn text_list(order: Order, body: &[u8]) -> Texts<'_>
+    requires { HasBody order (codes "as") body.now }
+    ensures { (place : ℕ) (types : List Complete) (values : List Value) → IsBody order (codes "as") body.now place types values → list_in values ≡ Some result }
+{
+    Texts {
+        order,
+        at: elements(order, body),
+    }
+}
+
+/// The elements of the array that a body is.
+fn elements(order: Order, body: &[u8]) -> Cursor<'_>
+    requires { IsSome (elements_in order (record { place = 0; bytes = body.now })) }
+    ensures { Some (place_seen result) ≡ elements_in order (record { place = 0; bytes = body.now }) }
+{
+    let at = Cursor {
+        place: 0,
+        bytes: body,
+    };
+    match array_elements(order, at) {
+        Some(elements) => elements,
+        None => unreachable!(),
+    }
+}
+
+fn array_elements(order: Order, at: Cursor<'_>) -> Option<Cursor<'_>>
+    ensures { option_map place_seen result ≡ elements_in order (place_seen at.entry) }
+{
+    let (len, first) = at.align(4)?.number(order)?;
+    let first = first.align(4)?;
+    let (bytes, _) = first.take(len as usize)?;
+    Some(Cursor {
+        place: first.place,
+        bytes,
+    })
+}

@@ -1,0 +1,58 @@
+//! Where values end that stand in bytes.
+ghost use Rattle.std.specs.Prelude.{◌≡◌, ◌≤◌, ℕ, suc, List, length, drop};
+ghost use Rattle.dbus_types.specs.Signature.{Complete, spelled_types};
+ghost use Rattle.dbus_values.specs.Ends.{values_end};
+ghost use Rattle.dbus_values.specs.Walk.{walk_within, walk_types, end_at};
+ghost use Rattle.dbus_values.specs.Seen.{place_seen};
+
+use crate::containers::walk;
+use crate::cursor::Cursor;
+use crate::{BadValue, Order};
+use dbus_types::Signature;
+
+/// One more than the most containers within which a value lies (D-Bus Specification, "Type System", "Valid Signatures").
+const CONTAINERS: usize = 65;
+
+/// Where the values end that stand one after the other, by their types.
+fn types_end(order: Order, first_types: &[u8], first: Cursor<'_>) -> Result<usize, BadValue>
+    ensures { result ≡ end_at (walk_types (walk_within 65 order) (suc (length first_types.now)) first_types.now (place_seen first.entry)) }
+{
+    let mut types = first_types;
+    let mut at = first;
+    // Each type takes a byte at least.
+    let mut most = types.len() + 1;
+    while most > 0 && !types.is_empty() {
+        match walk(order, CONTAINERS, types, at) {
+            Some((others, behind)) => {
+                types = others;
+                at = behind;
+            }
+            None => return Err(BadValue { at: at.place }),
+        }
+        most -= 1;
+    }
+    if types.is_empty() {
+        Ok(at.place)
+    } else {
+        Err(BadValue { at: at.place })
+    }
+}
+
+/// Where the values of the signature end that stand at a place of the bytes, whose first byte stands at a place of the
+/// message that is a multiple of 8. They may be followed by more. In place and in one pass; an array of numbers of a fixed
+/// width is passed over by its length.
+pub fn value_end(
+    order: Order,
+    signature: Signature<'_>,
+    bytes: &[u8],
+    at: usize,
+) -> Result<usize, BadValue>
+    requires inside { at ≤ length bytes.now }
+    ensures { (types : List Complete) → signature.entry.bytes.now ≡ spelled_types types → result ≡ values_end order types at bytes.now }
+{
+    let first = Cursor {
+        place: at,
+        bytes: &bytes[at..],
+    };
+    types_end(order, signature.as_bytes(), first)
+}
