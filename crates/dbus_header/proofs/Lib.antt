@@ -12,8 +12,9 @@ pub mod StopLaws
 pub mod PingValid
 pub mod Places
 pub mod Texts
-pub mod PlainFields
-pub mod FieldSteps
-pub mod PlainParts
-pub mod PlainMessages
+pub mod FieldReading
+pub mod FoundParts
+pub mod HeaderFields
+pub mod WholeMessage
 pub mod NumberLaws
+pub mod CutLaws

@@ -46,13 +46,13 @@ field_is o a x h e =
 abbrev spelled_from : Order → ℕ → List Field → List ℕ
 spelled_from o p fields = spelled_list o p (map field_value fields)
 
-abbrev FieldsSpelt : Order → List Field → At → List Field × At → Type 0
+abbrev pub FieldsSpelt : Order → List Field → At → List Field × At → Type 0
 FieldsSpelt o before a x = (are_valid_fields o a.place x.0 ≡ true) × (may_all_follow before x.0 ≡ true) × Takes a (spelled_from o a.place x.0) x.1
 
 nothing_taken : (a : At) → AreBytes a.bytes → Takes a [] a
 nothing_taken a h = record { bytes = refl; place = omega arith; are = h }
 
-fields_are : (n : ℕ) (o : Order) (before : List Field) (a : At) → AreBytes a.bytes → FieldsSpelt o before a (fields_at o n before a)
+pub fields_are : (n : ℕ) (o : Order) (before : List Field) (a : At) → AreBytes a.bytes → FieldsSpelt o before a (fields_at o n before a)
 fields_are zero o before a h = (refl, refl, nothing_taken a h)
 fields_are (suc n) o before a h = go (λ f b. fields_are n o (f ∷ before) b) (valid_field_at o before a) refl
   where
@@ -72,13 +72,13 @@ fields_are (suc n) o before a h = go (λ f b. fields_are n o (f ∷ before) b) (
 
 -- ---- body values
 
-abbrev ValuesSpelt : Order → List Complete → At → List Value × At → Type 0
+abbrev pub ValuesSpelt : Order → List Complete → At → List Value × At → Type 0
 ValuesSpelt o ts a x = (are_valid o a.place x.0 ≡ true) × (length x.0 ≡ length ts → map type_of x.0 ≡ ts) × Takes a (spelled_list o a.place x.0) x.1
 
 less_than_all : {A B : Type 0} (t : A) (ts : List A) (xs : List B) → xs ≡ [] → length xs ≡ length (t ∷ ts) → ⊥
 less_than_all t ts xs e h = omega (arith, h, ap length e)
 
-values_are : (ts : List Complete) (o : Order) (a : At) → list_all is_complete ts ≡ true → AreBytes a.bytes → ValuesSpelt o ts a (values_at o ts a)
+pub values_are : (ts : List Complete) (o : Order) (a : At) → list_all is_complete ts ≡ true → AreBytes a.bytes → ValuesSpelt o ts a (values_at o ts a)
 values_are [] o a c h = (refl, λ e. refl, nothing_taken a h)
 values_are (t ∷ ts) o a c h = go (values_are ts o) (value_at o t a) refl
   where
@@ -149,15 +149,15 @@ not_both true None z s e = absurd cc
 not_both true (Some x) z s e = absurd cc
 not_both false x z s e = (refl, e)
 
-record SoundHead (t : List ℕ) : Type 0 where
-  order : (o : Order) × (order_of (get_or t 0 0) ≡ Some o)
-  kind : 0 < get_or t 1 0
-  version : get_or t 3 0 ≡ 1
-  fields : fields_len t ≤ 2 ^ 26
-  len : whole_len t ≤ 2 ^ 27
-  serial : 0 < serial_in t
+pub record SoundHead (t : List ℕ) : Type 0 where
+  pub order : (o : Order) × (order_of (get_or t 0 0) ≡ Some o)
+  pub kind : 0 < get_or t 1 0
+  pub version : get_or t 3 0 ≡ 1
+  pub fields : fields_len t ≤ 2 ^ 26
+  pub len : whole_len t ≤ 2 ^ 27
+  pub serial : 0 < serial_in t
 
-sound_head : (t : List ℕ) → is_none (head_fault t) ≡ true → SoundHead t
+pub sound_head : (t : List ℕ) → is_none (head_fault t) ≡ true → SoundHead t
 unfolding head_fault
 sound_head t e =
     let one = not_both (is_none (order_of (get_or t 0 0))) (malformed ByteOrder 0) _ refl e in
@@ -195,23 +195,23 @@ ok m = Ok m
 ok_is : (m n : Message) → ok m ≡ ok n → m ≡ n
 ok_is m n e = cc
 
-abbrev built : List ℕ → List Field → List Value → Message
+abbrev pub built : List ℕ → List Field → List Value → Message
 built t fields body = record { order = order_in t; kind = get_or t 1 0; flags = get_or t 2 0; serial = serial_in t; fields = fields; body = body }
 
-record Checked (t : List ℕ) (m : Message) : Type 0 where
-  fields_end : (fields_of t).1.bytes ≡ []
-  gap : has_zeros t ≡ true
-  required : has_required (get_or t 1 0) (fields_of t).0 ≡ true
-  count : length (values_in t (stated (fields_of t).0)).0 ≡ length (stated (fields_of t).0)
-  body_end : (values_in t (stated (fields_of t).0)).1.bytes ≡ []
-  descriptors : has_no_descriptors (fields_of t).0 ≡ true
-  is : built t (fields_of t).0 (values_in t (stated (fields_of t).0)).0 ≡ m
+pub record Checked (t : List ℕ) (m : Message) : Type 0 where
+  pub fields_end : (fields_of t).1.bytes ≡ []
+  pub gap : has_zeros t ≡ true
+  pub required : has_required (get_or t 1 0) (fields_of t).0 ≡ true
+  pub count : length (values_in t (stated (fields_of t).0)).0 ≡ length (stated (fields_of t).0)
+  pub body_end : (values_in t (stated (fields_of t).0)).1.bytes ≡ []
+  pub descriptors : has_no_descriptors (fields_of t).0 ≡ true
+  pub is : built t (fields_of t).0 (values_in t (stated (fields_of t).0)).0 ≡ m
 
 empty_is : (xs : List ℕ) → is_empty xs ≡ true → xs ≡ []
 empty_is [] e = refl
 empty_is (x ∷ xs) e = absurd cc
 
-checked : (t : List ℕ) (m : Message) → whole t ≡ Ok m → Checked t m
+pub checked : (t : List ℕ) (m : Message) → whole t ≡ Ok m → Checked t m
 unfolding whole
 checked t m e = go (fields_of t) (values_in t (stated (fields_of t).0)) refl refl e
   where
@@ -339,8 +339,14 @@ module _ (t : List ℕ) (m : Message) (are : AreBytes t) (long : 16 ≤ length t
     len = omega (arith, ap length spelled_so, sym exact, sound.len);
   }
 
-  whole_is_valid : Valid m × (spell m ≡ t)
+  pub whole_is_valid : Valid m × (spell m ≡ t)
   whole_is_valid = subst (λ (x : Message). Valid x × (spell x ≡ t)) check.is (built_valid, spelled_so)
+
+  -- the body's bytes
+  pub body_is : drop (body_place (fields_len t)) t ≡ spelled_list m.order (body_place (length (spelled_fields m.order m.fields))) m.body
+  body_is =
+      subst (λ (x : Message). drop (body_place (fields_len t)) t ≡ spelled_list x.order (body_place (length (spelled_fields x.order x.fields))) x.body) check.is
+      (back_is ∙ ap (λ (k : ℕ). spelled_list o (body_place k) body.0) (sym fields_len_is))
 
 -- what is read from the front is a valid message, and its spelling and the rest are the bytes
 pub front-is : (s : List ℕ) (m : Message) (r : List ℕ) → AreBytes s → front s ≡ Some (m, r) → Valid m × (s ≡ spell m ++ r)

@@ -1,19 +1,24 @@
 -- A message under a new serial or reply serial is its bytes with another number at one place.
-use Rattle.std.proofs.Common.{◌≡◌, ℕ, zero, suc, ◌+◌, ◌^◌, ◌<◌, ◌≤◌, Bool, true, false, cond, IsSome, List, [], ◌∷◌, ◌++◌, length, take, drop, Option, Some, None, refl, sym, ap, ◌∙◌, append_assoc, arith}
-use Rattle.std.specs.Prelude.{◌==◌, is_some, option_and_then, option_map}
+use Rattle.std.proofs.Common.{◌≡◌, ℕ, ◌+◌, ◌≤◌, Bool, true, false, cond, IsSome, List, [], ◌∷◌, ◌++◌, length, take, drop, Option, Some, None, Result, Ok, Err, refl, sym, ap, ◌∙◌, append_assoc, arith, rules}
+use Rattle.std.specs.Prelude.{◌==◌, is_some, is_none, unwrap_or, option_and_then, option_map}
 use Rattle.std.specs.Int.{w32}
-use Rattle.std.proofs.lemmas.List.{length-append, take_at, drop_at, drop-drop}
+use Rattle.std.proofs.lemmas.List.{length-append, append-nil, length-drop, take_at, drop_at, drop-drop}
 use Rattle.dbus_values.specs.Values.{Value, number_bytes, padding, spelled}
 use Rattle.dbus_values.specs.declared.Order.{Order}
 use Rattle.dbus_values.specs.declared.Order.TheVariants.{Little, Big}
-use Rattle.dbus_values.proofs.ValueRead.{AreBytes}
+use Rattle.dbus_values.proofs.ValueRead.{AreBytes, bind_case, when_is}
+use Rattle.dbus_names.specs.Names.{is_empty}
+use Rattle.dbus_values.specs.Reading.{when}
+use Rattle.dbus_header.specs.declared.Malformed.{Malformed}
 use Rattle.dbus_values.proofs.ValueLaws.{wide_32}
-use Rattle.dbus_header.specs.Message.{Message, Valid, spell, with_serial, with_reply_serial, reply_serial, reply_place, with_number, Field, field_value, field_in, number_in, has_field, number_place}
-use Rattle.dbus_header.specs.Plain.{Plain, plain_parts, IsSerialPlace, IsReplySerialPlace, plain_of, is_plain, is_little, has_plain_flags, is_plain_field}
-use Rattle.dbus_header.proofs.StreamLaws.{front_parts, Fronts}
-use Rattle.dbus_header.proofs.PlainMessages.{plain_of-is, OfBytes, plain_order}
+use Rattle.dbus_header.specs.Message.{Message, Valid, spell, with_serial, with_reply_serial, reply_serial, reply_place, with_number, order_byte, Field, field_value, field_in, number_in, has_field, number_place}
+use Rattle.dbus_header.specs.Malformed.{front, order_of, order_in, head_fault, whole_len, whole, fault, fault_in, message_in}
+use Rattle.dbus_header.specs.Contents.{Contents, contents_of, IsSerialPlace, IsReplySerialPlace, message_of}
+use Rattle.dbus_header.proofs.StreamLaws.{front_parts}
+use Rattle.dbus_header.proofs.MessageRead.{front-is}
+use Rattle.dbus_header.proofs.WholeMessage.{IsWhole, fault_of_whole, take_all}
 use Rattle.dbus_header.proofs.MessageLaws.{spell-with_serial}
-use Rattle.dbus_header.proofs.ReplyLaws.{OneNumber, spell-with_reply_serial}
+use Rattle.dbus_header.proofs.ReplyLaws.{spell-with_reply_serial}
 
 -- a new serial stands at place 8
 pub serial_patched : (n : ℕ) (m : Message) → spell (with_serial n m) ≡ with_number m.order 8 n (spell m)
@@ -49,7 +54,75 @@ reply_patched n x place m v r e =
       inside = omega (arith, at, ap length one.old_is, length-append one.before (number_bytes m.order w32 x ++ one.after), length-append (number_bytes m.order w32 x) one.after, wide_32.len m.order x);
     }
 
--- ---- plain messages
+pub there : {A : Type 0} (o : Option A) → is_some o ≡ true → (x : A) × (o ≡ Some x)
+there None e = absurd cc
+there (Some x) e = (x, refl)
+
+pub some_true : {A : Type 0} (o : Option A) → IsSome o → is_some o ≡ true
+some_true None s = absurd cc
+some_true (Some x) s = refl
+
+-- ---- messages that bytes are
+
+pub record OfBytes (bytes : List ℕ) (m : Message) : Type 0 where
+  pub valid : Valid m
+  pub bytes_are : bytes ≡ spell m
+  pub front_is : front bytes ≡ Some (m, [])
+  pub order_is : order_in bytes ≡ m.order
+
+order_spelled : (m : Message) → order_in (spell m) ≡ m.order
+unfolding spell
+order_spelled m = by m.order
+  where
+    by : (o : Order) → unwrap_or (order_of (order_byte o)) Little ≡ o
+    by Little = refl
+    by Big = refl
+
+-- the valid message that bytes are
+pub message_of-is : (bytes : List ℕ) (m : Message) → AreBytes bytes → message_of bytes ≡ Some m → OfBytes bytes m
+unfolding message_of
+message_of-is bytes m are e =
+    bind_case (front bytes) (λ x. when (is_empty x.1) x.0) m e (λ x ex e1.
+    let w = when_is (is_empty x.1) x.0 m e1 in
+    let none : x.1 ≡ [] = empty_is x.1 w.0 in
+    let whole : front bytes ≡ Some (m, []) = ex ∙ ap (λ (r : List ℕ). both x.0 r) none ∙ ap (λ (y : Message). both y []) w.1 in
+    let f = front-is bytes m [] are whole in
+    let is : bytes ≡ spell m = f.1 ∙ append-nil (spell m) in
+    record { valid = f.0; bytes_are = is; front_is = whole; order_is = ap order_in is ∙ order_spelled m })
+  where
+    both : Message → List ℕ → Option (Message × List ℕ)
+    both y r = Some (y, r)
+
+    empty_is : (xs : List ℕ) → is_empty xs ≡ true → xs ≡ []
+    empty_is [] e = refl
+    empty_is (x ∷ xs) e = absurd cc
+
+-- so they are as many as they state, and their first sixteen are in order
+pub is_whole : (bytes : List ℕ) → AreBytes bytes → IsSome (message_of bytes) → IsWhole bytes
+is_whole bytes are s =
+    let m = there (message_of bytes) (some_true (message_of bytes) s) in
+    let f = message_of-is bytes m.0 are m.1 in
+    let p = front_parts bytes m.0 [] f.front_is in
+    let none : length (drop (whole_len bytes) bytes) ≡ 0 = ap length p.rest in
+    let stands = p.stands in
+    record { are = are; long = p.long; head = is_none_of (head_fault bytes) p.sound; exact = omega (arith, none, length-drop (whole_len bytes) bytes) }
+  where
+    is_none_of : (o : Option Malformed) → is_none o ≡ true → o ≡ None
+    is_none_of None e = refl
+    is_none_of (Some x) e = absurd cc
+
+-- and have no fault
+pub accepted : (bytes : List ℕ) → AreBytes bytes → IsSome (message_of bytes) → fault bytes ≡ None
+accepted bytes are s =
+    let w = is_whole bytes are s in
+    let m = there (message_of bytes) (some_true (message_of bytes) s) in
+    let f = message_of-is bytes m.0 are m.1 in
+    let p = front_parts bytes m.0 [] f.front_is in
+    fault_of_whole bytes w ∙ read (whole bytes) m.0 (ap (λ (t : List ℕ). message_in (whole t)) (sym (take_all (whole_len bytes) bytes (sym w.exact))) ∙ p.is)
+  where
+    read : (r : Result Message Malformed) (m : Message) → message_in r ≡ Some m → fault_in r ≡ None
+    read (Ok n) m e = refl
+    read (Err k) m e = absurd cc
 
 -- a reply serial's number stands somewhere exactly where there is one
 place_stands : (o : Order) (p : ℕ) (fs : List Field) → is_some (number_place o p fs) ≡ has_field 5 fs
@@ -60,14 +133,6 @@ place_stands o p (f ∷ fs) = go (f.code == 5) (place_stands o (p + length (spel
     go true e = refl
     go false e = e
 
-pub there : {A : Type 0} (o : Option A) → is_some o ≡ true → (x : A) × (o ≡ Some x)
-there None e = absurd cc
-there (Some x) e = (x, refl)
-
-some_true : {A : Type 0} (o : Option A) → IsSome o → is_some o ≡ true
-some_true None s = absurd cc
-some_true (Some x) s = refl
-
 pub reply_stands : (m : Message) (x : ℕ) → reply_serial m ≡ Some x → (place : ℕ) × (reply_place m ≡ Some place)
 reply_stands m x e = there (reply_place m) (place_stands m.order 16 m.fields ∙ holds (field_in 5 m.fields) e)
   where
@@ -76,35 +141,35 @@ reply_stands m x e = there (reply_place m) (place_stands m.order 16 m.fields ∙
     holds (Some v) e = refl
 
 -- with a new serial
-set_serial-is : (n : ℕ) (bytes : List ℕ) (m : Message) → AreBytes bytes → plain_of bytes ≡ Some m → with_number Little 8 n bytes ≡ spell (with_serial n m)
+set_serial-is : (n : ℕ) (bytes : List ℕ) (m : Message) → AreBytes bytes → message_of bytes ≡ Some m → with_number m.order 8 n bytes ≡ spell (with_serial n m)
 set_serial-is n bytes m are e =
-    let f = plain_of-is bytes m are e in
-    ap (with_number Little 8 n) f.bytes_are ∙ ap (λ (o : Order). with_number o 8 n (spell m)) (sym (plain_order m f.plain)) ∙ sym (serial_patched n m)
+    let f = message_of-is bytes m are e in
+    ap (with_number m.order 8 n) f.bytes_are ∙ sym (serial_patched n m)
 
--- a plain message has sixteen bytes and more, so the serial has its place
-pub serial_at : (bytes : List ℕ) → AreBytes bytes → IsSome (plain_of bytes) → IsSerialPlace bytes 8
+-- a message has sixteen bytes and more, so the serial has its place
+pub serial_at : (bytes : List ℕ) → AreBytes bytes → IsSome (message_of bytes) → IsSerialPlace bytes 8
 serial_at bytes are s =
-    let m = there (plain_of bytes) (some_true (plain_of bytes) s) in
-    let f = plain_of-is bytes m.0 are m.1 in
+    let m = there (message_of bytes) (some_true (message_of bytes) s) in
+    let f = message_of-is bytes m.0 are m.1 in
     let long : 16 ≤ length bytes = (front_parts bytes m.0 [] f.front_is).long in
     record { inside = omega arith; patched = λ n k is. set_serial-is n bytes k are is }
 
 -- with a new reply serial
-pub reply_at : (bytes : List ℕ) (place : ℕ) → AreBytes bytes → IsSome (option_and_then reply_serial (plain_of bytes)) → option_and_then reply_place (plain_of bytes) ≡ Some place → IsReplySerialPlace bytes place
-reply_at bytes place are s e = go (plain_of bytes) refl s e
+pub reply_at : (bytes : List ℕ) (place : ℕ) → AreBytes bytes → IsSome (option_and_then reply_serial (message_of bytes)) → option_and_then reply_place (message_of bytes) ≡ Some place → IsReplySerialPlace bytes place
+reply_at bytes place are s e = go (message_of bytes) refl s e
   where
-    go : (o : Option Message) → plain_of bytes ≡ o → IsSome (option_and_then reply_serial o) → option_and_then reply_place o ≡ Some place → IsReplySerialPlace bytes place
+    go : (o : Option Message) → message_of bytes ≡ o → IsSome (option_and_then reply_serial o) → option_and_then reply_place o ≡ Some place → IsReplySerialPlace bytes place
     go None is s e = absurd cc
     go (Some m) is s e =
-        let f = plain_of-is bytes m are is in
+        let f = message_of-is bytes m are is in
         let x = there (reply_serial m) (some_true (reply_serial m) s) in
         let inside = (reply_patched 0 x.0 place m f.valid x.1 e).inside in
         record {
           inside = omega (arith, inside, ap length f.bytes_are);
           patched = λ n k same.
               let k_is : m ≡ k = message_some m k (sym is ∙ same) in
-              ap (with_number Little place n) f.bytes_are
-              ∙ ap (λ (o : Order). with_number o place n (spell m)) (sym (plain_order m f.plain))
+              ap (λ (y : Message). with_number y.order place n bytes) (sym k_is)
+              ∙ ap (with_number m.order place n) f.bytes_are
               ∙ sym (reply_patched n x.0 place m f.valid x.1 e).bytes
               ∙ ap (λ (y : Message). spell (with_reply_serial n y)) k_is;
         }
@@ -113,8 +178,8 @@ reply_at bytes place are s e = go (plain_of bytes) refl s e
         message_some a b e = cc
 
 -- so the place is found where the message has a reply serial
-pub reply_none : (bytes : List ℕ) → IsSome (option_and_then reply_serial (plain_of bytes)) → option_and_then reply_place (plain_of bytes) ≡ None → ⊥
-reply_none bytes s e = go (plain_of bytes) s e
+pub reply_none : (bytes : List ℕ) → IsSome (option_and_then reply_serial (message_of bytes)) → option_and_then reply_place (message_of bytes) ≡ None → ⊥
+reply_none bytes s e = go (message_of bytes) s e
   where
     go : (o : Option Message) → IsSome (option_and_then reply_serial o) → option_and_then reply_place o ≡ None → ⊥
     go None s e = absurd cc
@@ -124,18 +189,26 @@ reply_none bytes s e = go (plain_of bytes) s e
         let h : Some p.0 ≡ None = sym p.1 ∙ e in
         cc
 
--- where the number of a plain message's reply serial stands, four bytes do
-pub reply_inside : (bytes : List ℕ) (q : Plain) → AreBytes bytes → option_map plain_parts (plain_of bytes) ≡ Some q →
+-- where the number of a message's reply serial stands, four bytes do
+pub reply_inside : (bytes : List ℕ) (q : Contents) → AreBytes bytes → option_map contents_of (message_of bytes) ≡ Some q →
     (x place : ℕ) → q.parts.reply_serial ≡ Some x → q.reply_place ≡ Some place → place + 4 ≤ length bytes
-reply_inside bytes q are e x place number at = go (plain_of bytes) refl e
+reply_inside bytes q are e x place number at = go (message_of bytes) refl e
   where
-    go : (o : Option Message) → plain_of bytes ≡ o → option_map plain_parts o ≡ Some q → place + 4 ≤ length bytes
+    go : (o : Option Message) → message_of bytes ≡ o → option_map contents_of o ≡ Some q → place + 4 ≤ length bytes
     go None is s = absurd cc
     go (Some m) is s =
-        let same : plain_parts m ≡ q = plain_some (plain_parts m) q s in
-        let f = plain_of-is bytes m are is in
-        let inside = (reply_patched 0 x place m f.valid (ap (λ (p : Plain). p.parts.reply_serial) same ∙ number) (ap (λ (p : Plain). p.reply_place) same ∙ at)).inside in
+        let same : contents_of m ≡ q = contents_some (contents_of m) q s in
+        let f = message_of-is bytes m are is in
+        let inside = (reply_patched 0 x place m f.valid (ap (λ (p : Contents). p.parts.reply_serial) same ∙ number) (ap (λ (p : Contents). p.reply_place) same ∙ at)).inside in
         omega (arith, inside, ap length f.bytes_are)
       where
-        plain_some : (a b : Plain) → ◌≡◌ {A = Option Plain} (Some a) (Some b) → a ≡ b
-        plain_some a b e = cc
+        contents_some : (a b : Contents) → ◌≡◌ {A = Option Contents} (Some a) (Some b) → a ≡ b
+        contents_some a b e = cc
+
+-- a message with a reply serial is one
+pub has_message : (bytes : List ℕ) → IsSome (option_and_then reply_serial (message_of bytes)) → IsSome (message_of bytes)
+has_message bytes s = by (message_of bytes) s
+  where
+    by : (o : Option Message) → IsSome (option_and_then reply_serial o) → IsSome o
+    by None s = s
+    by (Some m) s = search rules

@@ -1,6 +1,6 @@
 -- Places in a message: behind the padding to a multiple of 8 there is none to a multiple of 4.
-use Rattle.std.proofs.Common.{◌≡◌, ℕ, zero, suc, ◌+◌, ◌-◌, ◌%◌, ◌<◌, ◌≤◌, List, [], ◌∷◌, ◌++◌, refl, ap, ◌∙◌, sym, arith, replicate, length}
-use Rattle.dbus_values.specs.Values.{padding, zeros}
+use Rattle.std.proofs.Common.{◌≡◌, ℕ, ◌+◌, ◌%◌, arith}
+use Rattle.dbus_values.specs.Values.{padding}
 
 pub aligned_8 : (p : ℕ) → (p + padding 8 p) % 8 ≡ 0
 aligned_8 p = omega arith

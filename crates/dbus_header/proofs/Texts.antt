@@ -1,5 +1,5 @@
--- The texts of plain fields are texts as values are: UTF-8 without NUL.
-use Rattle.std.proofs.Common.{◌≡◌, ℕ, zero, suc, ◌<◌, ◌^◌, Bool, true, false, cond, List, [], ◌∷◌, length, get_or, refl, arith}
+-- The texts of header fields are texts as values are: UTF-8 without NUL.
+use Rattle.std.proofs.Common.{◌≡◌, ℕ, zero, suc, ◌<◌, ◌^◌, Bool, true, false, cond, List, [], ◌∷◌, length, refl, arith}
 use Rattle.std.specs.Prelude.{◌&&◌, ◌==◌, nat_lt}
 use Rattle.std.specs.List.{list_all}
 use Rattle.std.specs.Str.{is_utf8, IsAscii, IsUtf8}
@@ -8,7 +8,7 @@ use Rattle.std.proofs.lemmas.Bool.{and_parts, and_from, ltb-true, lt-ltb}
 use Rattle.dbus_names.specs.Names.{is_ascii_text_byte, is_path, is_interface, is_member, is_error_name, is_bus_name}
 use Rattle.dbus_names.proofs.NameBytes.{is_path-ascii, is_interface-ascii, is_member-ascii, is_error_name-ascii, is_bus_name-ascii}
 use Rattle.dbus_values.specs.Values.{is_text}
-use Rattle.dbus_header.specs.PlainReading.{is_text_of}
+use Rattle.dbus_header.specs.HeaderReading.{is_text_of}
 
 no_nul : (text : List ℕ) → list_all is_ascii_text_byte text ≡ true → list_all (nat_lt 0) text ≡ true
 no_nul [] e = refl

@@ -1,7 +1,9 @@
 pub mod Message
 pub mod Malformed
 pub mod Stream
-pub mod Plain
-pub mod PlainReading
+pub mod Contents
+pub mod Refusals
+pub mod HeaderReading
+pub mod HeaderFields
 pub mod Seen
-pub mod SeenMessage
+pub mod Whole

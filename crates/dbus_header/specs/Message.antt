@@ -4,7 +4,8 @@ use Rattle.std.specs.Int.{w32}
 use Rattle.std.specs.List.{list_all}
 use Rattle.dbus_names.specs.Names.{is_interface, is_error_name, is_member, is_bus_name}
 use Rattle.dbus_types.specs.Signature.{uint32, byte, string, Complete, basic, spelled_types}
-use Rattle.dbus_values.specs.Values.{Value, a_number, a_string, a_path, a_signature, a_variant, an_array, a_struct, Values, no_values, value, values_of, type_of, padding, zeros, number_bytes, spelled, is_value, is_within}
+use Rattle.dbus_values.specs.Values.{Value, a_number, a_string, a_path, a_signature, a_variant, an_array, a_struct, no_values, value, values_of, type_of, padding, zeros, number_bytes, spelled, is_value, is_within}
+use Rattle.dbus_values.specs.Bodies.{first_text_of, three_of, list_in}
 use Rattle.dbus_values.specs.declared.Order.{Order}
 use Rattle.dbus_values.specs.declared.Order.TheVariants.{Little, Big}
 
@@ -74,17 +75,9 @@ signature m = spelled_types (map type_of m.body)
 
 -- ---- the body's texts
 
-abbrev pub first_text_of : List Value → Option (List ℕ)
-first_text_of (a_string text ∷ values) = Some text
-first_text_of _ = None
-
 -- the first body value, where the body's signature begins with s
 abbrev pub first_text : Message → Option (List ℕ)
 first_text m = first_text_of m.body
-
-abbrev pub three_of : List Value → Option (List ℕ × List ℕ × List ℕ)
-three_of (a_string a ∷ a_string b ∷ a_string c ∷ []) = Some (a, b, c)
-three_of _ = None
 
 -- the texts of a body of signature sss
 abbrev pub three_texts : Message → Option (List ℕ × List ℕ × List ℕ)
@@ -97,16 +90,6 @@ two_of _ = None
 -- the first two body values, where the body's signature begins with ss
 abbrev pub two_texts : Message → Option (List ℕ × List ℕ)
 two_texts m = two_of m.body
-
--- the texts of an array of strings
-abbrev pub strings : Values → List (List ℕ)
-strings (value (a_string text) vs) = text ∷ strings vs
-strings (value _ vs) = strings vs
-strings no_values = []
-
-abbrev pub list_in : List Value → Option (List (List ℕ))
-list_in (an_array (basic string) vs ∷ []) = Some (strings vs)
-list_in _ = None
 
 -- the texts of a body of signature as
 abbrev pub text_list : Message → Option (List (List ℕ))

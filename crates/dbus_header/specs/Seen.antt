@@ -1,25 +1,28 @@
--- What the code's header fields and messages are seen as.
-use Rattle.std.specs.Prelude.{ℕ, List, Option, Some, None, option_map}
-use Rattle.dbus_types.specs.Signature.{uint32}
-use Rattle.dbus_values.specs.Values.{a_number}
-use Rattle.dbus_header.specs.Message.{Field}
-use Rattle.dbus_header.specs.Plain.{Parts, Plain}
-use Rattle.dbus_header.specs.PlainReading.{Found, text_value}
+-- What the code's header fields are seen as.
+use Rattle.std.specs.Prelude.{ℕ, List, Option, option_map}
+use Rattle.dbus_header.specs.Contents.{Parts}
+use Rattle.dbus_header.specs.HeaderReading.{Part, some_text, some_number, some_signature, unread, Found}
+use Rattle.dbus_types.specs.declared.signature.Signature.{Signature}
 use Rattle.dbus_header.specs.declared.fields.HeaderField.{HeaderField}
 use Rattle.dbus_header.specs.declared.fields.HeaderField.TheVariants as header
 use Rattle.dbus_header.specs.declared.fields.Fields.{Fields}
 use denote.Bor.{Bor}
 
-abbrev pub field_seen : HeaderField → Field
-field_seen (header.Text code text) = record { code = code; value = text_value code text.now }
-field_seen (header.ReplySerial number) = record { code = 5; value = a_number uint32 number }
+abbrev pub part_seen : HeaderField → Part
+part_seen (header.Text code text) = some_text code text.now
+part_seen (header.Number code number) = some_number code number
+part_seen (header.Signed signature) = some_signature signature.bytes.now
+part_seen header.Unread = unread
 
--- a field and the bytes that follow it
-abbrev pub rest_seen : HeaderField × Bor (List ℕ) → Field × List ℕ
-rest_seen x = (field_seen x.0, x.1.now)
+-- a field and where it ends
+abbrev pub end_seen : HeaderField × ℕ → Part × ℕ
+end_seen x = (part_seen x.0, x.1)
 
 abbrev pub text_seen : Option (Bor (List ℕ)) → Option (List ℕ)
 text_seen text = option_map (λ t. t.now) text
+
+abbrev pub signature_seen : Option Signature → Option (List ℕ)
+signature_seen signature = option_map (λ s. s.bytes.now) signature
 
 abbrev pub parts_seen : Fields → Parts
 parts_seen f = record {
@@ -33,4 +36,4 @@ parts_seen f = record {
 }
 
 abbrev pub fields_seen : Fields → Found
-fields_seen f = record { parts = parts_seen f; reply_place = f.reply_serial_place }
+fields_seen f = record { parts = parts_seen f; reply_place = f.reply_serial_place; signature = signature_seen f.signature; descriptors = f.descriptors }

@@ -1,12 +1,15 @@
-//! The header fields of plain messages, read in place.
-ghost use Rattle.std.specs.Prelude.{◌≡◌, ◌≤◌, ◌<◌, ◌+◌, ◌-◌, ◌^◌, Some, None, IfSome, option_map, length, take, drop, if◌then◌else◌};
-ghost use Rattle.std.specs.Option.{option_copied};
-ghost use Rattle.dbus_values.specs.Values.{padding as padding_to};
-ghost use Rattle.dbus_values.specs.Reading.{all_zero};
-ghost use Rattle.dbus_header.specs.PlainReading.{number_at, is_text_of as is_text, text_type, text_front as front_text, plain_field, field_in_front, field_by, text_field as field_of_text, number_field, with_text, with_field, has_required_parts, no_parts, fields_to_end};
-ghost use Rattle.dbus_header.specs.Seen.{field_seen, fields_seen, parts_seen, rest_seen, text_seen};
+//! The header fields of a message, read in place.
+ghost use Rattle.std.specs.Prelude.{◌≡◌, ◌≤◌, ◌<◌, ◌+◌, ◌^◌, ◌∷◌, [], Some, None, option_map, length, if◌then◌else◌};
+ghost use Rattle.dbus_types.specs.Signature.{variant};
+ghost use Rattle.dbus_values.specs.Ends.{values_end};
+ghost use Rattle.dbus_header.specs.HeaderReading.{is_text_of as is_text, type_code, ended_text as text_ended, text_part, number_part, signature_part, known_value as value_known, known_part, unread_to, coded_part, part_at, with_text, with_number_part, with_part, nothing_found};
+ghost use Rattle.dbus_header.specs.HeaderFields.{FieldsRead};
+ghost use Rattle.dbus_header.specs.Seen.{part_seen, end_seen, fields_seen, parts_seen};
 
+use crate::head::{is_zero, padding, read_u32};
 use dbus_names::{is_bus_name, is_error_name, is_interface, is_member, is_path};
+use dbus_types::Signature;
+use dbus_values::{Order, value_end};
 use std::str;
 
 /// The codes of the header fields (D-Bus Specification, "Message Format", "Header Fields").
@@ -24,15 +27,24 @@ const DESTINATION: u8 = 6;
 
 const SENDER: u8 = 7;
 
-/// A header field of a plain message.
+const SIGNATURE: u8 = 8;
+
+const UNIX_FDS: u8 = 9;
+
+/// A header field.
 #[derive(Clone, Copy)]
 enum HeaderField<'a> {
-    /// A field that holds a path or a string, by its code.
+    /// One that holds a path or a string, by its code.
     Text(u8, &'a str),
-    ReplySerial(u32),
+    /// REPLY_SERIAL or UNIX_FDS, by its code.
+    Number(u8, u32),
+    /// SIGNATURE.
+    Signed(Signature<'a>),
+    /// One with an unknown code, which is passed on unread.
+    Unread,
 }
 
-/// The header fields of a plain message, each where it stands.
+/// The header fields of a message, each where it stands.
 #[derive(Clone, Copy)]
 pub(crate) struct Fields<'a> {
     pub(crate) path: Option<&'a str>,
@@ -44,35 +56,9 @@ pub(crate) struct Fields<'a> {
     pub(crate) reply_serial_place: Option<usize>,
     pub(crate) destination: Option<&'a str>,
     pub(crate) sender: Option<&'a str>,
-}
-
-/// How many bytes there are up to the next multiple of 8.
-pub(crate) fn padding(place: usize) -> usize
-    ensures { result ≡ padding_to 8 place }
-{
-    (8 - place % 8) % 8
-}
-
-/// Whether all bytes are 0, as padding has to be.
-pub(crate) fn is_zero(bytes: &[u8]) -> bool
-    ensures { result ≡ all_zero bytes.now }
-{
-    let mut rest = bytes;
-    while let [first, after @ ..] = rest {
-        if *first != 0 {
-            return false;
-        }
-        rest = after;
-    }
-    true
-}
-
-/// A number of four bytes in little order.
-pub(crate) fn read_u32(bytes: &[u8], at: usize) -> u32
-    requires { at + 4 ≤ length bytes.now }
-    ensures { result ≡ number_at bytes.now at }
-{
-    u32::from_le_bytes([bytes[at], bytes[at + 1], bytes[at + 2], bytes[at + 3]])
+    pub(crate) signature: Option<Signature<'a>>,
+    /// UNIX_FDS.
+    pub(crate) descriptors: Option<u32>,
 }
 
 /// Whether a text is in the grammar of the field with this code.
@@ -90,87 +76,175 @@ fn is_text_of(code: u8, text: &[u8]) -> bool
     }
 }
 
-/// So many bytes and the NUL behind them, and what follows.
-fn text_front(len: usize, bytes: &[u8]) -> Option<(&[u8], &[u8])>
-    ensures { option_map (λ x. (x.0.now, x.1.now)) result ≡ front_text len bytes.now }
+/// The type that a known code's value has, as a signature spells it.
+fn type_of(code: u8) -> u8
+    ensures { result ≡ type_code code }
 {
-    if len >= bytes.len() || bytes[len] != 0 {
-        return None;
+    match code {
+        PATH => b'o',
+        REPLY_SERIAL => b'u',
+        SIGNATURE => b'g',
+        UNIX_FDS => b'u',
+        _ => b's',
     }
-    let (text, _) = bytes.split_at(len);
-    let (_, rest) = bytes.split_at(len + 1);
-    Some((text, rest))
 }
 
-/// A field that holds a path or a string, and what follows it.
-fn text_field(code: u8, kind: u8, len: usize, bytes: &[u8]) -> Option<(HeaderField<'_>, &[u8])>
-    ensures { option_map rest_seen result ≡ field_of_text code kind (front_text len bytes.now) }
+/// So many bytes at a place and the NUL behind them, and where that ends.
+fn ended_text(len: usize, bytes: &[u8], at: usize) -> Option<(&[u8], usize)>
+    requires len { len < 2 ^ 32 }
+    requires inside { at ≤ length bytes.now }
+    requires short { length bytes.now ≤ 2 ^ 28 }
+    ensures { option_map (λ x. (x.0.now, x.1)) result ≡ text_ended len bytes.now at }
 {
-    let (text, rest) = match text_front(len, bytes) {
+    let end = at + len;
+    if end >= bytes.len() || bytes[end] != 0 {
+        return None;
+    }
+    let (_, rest) = bytes.split_at(at);
+    let (text, _) = rest.split_at(len);
+    Some((text, end + 1))
+}
+
+/// A field that holds a path or a string, by the place of its value.
+fn text_field(order: Order, code: u8, bytes: &[u8], at: usize) -> Option<(HeaderField<'_>, usize)>
+    requires inside { at ≤ length bytes.now }
+    requires short { length bytes.now ≤ 2 ^ 28 }
+    ensures { option_map end_seen result ≡ text_part order code bytes.now at }
+{
+    if at + 4 > bytes.len() {
+        return None;
+    }
+    let len = read_u32(order, bytes, at);
+    let (text, end) = match ended_text(len as usize, bytes, at + 4) {
         Some(found) => found,
         None => return None,
     };
-    let wanted = if code == PATH { b'o' } else { b's' };
-    if kind != wanted || !is_text_of(code, text) {
+    if !is_text_of(code, text) {
         return None;
     }
     // The grammar of each name lets ASCII alone pass.
     let text = unsafe { str::from_utf8_unchecked(text) };
-    Some((HeaderField::Text(code, text), rest))
+    Some((HeaderField::Text(code, text), end))
 }
 
-/// REPLY_SERIAL, and what follows it.
-fn reply_field(kind: u8, number: u32, bytes: &[u8]) -> Option<(HeaderField<'_>, &[u8])>
-    ensures { option_map rest_seen result ≡ number_field kind number bytes.now }
+/// REPLY_SERIAL, which isn't 0, or UNIX_FDS.
+fn number_field(order: Order, code: u8, bytes: &[u8], at: usize) -> Option<(HeaderField<'_>, usize)>
+    requires inside { at ≤ length bytes.now }
+    requires short { length bytes.now ≤ 2 ^ 28 }
+    ensures { option_map end_seen result ≡ number_part order code bytes.now at }
 {
-    if kind != b'u' || number == 0 {
+    if at + 4 > bytes.len() {
         return None;
     }
-    Some((HeaderField::ReplySerial(number), bytes))
+    let number = read_u32(order, bytes, at);
+    if code == REPLY_SERIAL && number == 0 {
+        return None;
+    }
+    Some((HeaderField::Number(code, number), at + 4))
 }
 
-/// The field in front: its code, its value's signature, and a number or a text behind its length.
-fn front_field(bytes: &[u8]) -> Option<(HeaderField<'_>, &[u8])>
-    ensures { option_map rest_seen result ≡ field_in_front bytes.now }
+/// SIGNATURE.
+fn signature_field(bytes: &[u8], at: usize) -> Option<(HeaderField<'_>, usize)>
+    requires inside { at ≤ length bytes.now }
+    requires short { length bytes.now ≤ 2 ^ 28 }
+    ensures { option_map end_seen result ≡ signature_part bytes.now at }
 {
-    if bytes.len() < 8 || bytes[1] != 1 || bytes[3] != 0 {
+    if at >= bytes.len() {
         return None;
     }
-    let number = read_u32(bytes, 4);
-    let (_, rest) = bytes.split_at(8);
-    if bytes[0] == REPLY_SERIAL {
-        return reply_field(bytes[2], number, rest);
+    let (text, end) = match ended_text(bytes[at] as usize, bytes, at + 1) {
+        Some(found) => found,
+        None => return None,
+    };
+    match Signature::read(text) {
+        Ok(signature) => Some((HeaderField::Signed(signature), end)),
+        Err(_) => None,
     }
-    text_field(bytes[0], bytes[2], number as usize, rest)
 }
 
-/// The same, which takes bytes.
-fn read_field(place: usize, bytes: &[u8]) -> Option<(HeaderField<'_>, &[u8])>
-    ensures field { option_map rest_seen result ≡ plain_field place bytes.now }
-    ensures shorter { IfSome result (λ x. length x.1.now < length bytes.now) }
+/// A known field by the place of its value.
+fn known_value(order: Order, code: u8, bytes: &[u8], at: usize) -> Option<(HeaderField<'_>, usize)>
+    requires inside { at ≤ length bytes.now }
+    requires short { length bytes.now ≤ 2 ^ 28 }
+    ensures { option_map end_seen result ≡ value_known order code bytes.now at }
 {
-    field_at(place, bytes)
+    match code {
+        REPLY_SERIAL => number_field(order, code, bytes, at),
+        UNIX_FDS => number_field(order, code, bytes, at),
+        SIGNATURE => signature_field(bytes, at),
+        _ => text_field(order, code, bytes, at),
+    }
 }
 
-/// The field that stands behind the padding, and what follows it.
-fn field_at(place: usize, bytes: &[u8]) -> Option<(HeaderField<'_>, &[u8])>
-    ensures { option_map rest_seen result ≡ plain_field place bytes.now }
+/// A known field by the place of its variant, whose signature has to be the code's type.
+fn known_field(order: Order, code: u8, bytes: &[u8], at: usize) -> Option<(HeaderField<'_>, usize)>
+    requires inside { at ≤ length bytes.now }
+    requires short { length bytes.now ≤ 2 ^ 28 }
+    ensures { option_map end_seen result ≡ known_part order code bytes.now at }
 {
-    let gap = padding(place);
-    if gap > bytes.len() {
+    if at + 3 > bytes.len()
+        || bytes[at] != 1
+        || bytes[at + 1] != type_of(code)
+        || bytes[at + 2] != 0
+    {
         return None;
     }
-    let (zeros, rest) = bytes.split_at(gap);
-    if !is_zero(zeros) {
+    known_value(order, code, bytes, at + 3)
+}
+
+/// The signature of one variant.
+fn variant_signature() -> Signature<'static>
+    ensures { result.bytes.now ≡ 118 ∷ [] }
+{
+    Signature { bytes: b"v" }
+}
+
+/// A field with an unknown code by the place of its variant, which may hold anything.
+fn unread_field(order: Order, bytes: &[u8], at: usize) -> Option<(HeaderField<'_>, usize)>
+    requires { at ≤ length bytes.now }
+    ensures { option_map end_seen result ≡ unread_to (values_end order (variant ∷ []) at bytes.now) }
+{
+    match value_end(order, variant_signature(), bytes, at) {
+        Ok(end) => Some((HeaderField::Unread, end)),
+        Err(_) => None,
+    }
+}
+
+/// The field whose code stands at a place.
+fn coded_field(order: Order, code: u8, bytes: &[u8], at: usize) -> Option<(HeaderField<'_>, usize)>
+    requires inside { at < length bytes.now }
+    requires short { length bytes.now ≤ 2 ^ 28 }
+    ensures { option_map end_seen result ≡ coded_part order code bytes.now at }
+{
+    match code {
+        0 => None,
+        PATH..=UNIX_FDS => known_field(order, code, bytes, at + 1),
+        _ => unread_field(order, bytes, at + 1),
+    }
+}
+
+/// The field that stands behind the padding, and where it ends.
+fn read_field(order: Order, bytes: &[u8], place: usize) -> Option<(HeaderField<'_>, usize)>
+    requires inside { place ≤ length bytes.now }
+    requires short { length bytes.now ≤ 2 ^ 28 }
+    ensures { option_map end_seen result ≡ part_at order bytes.now place }
+{
+    let start = place + padding(place);
+    if start >= bytes.len() {
         return None;
     }
-    front_field(rest)
+    let (_, rest) = bytes.split_at(place);
+    let (gap, _) = rest.split_at(padding(place));
+    if !is_zero(gap) {
+        return None;
+    }
+    coded_field(order, bytes[start], bytes, start)
 }
 
 impl<'a> Fields<'a> {
     /// No field, before any was read.
     fn none() -> Fields<'a>
-        ensures { fields_seen result ≡ record { parts = no_parts; reply_place = None } }
+        ensures { fields_seen result ≡ nothing_found }
     {
         Fields {
             path: None,
@@ -181,13 +255,17 @@ impl<'a> Fields<'a> {
             reply_serial_place: None,
             destination: None,
             sender: None,
+            signature: None,
+            descriptors: None,
         }
     }
 
     /// Puts in a text, unless one stands there.
     fn put_text(&mut self, code: u8, text: &'a str) -> bool
-        ensures parts { (if result then Some (parts_seen self.new) else None) ≡ with_text (parts_seen self.old) code (Some text.now) }
+        ensures parts { (if result then Some (parts_seen self.new) else None) ≡ with_text (parts_seen self.old) code text.now }
         ensures place { self.new.reply_serial_place ≡ self.old.reply_serial_place }
+        ensures signature { self.new.signature ≡ self.old.signature }
+        ensures descriptors { self.new.descriptors ≡ self.old.descriptors }
     {
         match code {
             PATH if self.path.is_none() => self.path = Some(text),
@@ -202,43 +280,62 @@ impl<'a> Fields<'a> {
         true
     }
 
+    /// Puts in REPLY_SERIAL, whose field stands at a place, or UNIX_FDS, unless one stands there.
+    fn put_number(&mut self, place: usize, code: u8, number: u32) -> bool
+        requires { place < 2 ^ 40 }
+        ensures { (if result then Some (fields_seen self.new) else None) ≡ with_number_part (fields_seen self.old) place code number }
+    {
+        if code == REPLY_SERIAL {
+            if self.reply_serial.is_some() {
+                return false;
+            }
+            self.reply_serial = Some(number);
+            self.reply_serial_place = Some(place + padding(place) + 4);
+            return true;
+        }
+        if self.descriptors.is_some() {
+            return false;
+        }
+        self.descriptors = Some(number);
+        true
+    }
+
     /// Puts in a field that stands at a place, unless one with its code stands there.
     fn put(&mut self, place: usize, field: HeaderField<'a>) -> bool
         requires { place < 2 ^ 40 }
-        ensures { (if result then Some (fields_seen self.new) else None) ≡ with_field (fields_seen self.old) place (field_seen field.entry) }
+        ensures { (if result then Some (fields_seen self.new) else None) ≡ with_part (fields_seen self.old) place (part_seen field.entry) }
     {
         match field {
-            HeaderField::ReplySerial(number) => {
-                if self.reply_serial.is_some() {
+            HeaderField::Text(code, text) => self.put_text(code, text),
+            HeaderField::Number(code, number) => self.put_number(place, code, number),
+            HeaderField::Signed(signature) => {
+                if self.signature.is_some() {
                     return false;
                 }
-                self.reply_serial = Some(number);
-                self.reply_serial_place = Some(place + padding(place) + 4);
+                self.signature = Some(signature);
                 true
             }
-            HeaderField::Text(code, text) => code != REPLY_SERIAL && self.put_text(code, text),
+            HeaderField::Unread => true,
         }
     }
 }
 
-/// The fields up to the end of the bytes, which stand at place 16 of a message.
-pub(crate) fn read_fields(bytes: &[u8]) -> Option<Fields<'_>>
-    requires { length bytes.now ≤ 2 ^ 26 }
-    ensures { option_map fields_seen result ≡ fields_to_end (length bytes.now) (record { parts = no_parts; reply_place = None }) 16 bytes.now }
+/// The fields of a message that is cut behind them, and where the last valid one ended.
+pub(crate) fn read_fields(order: Order, bytes: &[u8]) -> (Fields<'_>, usize)
+    requires long { 16 ≤ length bytes.now }
+    requires short { length bytes.now ≤ 2 ^ 28 }
+    ensures { FieldsRead order bytes.now (fields_seen result.0) result.1 }
 {
     let mut fields = Fields::none();
     let mut place = 16;
-    let mut rest = bytes;
-    while !rest.is_empty() {
-        let (field, after) = match read_field(place, rest) {
+    loop {
+        let (field, end) = match read_field(order, bytes, place) {
             Some(found) => found,
-            None => return None,
+            None => return (fields, place),
         };
         if !fields.put(place, field) {
-            return None;
+            return (fields, place);
         }
-        place += rest.len() - after.len();
-        rest = after;
+        place = end;
     }
-    Some(fields)
 }

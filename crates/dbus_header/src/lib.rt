@@ -1,8 +1,9 @@
 //! D-Bus messages: their parts, their spelling, which are valid, and the laws between spelling and reading.
 #![tactic(auto)]
 
-mod decode;
+mod decoding;
 mod fields;
+mod head;
 mod message;
 mod numbers;
 #[cfg(test)]
@@ -14,7 +15,8 @@ ghost use Rattle.dbus_header.specs.Malformed.{front};
 ghost use Rattle.dbus_header.specs.Stream.{Splits, split, messages, bad};
 ghost use Rattle.dbus_header.specs.declared.Malformed.{Malformed as Fault};
 
-pub use decode::decode_plain;
+pub use decoding::decode;
+pub use head::length;
 pub use message::Message;
 pub use numbers::{SERIAL_PLACE, set_reply_serial, set_serial, write_u32};
 

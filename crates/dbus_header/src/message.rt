@@ -1,18 +1,17 @@
 //! Messages, read in place.
 ghost use Rattle.std.specs.Prelude.{◌≡◌, ◌≤◌, ◌+◌, ℕ, Some, option_map, length};
-ghost use Rattle.dbus_header.specs.Plain.{plain_of, plain_parts};
+ghost use Rattle.dbus_header.specs.Contents.{message_of, contents_of};
 ghost use Rattle.dbus_header.specs.Seen.{text_seen};
 
+use dbus_types::Signature;
 use dbus_values::Order;
 
-/// A plain message: one in little order, of the type METHOD_CALL, METHOD_RETURN or ERROR, without a body, with none of
-/// the header fields SIGNATURE and UNIX_FDS and none that is unknown, and which, as a call, has neither of the flags
-/// NO_REPLY_EXPECTED and NO_AUTO_START. Its texts are parts of its bytes.
+/// A valid message. Its texts, its signature and its body are parts of its bytes (D-Bus Specification, "Message Format").
 #[derive(Clone, Copy)]
 pub struct Message<'a> {
     /// The byte order of its numbers.
     pub order: Order,
-    /// The message type: 1 METHOD_CALL, 2 METHOD_RETURN, 3 ERROR.
+    /// The message type: 1 METHOD_CALL, 2 METHOD_RETURN, 3 ERROR, 4 SIGNAL, or a greater one that has no name.
     pub kind: u8,
     /// The flags, as they stand.
     pub flags: u8,
@@ -26,15 +25,20 @@ pub struct Message<'a> {
     pub reply_serial_place: Option<usize>,
     pub destination: Option<&'a str>,
     pub sender: Option<&'a str>,
+    /// The types of the body's values, which are none where SIGNATURE is absent.
+    pub signature: Signature<'a>,
+    pub body: &'a [u8],
     /// The whole message.
     pub bytes: &'a [u8],
-    ghost read: { option_map plain_parts (plain_of bytes.now) ≡ Some (record {
+    ghost read: { option_map contents_of (message_of bytes.now) ≡ Some (record {
       order = order;
       kind = kind;
       flags = flags;
       serial = serial;
       parts = record { path = text_seen path; interface = text_seen interface; member = text_seen member; error_name = text_seen error_name; reply_serial = reply_serial; destination = text_seen destination; sender = text_seen sender };
       reply_place = reply_serial_place;
+      signature = signature.bytes.now;
+      body = body.now;
     }) },
     ghost long: { 16 ≤ length bytes.now },
     ghost inside: { (number place : ℕ) → reply_serial ≡ Some number → reply_serial_place ≡ Some place → place + 4 ≤ length bytes.now },

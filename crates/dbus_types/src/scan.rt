@@ -110,6 +110,7 @@ fn fault_by_levels(bytes: &[u8], outer: &mut [Level]) -> Option<BadSignature>
 }
 
 // Nearly every signature is short, and need not pay for levels that only long ones have.
+#[inline(never)]
 fn fault_of_short(bytes: &[u8]) -> Option<BadSignature>
     requires { length bytes.now ≤ SHORT }
     ensures { result ≡ fault_of_types (types_of bytes.now) }
@@ -118,6 +119,7 @@ fn fault_of_short(bytes: &[u8]) -> Option<BadSignature>
     fault_by_levels(bytes, &mut outer)
 }
 
+#[inline(never)]
 fn fault_of_long(bytes: &[u8]) -> Option<BadSignature>
     requires { length bytes.now ≤ LONGEST }
     ensures { result ≡ fault_of_types (types_of bytes.now) }

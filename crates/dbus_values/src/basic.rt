@@ -32,19 +32,27 @@ pub(crate) fn number_width(code: u8) -> usize
     }
 }
 
-/// Whether all bytes are ASCII other than NUL.
-#[inline]
+/// Whether all bytes are ASCII other than NUL. A wrong byte doesn't end the loop, so that it takes many at a time.
+#[inline(never)]
 fn is_ascii_text(text: &[u8]) -> bool
     ensures { result ≡ list_all is_ascii_text_byte text.now }
 {
-    text.iter().all(|byte| *byte > 0 && *byte < 128)
+    let mut is_good = true;
+    for byte in text {
+        is_good = is_good & (*byte > 0) & (*byte < 128);
+    }
+    is_good
 }
 
-#[inline]
+#[inline(never)]
 fn has_no_nul(text: &[u8]) -> bool
     ensures { result ≡ list_all (nat_lt 0) text.now }
 {
-    text.iter().all(|byte| *byte > 0)
+    let mut is_good = true;
+    for byte in text {
+        is_good = is_good & (*byte > 0);
+    }
+    is_good
 }
 
 #[inline]

@@ -1,10 +1,9 @@
 -- The events of a session and the history that they make.
-use Rattle.std.specs.Prelude.{ℕ, ◌+◌, ◌-◌, nat_lt, nat_le, Bool, true, false, not, ◌&&◌, ◌||◌, ◌==◌, List, [], ◌∷◌, ◌++◌, length, map, take, drop, if◌then◌else◌, Option, Some, None, is_some}
+use Rattle.std.specs.Prelude.{ℕ, ◌+◌, ◌-◌, nat_lt, nat_le, Bool, true, false, not, ◌&&◌, ◌||◌, ◌==◌, List, [], ◌∷◌, ◌++◌, length, map, take, drop, if◌then◌else◌, Option, Some, None}
 use Rattle.dbus_names.specs.Names.{is_empty, is_well_known}
 use Rattle.dbus_header.specs.declared.Malformed.{Malformed}
 use Rattle.dbus_header.specs.Message.{Message, destination}
 use Rattle.dbus_header.specs.Stream.{messages, bad}
-use Rattle.dbus_header.specs.Plain.{is_plain, plain_of}
 use Rattle.policy_args.specs.Policy.{Policy, bus_name}
 use Rattle.policy_view.specs.Texts.{Text, is_text}
 use Rattle.policy_view.specs.Sent.{Past}
@@ -81,23 +80,24 @@ taken_of side events piece = take (longest_stream - length (stream side events))
 
 -- ---- what is built so far
 
--- A message of the client is built where it is a plain call to a well-known name other than the bus's own.
+-- a well-known name other than the bus's own
 abbrev pub is_service : Option Text → Bool
 is_service None = false
 is_service (Some name) = is_well_known name && not (is_text (Some name) bus_name)
 
+-- The forms of messages that are built so far: of the client calls of services, of the bus returns and errors, and of
+-- either side those of types above 4.
 abbrev pub is_built_for : Side → Message → Bool
-is_built_for Client m = m.kind == 1 && is_service (destination m)
-is_built_for Bus m = m.kind == 2 || m.kind == 3
+is_built_for Client m = m.kind == 1 && is_service (destination m) || nat_lt 4 m.kind
+is_built_for Bus m = m.kind == 2 || m.kind == 3 || nat_lt 4 m.kind
 
--- The forms of items that are built so far: plain messages alone, of the client those calls, of the bus returns and errors.
 abbrev pub is_built : Item → Bool
-is_built (Msg side m) = is_plain m && is_built_for side m
+is_built (Msg side m) = is_built_for side m
 is_built (Ended end) = true
 
--- Of pieces those that are nothing, or exactly one plain message of a session that begins with messages and filters them.
+-- Pieces are built in a session that begins with messages and filters them.
 abbrev pub is_built_piece : Mode → List ℕ → Bool
-is_built_piece mode piece = is_empty piece || (not mode.auth && mode.filter && is_some (plain_of piece))
+is_built_piece mode piece = is_empty piece || not mode.auth && mode.filter
 
 -- ---- the history
 

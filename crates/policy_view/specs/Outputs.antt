@@ -6,7 +6,7 @@ use Rattle.policy_view.specs.Levels.{Fact}
 use Rattle.policy_view.specs.Sent.{Sent, Past, spelled_from}
 use Rattle.policy_view.specs.Shown.{seen}
 use Rattle.policy_view.specs.Past.{Item, Msg, Ended, History, past, due}
-use Rattle.policy_view.specs.declared.Side.TheVariants.{Client, Bus}
+use Rattle.policy_view.specs.declared.Side.TheVariants.{Bus}
 
 -- every message sent to the bus, the n-th with serial n
 abbrev pub sent : Policy → History → List Sent

@@ -2,11 +2,12 @@
 //! what the client is shown; the plain types in which the other crates speak of it; and the laws of the definitions.
 #![tactic(auto)]
 
-ghost use Rattle.std.specs.Prelude.{◌≡◌, ℕ, List};
+ghost use Rattle.std.specs.Prelude.{◌≡◌, ℕ, ◌∷◌, ◌++◌, ◌&&◌, not, List, IsTrue};
 ghost use Rattle.policy_args.specs.Policy.{Policy};
-ghost use Rattle.policy_view.specs.History.{Event};
+ghost use Rattle.policy_view.specs.History.{Event, Bytes, history};
 ghost use Rattle.policy_view.specs.Laws.{OnlyGrows};
 ghost use Rattle.policy_view.specs.declared.Mode.{Mode as SessionMode};
+ghost use Rattle.policy_view.specs.declared.Side.{Side as StreamSide};
 
 use dbus_header::{Instead, Malformed};
 use dbus_values::Order;
@@ -144,4 +145,10 @@ pub enum End {
 /// With more events, what either side was given stands, and only more follows it.
 pub fn bytes_only_grow()
     ensures { (policy : Policy) (mode : SessionMode) (more events : List Event) → OnlyGrows policy mode more events }
+{}
+
+/// Where a session that filters messages takes a stream in two pieces or in one makes no difference, whatever comes
+/// before and after: it has the same history, and so the same bytes for either side, the same notes and the same End.
+pub fn cuts_change_nothing()
+    ensures { (policy : Policy) (mode : SessionMode) (later earlier : List Event) (side : StreamSide) (first second : List ℕ) → IsTrue (not mode.auth && mode.filter) → history policy mode (later ++ Bytes side second ∷ Bytes side first ∷ earlier) ≡ history policy mode (later ++ Bytes side (first ++ second) ∷ earlier) }
 {}

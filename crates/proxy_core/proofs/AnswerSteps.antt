@@ -1,29 +1,24 @@
 -- A message of the bus: what the session does is what the history has.
 use Rattle.std.proofs.Common.{ℕ, ◌≡◌, ◌+◌, nat_le, Bool, true, false, cond, List, [], ◌∷◌, ◌++◌, length, Option, Some, None, refl, ap, ◌∙◌, sym, subst, arith, append-nil, append_assoc, inl, inr}
-use Rattle.std.specs.Prelude.{◌⊎◌, ◌==◌, ◌&&◌, ◌||◌, flat_map}
+use Rattle.std.specs.Prelude.{◌⊎◌, ◌==◌, ◌||◌, flat_map, nat_lt}
 use Rattle.std.specs.FinMap.{get}
 use Rattle.std.proofs.lemmas.Bool.Decides.{nat_tests}
 use Rattle.std.proofs.lemmas.Bool.{eqb-true}
-use Rattle.dbus_values.specs.declared.Order.{Order}
-use Rattle.dbus_values.specs.declared.Order.TheVariants.{Little}
 use Rattle.dbus_header.specs.Message.{Message, Valid, spell, with_reply_serial, with_number, reply_serial, reply_place}
-use Rattle.dbus_header.specs.Plain.{is_plain, plain_parts}
-use Rattle.dbus_header.specs.declared.Instead.{Instead}
-use Rattle.dbus_header.specs.declared.Instead.TheVariants.{ServiceUnknown}
+use Rattle.dbus_header.specs.Contents.{contents_of}
 use Rattle.dbus_header.proofs.NumberLaws.{reply_patched, reply_stands}
-use Rattle.dbus_header.proofs.PlainMessages.{plain_order}
 use Rattle.policy_args.specs.Policy.{Policy}
 use Rattle.policy_view.specs.Own.{answer_in_place}
 use Rattle.policy_view.specs.Sent.{Kind, Call, Return, Error, Signal, Other, kind_of, Sent, Passed, Pinged, OwnMatch, OwnOwner, OwnNames, answered, call_at, spelled_from}
 use Rattle.policy_view.specs.Past.{Item, Msg, Ended, History, past, after, due, due_at, used_by, used_at, place_used}
 use Rattle.policy_view.specs.Shown.{BusRole, NoRole, Unexpected, OtherAnswer, PingAnswer, NameList, bus_role, bus_role_at, seen, seen_as, shown, showing_at}
-use Rattle.policy_view.specs.History.{end_of, followed_by, is_built, is_built_for, most_sent}
+use Rattle.policy_view.specs.History.{end_of, followed_by, most_sent}
 use Rattle.policy_view.specs.Outputs.{bus_bytes, client_bytes, to_bus, to_client, seen_of}
 use Rattle.policy_view.specs.declared.Side.TheVariants.{Bus}
 use Rattle.policy_view.specs.declared.End.TheVariants.{NotBuilt}
-use Rattle.policy_view.proofs.BuiltLaws.{service_call, service_no_list}
+use Rattle.policy_view.proofs.BuiltLaws.{service_call, service_no_list, other_bus_role, other_bus_due, other_seen, other_used}
 use Rattle.proxy_core.specs.Sessions.{SessionView, Taken, Holds, IsBuiltSent, expected_by}
-use Rattle.proxy_core.specs.Steps.{ended_by, incoming, with_reply, with_bus_message}
+use Rattle.proxy_core.specs.Messages.{ended_by, incoming, with_reply, with_bus_message}
 use Rattle.proxy_core.proofs.LedgerLaws.{answered_sent}
 use Rattle.proxy_core.proofs.Knowing.{answered_is, knows_answered, knows_same}
 use Rattle.proxy_core.proofs.Placing.{followed, placed_itself, placed_not_built, ended_holds, moved}
@@ -57,7 +52,7 @@ role_is m (inl k) None b = ap (λ (k : Kind). bus_role_at k m None) k
 role_is m (inr k) None b = ap (λ (k : Kind). bus_role_at k m None) k
 role_is m (inl k) (Some (Passed q)) b =
     ap (λ (k : Kind). bus_role_at k m (Some (Passed q))) k
-    ∙ ap (λ (c : Bool). cond c (NameList q) (OtherAnswer q)) (service_no_list q (service_call q b.0 b.1))
+    ∙ ap (λ (c : Bool). cond c (NameList q) (OtherAnswer q)) (service_no_list q (service_call q b))
 role_is m (inr k) (Some (Passed q)) b = ap (λ (k : Kind). bus_role_at k m (Some (Passed q))) k
 role_is m (inl k) (Some (Pinged q w)) b = ap (λ (k : Kind). bus_role_at k m (Some (Pinged q w))) k
 role_is m (inr k) (Some (Pinged q w)) b = ap (λ (k : Kind). bus_role_at k m (Some (Pinged q w))) k
@@ -75,7 +70,7 @@ shown_by m (Some (OwnOwner name)) = []
 shown_by m (Some OwnNames) = []
 
 module _ (policy : Policy) (view : SessionView) (items : History) (taken : Taken) (m : Message) (bytes : List ℕ)
-    (runs : view.ended ≡ None) (holds : Holds policy view items taken) (valid : Valid m) (plain : is_plain m ≡ true) (bytes_are : bytes ≡ spell m) where
+    (runs : view.ended ≡ None) (holds : Holds policy view items taken) (valid : Valid m) (bytes_are : bytes ≡ spell m) where
   ends : end_of items ≡ None
   ends = sym holds.end_is ∙ runs
 
@@ -156,27 +151,23 @@ module _ (policy : Policy) (view : SessionView) (items : History) (taken : Taken
 
   -- the bytes that come to the client
   incoming_is : (r place : ℕ) → reply_serial m ≡ Some r → reply_place m ≡ Some place →
-      incoming (plain_parts m) bytes place (get view.expected r) ≡ flat_map spell (shown_by m (answered (past policy items) (Some r)))
+      incoming (contents_of m) bytes place (get view.expected r) ≡ flat_map spell (shown_by m (answered (past policy items) (Some r)))
   incoming_is r place number at =
-      ap (incoming (plain_parts m) bytes place) ((holds.knows runs).each r) ∙ by (answered (past policy items) (Some r)) (built_answered (Some r))
+      ap (incoming (contents_of m) bytes place) ((holds.knows runs).each r) ∙ by (answered (past policy items) (Some r)) (built_answered (Some r))
     where
-      by : (o : Option Sent) → IsBuiltAnswered o → incoming (plain_parts m) bytes place (expected_by o) ≡ flat_map spell (shown_by m o)
+      by : (o : Option Sent) → IsBuiltAnswered o → incoming (contents_of m) bytes place (expected_by o) ≡ flat_map spell (shown_by m o)
       by None b = refl
       by (Some (Passed q)) b =
-          ap (with_number Little place q.serial) bytes_are
-          ∙ ap (λ (o : Order). with_number o place q.serial (spell m)) (sym (plain_order m plain))
+          ap (with_number m.order place q.serial) bytes_are
           ∙ sym (reply_patched q.serial r place m valid number at).bytes
           ∙ sym (append-nil (spell (with_reply_serial q.serial m)))
-      by (Some (Pinged q w)) b =
-          ap (λ (o : Order). spell (answer_in_place o q.serial m.serial ServiceUnknown)) (sym (plain_order q b.0))
-          ∙ ap (λ (i : Instead). spell (answer_in_place q.order q.serial m.serial i)) (sym b.1)
-          ∙ sym (append-nil (spell (answer_in_place q.order q.serial m.serial w)))
+      by (Some (Pinged q w)) b = sym (append-nil (spell (answer_in_place q.order q.serial m.serial w)))
       by (Some (OwnMatch p)) b = absurd b
       by (Some (OwnOwner n)) b = absurd b
       by (Some OwnNames) b = absurd b
 
   reply_holds : Answers m → (r : Option ℕ) → reply_serial m ≡ r → (place : Option ℕ) → reply_place m ≡ place →
-      Holds policy (with_reply (plain_parts m) bytes r place view) (Msg Bus m ∷ items) taken
+      Holds policy (with_reply (contents_of m) bytes r place view) (Msg Bus m ∷ items) taken
   reply_holds a None number place at = record {
     for_bus = bus_same a;
     for_client =
@@ -190,32 +181,60 @@ module _ (policy : Policy) (view : SessionView) (items : History) (taken : Taken
       absurd (let p = reply_stands m r number in let h : Some p.0 ≡ None = sym p.1 ∙ at in cc)
   reply_holds a (Some r) number (Some place) at = record {
     for_bus = bus_same a;
-    for_client = client_more a (incoming (plain_parts m) bytes place (get view.expected r))
+    for_client = client_more a (incoming (contents_of m) bytes place (get view.expected r))
         (incoming_is r place number at ∙ ap (λ (o : Option ℕ). flat_map spell (shown_by m (answered (past policy items) o))) (sym number));
     end_is = holds.end_is;
-    knows = λ n. knows_answered view (past policy items) (past policy (Msg Bus m ∷ items)) r (view.client_side ++ incoming (plain_parts m) bytes place (get view.expected r)) (holds.knows runs) (sent_same a)
+    knows = λ n. knows_answered view (past policy items) (past policy (Msg Bus m ∷ items)) r (view.client_side ++ incoming (contents_of m) bytes place (get view.expected r)) (holds.knows runs) (sent_same a)
         (used_more a ∙ ap (λ (o : Option ℕ). (past policy items).used ++ place_used (length (past policy items).told.sent) o) number);
   }
 
-  built_is : (b : Bool) → is_built_for Bus m ≡ b → is_built (Msg Bus m) ≡ b
-  built_is b e = ap (λ (p : Bool). p && is_built_for Bus m) plain ∙ e
+  -- what the history has for an answer
+  answers_placed : Answers m → (m.kind == 2 || m.kind == 3) ≡ true → followed_by policy items (Msg Bus m) ≡ Msg Bus m ∷ items
+  answers_placed a built =
+      let none : length (due policy (past policy items) (Msg Bus m)) ≡ 0 = ap length (nothing_due a) in
+      let fits = (holds.knows runs).fits in
+      let room : nat_le (length (past policy items).told.sent + length (due policy (past policy items) (Msg Bus m))) most_sent ≡ true = grind (arith, nat_tests, none, fits) in
+      followed policy items (Msg Bus m) ends
+      ∙ ap (λ (i : Item). i ∷ items) (placed_itself policy (past policy items) (Msg Bus m) (ap (λ (b : Bool). b || nat_lt 4 m.kind) built) room)
+
+  -- a message of a type above 4 is hidden, and tells nothing
+  other_placed : (m.kind == 2 || m.kind == 3) ≡ false → nat_lt 4 m.kind ≡ true → followed_by policy items (Msg Bus m) ≡ Msg Bus m ∷ items
+  other_placed quiet other =
+      let none : length (due policy (past policy items) (Msg Bus m)) ≡ 0 = ap length (other_bus_due policy (past policy items) m other) in
+      let fits = (holds.knows runs).fits in
+      let room : nat_le (length (past policy items).told.sent + length (due policy (past policy items) (Msg Bus m))) most_sent ≡ true = grind (arith, nat_tests, none, fits) in
+      followed policy items (Msg Bus m) ends
+      ∙ ap (λ (i : Item). i ∷ items) (placed_itself policy (past policy items) (Msg Bus m) (ap (λ (b : Bool). b || nat_lt 4 m.kind) quiet ∙ other) room)
+
+  other_holds : nat_lt 4 m.kind ≡ true → Holds policy view (Msg Bus m ∷ items) taken
+  unfolding past after bus_bytes client_bytes to_bus to_client seen_of
+  other_holds other = record {
+    for_bus =
+        holds.for_bus ∙ sym (append-nil (bus_bytes policy items))
+        ∙ ap (λ (ds : List Sent). bus_bytes policy items ++ spelled_from (length (past policy items).told.sent + 1) ds) (sym (other_bus_due policy (past policy items) m other));
+    for_client =
+        holds.for_client ∙ sym (append-nil (client_bytes policy items))
+        ∙ ap (λ (ms : List Message). client_bytes policy items ++ flat_map spell ms) (sym (other_seen policy (past policy items) m other));
+    end_is = holds.end_is;
+    knows = λ n. knows_same view (past policy items) (past policy (Msg Bus m ∷ items)) (holds.knows runs)
+        (ap (λ (r : BusRole). (past policy items).told.sent ++ due_at policy m r) (other_bus_role (past policy items) m other) ∙ append-nil (past policy items).told.sent)
+        (ap (λ (us : List ℕ). (past policy items).used ++ us) (other_used (past policy items) m other) ∙ append-nil (past policy items).used);
+  }
 
   -- a message of the bus
-  pub answer_holds : Holds policy (with_bus_message (plain_parts m) bytes view) (followed_by policy items (Msg Bus m)) taken
-  answer_holds = by (is_built_for Bus m) refl
+  pub answer_holds : Holds policy (with_bus_message (contents_of m) bytes view) (followed_by policy items (Msg Bus m)) taken
+  answer_holds = by (m.kind == 2 || m.kind == 3) refl (nat_lt 4 m.kind) refl
     where
-      by : (b : Bool) → is_built_for Bus m ≡ b → Holds policy (with_bus_message (plain_parts m) bytes view) (followed_by policy items (Msg Bus m)) taken
-      by true built =
-          let a = answers_by m built in
-          let none : length (due policy (past policy items) (Msg Bus m)) ≡ 0 = ap length (nothing_due a) in
-          let fits = (holds.knows runs).fits in
-          let room : nat_le (length (past policy items).told.sent + length (due policy (past policy items) (Msg Bus m))) most_sent ≡ true = grind (arith, nat_tests, none, fits) in
-          moved policy taken (with_bus_message (plain_parts m) bytes view) (with_reply (plain_parts m) bytes (reply_serial m) (reply_place m) view) (followed_by policy items (Msg Bus m)) (Msg Bus m ∷ items)
-          (ap (λ (b : Bool). cond b (with_reply (plain_parts m) bytes (reply_serial m) (reply_place m) view) (ended_by NotBuilt view)) built)
-          (followed policy items (Msg Bus m) ends ∙ ap (λ (i : Item). i ∷ items) (placed_itself policy (past policy items) (Msg Bus m) (built_is true built) room))
+      by : (answers : Bool) → (m.kind == 2 || m.kind == 3) ≡ answers → (other : Bool) → nat_lt 4 m.kind ≡ other →
+          Holds policy (cond answers (with_reply (contents_of m) bytes (reply_serial m) (reply_place m) view) (cond other view (ended_by NotBuilt view))) (followed_by policy items (Msg Bus m)) taken
+      by true answers other o =
+          let a = answers_by m answers in
+          moved policy taken (with_reply (contents_of m) bytes (reply_serial m) (reply_place m) view) (with_reply (contents_of m) bytes (reply_serial m) (reply_place m) view)
+          (followed_by policy items (Msg Bus m)) (Msg Bus m ∷ items) refl (answers_placed a answers)
           (reply_holds a (reply_serial m) refl (reply_place m) refl)
-      by false not_built =
-          moved policy taken (with_bus_message (plain_parts m) bytes view) (ended_by NotBuilt view) (followed_by policy items (Msg Bus m)) (Ended NotBuilt ∷ items)
-          (ap (λ (b : Bool). cond b (with_reply (plain_parts m) bytes (reply_serial m) (reply_place m) view) (ended_by NotBuilt view)) not_built)
-          (followed policy items (Msg Bus m) ends ∙ ap (λ (i : Item). i ∷ items) (placed_not_built policy (past policy items) (Msg Bus m) (built_is false not_built)))
+      by false answers true o =
+          moved policy taken view view (followed_by policy items (Msg Bus m)) (Msg Bus m ∷ items) refl (other_placed answers o) (other_holds o)
+      by false answers false o =
+          moved policy taken (ended_by NotBuilt view) (ended_by NotBuilt view) (followed_by policy items (Msg Bus m)) (Ended NotBuilt ∷ items) refl
+          (followed policy items (Msg Bus m) ends ∙ ap (λ (i : Item). i ∷ items) (placed_not_built policy (past policy items) (Msg Bus m) (ap (λ (b : Bool). b || nat_lt 4 m.kind) answers ∙ o)))
           (ended_holds policy view items taken NotBuilt holds)

@@ -1,12 +1,12 @@
 -- What a session keeps of the past, as messages are sent and answers come.
 use Rattle.std.proofs.Common.{ℕ, ◌≡◌, ◌+◌, ◌≤◌, nat_eq, Bool, true, false, List, [], ◌∷◌, ◌++◌, length, slice_get, Option, Some, refl, ap, ◌∙◌, sym, subst, arith, length-append}
 use Rattle.std.specs.List.{list_any}
-use Rattle.std.specs.FinMap.{get, insert, remove}
-use Rattle.policy_view.specs.Sent.{Sent, Past, answered, call_at, expects_answer}
+use Rattle.std.specs.FinMap.{get, remove}
+use Rattle.policy_view.specs.Sent.{Sent, Past, answered, call_at, if_expected}
 use Rattle.policy_view.specs.Past.{place_used}
 use Rattle.policy_view.specs.History.{most_sent}
 use Rattle.proxy_core.specs.Sessions.{SessionView, Knows, IsBuiltSent, expected_by}
-use Rattle.proxy_core.specs.Steps.{with_sent}
+use Rattle.proxy_core.specs.Messages.{with_sent, expecting}
 use Rattle.proxy_core.specs.declared.ledger.Expected.{Expected}
 use Rattle.proxy_core.proofs.LedgerLaws.{answered_in, sends, answers, get_last, get_other, same_nat, other_nat}
 
@@ -18,17 +18,18 @@ answered_is before r = refl
 some_same : {A : Type 0} (a b : A) → ◌≡◌ {A = Option A} (Some a) (Some b) → a ≡ b
 some_same a b e = cc
 
-pub knows_sent : (view : SessionView) (before after : Past) (s : Sent) (e : Expected) (out : List ℕ) → Knows view before →
+-- a message that is sent, and what its answer is for
+pub knows_sent : (view : SessionView) (before after : Past) (s : Sent) (e : Option Expected) (out : List ℕ) → Knows view before →
     ((r : ℕ) → list_any (nat_eq r) before.used ≡ true → r ≤ length before.told.sent) →
     after.told.sent ≡ before.told.sent ++ s ∷ [] → after.used ≡ before.used →
-    IsBuiltSent s → expects_answer s ≡ true → expected_by (Some s) ≡ Some e → length before.told.sent + 1 ≤ most_sent →
+    IsBuiltSent s → expected_by (if_expected (Some s)) ≡ e → length before.told.sent + 1 ≤ most_sent →
     Knows (with_sent (out, e) view) after
-knows_sent view before after s e out k within sent used built wanted is room = record {
+knows_sent view before after s e out k within sent used built is room = record {
   count = ap (λ (n : ℕ). n + 1) k.count ∙ sym (ap length sent ∙ length-append before.told.sent (s ∷ []));
   fits = (let h : length after.told.sent ≡ length before.told.sent + 1 = ap length sent ∙ length-append before.told.sent (s ∷ []) in omega (arith, h, room));
   each = λ r.
-      ap (λ (n : ℕ). get (insert view.expected (n + 1) e) r) k.count
-      ∙ sends view.expected before.used before.told.sent s e within (λ q. k.each q ∙ ap expected_by (answered_is before q)) wanted is r
+      ap (λ (n : ℕ). get (expecting view.expected (n + 1) e) r) k.count
+      ∙ sends view.expected before.used before.told.sent s e within (λ q. k.each q ∙ ap expected_by (answered_is before q)) is r
       ∙ ap (λ (xs : List Sent). expected_by (answered_in before.used xs r)) (sym sent)
       ∙ ap (λ (us : List ℕ). expected_by (answered_in us after.told.sent r)) (sym used)
       ∙ ap expected_by (sym (answered_is after r));

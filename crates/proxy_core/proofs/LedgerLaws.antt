@@ -10,6 +10,7 @@ use Rattle.std.specs.FinMap.{FinMap, get, insert, remove, get-insert, get-remove
 use Rattle.policy_view.specs.Sent.{Sent, sent_at, if_expected, expects_answer}
 use Rattle.policy_view.specs.Past.{place_used}
 use Rattle.proxy_core.specs.Sessions.{expected_by}
+use Rattle.proxy_core.specs.Messages.{expecting}
 use Rattle.proxy_core.specs.declared.ledger.Expected.{Expected}
 
 pub get_last : {X : Type 0} (xs : List X) (y : X) → slice_get (xs ++ y ∷ []) (length xs) ≡ Some y
@@ -42,13 +43,35 @@ not_used : (b : Bool) (used : List ℕ) (r n : ℕ) → list_any (nat_eq r) used
 not_used true used r n is h lt = absurd (let k : r ≤ n = h is in omega (arith, k, lt))
 not_used false used r n is h lt = refl
 
--- a message that is sent
-pub sends : (l : FinMap nat_cmp Expected) (used : List ℕ) (sent : List Sent) (s : Sent) (e : Expected) →
+past_none : (sent : List Sent) (r : ℕ) → length sent < r → sent_at sent r ≡ None
+past_none sent zero lt = absurd (omega (arith, lt))
+past_none sent (suc k) lt = slice_get_past sent k (omega (arith, lt))
+
+-- nothing is expected of a serial to come
+none_yet : (l : FinMap nat_cmp Expected) (used : List ℕ) (sent : List Sent) →
+    ((r : ℕ) → get l r ≡ expected_by (answered_in used sent r)) → get l (length sent + 1) ≡ None
+none_yet l used sent each =
+    each (length sent + 1) ∙ by (list_any (nat_eq (length sent + 1)) used) (sent_at sent (length sent + 1)) (past_none sent (length sent + 1) (omega arith))
+  where
+    by : (b : Bool) (o : Option Sent) → o ≡ None → expected_by (if b then None else if_expected o) ≡ None
+    by true o e = refl
+    by false o e = ap (λ (p : Option Sent). expected_by (if_expected p)) e
+
+given : (l : FinMap nat_cmp Expected) (k r : ℕ) (e : Option Expected) → get l k ≡ None → get (expecting l k e) r ≡ (if nat_eq r k then e else get l r)
+given l k r (Some e) none = inserted l k r e
+given l k r None none = by (nat_eq r k) refl
+  where
+    by : (b : Bool) → nat_eq r k ≡ b → get l r ≡ (if b then None else get l r)
+    by true h = ap (get l) (same_nat r k h) ∙ none
+    by false h = refl
+
+-- a message that is sent, and what its answer is for
+pub sends : (l : FinMap nat_cmp Expected) (used : List ℕ) (sent : List Sent) (s : Sent) (e : Option Expected) →
     ((r : ℕ) → list_any (nat_eq r) used ≡ true → r ≤ length sent) →
     ((r : ℕ) → get l r ≡ expected_by (answered_in used sent r)) →
-    expects_answer s ≡ true → expected_by (Some s) ≡ Some e →
-    (r : ℕ) → get (insert l (length sent + 1) e) r ≡ expected_by (answered_in used (sent ++ s ∷ []) r)
-sends l used sent s e within each wanted is r = inserted l (length sent + 1) r e ∙ by (nat_eq r (length sent + 1)) refl
+    expected_by (if_expected (Some s)) ≡ e →
+    (r : ℕ) → get (expecting l (length sent + 1) e) r ≡ expected_by (answered_in used (sent ++ s ∷ []) r)
+sends l used sent s e within each is r = given l (length sent + 1) r e (none_yet l used sent each) ∙ by (nat_eq r (length sent + 1)) refl
   where
     at : (r : ℕ) → r ≡ length sent + 1 → sent_at (sent ++ s ∷ []) r ≡ Some s
     at zero here = absurd (omega (arith, here))
@@ -60,20 +83,15 @@ sends l used sent s e within each wanted is r = inserted l (length sent + 1) r e
     elsewhere zero ne = refl
     elsewhere (suc k) ne = get_other sent s k (λ e. ne (omega (arith, e)))
 
-    by : (here : Bool) → nat_eq r (length sent + 1) ≡ here → (if here then Some e else get l r) ≡ expected_by (answered_in used (sent ++ s ∷ []) r)
+    by : (here : Bool) → nat_eq r (length sent + 1) ≡ here → (if here then e else get l r) ≡ expected_by (answered_in used (sent ++ s ∷ []) r)
     by true h =
         let same = same_nat r (length sent + 1) h in
         let free : list_any (nat_eq r) used ≡ false = not_used (list_any (nat_eq r) used) used r (length sent) refl (within r) (omega (arith, same)) in
         sym is
-        ∙ ap (λ (b : Bool). expected_by (if b then Some s else None)) (sym wanted)
         ∙ ap (λ (o : Option Sent). expected_by (if_expected o)) (sym (at r same))
         ∙ ap (λ (b : Bool). expected_by (if b then None else if_expected (sent_at (sent ++ s ∷ []) r))) (sym free)
     by false h =
         each r ∙ ap (λ (o : Option Sent). expected_by (if list_any (nat_eq r) used then None else if_expected o)) (sym (elsewhere r (other_nat r (length sent + 1) h)))
-
-past_none : (sent : List Sent) (r : ℕ) → length sent < r → sent_at sent r ≡ None
-past_none sent zero lt = absurd (omega (arith, lt))
-past_none sent (suc k) lt = slice_get_past sent k (omega (arith, lt))
 
 -- an answer that came
 pub answers : (l : FinMap nat_cmp Expected) (used : List ℕ) (sent : List Sent) (a : ℕ) →

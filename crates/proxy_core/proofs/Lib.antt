@@ -1,10 +1,12 @@
 pub mod Maps
 pub mod OwnBytes
 pub mod LedgerLaws
-pub mod StreamSteps
 pub mod Knowing
 pub mod Placing
 pub mod CallSteps
 pub mod AnswerSteps
+pub mod StreamSteps
+pub mod Frames
 pub mod Keeping
+pub mod Draining
 pub mod Standing

@@ -8,7 +8,7 @@ use Rattle.policy_view.specs.Outputs.{bus_bytes, client_bytes, to_bus, to_client
 use Rattle.policy_view.specs.declared.End.{End}
 use Rattle.policy_view.specs.declared.End.TheVariants.{SerialsSpent, NotBuilt}
 use Rattle.proxy_core.specs.Sessions.{SessionView, Taken, Holds}
-use Rattle.proxy_core.specs.Steps.{ended_by}
+use Rattle.proxy_core.specs.Messages.{ended_by}
 
 pub followed : (policy : Policy) (items : History) (item : Item) → end_of items ≡ None → followed_by policy items item ≡ placed policy (past policy items) item ∷ items
 unfolding followed_by

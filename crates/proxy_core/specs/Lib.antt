@@ -1,2 +1,4 @@
 pub mod Sessions
+pub mod Messages
 pub mod Steps
+pub mod Seen

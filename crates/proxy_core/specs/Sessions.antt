@@ -1,14 +1,13 @@
 -- What a session is seen as, and when it stands for events.
-use Rattle.std.specs.Prelude.{◌≡◌, ◌≤◌, ℕ, Bool, true, false, List, [], ◌++◌, length, Option, Some, None, Result, Ok, Err, slice_get}
+use Rattle.std.specs.Prelude.{◌≡◌, ◌≤◌, ◌<◌, ◌==◌, ◌&&◌, ℕ, Bool, true, false, List, [], ◌++◌, length, get_or, Option, Some, None, Result, Ok, Err, slice_get}
 use Rattle.std.specs.Ordering.{nat_cmp}
 use Rattle.std.specs.FinMap.{FinMap, get, empty}
-use Rattle.dbus_header.specs.Plain.{is_plain}
-use Rattle.dbus_header.specs.Stream.{rest}
-use Rattle.dbus_header.specs.declared.Instead.TheVariants.{ServiceUnknown}
+use Rattle.dbus_header.specs.Stream.{rest, bad}
+use Rattle.dbus_header.specs.Message.{destination}
 use Rattle.policy_args.specs.Policy.{Policy}
 use Rattle.policy_view.specs.Sent.{Sent, Passed, Pinged, OwnMatch, OwnOwner, OwnNames, Past, answered}
 use Rattle.policy_view.specs.Past.{History, past}
-use Rattle.policy_view.specs.History.{Event, stream, history, end_of, is_built_for, most_sent}
+use Rattle.policy_view.specs.History.{Event, stream, history, end_of, is_service, most_sent}
 use Rattle.policy_view.specs.Outputs.{bus_bytes, client_bytes}
 use Rattle.policy_view.specs.declared.Mode.{Mode}
 use Rattle.policy_view.specs.declared.Side.{Side}
@@ -26,19 +25,25 @@ pub record SessionView : Type 0 where
   pub bus_side : List ℕ
   pub client_side : List ℕ
   pub ended : Option End
-  -- how many bytes came of either side
+  -- how many bytes came of either side, and those of them that are no whole message yet
   pub client_came : ℕ
   pub bus_came : ℕ
+  pub client_left : List ℕ
+  pub bus_left : List ℕ
   -- how many messages were sent, and what is expected of their answers
   pub sent : ℕ
   pub expected : FinMap nat_cmp Expected
 
 abbrev pub at_start : Mode → SessionView
-at_start mode = record { mode = mode; bus_side = []; client_side = []; ended = None; client_came = 0; bus_came = 0; sent = 0; expected = empty }
+at_start mode = record { mode = mode; bus_side = []; client_side = []; ended = None; client_came = 0; bus_came = 0; client_left = []; bus_left = []; sent = 0; expected = empty }
 
 abbrev pub came_of : Side → SessionView → ℕ
 came_of Client view = view.client_came
 came_of Bus view = view.bus_came
+
+abbrev pub left_of : Side → SessionView → List ℕ
+left_of Client view = view.client_left
+left_of Bus view = view.bus_left
 
 abbrev pub waits_for : Side → SessionView → List ℕ
 waits_for Client view = view.client_side
@@ -54,10 +59,10 @@ nothing = record { bus_side = []; client_side = [] }
 
 -- ---- what it keeps of the past
 
--- a message that was sent, as far as such are built: the request is one that is built, and a ping is for an unknown service
+-- a message that was sent, as far as such are built: a call of a service, or a ping in place of a call
 abbrev pub IsBuiltSent : Sent → Type 0
-IsBuiltSent (Passed request) = (is_plain request ≡ true) × (is_built_for Client request ≡ true)
-IsBuiltSent (Pinged request what) = (is_plain request ≡ true) × (what ≡ ServiceUnknown)
+IsBuiltSent (Passed request) = (request.kind == 1 && is_service (destination request)) ≡ true
+IsBuiltSent (Pinged request what) = Unit {0}
 IsBuiltSent (OwnMatch pattern) = ⊥
 IsBuiltSent (OwnOwner name) = ⊥
 IsBuiltSent OwnNames = ⊥
@@ -66,7 +71,7 @@ IsBuiltSent OwnNames = ⊥
 abbrev pub expected_by : Option Sent → Option Expected
 expected_by None = None
 expected_by (Some (Passed request)) = Some (expects.Call request.serial)
-expected_by (Some (Pinged request what)) = Some (expects.Ping request.serial)
+expected_by (Some (Pinged request what)) = Some (expects.Ping request.serial request.order what)
 expected_by (Some (OwnMatch pattern)) = None
 expected_by (Some (OwnOwner name)) = None
 expected_by (Some OwnNames) = None
@@ -106,10 +111,13 @@ pub record Holds (policy : Policy) (view : SessionView) (items : History) (taken
   pub end_is : view.ended ≡ end_of items
   pub knows : view.ended ≡ None → Knows view (past policy items)
 
--- a running session has taken all that came of either side, message by message
+-- a running session has taken the whole messages of all that came of either side, and has what is left of it, in which
+-- no fault stands
 pub record Follows (view : SessionView) (events : List Event) : Type 0 where
   pub came : (side : Side) → came_of side view ≡ length (stream side events)
-  pub rest_is : (side : Side) → rest (stream side events) ≡ []
+  pub left : (side : Side) → left_of side view ≡ rest (stream side events)
+  pub sound : (side : Side) → bad (stream side events) ≡ None
+  pub bytes : (side : Side) (i : ℕ) → get_or (left_of side view) i 0 < 256
 
 -- A session stands for events: it holds their history. One that was refused memory holds a front of what that gives.
 pub record StandsFor (policy : Policy) (view : SessionView) (events : List Event) (taken : Taken) : Type 0 where

@@ -1,92 +1,63 @@
 -- What a session does with a piece, on what it is seen as.
-use Rattle.std.specs.Prelude.{◌≡◌, ◌⊎◌, ℕ, ◌+◌, ◌-◌, Bool, true, false, not, ◌&&◌, ◌||◌, ◌==◌, nat_lt, List, [], ◌++◌, length, take, Option, Some, None, if◌then◌else◌}
-use Rattle.std.specs.FinMap.{get, insert, remove}
-use Rattle.std.specs.Option.{option_map}
+use Rattle.std.specs.Prelude.{◌≡◌, ◌≤◌, ◌⊎◌, ℕ, zero, suc, ◌+◌, ◌-◌, ◌*◌, Bool, false, not, ◌&&◌, nat_lt, List, ◌++◌, length, take, Option, Some, None, if◌then◌else◌, is_none}
 use Rattle.dbus_names.specs.Names.{is_empty}
-use Rattle.dbus_values.specs.declared.Order.TheVariants.{Little}
-use Rattle.dbus_header.specs.Message.{spell, with_serial, with_number}
-use Rattle.dbus_header.specs.Plain.{Plain, plain_of, plain_parts}
-use Rattle.dbus_header.specs.declared.Instead.TheVariants.{ServiceUnknown}
-use Rattle.policy_args.specs.Policy.{Policy, level, at_least}
-use Rattle.policy_args.specs.declared.Level.TheVariants.{Talk}
-use Rattle.policy_view.specs.Own.{ping, answer_in_place}
-use Rattle.policy_view.specs.History.{is_service, longest_stream, most_sent, finished}
+use Rattle.dbus_header.specs.Message.{Message, spell}
+use Rattle.dbus_header.specs.Malformed.{fault, front}
+use Rattle.dbus_header.specs.Contents.{contents_of}
+use Rattle.dbus_header.specs.declared.Malformed.{Malformed}
+use Rattle.policy_args.specs.Policy.{Policy}
+use Rattle.policy_view.specs.History.{longest_stream, finished, malformed}
+use Rattle.policy_view.specs.declared.Fault.TheVariants.{Message as MessageFault}
 use Rattle.policy_view.specs.declared.Side.{Side}
 use Rattle.policy_view.specs.declared.Side.TheVariants.{Client, Bus}
 use Rattle.policy_view.specs.declared.End.{End}
-use Rattle.policy_view.specs.declared.End.TheVariants.{SerialsSpent, Memory, NotBuilt}
-use Rattle.proxy_core.specs.declared.ledger.Expected.{Expected}
-use Rattle.proxy_core.specs.declared.ledger.Expected.TheVariants as expects
-use Rattle.proxy_core.specs.Sessions.{SessionView, came_of}
+use Rattle.policy_view.specs.declared.End.TheVariants.{Memory, NotBuilt}
+use Rattle.proxy_core.specs.Sessions.{SessionView, came_of, left_of, IsFront}
+use Rattle.proxy_core.specs.Messages.{ended_by, with_message, KeepsSides}
 
-abbrev pub ended_by : End → SessionView → SessionView
-ended_by end view = record view { ended = Some end }
+-- ---- the messages of a stream
 
--- ---- a message of the client
+abbrev pub with_left : Side → List ℕ → SessionView → SessionView
+with_left Client left view = record view { client_left = left }
+with_left Bus left view = record view { bus_left = left }
 
--- whether the policy lets the name be talked to
-abbrev pub may_talk : Policy → Option (List ℕ) → Bool
-may_talk policy None = false
-may_talk policy (Some name) = at_least Talk (level policy name)
+-- the fault in front, if there is one, is the session's End
+abbrev pub with_fault : Side → Option Malformed → SessionView → SessionView
+with_fault side None view = view
+with_fault side (Some f) view = ended_by (malformed side (MessageFault f)) view
 
--- what goes to the bus with serial n, by whether the call passes, and what its answer is for
-abbrev pub outgoing : Bool → Plain → List ℕ → ℕ → List ℕ × Expected
-outgoing true x bytes n = (with_number Little 8 n bytes, expects.Call x.serial)
-outgoing false x bytes n = (spell (with_serial n ping), expects.Ping x.serial)
+-- and whether the session still runs
+abbrev pub and_runs : SessionView → SessionView × Bool
+and_runs view = (view, is_none view.ended)
 
-abbrev pub with_sent : List ℕ × Expected → SessionView → SessionView
-with_sent sent view = record view {
-  bus_side = view.bus_side ++ sent.0;
-  sent = view.sent + 1;
-  expected = insert view.expected (view.sent + 1) sent.1;
-}
+-- with the message in front taken, or the fault; and whether more may follow
+abbrev pub with_front : Policy → Side → Option (Message × List ℕ) → SessionView → SessionView × Bool
+with_front policy side None view = (with_fault side (fault (left_of side view)) view, false)
+with_front policy side (Some x) view = and_runs (with_message policy side (contents_of x.0) (spell x.0) (with_left side x.1 view))
 
-abbrev pub with_call : Policy → Plain → List ℕ → SessionView → SessionView
-with_call policy x bytes view =
-    if x.kind == 1 && is_service x.parts.destination
-    then (if view.sent == most_sent then ended_by SerialsSpent view
-    else with_sent (outgoing (may_talk policy x.parts.destination) x bytes (view.sent + 1)) view)
-    else ended_by NotBuilt view
+abbrev pub step_of : Policy → Side → SessionView → SessionView × Bool
+step_of policy side view = with_front policy side (front (left_of side view)) view
 
--- ---- a message of the bus
+abbrev pub more_if : SessionView × Bool → (SessionView → SessionView) → SessionView
+more_if x others = if x.1 then others x.0 else x.0
 
--- what the client is shown of it, where its answer is for something; the number of REPLY_SERIAL stands at the place
-abbrev pub incoming : Plain → List ℕ → ℕ → Option Expected → List ℕ
-incoming x bytes place None = []
-incoming x bytes place (Some (expects.Call serial)) = with_number Little place serial bytes
-incoming x bytes place (Some (expects.Ping serial)) = spell (answer_in_place Little serial x.serial ServiceUnknown)
-
-abbrev pub with_answer : Plain → List ℕ → ℕ → ℕ → SessionView → SessionView
-with_answer x bytes place r view = record view {
-  client_side = view.client_side ++ incoming x bytes place (get view.expected r);
-  expected = remove view.expected r;
-}
-
--- by REPLY_SERIAL and the place of its number
-abbrev pub with_reply : Plain → List ℕ → Option ℕ → Option ℕ → SessionView → SessionView
-with_reply x bytes None place view = view
-with_reply x bytes (Some r) None view = view
-with_reply x bytes (Some r) (Some place) view = with_answer x bytes place r view
-
-abbrev pub with_bus_message : Plain → List ℕ → SessionView → SessionView
-with_bus_message x bytes view =
-    if x.kind == 2 || x.kind == 3 then with_reply x bytes x.parts.reply_serial x.reply_place view else ended_by NotBuilt view
+-- one message after the other, at most so many
+abbrev pub drained : Policy → Side → ℕ → SessionView → SessionView
+drained policy side zero view = view
+drained policy side (suc n) view = more_if (step_of policy side view) (drained policy side n)
 
 -- ---- a piece
 
-abbrev pub with_message : Policy → Side → Plain → List ℕ → SessionView → SessionView
-with_message policy Client x bytes view = with_call policy x bytes view
-with_message policy Bus x bytes view = with_bus_message x bytes view
-
-abbrev pub with_read : Policy → Side → Option Plain → List ℕ → SessionView → SessionView
-with_read policy side None bytes view = ended_by NotBuilt view
-with_read policy side (Some x) bytes view = with_message policy side x bytes view
+-- bytes come behind what is left of a side's stream; each message takes a byte at least
+abbrev pub with_more : Policy → Side → List ℕ → SessionView → SessionView
+with_more policy side bytes view =
+    drained policy side (length (left_of side view ++ bytes) + 1) (with_left side (left_of side view ++ bytes) view)
 
 -- bytes of a side's stream that it still takes
 abbrev pub with_bytes : Policy → Side → List ℕ → SessionView → SessionView
 with_bytes policy side bytes view =
     if is_empty bytes then view
-    else (if not view.mode.auth && view.mode.filter then with_read policy side (option_map plain_parts (plain_of bytes)) bytes view else ended_by NotBuilt view)
+    else (if not view.mode.auth && view.mode.filter then with_more policy side bytes view else ended_by NotBuilt view)
 
 abbrev pub with_came : Side → ℕ → SessionView → SessionView
 with_came Client n view = record view { client_came = view.client_came + n }
@@ -110,18 +81,43 @@ with_piece policy side piece view =
     let bytes = take (room_of side view) piece in
     closed_if (nat_lt (room_of side view) (length piece)) side (with_bytes policy side bytes (with_came side (length bytes) view))
 
--- nothing that waits changed, nor what was before
-pub record KeepsSides (old new : SessionView) : Type 0 where
-  pub mode : new.mode ≡ old.mode
-  pub bus_side : new.bus_side ≡ old.bus_side
-  pub client_side : new.client_side ≡ old.client_side
+-- ---- memory that was refused
 
--- memory was refused
-pub record IsRefused (old new : SessionView) : Type 0 where
+-- at one message, which has no effect then
+pub record IsRefusedAtOnce (old new : SessionView) : Type 0 where
   pub running : old.ended ≡ None
   pub ended : new.ended ≡ Some Memory
   pub kept : KeepsSides old new
 
--- it is what was to be, or memory was refused
+abbrev pub TookMessage : SessionView → SessionView → SessionView → Type 0
+TookMessage expected old new = (new ≡ expected) ⊎ IsRefusedAtOnce old new
+
+-- what waits are the first bytes of what was to be
+pub record IsRefused (expected old new : SessionView) : Type 0 where
+  pub running : old.ended ≡ None
+  pub ended : new.ended ≡ Some Memory
+  pub mode : new.mode ≡ old.mode
+  pub for_bus : IsFront new.bus_side expected.bus_side
+  pub for_client : IsFront new.client_side expected.client_side
+
+-- it is what was to be, or memory was refused in its midst
 abbrev pub Took : SessionView → SessionView → SessionView → Type 0
-Took expected old new = (new ≡ expected) ⊎ IsRefused old new
+Took expected old new = (new ≡ expected) ⊎ IsRefused expected old new
+
+abbrev pub Stepped : SessionView × Bool → SessionView → SessionView → Bool → Type 0
+Stepped expected old new more = ((new ≡ expected.0) × (more ≡ expected.1)) ⊎ (IsRefused expected.0 old new × (more ≡ false))
+
+-- ---- how much waits
+
+-- Nine bytes at most come out for one that comes in: the bytes that wait, with nine for each that is no whole message yet.
+abbrev pub bus_weight : SessionView → ℕ
+bus_weight view = length view.bus_side + 9 * (length view.client_left + length view.bus_left)
+
+abbrev pub client_weight : SessionView → ℕ
+client_weight view = length view.client_side + 9 * (length view.client_left + length view.bus_left)
+
+-- with so many bytes that came
+pub record IsLight (n : ℕ) (old new : SessionView) : Type 0 where
+  pub mode : new.mode ≡ old.mode
+  pub for_bus : bus_weight new ≤ bus_weight old + 9 * n
+  pub for_client : client_weight new ≤ client_weight old + 9 * n

@@ -3,6 +3,8 @@ ghost use Rattle.std.specs.Prelude.{◌≡◌, ℕ, OnOk, OnErr};
 ghost use Rattle.std.specs.FinMap as map;
 ghost use Rattle.std.specs.Ordering.{nat_cmp};
 
+use dbus_header::Instead;
+use dbus_values::Order;
 use std::alloc::{AllocError, Global};
 use std::collections::BTreeMap;
 use std::marker::Model;
@@ -12,8 +14,12 @@ use std::marker::Model;
 pub enum Expected {
     /// A call of the client that passed.
     Call(u32),
-    /// A ping that was sent in place of a call of the client.
-    Ping(u32),
+    /// A ping that was sent in place of a call of the client, which is answered with this in the call's order.
+    Ping {
+        serial: u32,
+        order: Order,
+        what: Instead,
+    },
 }
 
 /// The answers that are expected, by the serials of the messages that were sent. One that came is forgotten.

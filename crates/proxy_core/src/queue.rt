@@ -1,11 +1,24 @@
 //! Bytes that wait for a side.
 ghost use Rattle.std.specs.Prelude.{◌≡◌, ◌≤◌, ◌<◌, ◌+◌, ◌++◌, [], length, drop, OnOk, OnErr};
-ghost use Rattle.dbus_values.specs.declared.Order.TheVariants.{Little};
+ghost use Rattle.std.specs.Int.{w32};
+ghost use Rattle.dbus_values.specs.Values.{number_bytes};
 ghost use Rattle.dbus_header.specs.Message.{with_number};
 
+use crate::own::Template;
 use bytes::BytesMut;
+use dbus_values::Order;
 use std::alloc::{AllocError, Global};
 use std::marker::Model;
+
+/// A number of four bytes in an order.
+fn cells(order: Order, number: u32) -> [u8; 4]
+    ensures { result ≡ number_bytes order w32 number }
+{
+    match order {
+        Order::Little => number.to_le_bytes(),
+        Order::Big => number.to_be_bytes(),
+    }
+}
 
 /// The bytes that wait for a side, in one piece.
 #[derive(Drop)]
@@ -45,23 +58,44 @@ impl Queue {
         self.bytes.extend_from_slice(bytes)
     }
 
-    /// Puts bytes behind the others, with another number of four bytes in little order at a place.
+    /// Puts a message behind the others, with another number of four bytes in its order at a place.
     pub(crate) fn push_with_number(
         &mut self,
+        order: Order,
         bytes: &[u8],
         place: usize,
         number: u32,
     ) -> Result<(), AllocError>
         requires { place + 4 ≤ length bytes.now }
-        ensures ok { OnOk result (self.new ≡ self.old ++ with_number Little place number bytes.now) }
+        ensures ok { OnOk result (self.new ≡ self.old ++ with_number order place number bytes.now) }
         ensures err { OnErr result (self.new ≡ self.old) }
     {
         self.bytes.reserve(bytes.len())?;
         let (front, _) = bytes.split_at(place);
         let (_, rest) = bytes.split_at(place + 4);
         self.bytes.extend_reserved(front);
-        self.bytes.extend_reserved(&number.to_le_bytes());
+        self.bytes.extend_reserved(&cells(order, number));
         self.bytes.extend_reserved(rest);
+        Ok(())
+    }
+
+    /// Puts an answer behind the others, with its serial and its REPLY_SERIAL.
+    pub(crate) fn push_answer(
+        &mut self,
+        order: Order,
+        template: &Template,
+        reply: u32,
+        serial: u32,
+    ) -> Result<(), AllocError>
+        ensures ok { OnOk result (self.new ≡ self.old ++ template.now.front.now ++ number_bytes order w32 serial ++ template.now.middle.now ++ number_bytes order w32 reply ++ template.now.rest.now) }
+        ensures err { OnErr result (self.new ≡ self.old) }
+    {
+        self.bytes.reserve(template.front.len() + template.middle.len() + template.rest.len() + 8)?;
+        self.bytes.extend_reserved(template.front);
+        self.bytes.extend_reserved(&cells(order, serial));
+        self.bytes.extend_reserved(template.middle);
+        self.bytes.extend_reserved(&cells(order, reply));
+        self.bytes.extend_reserved(template.rest);
         Ok(())
     }
 

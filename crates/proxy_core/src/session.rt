@@ -1,28 +1,29 @@
-//! The session: each message of the client is judged and sent, each answer of the bus is matched and shown.
-ghost use Rattle.std.specs.Prelude.{◌≡◌, ◌⊎◌, ◌≤◌, ◌<◌, ◌+◌, ◌*◌, ◌∷◌, ◌++◌, ℕ, List, [], Option, Some, None, IfOk, OnOk, OnErr, length, take, drop, option_map};
-ghost use Rattle.policy_view.specs.History.{Event, Bytes, Finished, finished as finished_by, is_service as service, longest_stream, most_sent};
+//! The session: pieces of either side's stream are taken, message by message.
+ghost use Rattle.std.specs.Prelude.{◌≡◌, ◌≤◌, ◌<◌, ◌+◌, ◌^◌, ◌∷◌, ◌++◌, ℕ, List, [], Some, None, IfOk, OnOk, OnErr, length, take, drop};
+ghost use Rattle.dbus_header.specs.Message.{Message as MessageTree, Valid, spell};
+ghost use Rattle.dbus_header.specs.Contents.{contents_of};
+ghost use Rattle.policy_view.specs.History.{Event, Bytes, Finished, finished as finished_by, malformed as malformed_by, longest_stream, most_sent};
+ghost use Rattle.policy_view.specs.declared.Fault.TheVariants.{Message as MessageFault};
 ghost use Rattle.policy_view.specs.declared.End.{End as SessionEnd};
 ghost use Rattle.policy_args.specs.Policy.{Policy as PolicyValue};
-ghost use Rattle.proxy_core.specs.Sessions.{StandsFor, Taken, nothing, at_start, came_of, answer_of, IsFront};
-ghost use Rattle.proxy_core.specs.Steps.{ended_by, with_bytes, with_came, with_piece, with_call, with_bus_message, with_sent, outgoing, incoming, may_talk as talks, KeepsSides, Took};
-ghost use Rattle.dbus_header.specs.Seen.{text_seen};
-ghost use Rattle.dbus_header.specs.SeenMessage.{message_seen};
+ghost use Rattle.proxy_core.specs.Sessions.{StandsFor, Taken, nothing, at_start, came_of, left_of, answer_of, IsFront};
+ghost use Rattle.proxy_core.specs.Messages.{ended_by, with_message};
+ghost use Rattle.proxy_core.specs.Steps.{with_left, step_of, drained, with_bytes, with_came, with_piece, Took, TookMessage, Stepped, IsLight, bus_weight, client_weight};
+ghost use Rattle.proxy_core.specs.Seen.{message_seen, Given};
 
-use crate::ledger::{Expected, Ledger};
-use crate::own::{ping, service_unknown};
+mod messages;
+
+use crate::ledger::Ledger;
 use crate::queue::Queue;
-use dbus_header::{Message, SERIAL_PLACE, decode_plain};
-use dbus_names::is_well_known;
-use policy_args::{Level, Policy};
-use policy_view::{End, Mode, Side};
+use dbus_framing::{Framer, Next};
+use dbus_header::{Malformed, Message, decode};
+use policy_args::Policy;
+use policy_view::{End, Fault, Mode, Side};
 use std::alloc::{AllocError, Global};
 use std::marker::Model;
 
 /// How many bytes of a side's stream a session takes at most.
 pub const LONGEST_STREAM: u64 = 1_152_921_504_606_846_976;
-
-/// The name of the bus itself.
-const BUS_NAME: &str = "org.freedesktop.DBus";
 
 /// A session between a client and its bus: bytes that come of either side go in, and bytes for either side come out.
 #[derive(Drop)]
@@ -33,6 +34,8 @@ pub struct Session {
     ended: Option<End>,
     client_came: u64,
     bus_came: u64,
+    client_stream: Framer,
+    bus_stream: Framer,
     sent: u32,
     ledger: Ledger,
 }
@@ -42,7 +45,7 @@ impl Model for Session {
     ghost use Rattle.std.specs.Ordering.{nat_cmp};
     ghost use Rattle.std.specs.FinMap as map;
     ghost use Rattle.std.specs.Coded.{codes, coded_ℕ};
-    ghost use Rattle.policy_view.specs.History.{longest_stream, most_sent};
+    ghost use Rattle.policy_view.specs.History.{longest_stream};
     ghost use Rattle.proxy_core.specs.Sessions.{SessionView};
     ghost use Rattle.proxy_core.specs.declared.ledger.Expected.{Expected};
 
@@ -50,7 +53,7 @@ impl Model for Session {
 
     ghost coded = { Prim.hlevel (codes, map.code {X = Expected} {R = nat_cmp} coded_ℕ (Prim.hlevel codes)) };
 
-    ghost view = { λ s. record { mode = s.mode; bus_side = s.to_bus; client_side = s.to_client; ended = s.ended; client_came = s.client_came; bus_came = s.bus_came; sent = s.sent; expected = s.ledger } };
+    ghost view = { λ s. record { mode = s.mode; bus_side = s.to_bus; client_side = s.to_client; ended = s.ended; client_came = s.client_came; bus_came = s.bus_came; client_left = s.client_stream; bus_left = s.bus_stream; sent = s.sent; expected = s.ledger } };
 
     ghost invariant = { λ s. (s.client_came ≤ longest_stream) × (s.bus_came ≤ longest_stream) };
 }
@@ -65,26 +68,13 @@ fn finished(side: Side) -> End
     }
 }
 
-/// Whether it is the name of a service: a well-known name other than the bus's own.
-fn is_service(destination: Option<&str>) -> bool
-    ensures { result ≡ service (text_seen destination.entry) }
+/// A message that isn't valid as the End of its side.
+fn malformed(side: Side, fault: Malformed) -> End
+    ensures { result ≡ malformed_by side (MessageFault fault) }
 {
-    match destination {
-        None => false,
-        Some(name) => is_well_known(name.as_bytes()) && name != BUS_NAME,
-    }
-}
-
-/// Whether the policy lets a name be talked to.
-fn may_talk(policy: &Policy, destination: Option<&str>) -> bool
-    ensures { result ≡ talks policy.now (text_seen destination.entry) }
-{
-    match destination {
-        None => false,
-        Some(name) => match policy.level(name) {
-            Level::None | Level::See => false,
-            Level::Talk | Level::Own => true,
-        },
+    match side {
+        Side::Client => End::ClientMalformed(Fault::Message(fault)),
+        Side::Bus => End::BusMalformed(Fault::Message(fault)),
     }
 }
 
@@ -96,6 +86,18 @@ fn front_of(room: u64, piece: &[u8]) -> &[u8]
         &piece[..room as usize]
     } else {
         piece
+    }
+}
+
+/// The message that a frame is, which is valid.
+fn message_of(frame: &[u8]) -> Message<'_>
+    requires { (m : MessageTree) × Valid m × (frame.now ≡ spell m) }
+    ensures bytes { result.bytes.now ≡ frame.now }
+    ensures contents { (m : MessageTree) → Valid m → frame.now ≡ spell m → message_seen result ≡ contents_of m }
+{
+    match decode(frame) {
+        Ok(message) => message,
+        Err(_) => unreachable!(),
     }
 }
 
@@ -113,6 +115,8 @@ impl Session {
             ended: None,
             client_came: 0,
             bus_came: 0,
+            client_stream: Framer::new(alloc),
+            bus_stream: Framer::new(alloc),
             sent: 0,
             ledger: Ledger::new(alloc),
         })
@@ -124,9 +128,7 @@ impl Session {
         ensures stands { (events : List Event) (taken : Taken) → StandsFor policy.now self.old events taken → StandsFor policy.now self.new (Bytes Side.Client piece.now ∷ events) taken }
         ensures answer { result ≡ answer_of self.new.ended }
         ensures last { (end : SessionEnd) → self.old.ended ≡ Some end → self.new ≡ self.old }
-        ensures mode { self.new.mode ≡ self.old.mode }
-        ensures for_bus { length self.new.bus_side ≤ length self.old.bus_side + 9 * length piece.now }
-        ensures for_client { length self.new.client_side ≤ length self.old.client_side + 9 * length piece.now }
+        ensures light { IsLight (length piece.now) self.old self.new }
     {
         self.feed(policy, Side::Client, piece)
     }
@@ -137,9 +139,7 @@ impl Session {
         ensures stands { (events : List Event) (taken : Taken) → StandsFor policy.now self.old events taken → StandsFor policy.now self.new (Bytes Side.Bus piece.now ∷ events) taken }
         ensures answer { result ≡ answer_of self.new.ended }
         ensures last { (end : SessionEnd) → self.old.ended ≡ Some end → self.new ≡ self.old }
-        ensures mode { self.new.mode ≡ self.old.mode }
-        ensures for_bus { length self.new.bus_side ≤ length self.old.bus_side + 9 * length piece.now }
-        ensures for_client { length self.new.client_side ≤ length self.old.client_side + 9 * length piece.now }
+        ensures light { IsLight (length piece.now) self.old self.new }
     {
         self.feed(policy, Side::Bus, piece)
     }
@@ -217,6 +217,116 @@ impl Session {
         self.ended
     }
 
+    /// The session ended.
+    fn end_with(&mut self, end: End)
+        ensures { self.new ≡ ended_by end self.old }
+    {
+        self.ended = Some(end);
+    }
+
+    /// The stream of a side.
+    fn next(&mut self, side: Side) -> Result<Next, AllocError>
+        ensures ok { IfOk result (λ next. Given side self.old next self.new) }
+        ensures err { OnErr result (self.new ≡ self.old) }
+    {
+        match side {
+            Side::Client => self.client_stream.next(),
+            Side::Bus => self.bus_stream.next(),
+        }
+    }
+
+    /// Takes a whole message of a side.
+    fn take_frame(&mut self, policy: &Policy, side: Side, frame: &[u8])
+        requires running { self.old.ended ≡ None }
+        requires valid { (m : MessageTree) × Valid m × (frame.now ≡ spell m) }
+        ensures { (m : MessageTree) → Valid m → frame.now ≡ spell m → TookMessage (with_message policy.now side (contents_of m) (spell m) self.old) self.old self.new }
+    {
+        let message = message_of(frame);
+        self.take_message(policy, side, &message);
+    }
+
+    /// Takes the message in front of a side's stream, or ends the session where a fault stands there. Tells whether more
+    /// may follow.
+    fn take_front(&mut self, policy: &Policy, side: Side) -> bool
+        requires { self.old.ended ≡ None }
+        ensures step { Stepped (step_of policy.now side self.old) self.old self.new result }
+        ensures light { IsLight 0 self.old self.new }
+    {
+        match self.next(side) {
+            Ok(Next::Whole(frame)) => {
+                self.take_frame(policy, side, frame.as_slice());
+                self.ended.is_none()
+            }
+            Ok(Next::Rest) => false,
+            Ok(Next::Bad(fault)) => {
+                self.end_with(malformed(side, fault));
+                false
+            }
+            Err(_) => {
+                self.end_with(End::Memory);
+                false
+            }
+        }
+    }
+
+    /// Takes messages from the front of a side's stream, at most so many.
+    fn drain(&mut self, policy: &Policy, side: Side, most: usize)
+        requires { self.old.ended ≡ None }
+        ensures took { Took (drained policy.now side most self.old) self.old self.new }
+        ensures light { IsLight 0 self.old self.new }
+    {
+        let mut left = most;
+        while left > 0 {
+            if !self.take_front(policy, side) {
+                return;
+            }
+            left -= 1;
+        }
+    }
+
+    /// How many bytes of a side's stream are no whole message yet.
+    fn left_len(&self, side: Side) -> usize
+        ensures value { result ≡ length (left_of side self.now) }
+        ensures bound { result < 2 ^ 63 }
+    {
+        match side {
+            Side::Client => self.client_stream.len(),
+            Side::Bus => self.bus_stream.len(),
+        }
+    }
+
+    /// Puts bytes behind what is left of a side's stream.
+    fn push(&mut self, side: Side, bytes: &[u8]) -> Result<(), AllocError>
+        ensures ok { OnOk result (self.new ≡ with_left side (left_of side self.old ++ bytes.now) self.old) }
+        ensures err { OnErr result (self.new ≡ self.old) }
+    {
+        match side {
+            Side::Client => self.client_stream.push(bytes),
+            Side::Bus => self.bus_stream.push(bytes),
+        }
+    }
+
+    /// Takes bytes that come behind what is left of a side's stream.
+    fn take_bytes(&mut self, policy: &Policy, side: Side, bytes: &[u8])
+        requires { self.old.ended ≡ None }
+        ensures took { Took (with_bytes policy.now side bytes.now self.old) self.old self.new }
+        ensures light { IsLight (length bytes.now) self.old self.new }
+    {
+        if bytes.is_empty() {
+            return;
+        }
+        if self.mode.auth || !self.mode.filter {
+            return self.end_with(End::NotBuilt);
+        }
+        match self.push(side, bytes) {
+            Ok(()) => {
+                let most = self.left_len(side) + 1;
+                self.drain(policy, side, most);
+            }
+            Err(_) => self.end_with(End::Memory),
+        }
+    }
+
     /// How many bytes came of a side.
     fn came(&self, side: Side) -> u64
         ensures value { result ≡ came_of side self.now }
@@ -239,119 +349,11 @@ impl Session {
         }
     }
 
-    /// The session ended.
-    fn end_with(&mut self, end: End)
-        ensures { self.new ≡ ended_by end self.old }
-    {
-        self.ended = Some(end);
-    }
-
-    /// The call goes to the bus where it passes, else a ping; and its answer is expected.
-    fn send(&mut self, message: &Message<'_>, passes: bool) -> Result<(), AllocError>
-        requires { self.old.sent < most_sent }
-        ensures ok { OnOk result (self.new ≡ with_sent (outgoing passes (message_seen message.now) message.now.bytes.now (self.old.sent + 1)) self.old) }
-        ensures err { OnErr result (KeepsSides self.old self.new) }
-    {
-        let serial = self.sent + 1;
-        let expected = if passes {
-            Expected::Call(message.serial)
-        } else {
-            Expected::Ping(message.serial)
-        };
-        self.ledger.expect(serial, expected)?;
-        if passes {
-            self.to_bus
-                .push_with_number(message.bytes, SERIAL_PLACE, serial)?;
-        } else {
-            self.to_bus.push(&ping(serial))?;
-        }
-        self.sent = serial;
-        Ok(())
-    }
-
-    /// Takes a message of the client: a call of a service is sent, or a ping in its place.
-    fn take_call(&mut self, policy: &Policy, message: &Message<'_>)
-        requires { self.old.ended ≡ None }
-        ensures { Took (with_call policy.now (message_seen message.now) message.now.bytes.now self.old) self.old self.new }
-    {
-        if message.kind != 1 || !is_service(message.destination) {
-            return self.end_with(End::NotBuilt);
-        }
-        if self.sent == u32::MAX {
-            return self.end_with(End::SerialsSpent);
-        }
-        if self
-            .send(message, may_talk(policy, message.destination))
-            .is_err()
-        {
-            self.end_with(End::Memory);
-        }
-    }
-
-    /// What was expected comes to the client: the answer with the number of its call, or the error in a ping's place.
-    fn answer(
-        &mut self,
-        message: &Message<'_>,
-        place: usize,
-        expected: Expected,
-    ) -> Result<(), AllocError>
-        requires { place + 4 ≤ length message.now.bytes.now }
-        ensures ok { OnOk result (self.new ≡ record self.old { client_side = self.old.client_side ++ incoming (message_seen message.now) message.now.bytes.now place (Some expected) }) }
-        ensures err { OnErr result (KeepsSides self.old self.new) }
-    {
-        match expected {
-            Expected::Call(serial) => self
-                .to_client
-                .push_with_number(message.bytes, place, serial),
-            Expected::Ping(serial) => self
-                .to_client
-                .push(&service_unknown(serial, message.serial)),
-        }
-    }
-
-    /// Takes a message of the bus: an answer comes to the client where the client waits for it, once.
-    fn take_answer(&mut self, message: &Message<'_>)
-        requires { self.old.ended ≡ None }
-        ensures { Took (with_bus_message (message_seen message.now) message.now.bytes.now self.old) self.old self.new }
-    {
-        if message.kind != 2 && message.kind != 3 {
-            return self.end_with(End::NotBuilt);
-        }
-        let (Some(reply), Some(place)) = (message.reply_serial, message.reply_serial_place) else {
-            return;
-        };
-        let Some(expected) = self.ledger.take(reply) else {
-            return;
-        };
-        if self.answer(message, place, expected).is_err() {
-            self.end_with(End::Memory);
-        }
-    }
-
-    /// Takes bytes that are one message.
-    fn take_bytes(&mut self, policy: &Policy, side: Side, bytes: &[u8])
-        requires { self.old.ended ≡ None }
-        ensures { Took (with_bytes policy.now side bytes.now self.old) self.old self.new }
-    {
-        if bytes.is_empty() {
-            return;
-        }
-        if self.mode.auth || !self.mode.filter {
-            return self.end_with(End::NotBuilt);
-        }
-        match decode_plain(bytes) {
-            None => self.end_with(End::NotBuilt),
-            Some(message) => match side {
-                Side::Client => self.take_call(policy, &message),
-                Side::Bus => self.take_answer(&message),
-            },
-        }
-    }
-
     /// Takes a piece of a side's stream, as far as the stream's limit.
     fn take_piece(&mut self, policy: &Policy, side: Side, piece: &[u8])
         requires { self.old.ended ≡ None }
-        ensures { Took (with_piece policy.now side piece.now self.old) self.old self.new }
+        ensures took { Took (with_piece policy.now side piece.now self.old) self.old self.new }
+        ensures light { IsLight (length piece.now) self.old self.new }
     {
         let room = LONGEST_STREAM - self.came(side);
         let bytes = front_of(room, piece);
@@ -367,9 +369,7 @@ impl Session {
         ensures stands { (events : List Event) (taken : Taken) → StandsFor policy.now self.old events taken → StandsFor policy.now self.new (Bytes side piece.now ∷ events) taken }
         ensures answer { result ≡ answer_of self.new.ended }
         ensures last { (end : SessionEnd) → self.old.ended ≡ Some end → self.new ≡ self.old }
-        ensures mode { self.new.mode ≡ self.old.mode }
-        ensures for_bus { length self.new.bus_side ≤ length self.old.bus_side + 9 * length piece.now }
-        ensures for_client { length self.new.client_side ≤ length self.old.client_side + 9 * length piece.now }
+        ensures light { IsLight (length piece.now) self.old self.new }
     {
         if let Some(end) = self.ended {
             return Err(end);

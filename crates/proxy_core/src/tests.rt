@@ -1,6 +1,7 @@
 use crate::Session;
+use dbus_header::{Malformed, MalformedKind};
 use policy_args::{Options, read_options, words_of};
-use policy_view::{End, Mode};
+use policy_view::{End, Fault, Mode};
 use std::alloc::Global;
 use std::test::Fail;
 
@@ -75,5 +76,51 @@ fn what_is_not_built_ends_the_session(rt: HostRuntime) -> Result<(), Fail> {
         Err(End::NotBuilt)
     );
     assert_eq!(rt; session.ended(), Some(End::NotBuilt));
+    Ok(())
+}
+
+#[test]
+fn messages_come_in_any_pieces(rt: HostRuntime) -> Result<(), Fail> {
+    let options = options_of(rt.alloc(), "--filter\0--talk=org.a.T")?;
+    let mut session = Session::new(rt.alloc(), &options.policy, FILTERED)?;
+    for _ in 0..2 {
+        for byte in CALL {
+            session.feed_client(&options.policy, &[byte])?;
+        }
+    }
+    assert_eq!(rt; session.bus_waits(), 160);
+    session.feed_client(&options.policy, &[0xff; 15])?;
+    assert_eq!(rt; session.ended(), None);
+    assert_eq!(rt;
+        session.feed_client(&options.policy, &[0xff]),
+        Err(End::ClientMalformed(Fault::Message(Malformed {
+            kind: MalformedKind::ByteOrder,
+            at: 0
+        })))
+    );
+    assert_eq!(rt; session.bus_waits(), 160);
+    Ok(())
+}
+
+#[test]
+fn flags_of_a_call_to_a_hidden_name_are_looked_at(rt: HostRuntime) -> Result<(), Fail> {
+    let options = options_of(rt.alloc(), "--filter")?;
+    let mut session = Session::new(rt.alloc(), &options.policy, FILTERED)?;
+    let mut call = CALL;
+    // NO_REPLY_EXPECTED: it is dropped.
+    call[2] = 1;
+    session.feed_client(&options.policy, &call)?;
+    assert_eq!(rt; session.bus_waits(), 0);
+    // NO_AUTO_START: the name has no owner.
+    call[2] = 2;
+    session.feed_client(&options.policy, &call)?;
+    assert_eq!(rt; session.bus_waits(), 120);
+    session.feed_bus(&options.policy, &RETURN)?;
+    assert_eq!(rt; session.client_waits(), 142);
+    // A type that has no name is dropped.
+    call[1] = 9;
+    session.feed_client(&options.policy, &call)?;
+    assert_eq!(rt; session.bus_waits(), 120);
+    assert_eq!(rt; session.ended(), None);
     Ok(())
 }

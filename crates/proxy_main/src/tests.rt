@@ -4,7 +4,10 @@ mod messages;
 use crate::{DiskFiles, POLICY_LIMIT, StdSink, run};
 use link_traits::{FileFault, Files, MemFile, MemFiles, MemSink, Sink};
 use messages::Message::{Call, OtherServiceUnknown, Ping, Return, ServiceUnknown, Signal};
-use messages::{Message, output, recording};
+use messages::{
+    BIG_CALL, Message, NAME_HAS_NO_OWNER, SENDER_FIRST, message_bytes, output, put, record,
+    recording,
+};
 use std::alloc::{AllocError, Global};
 use std::fs;
 use std::process::Abort;
@@ -173,6 +176,105 @@ fn hidden_call_is_a_ping_and_its_answer_an_error(rt: HostRuntime) -> Result<(), 
 }
 
 #[test]
+fn serials_are_written_in_each_message_s_order_and_place(rt: HostRuntime) -> Result<(), Fail> {
+    let mut recording = Vec::from_slice(rt.alloc(), b"DBPR\x01\0")?;
+    record(&mut recording, 0, &BIG_CALL)?;
+    record(&mut recording, 1, &SENDER_FIRST)?;
+    let mut to_bus = BIG_CALL;
+    to_bus[8..12].copy_from_slice(&[0, 0, 0, 1]);
+    let mut to_client = SENDER_FIRST;
+    to_client[36..40].copy_from_slice(&[4, 3, 2, 1]);
+    let mut output = Vec::new(rt.alloc());
+    record(&mut output, 16, &to_bus)?;
+    record(&mut output, 17, &to_client)?;
+    let ended = replay(rt.alloc(), b"--filter\0--talk=a.b\0", &recording, 1000)?;
+    assert_ends(&rt, &ended, 0, &output, b"");
+    Ok(())
+}
+
+#[test]
+fn a_hidden_name_that_may_not_be_started_has_no_owner(rt: HostRuntime) -> Result<(), Fail> {
+    let first = Call(10, "org.h.X", "/x", "org.h.I", "M");
+    let mut second = message_bytes(rt.alloc(), &Call(11, "org.h.X", "/x", "org.h.I", "M"))?;
+    put(&mut second, 2, 2);
+    let mut recording = recording(rt.alloc(), &[(0, first)])?;
+    record(&mut recording, 0, &second)?;
+    for reply in [Return(101, 1, BUS, ":1.40"), Return(102, 2, BUS, ":1.40")] {
+        record(&mut recording, 1, &message_bytes(rt.alloc(), &reply)?)?;
+    }
+    let mut pings = message_bytes(rt.alloc(), &Ping)?;
+    put(&mut pings, 8, 1);
+    pings.extend_from_slice(&message_bytes(rt.alloc(), &Ping)?)?;
+    let mut errors = message_bytes(rt.alloc(), &ServiceUnknown)?;
+    errors.extend_from_slice(NAME_HAS_NO_OWNER)?;
+    let mut output = Vec::new(rt.alloc());
+    record(&mut output, 16, &pings)?;
+    record(&mut output, 17, &errors)?;
+    let ended = replay(rt.alloc(), FILTER, &recording, 1000)?;
+    assert_ends(&rt, &ended, 0, &output, b"");
+    Ok(())
+}
+
+#[test]
+fn malformed_messages_end_the_session_behind_the_good_ones(rt: HostRuntime) -> Result<(), Fail> {
+    let call = message_bytes(rt.alloc(), &Call(9, "org.a.T", "/p", "org.a.I", "A"))?;
+    let mut good_and_bad = Vec::from_slice(rt.alloc(), &call)?;
+    good_and_bad.extend_from_slice(&[0xff; 16])?;
+    let mut sent = Vec::from_slice(rt.alloc(), &call)?;
+    put(&mut sent, 8, 1);
+    let mut of_type_nine = Vec::from_slice(rt.alloc(), &call)?;
+    put(&mut of_type_nine, 1, 9);
+    // What the client sends, what goes to the bus, and the record of the End.
+    let cases: [(&[u8], &[u8], &[u8]); 4] = [
+        (
+            &good_and_bad,
+            &sent,
+            b"\x12\x0b\0\0\0\x01\x01\x01\0\0\0\0\0\0\0\0",
+        ),
+        (&of_type_nine, b"", b""),
+        (
+            b"l\x01\0\x01\xf1\xff\xff\x07\x01\0\0\0\0\0\0\0",
+            b"",
+            b"\x12\x0b\0\0\0\x01\x01\x04\x04\0\0\0\0\0\0\0",
+        ),
+        (b"l\x01\0\x01\xf0\xff\xff\x07\x01\0\0\0\0\0\0\0", b"", b""),
+    ];
+    for (bytes, to_bus, end) in cases {
+        let mut recording = Vec::from_slice(rt.alloc(), b"DBPR\x01\0")?;
+        record(&mut recording, 0, bytes)?;
+        let mut output = Vec::new(rt.alloc());
+        if !to_bus.is_empty() {
+            record(&mut output, 16, to_bus)?;
+        }
+        output.extend_from_slice(end)?;
+        let ended = replay(rt.alloc(), TALK, &recording, 1000)?;
+        assert_ends(&rt, &ended, 0, &output, b"");
+    }
+    Ok(())
+}
+
+#[test]
+fn pieces_of_one_byte_give_the_same(rt: HostRuntime) -> Result<(), Fail> {
+    let items = [
+        (0, Call(1, "org.a.T", "/p", "org.a.I", "A")),
+        (0, Call(2, "org.h.X", "/p", "org.a.I", "A")),
+        (1, Return(51, 2, BUS, ":1.40")),
+        (1, Return(52, 1, ":1.7", ":1.40")),
+    ];
+    let mut cut = Vec::from_slice(rt.alloc(), b"DBPR\x01\0")?;
+    for (side, message) in &items {
+        for byte in message_bytes(rt.alloc(), message)? {
+            record(&mut cut, *side, &[byte])?;
+        }
+    }
+    let whole = replay(rt.alloc(), TALK, &recording(rt.alloc(), &items)?, 1000)?;
+    let ended = replay(rt.alloc(), TALK, &cut, 1000)?;
+    assert_ends(&rt, &ended, 0, &whole.out.bytes, b"");
+    assert!(rt; whole.out.bytes.len() > 300);
+    Ok(())
+}
+
+#[test]
 fn output_without_room_is_cut_with_status_6(rt: HostRuntime) -> Result<(), Fail> {
     let recording = recording(rt.alloc(), &[SIGNAL])?;
     let ended = replay(rt.alloc(), FILTER, &recording, 3)?;
@@ -266,6 +368,7 @@ fn disk_files_are_read_within_a_limit(rt: HostRuntime) -> Result<(), Fail> {
     assert_eq!(rt; files.read(path, 7, &mut into), Err(FileFault::TooLong));
     assert_eq!(rt; files.read("missing", 8, &mut into), Err(FileFault::Failed));
     assert_eq!(rt; into.as_slice(), FILTER);
+    fs::remove_file(&rt, path)?;
     Ok(())
 }
 

@@ -1,12 +1,14 @@
 -- What waits for a side, as it is written piece by piece.
-use Rattle.std.proofs.Common.{◌≡◌, ◌≤◌, ◌<◌, ◌+◌, ◌*◌, ℕ, Bool, List, [], ◌∷◌, ◌++◌, refl, ap, sym, ◌∙◌, append_assoc, length, drop, arith}
+use Rattle.std.proofs.Common.{◌≡◌, ◌≤◌, ◌<◌, ◌+◌, ℕ, Bool, List, [], ◌∷◌, ◌++◌, refl, ap, sym, ◌∙◌, append_assoc, length, drop, arith}
 use Rattle.policy_view.specs.declared.Side.{Side}
 use Rattle.policy_view.specs.declared.Side.TheVariants.{Client, Bus}
 use Rattle.policy_view.specs.Past.{History}
 use Rattle.policy_view.specs.History.{end_of, history}
 use Rattle.policy_view.specs.Outputs.{bus_bytes, client_bytes}
 use Rattle.policy_args.specs.Policy.{Policy}
-use Rattle.proxy_core.specs.Sessions.{SessionView, Holds, nothing, waits_for}
+use Rattle.proxy_core.specs.Sessions.{SessionView, Holds, nothing, waits_for, at_start}
+use Rattle.proxy_core.specs.Steps.{bus_weight, client_weight, IsLight}
+use Rattle.policy_view.specs.declared.Mode.{Mode}
 use Rattle.recording.specs.Recording.{Recording}
 use Rattle.replay.specs.Output.{record_where_any, end_record, output_of_recording, events_of}
 use Rattle.replay.specs.Waiting.{with_waiting, output_of}
@@ -53,7 +55,20 @@ output-is policy filter r v mode holds = holds-output policy v _ holds
     ∙ ap (λ m. let h = history policy m (events_of r.events) in record_where_any 16 (bus_bytes policy h) ++ record_where_any 17 (client_bytes policy h) ++ end_record (end_of h)) mode
 
 -- a record can count what waits, since the bytes of a recording are few
-pub few-waiting : (start waiting : List ℕ) (came : ℕ) → start ≡ [] → length waiting ≤ length start + 9 * came → came ≤ 67108864 → length waiting < 4294967296
-few-waiting start waiting came empty grown few =
-    let none : length start ≡ 0 = ap length empty in
-    omega arith
+-- what waits after so many bytes from the start on
+pub few-for_bus : (mode : Mode) (start after : SessionView) (came : ℕ) → start ≡ at_start mode → IsLight came start after → came ≤ 67108864 → length after.bus_side < 4294967296
+few-for_bus mode start after came empty light few =
+    let none : bus_weight start ≡ 0 = ap bus_weight empty in
+    omega (arith, light.for_bus, few, none)
+
+pub few-for_client : (mode : Mode) (start after : SessionView) (came : ℕ) → start ≡ at_start mode → IsLight came start after → came ≤ 67108864 → length after.client_side < 4294967296
+few-for_client mode start after came empty light few =
+    let none : client_weight start ≡ 0 = ap client_weight empty in
+    omega (arith, light.for_client, few, none)
+
+pub lights : (a b c : SessionView) (n m k : ℕ) → k ≡ n + m → IsLight n a b → IsLight m b c → IsLight k a c
+lights a b c n m k e p q = record {
+  mode = q.mode ∙ p.mode;
+  for_bus = omega (arith, e, p.for_bus, q.for_bus);
+  for_client = omega (arith, e, p.for_client, q.for_client);
+}

@@ -3,6 +3,7 @@ ghost use Rattle.std.specs.Prelude.{◌≡◌, ◌≤◌, ◌<◌, ◌+◌, ◌*
 ghost use Rattle.policy_args.specs.Policy.{Policy as PolicyValue};
 ghost use Rattle.policy_view.specs.History.{Event as SessionEvent, Bytes, Finished};
 ghost use Rattle.proxy_core.specs.Sessions.{StandsFor, Taken, nothing, is_memory as ended_for_memory};
+ghost use Rattle.proxy_core.specs.Steps.{IsLight};
 ghost use Rattle.recording.specs.Seen.{recording_seen, seen, size, size_of};
 ghost use Rattle.replay.specs.Output.{event_of, events_of, side_of, output_of_recording};
 ghost use Rattle.replay.specs.Waiting.{output_of};
@@ -16,9 +17,7 @@ use std::alloc::{AllocError, Global};
 /// A piece of a side's stream came.
 fn feed(session: &mut Session, policy: &Policy, side: Side, piece: &[u8])
     ensures stands { (events : List SessionEvent) (taken : Taken) → StandsFor policy.now session.old events taken → StandsFor policy.now session.new (Bytes (side_of side) piece.now ∷ events) taken }
-    ensures mode { session.new.mode ≡ session.old.mode }
-    ensures for_bus { length session.new.bus_side ≤ length session.old.bus_side + 9 * length piece.now }
-    ensures for_client { length session.new.client_side ≤ length session.old.client_side + 9 * length piece.now }
+    ensures light { IsLight (length piece.now) session.old session.new }
 {
     let _ = match side {
         Side::Client => session.feed_client(policy, piece),
@@ -29,9 +28,7 @@ fn feed(session: &mut Session, policy: &Policy, side: Side, piece: &[u8])
 /// A side's stream ended.
 fn finish(session: &mut Session, side: Side)
     ensures stands { (policy : PolicyValue) (events : List SessionEvent) (taken : Taken) → StandsFor policy session.old events taken → StandsFor policy session.new (Finished (side_of side) ∷ events) taken }
-    ensures mode { session.new.mode ≡ session.old.mode }
-    ensures for_bus { session.new.bus_side ≡ session.old.bus_side }
-    ensures for_client { session.new.client_side ≡ session.old.client_side }
+    ensures light { IsLight 0 session.old session.new }
 {
     let _ = match side {
         Side::Client => session.client_ended(),
@@ -42,9 +39,7 @@ fn finish(session: &mut Session, side: Side)
 /// Plays one event. A session that has ended takes it without an effect.
 fn play_event(session: &mut Session, policy: &Policy, event: &Event)
     ensures stands { (events : List SessionEvent) (taken : Taken) → StandsFor policy.now session.old events taken → StandsFor policy.now session.new (event_of (seen event.now) ∷ events) taken }
-    ensures mode { session.new.mode ≡ session.old.mode }
-    ensures for_bus { length session.new.bus_side ≤ length session.old.bus_side + 9 * size_of (seen event.now) }
-    ensures for_client { length session.new.client_side ≤ length session.old.client_side + 9 * size_of (seen event.now) }
+    ensures light { IsLight (size_of (seen event.now)) session.old session.new }
 {
     match event {
         Event::Bytes(side, bytes) => feed(session, policy, *side, bytes.as_slice()),
@@ -55,9 +50,7 @@ fn play_event(session: &mut Session, policy: &Policy, event: &Event)
 /// Plays events in order on a session that has taken nothing.
 fn play_events(session: &mut Session, policy: &Policy, events: &[Event])
     ensures stands { StandsFor policy.now session.old [] nothing → StandsFor policy.now session.new (events_of (map seen events.now)) nothing }
-    ensures mode { session.new.mode ≡ session.old.mode }
-    ensures for_bus { length session.new.bus_side ≤ length session.old.bus_side + 9 * size (map seen events.now) }
-    ensures for_client { length session.new.client_side ≤ length session.old.client_side + 9 * size (map seen events.now) }
+    ensures light { IsLight (size (map seen events.now)) session.old session.new }
 {
     for event in events {
         play_event(session, policy, event);

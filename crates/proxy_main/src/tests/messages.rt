@@ -16,6 +16,25 @@ const SERVICE_UNKNOWN: &[u8] = b"l\x03\x01\x01\x14\0\0\0\x65\0\0\0\x67\0\0\0\
 \x08\x01g\0\x01s\0\0\
 \x0f\0\0\0service unknown\0";
 
+/// The error that says that a name has no owner, with serial 102 and reply serial 11.
+pub const NAME_HAS_NO_OWNER: &[u8] = b"l\x03\x01\x01\x16\0\0\0\x66\0\0\0\x67\0\0\0\
+\x04\x01s\0\x29\0\0\0org.freedesktop.DBus.Error.NameHasNoOwner\0\0\0\0\0\0\0\
+\x05\x01u\0\x0b\0\0\0\
+\x07\x01s\0\x14\0\0\0org.freedesktop.DBus\0\0\0\0\
+\x08\x01g\0\x01s\0\0\
+\x11\0\0\0name has no owner\0";
+
+/// A call in big order to `a.b`, with serial 0x01020304.
+pub const BIG_CALL: [u8; 64] = *b"B\x01\0\x01\0\0\0\0\x01\x02\x03\x04\0\0\0\x2c\
+\x01\x01o\0\0\0\0\x01/\0\0\0\0\0\0\0\
+\x03\x01s\0\0\0\0\x01M\0\0\0\0\0\0\0\
+\x06\x01s\0\0\0\0\x03a.b\0\0\0\0\0";
+
+/// A return in little order whose REPLY_SERIAL, 1, stands behind its SENDER.
+pub const SENDER_FIRST: [u8; 40] = *b"l\x02\x01\x01\0\0\0\0\x09\0\0\0\x18\0\0\0\
+\x07\x01s\0\x04\0\0\0:1.7\0\0\0\0\
+\x05\x01u\0\x01\0\0\0";
+
 /// A message by its fields.
 #[derive(Clone, Copy)]
 pub enum Message<'a> {
@@ -63,15 +82,22 @@ fn stream(alloc: Global, messages: &[Message<'_>]) -> Result<Vec<u8>, AllocError
     Ok(bytes)
 }
 
+/// Puts another byte at a place.
+pub fn put(bytes: &mut [u8], place: usize, byte: u8) {
+    if let Some(old) = bytes.get_mut(place) {
+        *old = byte;
+    }
+}
+
 /// Adds a record: a kind, a length and that many bytes.
-fn record(into: &mut Vec<u8>, kind: u8, bytes: &[u8]) -> Result<(), AllocError> {
+pub fn record(into: &mut Vec<u8>, kind: u8, bytes: &[u8]) -> Result<(), AllocError> {
     into.push(kind)?;
     into.extend_from_slice(&length(bytes))?;
     into.extend_from_slice(bytes)
 }
 
 /// The bytes of a message.
-fn message_bytes(alloc: Global, message: &Message<'_>) -> Result<Vec<u8>, AllocError> {
+pub fn message_bytes(alloc: Global, message: &Message<'_>) -> Result<Vec<u8>, AllocError> {
     match *message {
         Message::Call(serial, destination, path, interface, member) => {
             let texts = [

@@ -1,35 +1,31 @@
-use Rattle.std.proofs.Common.{◌≡◌, ◌<◌, ◌∙◌, length, Some, None, option_map, sym, ap, arith}
-use Rattle.std.proofs.lemmas.Bool.Decides.{nat_tests}
-use Rattle.dbus_header.specs.PlainReading.{plain_field, with_field}
-use Rattle.dbus_header.specs.Seen.{fields_seen, field_seen, rest_seen}
-use Rattle.dbus_header.proofs.FieldSteps.{at_end, at_none, at_refused, at_next}
+use Rattle.std.proofs.Common.{◌≡◌, ◌∙◌, Some, None, option_map, sym, ap, subst, arith}
+use Rattle.dbus_header.specs.HeaderReading.{Found, part_at, with_part}
+use Rattle.dbus_header.specs.Seen.{part_seen, end_seen, fields_seen}
+use Rattle.dbus_header.proofs.HeaderFields.{Reached, at_start, at_none, at_refused, at_next, is_read}
 use Rattle.dbus_header.proofs.fields.read_fields.Goals as goal
+
+pub loop-found-init : goal.loop-found-init
+loop-found-init c = subst (λ (f : Found). Reached c.args.order c.args.bytes.now f 16) (sym c.none-fields.ensures) (at_start c.args.order c.args.bytes.now c.requires.long)
 
 pub returns-in-None : goal.returns-in-None
 returns-in-None c =
-    let none : plain_field c.loop-rest.place c.loop-rest.rest.now ≡ None = sym c.read_field.ensures.field ∙ ap (option_map rest_seen) c.in-None.is in
-    let some : 0 < length c.loop-rest.rest.now = grind (arith, nat_tests) in
-    sym (at_none c.loop-rest.invariant.fuel (fields_seen c.loop-rest.fields) c.loop-rest.place c.loop-rest.rest.now some c.loop-rest.invariant.enough none) ∙ c.loop-rest.invariant.same
+    at_none c.args.order c.args.bytes.now (fields_seen c.loop-found.fields) c.loop-found.place (λ i. omega (arith, c.type_inv.bytes i)) c.loop-found.invariant
+    (sym c.read_field.ensures ∙ ap (option_map end_seen) c.in-None.is)
 
 pub returns-then-not-put : goal.returns-then-not-put
 returns-then-not-put c =
-    let x = rest_seen c.in-Some.found in
-    let read : plain_field c.loop-rest.place c.loop-rest.rest.now ≡ Some x = sym c.read_field.ensures.field ∙ ap (option_map rest_seen) c.in-Some.is in
-    let refused : with_field (fields_seen c.loop-rest.fields) c.loop-rest.place x.0 ≡ None = sym (c.if-not-put.ensures) in
-    let some : 0 < length c.loop-rest.rest.now = grind (arith, nat_tests) in
-    sym (at_refused c.loop-rest.invariant.fuel (fields_seen c.loop-rest.fields) c.loop-rest.place c.loop-rest.rest.now x some c.loop-rest.invariant.enough read refused) ∙ c.loop-rest.invariant.same
+    let read : part_at c.args.order c.args.bytes.now c.loop-found.place ≡ Some (end_seen c.in-Some.found) = sym c.read_field.ensures ∙ ap (option_map end_seen) c.in-Some.is in
+    let refused : with_part (fields_seen c.loop-found.fields) c.loop-found.place (part_seen c.in-Some.found.0) ≡ None = sym c.if-not-put.ensures in
+    at_refused c.args.order c.args.bytes.now (fields_seen c.loop-found.fields) c.loop-found.place (part_seen c.in-Some.found.0) c.in-Some.found.1 (λ i. omega (arith, c.type_inv.bytes i)) c.loop-found.invariant read refused (fields_seen c.put.new.self)
 
-pub loop-rest-preserved : goal.loop-rest-preserved
-loop-rest-preserved c =
-    let x = rest_seen c.in-Some.found in
-    let read : plain_field c.loop-rest.place c.loop-rest.rest.now ≡ Some x = sym c.read_field.ensures.field ∙ ap (option_map rest_seen) c.in-Some.is in
-    let put : with_field (fields_seen c.loop-rest.fields) c.loop-rest.place x.0 ≡ Some (fields_seen c.put.new.self) = sym (c.if-not-put.ensures) in
-    let less : length x.1 < length c.loop-rest.rest.now = c.in-Some.ensures.shorter in
-    let on = at_next c.loop-rest.invariant.fuel (fields_seen c.loop-rest.fields) (fields_seen c.put.new.self) c.loop-rest.place c.loop-rest.rest.now x less c.loop-rest.invariant.enough read put in
-    let within = c.loop-rest.invariant.within in
-    record { fuel = on.left; enough = on.enough; same = on.same ∙ c.loop-rest.invariant.same; within = omega arith }
+pub loop-found-smaller : goal.loop-found-smaller
+loop-found-smaller c =
+    let read : part_at c.args.order c.args.bytes.now c.loop-found.place ≡ Some (end_seen c.in-Some.found) = sym c.read_field.ensures ∙ ap (option_map end_seen) c.in-Some.is in
+    let x = is_read c.args.order c.args.bytes.now c.loop-found.place (part_seen c.in-Some.found.0) c.in-Some.found.1 (λ i. omega (arith, c.type_inv.bytes i)) c.loop-found.invariant.inside read in
+    omega (arith, x.later, x.within)
 
-pub returns : goal.returns
-returns c =
-    let none : length c.loop-rest.rest.now ≡ 0 = grind (arith, nat_tests) in
-    sym (at_end c.loop-rest.invariant.fuel (fields_seen c.loop-rest.fields) c.loop-rest.place c.loop-rest.rest.now none) ∙ c.loop-rest.invariant.same
+pub loop-found-preserved : goal.loop-found-preserved
+loop-found-preserved c =
+    let read : part_at c.args.order c.args.bytes.now c.loop-found.place ≡ Some (end_seen c.in-Some.found) = sym c.read_field.ensures ∙ ap (option_map end_seen) c.in-Some.is in
+    let put : with_part (fields_seen c.loop-found.fields) c.loop-found.place (part_seen c.in-Some.found.0) ≡ Some (fields_seen c.put.new.self) = sym c.if-not-put.ensures in
+    at_next c.args.order c.args.bytes.now (fields_seen c.loop-found.fields) (fields_seen c.put.new.self) c.loop-found.place (part_seen c.in-Some.found.0) c.in-Some.found.1 (λ i. omega (arith, c.type_inv.bytes i)) c.loop-found.invariant read put

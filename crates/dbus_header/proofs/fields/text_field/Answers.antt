@@ -1,5 +1,5 @@
-use Rattle.std.proofs.Common.{◌≡◌, true, sym}
-use Rattle.dbus_header.specs.PlainReading.{is_text_of}
+use Rattle.std.proofs.Common.{◌≡◌, true}
+use Rattle.dbus_header.specs.HeaderReading.{is_text_of}
 use Rattle.dbus_header.proofs.Texts.{utf8_of}
 use Rattle.dbus_header.proofs.fields.text_field.Goals as goal
 

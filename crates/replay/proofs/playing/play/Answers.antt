@@ -3,7 +3,7 @@ use Rattle.policy_view.specs.History.{history}
 use Rattle.proxy_core.specs.Sessions.{SessionView, Holds, is_memory, nothing}
 use Rattle.recording.specs.Seen.{recording_seen, seen, size}
 use Rattle.replay.specs.Output.{events_of}
-use Rattle.replay.proofs.Sides.{output-is, few-waiting}
+use Rattle.replay.proofs.Sides.{output-is, few-for_bus, few-for_client}
 use Rattle.replay.proofs.playing.play.Goals as goal
 
 pub returns-clause-output : goal.returns-clause-output
@@ -12,16 +12,16 @@ returns-clause-output c =
     let policy = c.args.options.now.policy in
     let running : is_memory session.ended ≡ false = ap is_memory (sym c.ended.ensures) ∙ sym c.is_memory.ensures ∙ c.if-is_memory.false in
     output-is policy c.args.options.now.filter (recording_seen c.args.recording.now) session
-    (c.play_events.ensures.mode ∙ ap (λ (v : SessionView). v.mode) c.in_ok-session.ensures.start)
+    (c.play_events.ensures.light.mode ∙ ap (λ (v : SessionView). v.mode) c.in_ok-session.ensures.start)
     (subst (λ events. Holds policy session (history policy session.mode (events_of (map seen events))) nothing) c.deref.ensures.value
     ((c.play_events.ensures.stands c.in_ok-session.ensures.stands).holds running))
 
 pub returns-clause-for_bus : goal.returns-clause-for_bus
 returns-clause-for_bus c =
-    few-waiting _ _ _ (ap (λ (v : SessionView). v.bus_side) c.in_ok-session.ensures.start) c.play_events.ensures.for_bus
+    few-for_bus _ _ _ _ c.in_ok-session.ensures.start c.play_events.ensures.light
     (subst (λ events. size (map seen events) ≤ 67108864) (sym c.deref.ensures.value) c.requires.size)
 
 pub returns-clause-for_client : goal.returns-clause-for_client
 returns-clause-for_client c =
-    few-waiting _ _ _ (ap (λ (v : SessionView). v.client_side) c.in_ok-session.ensures.start) c.play_events.ensures.for_client
+    few-for_client _ _ _ _ c.in_ok-session.ensures.start c.play_events.ensures.light
     (subst (λ events. size (map seen events) ≤ 67108864) (sym c.deref.ensures.value) c.requires.size)

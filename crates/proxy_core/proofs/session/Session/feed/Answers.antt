@@ -1,9 +1,7 @@
 use Rattle.std.proofs.Common.{◌≡◌, ap, ◌∙◌, sym, Some, None, arith}
 use Rattle.policy_view.specs.History.{Bytes}
 use Rattle.proxy_core.specs.Sessions.{SessionView}
-use Rattle.proxy_core.specs.Steps.{with_piece}
-use Rattle.proxy_core.proofs.Keeping.{piece_bounded}
-use Rattle.proxy_core.proofs.Standing.{ended_stands, feed_stands, took_bounded}
+use Rattle.proxy_core.proofs.Standing.{ended_stands, feed_stands}
 use Rattle.proxy_core.proofs.session.Session.feed.Goals as goal
 
 pub returns-in-Some-clause-stands : goal.returns-in-Some-clause-stands
@@ -14,19 +12,4 @@ returns-in-Some-clause-stands c = λ events taken s.
 pub returns-clause-stands : goal.returns-clause-stands
 returns-clause-stands c = λ events taken s.
     let e : c.args.self.now.ended ≡ None = ap (λ (v : SessionView). v.ended) (sym c.self.view_is) ∙ c.in_default.is in
-    feed_stands c.args.policy.now c.args.self.now c.take_piece.new.self events taken c.args.side c.args.piece.now e (λ i. omega (arith, c.type_inv.piece i)) c.gives_talk_alone.ensures c.take_piece.ensures s
-
-pub returns-clause-mode : goal.returns-clause-mode
-returns-clause-mode c =
-    (took_bounded c.args.piece.now (with_piece c.args.policy.now c.args.side c.args.piece.now c.args.self.now) c.args.self.now c.take_piece.new.self c.take_piece.ensures
-    (piece_bounded c.args.policy.now c.args.side c.args.piece.now c.args.self.now (λ i. omega (arith, c.type_inv.piece i)))).mode
-
-pub returns-clause-for_bus : goal.returns-clause-for_bus
-returns-clause-for_bus c =
-    (took_bounded c.args.piece.now (with_piece c.args.policy.now c.args.side c.args.piece.now c.args.self.now) c.args.self.now c.take_piece.new.self c.take_piece.ensures
-    (piece_bounded c.args.policy.now c.args.side c.args.piece.now c.args.self.now (λ i. omega (arith, c.type_inv.piece i)))).for_bus
-
-pub returns-clause-for_client : goal.returns-clause-for_client
-returns-clause-for_client c =
-    (took_bounded c.args.piece.now (with_piece c.args.policy.now c.args.side c.args.piece.now c.args.self.now) c.args.self.now c.take_piece.new.self c.take_piece.ensures
-    (piece_bounded c.args.policy.now c.args.side c.args.piece.now c.args.self.now (λ i. omega (arith, c.type_inv.piece i)))).for_client
+    feed_stands c.args.policy.now c.args.self.now c.take_piece.new.self events taken c.args.side c.args.piece.now e (λ i. omega (arith, c.type_inv.piece i)) c.gives_talk_alone.ensures c.take_piece.ensures.took s

@@ -1,0 +1,159 @@
+//! The bytes that came and weren't given yet.
+ghost use Rattle.std.specs.Prelude.{◌≡◌, ◌==◌, ◌^◌, ◌<◌, ◌≤◌, ◌++◌, [], Some, None, IfSome, IfOk, OnOk, OnErr, length, take, drop};
+ghost use Rattle.dbus_header.specs.Message.{Message as MessageTree};
+ghost use Rattle.dbus_header.specs.Malformed.{fault};
+ghost use Rattle.dbus_header.specs.declared.Malformed.{Malformed as Fault};
+ghost use Rattle.dbus_framing.specs.Framing.{Gives, Takes};
+ghost use Rattle.dbus_framing.specs.Knows.{Head, Knows};
+ghost use Rattle.dbus_framing.specs.declared.state.State.TheVariants.{AwaitsHead};
+
+use crate::Next;
+use crate::state::State;
+use bytes::{Bytes, BytesMut};
+use dbus_header::{Malformed, decode};
+use std::alloc::{AllocError, Global};
+use std::marker::Model;
+
+/// So many bytes at least are given from one buffer before what is left moves to another: moves are rare, and a
+/// stream that has given a large message doesn't keep its memory.
+const RENEWAL: usize = 65_536;
+
+/// A stream of messages: pieces come in by `push`, and messages are taken by `next`.
+///
+/// ```text
+///   given      message in front   what follows
+/// +----------+------------------+--------------+------+
+/// |          | head    ..       | ..           | room |
+/// +----------+------------------+--------------+------+
+///              bytes                           ^ push
+/// ```
+#[derive(Drop)]
+pub struct Framer {
+    bytes: BytesMut,
+    state: State,
+    /// How many bytes were given from the buffer that `bytes` has now.
+    given: usize,
+    alloc: Global,
+}
+
+impl Model for Framer {
+    ghost use Rattle.std.specs.Prelude.{List, ℕ};
+
+    ghost Value = { List ℕ };
+
+    ghost use Rattle.dbus_framing.specs.Knows.{Knows};
+
+    ghost view = { λ f. f.bytes.items };
+
+    ghost invariant = { λ f. Knows f.state f.bytes.items };
+}
+
+/// What is wrong with the whole message of that length in front, or nothing where it is valid.
+fn message_fault(left: &[u8], len: usize) -> Option<Malformed>
+    requires head { Head left.now len }
+    requires stands { len ≤ length left.now }
+    ensures valid { result ≡ None
+        → (m : MessageTree) × Takes left.now (take len left.now) (drop len left.now) m }
+    ensures bad { IfSome result (λ f. fault left.now ≡ Some f) }
+{
+    let (message, _) = left.split_at(len);
+    match decode(message) {
+        Ok(_) => None,
+        Err(fault) => Some(fault),
+    }
+}
+
+/// Takes the message in front, where it is whole and valid.
+fn take_message(alloc: Global, bytes: &mut BytesMut, state: State) -> Result<Next, AllocError>
+    requires known { Knows state bytes.old.items }
+    requires short { state ≡ AwaitsHead → length bytes.old.items < 16 }
+    ensures gives { IfOk result (λ next. Gives bytes.old.items next bytes.new.items) }
+    ensures err { OnErr result (bytes.new.items ≡ bytes.old.items) }
+{
+    let len = match state {
+        State::AwaitsHead => return Ok(Next::Rest),
+        State::Bad(fault) => return Ok(Next::Bad(fault)),
+        State::AwaitsMessage(len) => len,
+    };
+    let left = bytes.as_slice();
+    if left.len() < len {
+        return Ok(Next::Rest);
+    }
+    if let Some(fault) = message_fault(left, len) {
+        return Ok(Next::Bad(fault));
+    }
+    let frame = Bytes::copy_from_slice(alloc, &left[..len])?;
+    bytes.advance(len);
+    Ok(Next::Whole(frame))
+}
+
+/// Moves what is left into a buffer of its own, where more was given from the old one than has to be copied. Where
+/// memory is short the old buffer serves on. It returns how many bytes were given from the buffer that stands now.
+fn renew(alloc: Global, bytes: &mut BytesMut, given: usize) -> usize
+    ensures { bytes.new.items ≡ bytes.old.items }
+{
+    if given < RENEWAL || given < bytes.len() {
+        return given;
+    }
+    match BytesMut::copy_from_slice(alloc, bytes.as_slice()) {
+        Ok(fresh) => {
+            *bytes = fresh;
+            0
+        }
+        Err(_) => given,
+    }
+}
+
+impl Framer {
+    /// It takes no memory before the first piece.
+    pub fn new(alloc: Global) -> Framer
+        ensures { result ≡ [] }
+    {
+        Framer {
+            bytes: BytesMut::new(alloc),
+            state: State::AwaitsHead,
+            given: 0,
+            alloc,
+        }
+    }
+
+    /// How many bytes came and weren't given yet.
+    pub fn len(&self) -> usize
+        ensures value { result ≡ length self.now }
+        ensures bound { result < 2 ^ 63 }
+    {
+        self.bytes.len()
+    }
+
+    /// Whether all bytes that came were given.
+    pub fn is_empty(&self) -> bool
+        ensures { result ≡ (length self.now == 0) }
+    {
+        self.bytes.is_empty()
+    }
+
+    /// Puts a piece of the stream behind what came before.
+    pub fn push(&mut self, piece: &[u8]) -> Result<(), AllocError>
+        ensures ok { OnOk result (self.new ≡ self.old ++ piece.now) }
+        ensures err { OnErr result (self.new ≡ self.old) }
+        ensures bad_stays { (f : Fault) → fault self.old ≡ Some f → fault self.new ≡ Some f }
+    {
+        self.bytes.extend_from_slice(piece)
+    }
+
+    /// What stands in front. A whole message is taken; else nothing changes, and after `Bad` each answer is the same.
+    pub fn next(&mut self) -> Result<Next, AllocError>
+        ensures gives { IfOk result (λ next. Gives self.old next self.new) }
+        ensures err { OnErr result (self.new ≡ self.old) }
+    {
+        let state = self.state.with_head(self.bytes.as_slice());
+        self.state = state;
+        let next = take_message(self.alloc, &mut self.bytes, state)?;
+        self.state = state.after(&next);
+        if let Next::Whole(frame) = &next {
+            let given = self.given.saturating_add(frame.len());
+            self.given = renew(self.alloc, &mut self.bytes, given);
+        }
+        Ok(next)
+    }
+}

@@ -1,0 +1,24 @@
+//! The messages of a stream that comes in pieces (D-Bus Specification, "Message Format").
+#![tactic(auto)]
+
+mod framer;
+mod laws;
+mod state;
+#[cfg(test)]
+mod tests;
+
+use bytes::Bytes;
+use dbus_header::Malformed;
+pub use framer::Framer;
+pub use laws::{bad_is_given_again, given_are_messages, more_is_pushed, next_is_given};
+
+/// What stands in front of a stream.
+#[derive(Debug, PartialEq, Eq, Drop)]
+pub enum Next {
+    /// A valid message, which is taken from the stream.
+    Whole(Bytes),
+    /// The beginning of a message at most: fewer than 16 bytes, or fewer than its head states.
+    Rest,
+    /// No valid message. The stream stays at it.
+    Bad(Malformed),
+}

@@ -1,0 +1,58 @@
+//! What is known of the message in front.
+ghost use Rattle.std.specs.Prelude.{◌≡◌, ◌<◌, ℕ, List, length};
+ghost use Rattle.dbus_framing.specs.Framing.{Gives};
+ghost use Rattle.dbus_framing.specs.Knows.{Knows};
+ghost use Rattle.dbus_framing.specs.declared.state.State.TheVariants.{AwaitsHead};
+
+use crate::Next;
+use dbus_header::Malformed;
+
+/// What is known of the message in front, so that each head and each message is looked at once.
+#[derive(Clone, Copy)]
+pub(crate) enum State {
+    /// Nothing: its head may not stand yet.
+    AwaitsHead,
+    /// Its head is good and states this length of the whole message.
+    AwaitsMessage(usize),
+    /// It is no valid message.
+    Bad(Malformed),
+}
+
+/// What the head in front says, where it stands.
+fn read_head(left: &[u8]) -> State
+    ensures known { Knows result left.now }
+    ensures short { result ≡ AwaitsHead → length left.now < 16 }
+{
+    match left.first_chunk::<16>() {
+        None => State::AwaitsHead,
+        Some(first16) => match dbus_header::length(first16) {
+            Ok(len) => State::AwaitsMessage(len as usize),
+            Err(fault) => State::Bad(fault),
+        },
+    }
+}
+
+impl State {
+    /// What is known once the head was looked at.
+    pub(crate) fn with_head(self, left: &[u8]) -> State
+        requires { Knows self left.now }
+        ensures known { Knows result left.now }
+        ensures short { result ≡ AwaitsHead → length left.now < 16 }
+    {
+        match self {
+            State::AwaitsHead => read_head(left),
+            _ => self,
+        }
+    }
+
+    /// What is known once this was given.
+    pub(crate) fn after(self, next: &Next) -> State
+        ensures { (old new : List ℕ) → Knows self old → Gives old next.now new → Knows result new }
+    {
+        match next {
+            Next::Whole(_) => State::AwaitsHead,
+            Next::Rest => self,
+            Next::Bad(fault) => State::Bad(*fault),
+        }
+    }
+}

@@ -1,0 +1,44 @@
+use Rattle.std.proofs.Common.{◌≡◌, ◌∙◌, ℕ, drop, Some, None, sym, ap, arith, rules}
+use Rattle.dbus_header.specs.Message.{body_place}
+use Rattle.dbus_header.specs.Malformed.{fault, order_in, head_fault}
+use Rattle.dbus_header.specs.HeaderReading.{number_at}
+use Rattle.dbus_header.specs.Refusals.{refusal}
+use Rattle.dbus_header.specs.Seen.{fields_seen}
+use Rattle.dbus_values.specs.declared.Order.{Order}
+use Rattle.dbus_header.proofs.NumberLaws.{reply_inside}
+use Rattle.dbus_header.proofs.WholeMessage.{IsWhole, fault_of_head, fault_of_whole, contents_as}
+use Rattle.dbus_header.proofs.decoding.decode.Goals as goal
+
+pub returns-in_err-check_head-clause-refusal : goal.returns-in_err-check_head-clause-refusal
+returns-in_err-check_head-clause-refusal c = search (rules, fault_of_head c.args.bytes.now c.in_err-check_head.field-0.0 c.requires.long (sym c.check_head.ensures.refusal ∙ ap refusal c.in_err-check_head.was))
+
+pub returns-in_err-fields-clause-refusal : goal.returns-in_err-fields-clause-refusal
+returns-in_err-fields-clause-refusal c =
+    let t = c.args.bytes.now in
+    let head : head_fault t ≡ None = sym c.check_head.ensures.refusal ∙ ap refusal c.in_ok-check_head.was in
+    let whole : IsWhole t = record { are = λ i. omega (arith, c.type_inv.bytes i); long = c.requires.long; head = head; exact = c.requires.whole head } in
+    let is : fault t ≡ Some c.in_err-fields.field-0.0 = fault_of_whole t whole ∙ sym c.read_whole.ensures.refusal ∙ ap refusal c.in_err-fields.was in
+    search (rules, is)
+
+pub returns-clause-refusal : goal.returns-clause-refusal
+returns-clause-refusal c =
+    let t = c.args.bytes.now in
+    let head : head_fault t ≡ None = sym c.check_head.ensures.refusal ∙ ap refusal c.in_ok-check_head.was in
+    let whole : IsWhole t = record { are = λ i. omega (arith, c.type_inv.bytes i); long = c.requires.long; head = head; exact = c.requires.whole head } in
+    sym (fault_of_whole t whole ∙ sym c.read_whole.ensures.refusal ∙ ap refusal c.in_ok-fields.was)
+
+pub invariant_of-result : goal.invariant_of-result
+invariant_of-result c =
+    let t = c.args.bytes.now in
+    let head : head_fault t ≡ None = sym c.check_head.ensures.refusal ∙ ap refusal c.in_ok-check_head.was in
+    let whole : IsWhole t = record { are = λ i. omega (arith, c.type_inv.bytes i); long = c.requires.long; head = head; exact = c.requires.whole head } in
+    let order : c.order_in-order.result ≡ order_in t = c.order_in-order.ensures in
+    let number = ap (λ (o : Order). number_at o t 8) order in
+    let len = ap (λ (o : Order). number_at o t 12) order in
+    let read = contents_as t (fields_seen c.in_ok-fields.fields) c.order_in-order.result c.read_u32-2.result c.stated.result.bytes.now c.split_at.result.1.now whole c.in_ok-fields.ensures.parts
+    order (c.read_u32-2.ensures ∙ number) c.stated.ensures (c.split_at.ensures.back ∙ ap (λ (k : ℕ). drop k t) (c.body_start-start.ensures ∙ ap body_place (c.read_u32.ensures ∙ len))) in
+    record {
+      read = read;
+      long = c.requires.long;
+      inside = λ number place. reply_inside t _ (λ i. omega (arith, c.type_inv.bytes i)) read number place;
+    }

@@ -1,0 +1,150 @@
+//! Reading a message.
+ghost use Rattle.std.specs.Prelude.{◌≡◌, ◌==◌, ◌≤◌, ◌<◌, ◌+◌, ◌^◌, ℕ, List, None, IfOk, IsTrue, ◌&&◌, take, drop, length, unwrap_or};
+ghost use Rattle.std.specs.List.{list_all};
+ghost use Rattle.dbus_types.specs.Signature.{Complete, spelled_types, is_complete};
+ghost use Rattle.dbus_values.specs.Values.{padding as padding_to};
+ghost use Rattle.dbus_values.specs.Reading.{all_zero};
+ghost use Rattle.dbus_header.specs.Malformed.{head_fault, whole_len, whole, fault, fault_in, order_in as stated_order};
+ghost use Rattle.dbus_header.specs.Refusals.{refusal};
+ghost use Rattle.dbus_header.specs.HeaderReading.{has_required_parts};
+ghost use Rattle.dbus_header.specs.Seen.{fields_seen, parts_seen};
+ghost use Rattle.dbus_header.specs.Whole.{body_fault_at, stated_in, HasParts};
+
+use crate::fields::{Fields, read_fields};
+use crate::head::{HEAD_LEN, body_start, check_head, is_zero, order_in, padding, read_u32};
+use crate::message::Message;
+use crate::{Malformed, MalformedKind};
+use dbus_types::Signature;
+use dbus_values::{Order, value_end};
+
+/// Whether the fields stand that a message of this type needs (D-Bus Specification, "Message Format", "Header Fields").
+fn has_required(kind: u8, fields: &Fields<'_>) -> bool
+    ensures { result ≡ has_required_parts kind (parts_seen fields.now) }
+{
+    match kind {
+        1 => fields.path.is_some() && fields.member.is_some(),
+        2 => fields.reply_serial.is_some(),
+        3 => fields.error_name.is_some() && fields.reply_serial.is_some(),
+        4 => fields.path.is_some() && fields.interface.is_some() && fields.member.is_some(),
+        _ => true,
+    }
+}
+
+/// Whether UNIX_FDS is absent or 0.
+fn has_no_descriptors(fields: &Fields<'_>) -> bool
+    ensures { result ≡ (unwrap_or (fields_seen fields.now).descriptors 0 == 0) }
+{
+    match fields.descriptors {
+        Some(number) => number == 0,
+        None => true,
+    }
+}
+
+/// The body's signature, which is empty where SIGNATURE is absent.
+fn stated<'a>(fields: &Fields<'a>) -> Signature<'a>
+    ensures { result.bytes.now ≡ stated_in (fields_seen fields.now) }
+{
+    match fields.signature {
+        Some(signature) => signature,
+        None => Signature::empty(),
+    }
+}
+
+/// Where the body stops being the signature's values, which are to fill it exactly.
+fn body_fault(order: Order, signature: Signature<'_>, bytes: &[u8], start: usize) -> Option<usize>
+    requires { start ≤ length bytes.now }
+    ensures { (types : List Complete) → signature.entry.bytes.now ≡ spelled_types types → IsTrue (list_all is_complete types) → result ≡ body_fault_at order types bytes.now start }
+{
+    match value_end(order, signature, bytes, start) {
+        Ok(end) if end == bytes.len() => None,
+        Ok(end) => Some(end),
+        Err(bad) => Some(bad.at),
+    }
+}
+
+/// Whether the last valid field ended where the fields do, with zeros up to the body behind it.
+fn is_header_end(bytes: &[u8], end: usize, fields_end: usize) -> bool
+    requires inside { fields_end + padding_to 8 fields_end ≤ length bytes.now }
+    requires short { fields_end ≤ 2 ^ 28 }
+    ensures { result ≡ (end == fields_end && all_zero (take (padding_to 8 fields_end) (drop fields_end bytes.now))) }
+{
+    if end != fields_end {
+        return false;
+    }
+    let (_, rest) = bytes.split_at(fields_end);
+    let (gap, _) = rest.split_at(padding(fields_end));
+    is_zero(gap)
+}
+
+/// The header fields of a whole message whose first sixteen bytes are in order.
+fn read_whole(order: Order, bytes: &[u8]) -> Result<Fields<'_>, Malformed>
+    requires order { order ≡ stated_order bytes.now }
+    requires long { 16 ≤ length bytes.now }
+    requires head { head_fault bytes.now ≡ None }
+    requires whole { length bytes.now ≡ whole_len bytes.now }
+    ensures refusal { refusal result ≡ fault_in (whole bytes.now) }
+    ensures parts { IfOk result (λ f. HasParts bytes.now (fields_seen f)) }
+{
+    let fields_len = read_u32(order, bytes, 12);
+    let fields_end = HEAD_LEN + fields_len as usize;
+    let start = body_start(fields_len) as usize;
+    let (header, _) = bytes.split_at(fields_end);
+    let (fields, end) = read_fields(order, header);
+    if !is_header_end(bytes, end, fields_end) {
+        return Err(Malformed {
+            kind: MalformedKind::Fields,
+            at: end as u32,
+        });
+    }
+    if !has_required(bytes[1], &fields) {
+        return Err(Malformed {
+            kind: MalformedKind::Required,
+            at: 12,
+        });
+    }
+    if let Some(at) = body_fault(order, stated(&fields), bytes, start) {
+        return Err(Malformed {
+            kind: MalformedKind::Body,
+            at: at as u32,
+        });
+    }
+    if !has_no_descriptors(&fields) {
+        return Err(Malformed {
+            kind: MalformedKind::Descriptors,
+            at: 12,
+        });
+    }
+    Ok(fields)
+}
+
+/// The message that the bytes are, or what is wrong with them, and where (D-Bus Specification, "Message Format"). One pass
+/// over the header and one over the body.
+pub fn decode(bytes: &[u8]) -> Result<Message<'_>, Malformed>
+    requires long { 16 ≤ length bytes.now }
+    requires whole { head_fault bytes.now ≡ None → length bytes.now ≡ whole_len bytes.now }
+    ensures refusal { refusal result ≡ fault bytes.now }
+    ensures bytes { IfOk result (λ m. m.bytes.now ≡ bytes.now) }
+{
+    check_head(bytes)?;
+    let order = order_in(bytes);
+    let fields = read_whole(order, bytes)?;
+    let start = body_start(read_u32(order, bytes, 12)) as usize;
+    let (_, body) = bytes.split_at(start);
+    Ok(Message {
+        order,
+        kind: bytes[1],
+        flags: bytes[2],
+        serial: read_u32(order, bytes, 8),
+        path: fields.path,
+        interface: fields.interface,
+        member: fields.member,
+        error_name: fields.error_name,
+        reply_serial: fields.reply_serial,
+        reply_serial_place: fields.reply_serial_place,
+        destination: fields.destination,
+        sender: fields.sender,
+        signature: stated(&fields),
+        body,
+        bytes,
+    })
+}

@@ -1,0 +1,346 @@
+-- Messages taken from the front of a stream, one and then many.
+use Rattle.std.proofs.Common.{ℕ, zero, suc, ◌≡◌, ◌+◌, ◌-◌, ◌*◌, ◌≤◌, ◌<◌, Bool, true, false, cond, List, ◌∷◌, ◌++◌, length, Option, Some, None, refl, ap, ◌∙◌, sym, subst, arith, length-append, inl, inr}
+use Rattle.std.specs.Prelude.{◌&&◌, is_none, is_some, not}
+use Rattle.std.specs.Int.{w32}
+use Rattle.dbus_names.specs.Names.{is_empty}
+use Rattle.dbus_values.specs.Values.{number_bytes, zeros}
+use Rattle.dbus_values.proofs.ValueLaws.{wide_32}
+use Rattle.dbus_header.specs.Message.{Message, Valid, spell, spelled_fields, spelled_list, body_place, order_byte}
+use Rattle.dbus_header.specs.Malformed.{front, fault}
+use Rattle.dbus_header.specs.Contents.{contents_of}
+use Rattle.dbus_header.specs.declared.Malformed.{Malformed}
+use Rattle.dbus_header.proofs.FaultStays.{fault_front}
+use Rattle.dbus_framing.specs.Framing.{Takes, Gives}
+use Rattle.dbus_framing.specs.declared.Next.{Next}
+use Rattle.dbus_framing.specs.declared.Next.TheVariants.{Whole, Bad}
+use Rattle.proxy_core.specs.Seen.{Given}
+use Rattle.policy_args.specs.Policy.{Policy}
+use Rattle.policy_view.specs.History.{malformed}
+use Rattle.policy_view.specs.declared.Fault.TheVariants.{Message as MessageFault}
+use Rattle.policy_view.specs.declared.Side.{Side}
+use Rattle.policy_view.specs.declared.Side.TheVariants.{Client, Bus}
+use Rattle.policy_view.specs.declared.End.{End}
+use Rattle.policy_view.specs.declared.End.TheVariants.{Memory, NotBuilt}
+use Rattle.proxy_core.specs.Sessions.{SessionView, left_of, IsFront}
+use Rattle.proxy_core.specs.Messages.{ended_by, with_message}
+use Rattle.proxy_core.specs.Steps.{with_left, with_fault, and_runs, with_front, step_of, more_if, drained, with_more, with_bytes, TookMessage, Took, Stepped, bus_weight, client_weight, IsLight}
+use Rattle.proxy_core.proofs.Keeping.{IsKept, message_kept, front_all, front_then}
+
+pub spell_long : (m : Message) → 16 ≤ length (spell m)
+unfolding spell
+spell_long m =
+    let fields = spelled_fields m.order m.fields in
+    let body = spelled_list m.order (body_place (length fields)) m.body in
+    let one = number_bytes m.order w32 (length body) in
+    let two = number_bytes m.order w32 m.serial in
+    let three = number_bytes m.order w32 (length fields) in
+    let gap = zeros 8 (16 + length fields) in
+    let start : List ℕ = order_byte m.order ∷ m.kind ∷ m.flags ∷ 1 ∷ one in
+    omega (
+      arith,
+      wide_32.len m.order (length body),
+      wide_32.len m.order m.serial,
+      wide_32.len m.order (length fields),
+      length-append start two,
+      length-append (start ++ two) three,
+      length-append (start ++ two ++ three) fields,
+      length-append (start ++ two ++ three ++ fields) gap,
+      length-append (start ++ two ++ three ++ fields ++ gap) body,
+    )
+
+-- ---- the rest of a side's stream
+
+same_left : (side : Side) (view : SessionView) → with_left side (left_of side view) view ≡ view
+same_left Client view = refl
+same_left Bus view = refl
+
+left_ended : (side : Side) (left : List ℕ) (view : SessionView) → (with_left side left view).ended ≡ view.ended
+left_ended Client left view = refl
+left_ended Bus left view = refl
+
+left_mode : (side : Side) (left : List ℕ) (view : SessionView) → (with_left side left view).mode ≡ view.mode
+left_mode Client left view = refl
+left_mode Bus left view = refl
+
+left_bus : (side : Side) (left : List ℕ) (view : SessionView) → (with_left side left view).bus_side ≡ view.bus_side
+left_bus Client left view = refl
+left_bus Bus left view = refl
+
+left_client : (side : Side) (left : List ℕ) (view : SessionView) → (with_left side left view).client_side ≡ view.client_side
+left_client Client left view = refl
+left_client Bus left view = refl
+
+-- a message's bytes are no longer left
+left_weight : (side : Side) (left : List ℕ) (n : ℕ) (view : SessionView) → length (left_of side view) ≡ n + length left
+    → (length (with_left side left view).client_left + length (with_left side left view).bus_left) + n ≡ length view.client_left + length view.bus_left
+left_weight Client left n view e = omega (arith, e)
+left_weight Bus left n view e = omega (arith, e)
+
+-- ---- the message in front
+
+module _ (policy : Policy) (side : Side) where
+  abbrev after : Message → List ℕ → SessionView → SessionView
+  after m left view = with_message policy side (contents_of m) (spell m) (with_left side left view)
+
+  kept : (m : Message) (left : List ℕ) (view : SessionView) → IsKept (9 * length (spell m)) (with_left side left view) (after m left view)
+  kept m left view = message_kept policy (contents_of m) (spell m) (spell_long m) side (with_left side left view)
+
+  bus_front : (m : Message) (left : List ℕ) (view : SessionView) → IsFront view.bus_side (after m left view).bus_side
+  bus_front m left view = subst (λ (xs : List ℕ). IsFront xs (after m left view).bus_side) (left_bus side left view) (kept m left view).bus_front
+
+  client_front : (m : Message) (left : List ℕ) (view : SessionView) → IsFront view.client_side (after m left view).client_side
+  client_front m left view = subst (λ (xs : List ℕ). IsFront xs (after m left view).client_side) (left_client side left view) (kept m left view).client_front
+
+  fault_bus : (o : Option Malformed) (view : SessionView) → IsFront view.bus_side (with_fault side o view).bus_side
+  fault_bus None view = front_all view.bus_side
+  fault_bus (Some f) view = front_all view.bus_side
+
+  fault_client : (o : Option Malformed) (view : SessionView) → IsFront view.client_side (with_fault side o view).client_side
+  fault_client None view = front_all view.client_side
+  fault_client (Some f) view = front_all view.client_side
+
+  step_bus : (o : Option (Message × List ℕ)) (view : SessionView) → IsFront view.bus_side (with_front policy side o view).0.bus_side
+  step_bus None view = fault_bus (fault (left_of side view)) view
+  step_bus (Some x) view = bus_front x.0 x.1 view
+
+  step_client : (o : Option (Message × List ℕ)) (view : SessionView) → IsFront view.client_side (with_front policy side o view).0.client_side
+  step_client None view = fault_client (fault (left_of side view)) view
+  step_client (Some x) view = client_front x.0 x.1 view
+
+  none_ended : (o : Option End) → is_none o ≡ true → o ≡ None
+  none_ended None e = refl
+  none_ended (Some end) e = absurd cc
+
+  pub step_runs : (o : Option (Message × List ℕ)) (view : SessionView) → (with_front policy side o view).1 ≡ true → (with_front policy side o view).0.ended ≡ None
+  step_runs None view e = absurd cc
+  step_runs (Some x) view e = none_ended (after x.0 x.1 view).ended e
+
+  step_is : (view : SessionView) (m : Message) (left : List ℕ) → front (left_of side view) ≡ Some (m, left) → step_of policy side view ≡ and_runs (after m left view)
+  step_is view m left e = ap (λ (o : Option (Message × List ℕ)). with_front policy side o view) e
+
+  -- a whole message is taken
+  pub whole_step : (old mid new : SessionView) (frame left : List ℕ) (m : Message) → old.ended ≡ None → Takes (left_of side old) frame left m → mid ≡ with_left side left old
+      → TookMessage (with_message policy side (contents_of m) (spell m) mid) mid new → Stepped (step_of policy side old) old new (is_none new.ended)
+  whole_step old mid new frame left m runs t is (inl done) =
+      let new_is : new ≡ after m left old = done ∙ ap (λ (v : SessionView). with_message policy side (contents_of m) (spell m) v) is in
+      inl (new_is ∙ ap (λ (x : SessionView × Bool). x.0) (sym (step_is old m left t.in_front)), ap (λ (v : SessionView). is_none v.ended) new_is ∙ ap (λ (x : SessionView × Bool). x.1) (sym (step_is old m left t.in_front)))
+  whole_step old mid new frame left m runs t is (inr refused) =
+      let bus : new.bus_side ≡ old.bus_side = refused.kept.bus_side ∙ ap (λ (v : SessionView). v.bus_side) is ∙ left_bus side left old in
+      let client : new.client_side ≡ old.client_side = refused.kept.client_side ∙ ap (λ (v : SessionView). v.client_side) is ∙ left_client side left old in
+      inr (
+        record {
+          running = runs;
+          ended = refused.ended;
+          mode = refused.kept.mode ∙ ap (λ (v : SessionView). v.mode) is ∙ left_mode side left old;
+          for_bus = subst (λ (xs : List ℕ). IsFront xs (step_of policy side old).0.bus_side) (sym bus) (step_bus (front (left_of side old)) old);
+          for_client = subst (λ (xs : List ℕ). IsFront xs (step_of policy side old).0.client_side) (sym client) (step_client (front (left_of side old)) old);
+        },
+        ap is_none refused.ended,
+      )
+
+  weight_bus : (old mid new : SessionView) (left : List ℕ) (n : ℕ) → mid ≡ with_left side left old → length (left_of side old) ≡ n + length left → length new.bus_side ≤ length mid.bus_side + 9 * n
+      → new.client_left ≡ mid.client_left → new.bus_left ≡ mid.bus_left → bus_weight new ≤ bus_weight old + 9 * 0
+  weight_bus old mid new left n is parts more c b =
+      let here : (length mid.client_left + length mid.bus_left) + n ≡ length old.client_left + length old.bus_left =
+      ap (λ (v : SessionView). (length v.client_left + length v.bus_left) + n) is ∙ left_weight side left n old parts in
+      let side_is : length mid.bus_side ≡ length old.bus_side = ap length (ap (λ (v : SessionView). v.bus_side) is ∙ left_bus side left old) in
+      let c_is : length new.client_left ≡ length mid.client_left = ap length c in
+      let b_is : length new.bus_left ≡ length mid.bus_left = ap length b in
+      omega (arith, here, side_is, c_is, b_is, more)
+
+  weight_client : (old mid new : SessionView) (left : List ℕ) (n : ℕ) → mid ≡ with_left side left old → length (left_of side old) ≡ n + length left → length new.client_side ≤ length mid.client_side + 9 * n
+      → new.client_left ≡ mid.client_left → new.bus_left ≡ mid.bus_left → client_weight new ≤ client_weight old + 9 * 0
+  weight_client old mid new left n is parts more c b =
+      let here : (length mid.client_left + length mid.bus_left) + n ≡ length old.client_left + length old.bus_left =
+      ap (λ (v : SessionView). (length v.client_left + length v.bus_left) + n) is ∙ left_weight side left n old parts in
+      let side_is : length mid.client_side ≡ length old.client_side = ap length (ap (λ (v : SessionView). v.client_side) is ∙ left_client side left old) in
+      let c_is : length new.client_left ≡ length mid.client_left = ap length c in
+      let b_is : length new.bus_left ≡ length mid.bus_left = ap length b in
+      omega (arith, here, side_is, c_is, b_is, more)
+
+  -- and nine bytes at most come out for each of its own
+  pub whole_light : (old mid new : SessionView) (frame left : List ℕ) (m : Message) → Takes (left_of side old) frame left m → mid ≡ with_left side left old
+      → TookMessage (with_message policy side (contents_of m) (spell m) mid) mid new → IsLight 0 old new
+  whole_light old mid new frame left m t is took =
+      let parts : length (left_of side old) ≡ length (spell m) + length left = ap length (t.parts ∙ ap (λ (xs : List ℕ). xs ++ left) t.spelled) ∙ length-append (spell m) left in
+      let mode : mid.mode ≡ old.mode = ap (λ (v : SessionView). v.mode) is ∙ left_mode side left old in
+      elim took [
+        | inl done ↦
+            let k = message_kept policy (contents_of m) (spell m) (spell_long m) side mid in
+            subst (λ (v : SessionView). IsLight 0 old v) (sym done)
+            (record {
+              mode = k.mode ∙ mode;
+              for_bus = weight_bus old mid (with_message policy side (contents_of m) (spell m) mid) left (length (spell m)) is parts k.for_bus k.client_left k.bus_left;
+              for_client = weight_client old mid (with_message policy side (contents_of m) (spell m) mid) left (length (spell m)) is parts k.for_client k.client_left k.bus_left;
+            })
+        | inr refused ↦
+            let bus : length new.bus_side ≡ length mid.bus_side = ap length refused.kept.bus_side in
+            let client : length new.client_side ≡ length mid.client_side = ap length refused.kept.client_side in
+            record {
+              mode = refused.kept.mode ∙ mode;
+              for_bus = weight_bus old mid new left (length (spell m)) is parts (omega (arith, bus)) refused.kept.client_left refused.kept.bus_left;
+              for_client = weight_client old mid new left (length (spell m)) is parts (omega (arith, client)) refused.kept.client_left refused.kept.bus_left;
+            }
+      ]
+
+  -- ---- what else stands in front
+
+  pub bad_step : (old mid new : SessionView) (left : List ℕ) (f : Malformed) → front (left_of side old) ≡ None → fault (left_of side old) ≡ Some f → left ≡ left_of side old → mid ≡ with_left side left old
+      → new ≡ ended_by (malformed side (MessageFault f)) mid → Stepped (step_of policy side old) old new false
+  bad_step old mid new left f none wrong same is e =
+      let mid_is : mid ≡ old = is ∙ ap (λ (xs : List ℕ). with_left side xs old) same ∙ same_left side old in
+      let step : step_of policy side old ≡ (ended_by (malformed side (MessageFault f)) old, false) =
+      ap (λ (o : Option (Message × List ℕ)). with_front policy side o old) none ∙ ap (λ (o : Option Malformed). (with_fault side o old, false)) wrong in
+      inl (e ∙ ap (ended_by (malformed side (MessageFault f))) mid_is ∙ ap (λ (x : SessionView × Bool). x.0) (sym step), ap (λ (x : SessionView × Bool). x.1) (sym step))
+
+  pub refused_step : (old mid new : SessionView) → old.ended ≡ None → mid ≡ old → new ≡ ended_by Memory mid → Stepped (step_of policy side old) old new false
+  refused_step old mid new runs same e =
+      let new_is : new ≡ ended_by Memory old = e ∙ ap (ended_by Memory) same in
+      inr (
+        record {
+          running = runs;
+          ended = ap (λ (v : SessionView). v.ended) new_is;
+          mode = ap (λ (v : SessionView). v.mode) new_is;
+          for_bus = subst (λ (v : SessionView). IsFront v.bus_side (step_of policy side old).0.bus_side) (sym new_is) (step_bus (front (left_of side old)) old);
+          for_client = subst (λ (v : SessionView). IsFront v.client_side (step_of policy side old).0.client_side) (sym new_is) (step_client (front (left_of side old)) old);
+        },
+        refl,
+      )
+
+  -- ---- one message after the other
+
+  drained_bus : (n : ℕ) (view : SessionView) → IsFront view.bus_side (drained policy side n view).bus_side
+  drained_bus zero view = front_all view.bus_side
+  drained_bus (suc n) view = by (step_of policy side view).1 (drained_bus n (step_of policy side view).0)
+    where
+      by : (b : Bool) → IsFront (step_of policy side view).0.bus_side (drained policy side n (step_of policy side view).0).bus_side → IsFront view.bus_side (more_if ((step_of policy side view).0, b) (drained policy side n)).bus_side
+      by true more = front_then _ _ _ (step_bus (front (left_of side view)) view) more
+      by false more = step_bus (front (left_of side view)) view
+
+  drained_client : (n : ℕ) (view : SessionView) → IsFront view.client_side (drained policy side n view).client_side
+  drained_client zero view = front_all view.client_side
+  drained_client (suc n) view = by (step_of policy side view).1 (drained_client n (step_of policy side view).0)
+    where
+      by : (b : Bool) → IsFront (step_of policy side view).0.client_side (drained policy side n (step_of policy side view).0).client_side → IsFront view.client_side (more_if ((step_of policy side view).0, b) (drained policy side n)).client_side
+      by true more = front_then _ _ _ (step_client (front (left_of side view)) view) more
+      by false more = step_client (front (left_of side view)) view
+
+  abbrev step : SessionView → SessionView × Bool
+  step view = step_of policy side view
+
+  -- where more may follow
+  pub goes_on : (n : ℕ) (view new : SessionView) (more : Bool) → 0 < n → Stepped (step_of policy side view) view new more → more ≡ true → (drained policy side (n - 1) new ≡ drained policy side n view) × (new.ended ≡ None)
+  goes_on zero view new more pos s e = absurd (omega (arith, pos))
+  goes_on (suc n) view new more pos (inl done) e =
+      let goes : (step_of policy side view).1 ≡ true = sym done.1 ∙ e in
+      let less : suc n - 1 ≡ n = omega arith in (
+        ap (λ (k : ℕ). drained policy side k new) less ∙ ap (drained policy side n) done.0 ∙ ap (λ (b : Bool). more_if ((step_of policy side view).0, b) (drained policy side n)) (sym goes),
+        ap (λ (v : SessionView). v.ended) done.0 ∙ step_runs (front (left_of side view)) view goes,
+      )
+  goes_on (suc n) view new more pos (inr refused) e = absurd (let h : true ≡ false = sym e ∙ refused.1 in cc)
+
+  -- where it doesn't
+  pub stops : (n : ℕ) (first view new : SessionView) (expected : SessionView) (more : Bool) → 0 < n → first.ended ≡ None → view.mode ≡ first.mode → drained policy side n view ≡ expected
+      → Stepped (step_of policy side view) view new more → more ≡ false → Took expected first new
+  stops zero first view new expected more pos runs mode is s e = absurd (omega (arith, pos))
+  stops (suc n) first view new expected more pos runs mode is (inl done) e =
+      let halts : (step_of policy side view).1 ≡ false = sym done.1 ∙ e in
+      inl (done.0 ∙ ap (λ (b : Bool). more_if ((step_of policy side view).0, b) (drained policy side n)) (sym halts) ∙ is)
+  stops (suc n) first view new expected more pos runs mode is (inr refused) e = inr (record {
+    running = runs;
+    ended = refused.0.ended;
+    mode = refused.0.mode ∙ mode;
+    for_bus = subst (λ (v : SessionView). IsFront new.bus_side v.bus_side) is (front_then _ _ _ refused.0.for_bus (later_bus (step_of policy side view).1));
+    for_client = subst (λ (v : SessionView). IsFront new.client_side v.client_side) is (front_then _ _ _ refused.0.for_client (later_client (step_of policy side view).1));
+  })
+    where
+      later_bus : (b : Bool) → IsFront (step_of policy side view).0.bus_side (more_if ((step_of policy side view).0, b) (drained policy side n)).bus_side
+      later_bus true = drained_bus n (step_of policy side view).0
+      later_bus false = front_all (step_of policy side view).0.bus_side
+
+      later_client : (b : Bool) → IsFront (step_of policy side view).0.client_side (more_if ((step_of policy side view).0, b) (drained policy side n)).client_side
+      later_client true = drained_client n (step_of policy side view).0
+      later_client false = front_all (step_of policy side view).0.client_side
+
+-- ---- what a side's stream gave
+
+pub given_client : (view v : SessionView) (side : Side) (next : Next) (left : List ℕ) → side ≡ Client → view ≡ v → Gives view.client_left next left → Given side v next (record view { client_left = left })
+given_client view v side next left is same gives = subst (λ (s : Side). Given s v next (record view { client_left = left })) (sym is)
+    (subst (λ (w : SessionView). Given Client w next (record view { client_left = left })) same (record { left = left; gives = gives; is = refl }))
+
+pub given_bus : (view v : SessionView) (side : Side) (next : Next) (left : List ℕ) → side ≡ Bus → view ≡ v → Gives view.bus_left next left → Given side v next (record view { bus_left = left })
+given_bus view v side next left is same gives = subst (λ (s : Side). Given s v next (record view { bus_left = left })) (sym is)
+    (subst (λ (w : SessionView). Given Bus w next (record view { bus_left = left })) same (record { left = left; gives = gives; is = refl }))
+
+-- ---- by what stands in front
+
+module _ (policy : Policy) (side : Side) (old : SessionView) (runs : old.ended ≡ None) where
+  abbrev Kept : List ℕ → SessionView → SessionView → Type 0
+  Kept frame mid new = (m : Message) → Valid m → frame ≡ spell m → TookMessage (with_message policy side (contents_of m) (spell m) mid) mid new
+
+  pub whole_taken : (next : Next) (mid new : SessionView) (frame : List ℕ) → next ≡ Whole frame → Given side old next mid → Kept frame mid new → Stepped (step_of policy side old) old new (is_none new.ended)
+  whole_taken next mid new frame e g took =
+      let h : Given side old (Whole frame) mid = subst (λ (n : Next). Given side old n mid) e g in
+      whole_step policy side old mid new frame h.left h.gives.0 runs h.gives.1 h.is (took h.gives.0 h.gives.1.valid h.gives.1.spelled)
+
+  pub whole_weighs : (next : Next) (mid new : SessionView) (frame : List ℕ) → next ≡ Whole frame → Given side old next mid → Kept frame mid new → IsLight 0 old new
+  whole_weighs next mid new frame e g took =
+      let h : Given side old (Whole frame) mid = subst (λ (n : Next). Given side old n mid) e g in
+      whole_light policy side old mid new frame h.left h.gives.0 h.gives.1 h.is (took h.gives.0 h.gives.1.valid h.gives.1.spelled)
+
+  pub bad_taken : (next : Next) (mid new : SessionView) (f : Malformed) (end : End) → next ≡ Bad f → Given side old next mid → end ≡ malformed side (MessageFault f) → new ≡ ended_by end mid → Stepped (step_of policy side old) old new false
+  bad_taken next mid new f end e g wrong is =
+      let h : Given side old (Bad f) mid = subst (λ (n : Next). Given side old n mid) e g in
+      bad_step policy side old mid new h.left f (fault_front (left_of side old) f h.gives.0) h.gives.0 h.gives.1 h.is (is ∙ ap (λ (x : End). ended_by x mid) wrong)
+
+pub runs_by : (o p : Option End) (b : Bool) → is_some o ≡ not b → o ≡ p → b ≡ is_none p
+runs_by None p b e f = flip b e ∙ ap is_none f
+  where
+    flip : (b : Bool) → false ≡ not b → b ≡ true
+    flip true e = refl
+    flip false e = e
+runs_by (Some x) p b e f = flip b e ∙ ap is_none f
+  where
+    flip : (b : Bool) → true ≡ not b → b ≡ false
+    flip true e = e
+    flip false e = refl
+
+pub stepped_as : (expected : SessionView × Bool) (old new : SessionView) (a b : Bool) → a ≡ b → Stepped expected old new b → Stepped expected old new a
+stepped_as expected old new a b e s = subst (λ (c : Bool). Stepped expected old new c) (sym e) s
+
+pub not_so : (b : Bool) → not b ≡ true → b ≡ false
+not_so true e = sym e
+not_so false e = refl
+
+-- ---- bytes that come
+
+module _ (policy : Policy) (side : Side) (bytes : List ℕ) where
+  more_bus : (view : SessionView) → IsFront view.bus_side (with_more policy side bytes view).bus_side
+  more_bus view = subst (λ (xs : List ℕ). IsFront xs (with_more policy side bytes view).bus_side) (left_bus side (left_of side view ++ bytes) view)
+      (drained_bus policy side (length (left_of side view ++ bytes) + 1) (with_left side (left_of side view ++ bytes) view))
+
+  more_client : (view : SessionView) → IsFront view.client_side (with_more policy side bytes view).client_side
+  more_client view = subst (λ (xs : List ℕ). IsFront xs (with_more policy side bytes view).client_side) (left_client side (left_of side view ++ bytes) view)
+      (drained_client policy side (length (left_of side view ++ bytes) + 1) (with_left side (left_of side view ++ bytes) view))
+
+  either_bus : (none built : Bool) (view : SessionView) → IsFront view.bus_side (cond none view (cond built (with_more policy side bytes view) (ended_by NotBuilt view))).bus_side
+  either_bus true built view = front_all view.bus_side
+  either_bus false true view = more_bus view
+  either_bus false false view = front_all view.bus_side
+
+  either_client : (none built : Bool) (view : SessionView) → IsFront view.client_side (cond none view (cond built (with_more policy side bytes view) (ended_by NotBuilt view))).client_side
+  either_client true built view = front_all view.client_side
+  either_client false true view = more_client view
+  either_client false false view = front_all view.client_side
+
+  -- memory was refused before a message was looked at
+  pub bytes_refused : (old mid new : SessionView) → old.ended ≡ None → mid ≡ old → new ≡ ended_by Memory mid → Took (with_bytes policy side bytes old) old new
+  bytes_refused old mid new runs same e =
+      let new_is : new ≡ ended_by Memory old = e ∙ ap (ended_by Memory) same in
+      inr (record {
+        running = runs;
+        ended = ap (λ (v : SessionView). v.ended) new_is;
+        mode = ap (λ (v : SessionView). v.mode) new_is;
+        for_bus = subst (λ (v : SessionView). IsFront v.bus_side (with_bytes policy side bytes old).bus_side) (sym new_is) (either_bus (is_empty bytes) (not old.mode.auth && old.mode.filter) old);
+        for_client = subst (λ (v : SessionView). IsFront v.client_side (with_bytes policy side bytes old).client_side) (sym new_is) (either_client (is_empty bytes) (not old.mode.auth && old.mode.filter) old);
+      })

@@ -1,0 +1,176 @@
+//! How long it takes to pass over a body and to read a message.
+//!
+//! With no words each input is looked at once, and nothing is printed. With a word each is measured, and gets a line
+//! `NAME NANOSECONDS BYTES SUM`: what one call takes at best, how many bytes it looks at, and a sum of the input.
+#![tactic(auto)]
+
+mod inputs;
+
+ghost use Rattle.std.specs.Prelude.{◌≡◌, ◌<◌, ◌≤◌, None, IsTrue, length};
+ghost use Rattle.dbus_header.specs.Malformed.{head_fault, whole_len};
+
+use dbus_header::{decode, length};
+use dbus_types::Signature;
+use dbus_values::{Order, value_end};
+use inputs::{byte_arrays, calls, dictionaries};
+use std::process::ExitCode;
+use std::time::{Duration, Instant};
+use std::{env, io};
+
+/// How often each measure is taken; the shortest counts.
+const MEASURES: u32 = 300;
+
+/// How many calls a measure has, for each input.
+const DICTIONARY_CALLS: u32 = 100;
+
+const BYTE_ARRAY_CALLS: u32 = 20_000;
+
+const DECODE_CALLS: u32 = 1_000;
+
+/// A place of the bytes: the one given, or the first where they end there.
+fn next_place(bytes: &[u8], end: usize) -> usize
+    ensures { result ≤ length bytes.now }
+{
+    if end < bytes.len() { end } else { 0 }
+}
+
+/// Passes over the values that stand one after the other, again and again. Each call begins where the one before ended.
+fn walk(signature: Signature<'_>, bytes: &[u8], calls: u32) -> bool {
+    let mut end = 0;
+    for _ in 0..calls {
+        match value_end(Order::Little, signature, bytes, next_place(bytes, end)) {
+            Ok(behind) => end = behind,
+            Err(_) => return false,
+        }
+    }
+    end == bytes.len()
+}
+
+/// Whether the bytes are as many as they state, where they state it.
+fn is_whole(bytes: &[u8]) -> bool
+    ensures long { IsTrue result → 16 ≤ length bytes.now }
+    ensures whole { IsTrue result → head_fault bytes.now ≡ None → length bytes.now ≡ whole_len bytes.now }
+{
+    match bytes.first_chunk::<16>() {
+        None => false,
+        Some(head) => match length(head) {
+            Ok(len) => len as usize == bytes.len(),
+            Err(_) => false,
+        },
+    }
+}
+
+/// Reads two messages in turn, whose serials tell which comes next.
+fn read(first: &[u8], second: &[u8], calls: u32) -> bool {
+    if !is_whole(first) || !is_whole(second) {
+        return false;
+    }
+    let mut serial = 0;
+    for _ in 0..calls {
+        let message = if serial == 7 {
+            decode(second)
+        } else {
+            decode(first)
+        };
+        match message {
+            Ok(message) => serial = message.serial,
+            Err(_) => return false,
+        }
+    }
+    serial == 8
+}
+
+/// The shortest time that so many passes take, of many measures.
+fn walk_time(
+    rt: &HostRuntime,
+    signature: Signature<'_>,
+    bytes: &[u8],
+    calls: u32,
+) -> io::Result<Duration> {
+    let mut shortest = Duration::MAX;
+    for _ in 0..MEASURES {
+        let start = Instant::now(rt)?;
+        let is_good = walk(signature, bytes, calls);
+        let taken = start.elapsed(rt)?;
+        if is_good && taken < shortest {
+            shortest = taken;
+        }
+    }
+    Ok(shortest)
+}
+
+/// The shortest time in which so many messages are read, of many measures.
+fn read_time(rt: &HostRuntime, first: &[u8], second: &[u8], calls: u32) -> io::Result<Duration> {
+    let mut shortest = Duration::MAX;
+    for _ in 0..MEASURES {
+        let start = Instant::now(rt)?;
+        let is_good = read(first, second, calls);
+        let taken = start.elapsed(rt)?;
+        if is_good && taken < shortest {
+            shortest = taken;
+        }
+    }
+    Ok(shortest)
+}
+
+/// A sum of the bytes, by which the inputs of two programs are compared.
+fn sum(bytes: &[u8]) -> u32 {
+    let mut sum: u32 = 0;
+    for byte in bytes {
+        sum = sum.wrapping_mul(31).wrapping_add(*byte as u32);
+    }
+    sum
+}
+
+/// Prints the line of an input, which stands twice in the bytes.
+fn print_line(
+    rt: &HostRuntime,
+    name: &str,
+    shortest: Duration,
+    calls: u32,
+    bytes: &[u8],
+) -> io::Result<()>
+    requires { 0 < calls }
+{
+    let hundredths = shortest.as_nanos().saturating_mul(100) / calls as u128;
+    let whole = hundredths / 100;
+    let rest = hundredths % 100;
+    let len = bytes.len() / 2;
+    let sum = sum(bytes);
+    println!(rt; "{name} {whole}.{rest:02} {len} {sum}")
+}
+
+/// Looks at each input once, or measures each.
+fn run(
+    rt: &HostRuntime,
+    is_measured: bool,
+    entries: Signature<'_>,
+    array: Signature<'_>,
+) -> io::Result<bool> {
+    let dictionaries = dictionaries(rt.alloc())?;
+    let arrays = byte_arrays(rt.alloc())?;
+    let messages = calls(rt.alloc())?;
+    let (first, second) = messages.split_at(messages.len() / 2);
+    if is_measured {
+        let time = walk_time(rt, entries, &dictionaries, DICTIONARY_CALLS)?;
+        print_line(rt, "dictionary", time, DICTIONARY_CALLS, &dictionaries)?;
+        let time = walk_time(rt, array, &arrays, BYTE_ARRAY_CALLS)?;
+        print_line(rt, "byte_array", time, BYTE_ARRAY_CALLS, &arrays)?;
+        let time = read_time(rt, first, second, DECODE_CALLS)?;
+        print_line(rt, "decode", time, DECODE_CALLS, &messages)?;
+    }
+    Ok(walk(entries, &dictionaries, 2) && walk(array, &arrays, 2) && read(first, second, 2))
+}
+
+fn main(rt: HostRuntime) -> io::Result<ExitCode> {
+    let is_measured = env::args(&rt)?.count() > 1;
+    let (entries, array) = match (Signature::read(b"a{sv}"), Signature::read(b"ay")) {
+        (Ok(entries), Ok(array)) => (entries, array),
+        _ => return Ok(ExitCode::FAILURE),
+    };
+    if run(&rt, is_measured, entries, array)? {
+        Ok(ExitCode::SUCCESS)
+    } else {
+        Ok(ExitCode::FAILURE)
+    }
+}
