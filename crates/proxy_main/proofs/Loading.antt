@@ -30,10 +30,12 @@ unfolding checked_policy
 policy_long None long = tt
 policy_long (Some bytes) long = grind (arith, nat_tests)
 
-pub recording_long : (told : Option (List ℕ)) → IfSome told (λ bytes. RECORDING_LIMIT < length bytes) → IfSome told (λ bytes. checked_recording bytes ≡ Err BadFile)
-unfolding checked_recording recording_of
-recording_long None long = tt
-recording_long (Some bytes) long = grind (arith, nat_tests)
+-- a recording above its limit, by the fault that each such file has
+pub recording_long : (told : Option (List ℕ)) (fault : BadRecording) → ((bytes : List ℕ) → RECORDING_LIMIT < length bytes → recording_of bytes ≡ Err fault) →
+    IfSome told (λ bytes. RECORDING_LIMIT < length bytes) → IfSome told (λ bytes. checked_recording bytes ≡ Err (BadFile fault))
+unfolding checked_recording
+recording_long None fault is long = tt
+recording_long (Some bytes) fault is long = ap (or_refused BadFile) (is bytes long)
 
 -- a policy file that was read
 pub policy_read : (told : Option (List ℕ)) (items : List ℕ) (r : Result PolicyOptions BadWord) → Given POLICY_LIMIT told [] items → options_in items ≡ r →
@@ -46,9 +48,9 @@ policy_read (Some bytes) items r given is =
     ∙ ap (λ xs. or_refused PolicyWord (options_in xs)) (sym given.is.0) ∙ ap (or_refused PolicyWord) is
 
 -- a recording that was read
-pub recording_read : (bytes : List ℕ) (r : Result Recording BadRecording) → recording_of bytes ≡ r → checked_recording bytes ≡ or_refused (λ fault. BadFile) r
+pub recording_read : (bytes : List ℕ) (r : Result Recording BadRecording) → recording_of bytes ≡ r → checked_recording bytes ≡ or_refused BadFile r
 unfolding checked_recording
-recording_read bytes r is = ap (or_refused (λ fault. BadFile)) is
+recording_read bytes r is = ap (or_refused BadFile) is
 
 -- ---- why a run stops
 
@@ -73,7 +75,7 @@ of_words : (refusal : Refusal) (command : Option Command) → IsOfFile refusal �
 of_words Usage command is = absurd is
 of_words (PolicyWord bad) command is = tt
 of_words PolicyTooLong command is = tt
-of_words BadFile command is = tt
+of_words (BadFile fault) command is = tt
 
 untold-first : {A : Type 0} (t : Option (List ℕ)) (check : List ℕ → Result A Refusal) (go : A → Answer) → t ≡ None → then_read t check go ≡ Untold
 untold-first t check go e = ap (λ u. then_read u check go) e

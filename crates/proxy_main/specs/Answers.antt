@@ -7,7 +7,7 @@ use Rattle.policy_args.specs.Words.{PolicyOptions, options_of, words_in, ◌>>=�
 use Rattle.recording.specs.Recording.{Recording, recording_of}
 use Rattle.replay.specs.Output.{output_of_recording}
 use Rattle.proxy_main.specs.declared.Refusal.{Refusal}
-use Rattle.proxy_main.specs.declared.Refusal.TheVariants.{Usage, PolicyWord, PolicyTooLong, Recording as BadRecording}
+use Rattle.proxy_main.specs.declared.Refusal.TheVariants.{Usage, PolicyWord, PolicyTooLong, Recording as BadFile}
 use Rattle.proxy_main.specs.declared.TheConstants.{POLICY_LIMIT}
 use Rattle.proxy_main.specs.Words.{Command, Replay, reading}
 
@@ -44,9 +44,9 @@ unfoldable pub checked_policy : List ℕ → Result PolicyOptions Refusal
 checked_policy bytes =
     if nat_lt POLICY_LIMIT (length bytes) then Err PolicyTooLong else or_refused PolicyWord (options_in bytes)
 
--- a recording: whatever its fault is, also that it is above its limit, it is refused alike
+-- a recording: it is refused by its first fault, which may be that it is above its limit
 unfoldable pub checked_recording : List ℕ → Result Recording Refusal
-checked_recording bytes = or_refused (λ fault. BadRecording) (recording_of bytes)
+checked_recording bytes = or_refused BadFile (recording_of bytes)
 
 -- ---- answers
 
@@ -78,7 +78,7 @@ abbrev pub refusal_code : Refusal → ℕ
 refusal_code Usage = 1
 refusal_code (PolicyWord bad) = 2
 refusal_code PolicyTooLong = 2
-refusal_code BadRecording = 3
+refusal_code (BadFile fault) = 3
 
 -- the status of an answer
 abbrev pub code_of : Answer → ℕ

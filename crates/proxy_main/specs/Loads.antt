@@ -15,7 +15,7 @@ abbrev pub IsOfFile : Refusal → Type 0
 IsOfFile Usage = ⊥
 IsOfFile (PolicyWord bad) = Unit {0}
 IsOfFile PolicyTooLong = Unit {0}
-IsOfFile Recording = Unit {0}
+IsOfFile (Recording fault) = Unit {0}
 
 -- the file at the path is why a run stops: its check refuses what is told of it, or it was not read
 abbrev pub LoadStops : {A : Type 0} → (List ℕ → Result A Refusal) → Option (List ℕ) → List ℕ → Stop → Type 0
@@ -36,7 +36,7 @@ abbrev pub IsOfWords : Refusal → Option Command → Type 0
 IsOfWords Usage command = command ≡ None
 IsOfWords (PolicyWord bad) command = Unit {0}
 IsOfWords PolicyTooLong command = Unit {0}
-IsOfWords Recording command = Unit {0}
+IsOfWords (Recording fault) command = Unit {0}
 
 -- why a run stops: what is told settles it so, or a file failed without which nothing is settled, or the work had begun
 abbrev pub StopsBy : (List ℕ → Option (List ℕ)) → Option Command → Stop → Type 0

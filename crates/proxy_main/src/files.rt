@@ -1,8 +1,9 @@
 //! The files that the words name.
-ghost use Rattle.std.specs.Prelude.{◌≡◌, ◌≤◌, ℕ, List, Some, IfOk, IfErr};
+ghost use Rattle.std.specs.Prelude.{◌≡◌, ◌≤◌, ◌<◌, ℕ, List, Some, Err, IfOk, IfErr, length};
 ghost use Rattle.link_traits.specs.Told.{Rose};
 ghost use Rattle.policy_args.specs.Gives.{Gives};
 ghost use Rattle.policy_args.specs.Seen.{options_seen};
+ghost use Rattle.recording.specs.Recording.{recording_of};
 ghost use Rattle.recording.specs.Seen.{recording_seen, size};
 ghost use Rattle.proxy_main.specs.Words.{Replay};
 ghost use Rattle.proxy_main.specs.Answers.{options_in, checked_policy, checked_recording, answer_to, replayed, Agrees};
@@ -11,7 +12,7 @@ ghost use Rattle.proxy_main.specs.Loads.{Loads, StopsBy, CausedBy};
 use crate::{POLICY_LIMIT, Refusal, Stop};
 use link_traits::{FileFault, Files, read_whole};
 use policy_args::{LineRefusal, Options, read_options, words_of};
-use recording::{RECORDING_LIMIT, Recording, RecordingRefusal};
+use recording::{BadRecording, RECORDING_LIMIT, Recording, RecordingKind, RecordingRefusal};
 use std::alloc::Global;
 
 /// What a replay works on.
@@ -88,11 +89,23 @@ fn load_recording<'a, F: Files>(
     match read_whole(alloc, files, path, RECORDING_LIMIT) {
         Ok(bytes) => match recording::read(alloc, &bytes) {
             Ok(recording) => Ok(recording),
-            Err(RecordingRefusal::Bad(_)) => Err(Stop::Refused(Refusal::Recording)),
+            Err(RecordingRefusal::Bad(fault)) => Err(Stop::Refused(Refusal::Recording(fault))),
             Err(RecordingRefusal::Memory) => Err(Stop::Memory),
         },
-        Err(FileFault::TooLong) => Err(Stop::Refused(Refusal::Recording)),
+        Err(FileFault::TooLong) => Err(Stop::Refused(Refusal::Recording(too_long()))),
         Err(FileFault::Failed) => Err(Stop::File(path)),
         Err(FileFault::Memory) => Err(Stop::Memory),
+    }
+}
+
+/// The fault of a recording that was not read, since it is above its limit: the one that reading
+/// would have found.
+#[tactic(auto, unfolding(recording::specs::Recording::recording_of))]
+fn too_long() -> BadRecording
+    ensures { (bytes : List ℕ) → RECORDING_LIMIT < length bytes → recording_of bytes ≡ Err result }
+{
+    BadRecording {
+        kind: RecordingKind::TooLong,
+        at: RECORDING_LIMIT as u64,
     }
 }

@@ -21,6 +21,7 @@ ghost use Rattle.std.specs.Prelude.{◌≤◌};
 pub use disk_files::DiskFiles;
 use policy_args::BadWord;
 pub use program::run;
+use recording::BadRecording;
 pub use std_sink::StdSink;
 
 /// The most bytes that a policy file may have, 16 MiB: far more than the 65,535 entries of a
@@ -36,8 +37,9 @@ pub enum Refusal {
     PolicyWord(BadWord),
     /// The policy file has more than `POLICY_LIMIT` bytes.
     PolicyTooLong,
-    /// The recording has a fault, or more than `recording::RECORDING_LIMIT` bytes.
-    Recording,
+    /// The recording has this first fault, which may be that it has more than
+    /// `recording::RECORDING_LIMIT` bytes.
+    Recording(BadRecording),
 }
 
 /// Why a run stops before its work is done.

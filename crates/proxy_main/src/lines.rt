@@ -1,12 +1,13 @@
 //! The line on err of each status that has one.
 ghost use Rattle.std.specs.Prelude.{◌≡◌, IfOk, string_bytes};
 ghost use Rattle.link_traits.specs.Told.{Rose};
-ghost use Rattle.proxy_main.specs.Lines.{refusal_line, word_line, kind_name, file_line};
+ghost use Rattle.proxy_main.specs.Lines.{refusal_line, word_line, kind_name, recording_line, fault_name as name_of_fault, file_line};
 ghost use Rattle.proxy_main.specs.Endings.{Said};
 
 use crate::Refusal;
 use link_traits::{Sink, write_all};
 use policy_args::WordKind;
+use recording::{BadRecording, RecordingKind};
 use std::alloc::{AllocError, Global};
 
 /// The line of a refusal.
@@ -17,7 +18,7 @@ pub fn refusal_text(alloc: Global, refusal: Refusal) -> Result<String, AllocErro
         Refusal::Usage => String::from_str(alloc, "error: usage\n"),
         Refusal::PolicyWord(bad) => word_text(alloc, bad.index, name(bad.kind)),
         Refusal::PolicyTooLong => String::from_str(alloc, "error: policy file too long\n"),
-        Refusal::Recording => String::from_str(alloc, "error: recording\n"),
+        Refusal::Recording(fault) => recording_text(alloc, fault),
     }
 }
 
@@ -43,6 +44,15 @@ fn word_text(alloc: Global, index: usize, kind: &str) -> Result<String, AllocErr
     format!(in alloc; "error: policy word {index}: {kind}\n")
 }
 
+/// The line of a recording with a fault.
+fn recording_text(alloc: Global, fault: BadRecording) -> Result<String, AllocError>
+    ensures { IfOk result (λ text. string_bytes text ≡ recording_line fault) }
+{
+    let kind = fault_name(fault.kind);
+    let place = fault.at;
+    format!(in alloc; "error: recording: {kind} at {place}\n")
+}
+
 /// The name of what is wrong with a word.
 fn name(kind: WordKind) -> &'static str
     ensures { result.now ≡ kind_name kind }
@@ -56,5 +66,20 @@ fn name(kind: WordKind) -> &'static str
         WordKind::OptionBeforeAddress => "OptionBeforeAddress",
         WordKind::BadNumber => "BadNumber",
         WordKind::TooMany => "TooMany",
+    }
+}
+
+/// The name of what is wrong with a recording.
+fn fault_name(kind: RecordingKind) -> &'static str
+    ensures { result.now ≡ name_of_fault kind }
+{
+    match kind {
+        RecordingKind::BadMagic => "BadMagic",
+        RecordingKind::BadVersion => "BadVersion",
+        RecordingKind::BadKind => "BadKind",
+        RecordingKind::Cut => "Cut",
+        RecordingKind::BadAuth => "BadAuth",
+        RecordingKind::BadLength => "BadLength",
+        RecordingKind::TooLong => "TooLong",
     }
 }

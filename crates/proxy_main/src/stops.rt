@@ -64,6 +64,6 @@ fn code(refusal: Refusal) -> u8
         Refusal::Usage => 1,
         Refusal::PolicyWord(_) => 2,
         Refusal::PolicyTooLong => 2,
-        Refusal::Recording => 3,
+        Refusal::Recording(_) => 3,
     }
 }

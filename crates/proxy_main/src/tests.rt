@@ -8,6 +8,7 @@ use messages::{
     BIG_CALL, Message, NAME_HAS_NO_OWNER, SENDER_FIRST, message_bytes, output, put, record,
     recording,
 };
+use recording::RECORDING_LIMIT;
 use std::alloc::{AllocError, Global};
 use std::fs;
 use std::process::Abort;
@@ -304,7 +305,7 @@ fn words_of_another_form_are_usage(rt: HostRuntime) -> Result<(), Fail> {
 
 #[test]
 fn bad_files_have_a_status_and_a_line(rt: HostRuntime) -> Result<(), Fail> {
-    let cases: [(&[u8], &[u8], u8, &[u8]); 7] = [
+    let cases: [(&[u8], &[u8], u8, &[u8]); 12] = [
         (
             b"--filter\0--colour\0",
             EMPTY_RECORDING,
@@ -329,9 +330,49 @@ fn bad_files_have_a_status_and_a_line(rt: HostRuntime) -> Result<(), Fail> {
             2,
             b"error: policy word 0: UnknownOption\n",
         ),
-        (FILTER, b"DBP", 3, b"error: recording\n"),
-        (FILTER, b"DBPR\x09\0", 3, b"error: recording\n"),
-        (FILTER, b"DBPR\x01\0\x07", 3, b"error: recording\n"),
+        (FILTER, b"DBP", 3, b"error: recording: Cut at 3\n"),
+        (
+            FILTER,
+            b"DBPR\x09\0",
+            3,
+            b"error: recording: BadVersion at 4\n",
+        ),
+        (
+            FILTER,
+            b"DBPR\x01\0\x07",
+            3,
+            b"error: recording: BadKind at 6\n",
+        ),
+        (
+            FILTER,
+            b"DBPr\x01\0",
+            3,
+            b"error: recording: BadMagic at 0\n",
+        ),
+        (
+            FILTER,
+            b"DBPR\x01\x02",
+            3,
+            b"error: recording: BadAuth at 5\n",
+        ),
+        (
+            FILTER,
+            b"DBPR\x01\0\x02\x01\0\0\0",
+            3,
+            b"error: recording: BadLength at 7\n",
+        ),
+        (
+            FILTER,
+            b"DBPR\x01\0\x03\x01\0\0",
+            3,
+            b"error: recording: Cut at 10\n",
+        ),
+        (
+            FILTER,
+            b"DBPR\x01\0\x01\x01\0\0\0a\x04",
+            3,
+            b"error: recording: BadKind at 12\n",
+        ),
     ];
     for (policy, recording, code, line) in cases {
         let ended = replay(rt.alloc(), policy, recording, 100)?;
@@ -355,6 +396,15 @@ fn policy_file_above_its_limit_is_too_long(rt: HostRuntime) -> Result<(), Fail> 
     policy.resize(POLICY_LIMIT + 1, 0)?;
     let ended = replay(rt.alloc(), &policy, EMPTY_RECORDING, 100)?;
     assert_ends(&rt, &ended, 2, b"", b"error: policy file too long\n");
+    Ok(())
+}
+
+#[test]
+fn recording_above_its_limit_is_too_long(rt: HostRuntime) -> Result<(), Fail> {
+    let recording = vec![in rt.alloc(); 0; RECORDING_LIMIT + 1]?;
+    let ended = replay(rt.alloc(), FILTER, &recording, 100)?;
+    let line = b"error: recording: TooLong at 67108864\n";
+    assert_ends(&rt, &ended, 3, b"", line);
     Ok(())
 }
 

@@ -15,9 +15,9 @@ returns-in-Ok-read-clause-loads g c =
 
 pub returns-in-Err-Bad-clause-loads : goal.returns-in-Err-Bad-clause-loads
 returns-in-Err-Bad-clause-loads g c =
-    let exact : recording_of c.in-Ok.bytes.items ≡ Err c.in-Err-Bad.field-0-0 = ap recording_of (sym c.deref.ensures.value)
+    let exact : recording_of c.in-Ok.bytes.items ≡ Err c.in-Err-Bad.fault = ap recording_of (sym c.deref.ensures.value)
     ∙ subst (λ x. Fails x (recording_of c.deref.result.now)) c.in-Err-Bad.field-0-is c.in-Err-Bad.ensures.exact in
-    (read_told RECORDING_LIMIT _ c.in-Ok.bytes.items checked_recording (Err BadFile) c.in-Ok.ensures.given (recording_read _ _ exact), tt)
+    (read_told RECORDING_LIMIT _ c.in-Ok.bytes.items checked_recording (Err (BadFile c.in-Err-Bad.fault)) c.in-Ok.ensures.given (recording_read _ _ exact), tt)
 
 pub returns-in-Err-TooLong-clause-loads : goal.returns-in-Err-TooLong-clause-loads
-returns-in-Err-TooLong-clause-loads g c = (recording_long _ (c.in-Err-TooLong.ensures.too_long (ap Err c.in-Err-TooLong.field-0-is)), tt)
+returns-in-Err-TooLong-clause-loads g c = (recording_long _ c.too_long.result c.too_long.ensures (c.in-Err-TooLong.ensures.too_long (ap Err c.in-Err-TooLong.field-0-is)), tt)

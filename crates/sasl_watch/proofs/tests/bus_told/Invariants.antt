@@ -1,0 +1,9 @@
+use Rattle.std.proofs.Common.{◌+◌, ◌≤◌, length}
+use Rattle.sasl_watch.specs.Watching.{came}
+use Rattle.sasl_watch.proofs.tests.bus_told.Given as goal
+
+abbrev pub invariant-loop-rest : goal.invariant-loop-rest
+invariant-loop-rest l = came l.lines + length l.rest ≤ length l.stream
+
+abbrev pub decreases-loop-rest : goal.decreases-loop-rest
+decreases-loop-rest l = length l.rest

@@ -1,0 +1,69 @@
+//! The line in front of a stream.
+ghost use Rattle.std.specs.Prelude.{◌≡◌, ◌<◌, ◌≤◌, ◌+◌, true, false, length, slice_index};
+ghost use Rattle.sasl_watch.specs.Fronts.{is_plain as is_plain_byte, Plain, PlainFront, IsFront};
+
+use crate::LineKind;
+
+/// The most bytes that a line may have, with its CR LF: far more than any mechanism's data, and few enough to be held
+/// for each connection.
+const LINE_LIMIT: usize = 16_384;
+
+/// What stands in front of a stream.
+#[derive(Clone, Copy)]
+pub(crate) enum Front {
+    /// No whole line yet, and no fault.
+    Partial,
+    /// A line of so many bytes, with its CR LF.
+    Whole(usize),
+    /// Behind so many bytes a faulty one.
+    Faulty(LineKind, usize),
+}
+
+/// Whether a line may have the byte before its ending.
+#[inline]
+fn is_plain(byte: u8) -> bool
+    ensures { result ≡ is_plain_byte byte }
+{
+    matches!(byte, 0x20..=0x7E)
+}
+
+/// How many bytes in front are plain, up to those that a line may have before its last, where so many are known to be.
+pub(crate) fn plain_len(left: &[u8], known: usize) -> usize
+    requires { Plain known left.now }
+    ensures { PlainFront result left.now }
+{
+    let end = left.len().min(LINE_LIMIT - 1);
+    for at in known..end {
+        if !is_plain(left[at]) {
+            return at;
+        }
+    }
+    end
+}
+
+/// What stands in front, where so many bytes are plain.
+pub(crate) fn line_in_front(left: &[u8], plain: usize) -> Front
+    requires { PlainFront plain left.now }
+    ensures { IsFront left.now result }
+{
+    if plain == left.len() {
+        return Front::Partial;
+    }
+    if plain == LINE_LIMIT - 1 {
+        return Front::Faulty(LineKind::LineTooLong, plain);
+    }
+    if left[plain] != b'\r' {
+        return Front::Faulty(LineKind::BadByte, plain);
+    }
+    let at = plain + 1;
+    if at == left.len() {
+        return Front::Partial;
+    }
+    if left[at] == b'\n' {
+        return Front::Whole(at + 1);
+    }
+    if at == LINE_LIMIT - 1 {
+        return Front::Faulty(LineKind::LineTooLong, at);
+    }
+    Front::Faulty(LineKind::BadByte, at)
+}
