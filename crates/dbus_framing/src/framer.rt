@@ -117,6 +117,22 @@ impl Framer {
         }
     }
 
+    /// A framer to which these bytes were pushed. They aren't copied where nothing else holds them.
+    pub fn with_bytes(alloc: Global, bytes: Bytes) -> Result<Framer, AllocError>
+        ensures { IfOk result (λ framer. framer ≡ bytes) }
+    {
+        let bytes = match bytes.try_into_mut() {
+            Ok(bytes) => bytes,
+            Err(bytes) => BytesMut::copy_from_slice(alloc, bytes.as_slice())?,
+        };
+        Ok(Framer {
+            bytes,
+            state: State::AwaitsHead,
+            given: 0,
+            alloc,
+        })
+    }
+
     /// How many bytes came and weren't given yet.
     pub fn len(&self) -> usize
         ensures value { result ≡ length self.now }

@@ -7,7 +7,7 @@ use Rattle.std.proofs.lemmas.List.Folds.{list_any-append}
 use Rattle.dbus_header.specs.Message.{reply_serial}
 use Rattle.policy_args.specs.Policy.{Policy}
 use Rattle.policy_view.specs.Sent.{Kind, Call, Return, Error, Signal, Other, kind_of, Past, nothing_before}
-use Rattle.policy_view.specs.Past.{Item, Msg, Ended, History, past, after, due, with_client, used_by, used_at, place_used}
+use Rattle.policy_view.specs.Past.{Item, Line, Msg, Ended, History, past, after, due, with_client, used_by, used_at, place_used}
 use Rattle.policy_view.specs.History.{Event, history, end_of, arrived, is_built, placed, followed_by, followed_unless, followed_by_all, most_sent}
 use Rattle.policy_view.specs.declared.Side.TheVariants.{Client, Bus}
 use Rattle.policy_view.specs.declared.End.{End}
@@ -53,6 +53,7 @@ used_sent policy (Msg Bus m ∷ before) r e =
     (length (past policy before).told.sent) (length (past policy before).told.sent) (omega arith) (used_sent policy before)
     (used_at_sent (length (past policy before).told.sent) (kind_of m) (reply_serial m)) r e in
     rw length-append (omega (arith, h))
+used_sent policy (Line side bytes ∷ before) r e = used_sent policy before r e
 used_sent policy (Ended end ∷ before) r e = used_sent policy before r e
 
 -- what an item causes is sent
@@ -60,6 +61,7 @@ sent_after : (policy : Policy) (past : Past) (item : Item) → (after policy ite
 unfolding after due with_client
 sent_after policy past (Msg Client m) = refl
 sent_after policy past (Msg Bus m) = refl
+sent_after policy past (Line side bytes) = sym (append-nil past.told.sent)
 sent_after policy past (Ended end) = sym (append-nil past.told.sent)
 
 -- within the serials

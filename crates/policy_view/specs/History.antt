@@ -3,16 +3,18 @@ use Rattle.std.specs.Prelude.{ℕ, ◌+◌, ◌-◌, nat_lt, nat_le, Bool, true,
 use Rattle.dbus_names.specs.Names.{is_empty, is_well_known}
 use Rattle.dbus_header.specs.declared.Malformed.{Malformed}
 use Rattle.dbus_header.specs.Message.{Message, destination}
+use Rattle.sasl_watch.specs.Lines.{client_lines, has_begun, after_begin, asked, client_fault, bus_lines, after_lines, bus_fault}
+use Rattle.sasl_watch.specs.declared.LineFault.{LineFault}
 use Rattle.dbus_header.specs.Stream.{messages, bad}
 use Rattle.policy_args.specs.Policy.{Policy, bus_name}
 use Rattle.policy_view.specs.Texts.{Text, is_text}
 use Rattle.policy_view.specs.Sent.{Past}
-use Rattle.policy_view.specs.Past.{Item, Msg, Ended, History, past, due}
+use Rattle.policy_view.specs.Past.{Item, Line, Msg, Ended, History, past, due}
 use Rattle.policy_view.specs.declared.Mode.{Mode}
 use Rattle.policy_view.specs.declared.Side.{Side}
 use Rattle.policy_view.specs.declared.Side.TheVariants.{Client, Bus}
 use Rattle.policy_view.specs.declared.Fault.{Fault}
-use Rattle.policy_view.specs.declared.Fault.TheVariants.{Message as MessageFault}
+use Rattle.policy_view.specs.declared.Fault.TheVariants.{Line as OfLine, Message as OfMessage}
 use Rattle.policy_view.specs.declared.End.{End}
 use Rattle.policy_view.specs.declared.End.TheVariants.{ClientMalformed, BusMalformed, ClientEnd, BusEnd, SerialsSpent, NotBuilt}
 
@@ -39,13 +41,59 @@ whole_stream side (_ ∷ events) = whole_stream side events
 unfoldable pub stream : Side → List Event → List ℕ
 stream side events = take longest_stream (whole_stream side events)
 
+-- ---- a side's stream in lines and messages
+
+-- the whole lines of a side: the client's up to BEGIN, and so many of the bus's as the client asked for
+unfoldable pub lines : Mode → Side → List Event → List (List ℕ)
+lines mode Client events = if mode.auth then client_lines (stream Client events) else []
+lines mode Bus events = if mode.auth then bus_lines (asked (stream Client events)) (stream Bus events) else []
+
+-- what follows a side's lines, where BEGIN was seen
+unfoldable pub content : Mode → Side → List Event → Option (List ℕ)
+content mode Client events =
+    if mode.auth then (if has_begun (stream Client events) then Some (after_begin (stream Client events)) else None)
+    else Some (stream Client events)
+content mode Bus events =
+    if mode.auth
+    then (if has_begun (stream Client events) then Some (after_lines (asked (stream Client events)) (stream Bus events)) else None)
+    else Some (stream Bus events)
+
+abbrev pub messages_in : Option (List ℕ) → List Message
+messages_in None = []
+messages_in (Some bytes) = messages bytes
+
+-- the lines and then the messages of a side's whole stream
+unfoldable pub found : Mode → Side → List Event → List Item
+found mode side events = map (Line side) (lines mode side events) ++ map (Msg side) (messages_in (content mode side events))
+
+-- ---- its first fault
+
+abbrev pub fault_of_line : Option LineFault → Option Fault
+fault_of_line None = None
+fault_of_line (Some f) = Some (OfLine f)
+
 abbrev pub fault_of : Option Malformed → Option Fault
 fault_of None = None
-fault_of (Some m) = Some (MessageFault m)
+fault_of (Some m) = Some (OfMessage m)
+
+abbrev pub line_fault : Mode → Side → List Event → Option Fault
+line_fault mode Client events = if mode.auth then fault_of_line (client_fault (stream Client events)) else None
+line_fault mode Bus events =
+    if mode.auth
+    then fault_of_line (bus_fault (asked (stream Client events)) (has_begun (stream Client events)) (stream Bus events))
+    else None
+
+abbrev pub fault_in : Option (List ℕ) → Option Fault
+fault_in None = None
+fault_in (Some bytes) = fault_of (bad bytes)
+
+abbrev pub first_fault : Option Fault → Option Fault → Option Fault
+first_fault None later = later
+first_fault (Some f) later = Some f
 
 -- what is wrong with a side's stream
-unfoldable pub fault : Side → List Event → Option Fault
-fault side events = fault_of (bad (stream side events))
+unfoldable pub fault : Mode → Side → List Event → Option Fault
+fault mode side events = first_fault (line_fault mode side events) (fault_in (content mode side events))
 
 abbrev pub malformed : Side → Fault → End
 malformed Client = ClientMalformed
@@ -62,10 +110,6 @@ fault_end side (Some f) = Ended (malformed side f) ∷ []
 -- what is new in a list that has grown
 abbrev pub new_in : {A : Type 0} → List A → List A → List A
 new_in before after = drop (length before) after
-
--- the messages of a side's whole stream
-unfoldable pub found : Side → List Event → List Item
-found side events = map (Msg side) (messages (stream side events))
 
 -- the bytes would make the stream too long
 unfoldable pub is_over : Side → List Event → List ℕ → Bool
@@ -92,25 +136,26 @@ is_built_for Client m = m.kind == 1 && is_service (destination m) || nat_lt 4 m.
 is_built_for Bus m = m.kind == 2 || m.kind == 3 || nat_lt 4 m.kind
 
 abbrev pub is_built : Item → Bool
+is_built (Line side bytes) = true
 is_built (Msg side m) = is_built_for side m
 is_built (Ended end) = true
 
--- Pieces are built in a session that begins with messages and filters them.
+-- Pieces are built in a session that filters messages.
 abbrev pub is_built_piece : Mode → List ℕ → Bool
-is_built_piece mode piece = is_empty piece || not mode.auth && mode.filter
+is_built_piece mode piece = is_empty piece || mode.filter
 
 -- ---- the history
 
 -- the items that a piece brings, in order: those that its side's whole stream has beyond those of before
-abbrev pub brought : Side → List Event → List ℕ → List Item
-brought side events piece =
-    new_in (found side events) (found side (Bytes side piece ∷ events))
-    ++ fault_end side (fault side (Bytes side piece ∷ events))
+abbrev pub brought : Mode → Side → List Event → List ℕ → List Item
+brought mode side events piece =
+    new_in (found mode side events) (found mode side (Bytes side piece ∷ events))
+    ++ fault_end side (fault mode side (Bytes side piece ∷ events))
     ++ end_if (is_over side events piece) (finished side)
 
 -- the items that an event brings; a piece that isn't built has End 13 in their place
 unfoldable pub arrived : Mode → List Event → Event → List Item
-arrived mode events (Bytes side piece) = if is_built_piece mode (taken_of side events piece) then brought side events piece else Ended NotBuilt ∷ []
+arrived mode events (Bytes side piece) = if is_built_piece mode (taken_of side events piece) then brought mode side events piece else Ended NotBuilt ∷ []
 arrived mode events (Finished side) = Ended (finished side) ∷ []
 arrived mode events (Stopped end) = Ended end ∷ []
 
@@ -125,6 +170,7 @@ placed policy before item =
 abbrev pub end_of : History → Option End
 end_of [] = None
 end_of (Ended end ∷ before) = Some end
+end_of (Line side bytes ∷ before) = end_of before
 end_of (Msg side m ∷ before) = end_of before
 
 -- nothing follows an End

@@ -5,8 +5,9 @@ use Rattle.policy_args.specs.Policy.{Policy}
 use Rattle.policy_view.specs.Levels.{Fact}
 use Rattle.policy_view.specs.Sent.{Sent, Past, spelled_from}
 use Rattle.policy_view.specs.Shown.{seen}
-use Rattle.policy_view.specs.Past.{Item, Msg, Ended, History, past, due}
-use Rattle.policy_view.specs.declared.Side.TheVariants.{Bus}
+use Rattle.policy_view.specs.Past.{Item, Line, Msg, Ended, History, past, due}
+use Rattle.policy_view.specs.declared.Side.TheVariants.{Client, Bus}
+use Rattle.sasl_watch.specs.Lines.{for_bus}
 
 -- every message sent to the bus, the n-th with serial n
 abbrev pub sent : Policy → History → List Sent
@@ -15,8 +16,10 @@ sent policy items = (past policy items).told.sent
 abbrev pub facts : Policy → History → List Fact
 facts policy items = (past policy items).told.facts
 
--- the bytes for the bus that an item makes: its due messages, numbered on
+-- the bytes for the bus that an item makes: a line of the client, or the due messages, numbered on
 unfoldable pub to_bus : Policy → Past → Item → List ℕ
+to_bus policy before (Line Client bytes) = for_bus bytes
+to_bus policy before (Line Bus bytes) = []
 to_bus policy before (Msg side m) = spelled_from (length before.told.sent + 1) (due policy before (Msg side m))
 to_bus policy before (Ended end) = []
 
@@ -34,7 +37,10 @@ unfoldable pub seen_in : Policy → History → List Message
 seen_in policy [] = []
 seen_in policy (item ∷ before) = seen_in policy before ++ seen_of policy (past policy before) item
 
+-- the bytes for the client that an item makes: a line of the bus, or the messages that are shown
 unfoldable pub to_client : Policy → Past → Item → List ℕ
+to_client policy before (Line Client bytes) = []
+to_client policy before (Line Bus bytes) = bytes
 to_client policy before (Msg side m) = flat_map spell (seen_of policy before (Msg side m))
 to_client policy before (Ended end) = []
 

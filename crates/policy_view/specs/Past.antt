@@ -15,8 +15,9 @@ use Rattle.policy_view.specs.declared.Verdict.{Verdict}
 use Rattle.policy_view.specs.declared.Verdict.TheVariants.{Pass, Ping, Drop}
 use Rattle.policy_view.specs.declared.End.{End}
 
--- what a session's history holds
+-- what a session's history holds: lines of the authentication protocol, messages, and the End
 pub data Item : Type 0 where
+  Line : (side : Side) (bytes : List ℕ) → Item
   Msg : (side : Side) (message : Message) → Item
   Ended : (end : End) → Item
 
@@ -145,6 +146,7 @@ unfoldable pub after : Policy → Item → Past → Past
 after policy (Msg Client m) past = record { told = with_client policy m past.told; used = past.used }
 after policy (Msg Bus m) past =
     record { told = with_bus policy m (bus_role past m) past.told; used = past.used ++ used_by past m }
+after policy (Line side bytes) past = past
 after policy (Ended end) past = past
 
 -- the past of a history
@@ -156,4 +158,5 @@ past policy (item ∷ before) = after policy item (past policy before)
 unfoldable pub due : Policy → Past → Item → List Sent
 due policy past (Msg Client m) = due_on policy past.told m (verdict policy past.told m)
 due policy past (Msg Bus m) = due_at policy m (bus_role past m)
+due policy past (Line side bytes) = []
 due policy past (Ended end) = []

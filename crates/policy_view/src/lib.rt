@@ -11,6 +11,7 @@ ghost use Rattle.policy_view.specs.declared.Side.{Side as StreamSide};
 
 use dbus_header::{Instead, Malformed};
 use dbus_values::Order;
+use sasl_watch::LineFault;
 
 /// A side of a session.
 #[derive(Clone, Copy, Debug, PartialEq, Eq)]
@@ -107,6 +108,8 @@ pub enum Decision {
 /// What is wrong with a side's stream.
 #[derive(Clone, Copy, Debug, PartialEq, Eq)]
 pub enum Fault {
+    /// A line of the authentication protocol that isn't one.
+    Line(LineFault),
     /// A message that isn't valid.
     Message(Malformed),
 }
@@ -148,7 +151,8 @@ pub fn bytes_only_grow()
 {}
 
 /// Where a session that filters messages takes a stream in two pieces or in one makes no difference, whatever comes
-/// before and after: it has the same history, and so the same bytes for either side, the same notes and the same End.
+/// before and after, in lines and in messages: it has the same history, and so the same bytes for either side, the same
+/// notes and the same End.
 pub fn cuts_change_nothing()
-    ensures { (policy : Policy) (mode : SessionMode) (later earlier : List Event) (side : StreamSide) (first second : List ℕ) → IsTrue (not mode.auth && mode.filter) → history policy mode (later ++ Bytes side second ∷ Bytes side first ∷ earlier) ≡ history policy mode (later ++ Bytes side (first ++ second) ∷ earlier) }
+    ensures { (policy : Policy) (mode : SessionMode) (later earlier : List Event) (side : StreamSide) (first second : List ℕ) → IsTrue mode.filter → history policy mode (later ++ Bytes side second ∷ Bytes side first ∷ earlier) ≡ history policy mode (later ++ Bytes side (first ++ second) ∷ earlier) }
 {}

@@ -1,6 +1,6 @@
--- Messages taken from the front of a stream, one and then many.
+-- Lines and messages taken from the front of a stream, one and then many.
 use Rattle.std.proofs.Common.{ℕ, zero, suc, ◌≡◌, ◌+◌, ◌-◌, ◌*◌, ◌≤◌, ◌<◌, Bool, true, false, cond, List, ◌∷◌, ◌++◌, length, Option, Some, None, refl, ap, ◌∙◌, sym, subst, arith, length-append, inl, inr}
-use Rattle.std.specs.Prelude.{◌&&◌, is_none, is_some, not}
+use Rattle.std.specs.Prelude.{is_none, is_some, not}
 use Rattle.std.specs.Int.{w32}
 use Rattle.dbus_names.specs.Names.{is_empty}
 use Rattle.dbus_values.specs.Values.{number_bytes, zeros}
@@ -10,21 +10,23 @@ use Rattle.dbus_header.specs.Malformed.{front, fault}
 use Rattle.dbus_header.specs.Contents.{contents_of}
 use Rattle.dbus_header.specs.declared.Malformed.{Malformed}
 use Rattle.dbus_header.proofs.FaultStays.{fault_front}
-use Rattle.dbus_framing.specs.Framing.{Takes, Gives}
+use Rattle.dbus_framing.specs.Framing.{Takes}
 use Rattle.dbus_framing.specs.declared.Next.{Next}
 use Rattle.dbus_framing.specs.declared.Next.TheVariants.{Whole, Bad}
 use Rattle.proxy_core.specs.Seen.{Given}
 use Rattle.policy_args.specs.Policy.{Policy}
 use Rattle.policy_view.specs.History.{malformed}
-use Rattle.policy_view.specs.declared.Fault.TheVariants.{Message as MessageFault}
+use Rattle.policy_view.specs.declared.Fault.TheVariants.{Message as OfMessage}
 use Rattle.policy_view.specs.declared.Side.{Side}
 use Rattle.policy_view.specs.declared.Side.TheVariants.{Client, Bus}
 use Rattle.policy_view.specs.declared.End.{End}
 use Rattle.policy_view.specs.declared.End.TheVariants.{Memory, NotBuilt}
-use Rattle.proxy_core.specs.Sessions.{SessionView, left_of, IsFront}
+use Rattle.proxy_core.specs.Streams.{StreamView, Phase, InLines, InMessages, pushed, GaveMessage}
+use Rattle.proxy_core.specs.Sessions.{SessionView, stream_of, IsFront}
 use Rattle.proxy_core.specs.Messages.{ended_by, with_message}
-use Rattle.proxy_core.specs.Steps.{with_left, with_fault, and_runs, with_front, step_of, more_if, drained, with_more, with_bytes, TookMessage, Took, Stepped, bus_weight, client_weight, IsLight}
+use Rattle.proxy_core.specs.Steps.{with_stream, with_left, with_fault, and_runs, with_front, step_at, step_of, more_if, drained, with_more, with_bytes, TookMessage, Took, Stepped, bus_weight, client_weight, IsLight}
 use Rattle.proxy_core.proofs.Keeping.{IsKept, message_kept, front_all, front_then}
+use Rattle.proxy_core.proofs.LineSteps.{line_bus, line_client, line_runs}
 
 pub spell_long : (m : Message) → 16 ≤ length (spell m)
 unfolding spell
@@ -50,6 +52,9 @@ spell_long m =
 
 -- ---- the rest of a side's stream
 
+abbrev pub left_of : Side → SessionView → List ℕ
+left_of side view = (stream_of side view).left
+
 same_left : (side : Side) (view : SessionView) → with_left side (left_of side view) view ≡ view
 same_left Client view = refl
 same_left Bus view = refl
@@ -72,7 +77,7 @@ left_client Bus left view = refl
 
 -- a message's bytes are no longer left
 left_weight : (side : Side) (left : List ℕ) (n : ℕ) (view : SessionView) → length (left_of side view) ≡ n + length left
-    → (length (with_left side left view).client_left + length (with_left side left view).bus_left) + n ≡ length view.client_left + length view.bus_left
+    → (length (with_left side left view).client.left + length (with_left side left view).bus.left) + n ≡ length view.client.left + length view.bus.left
 left_weight Client left n view e = omega (arith, e)
 left_weight Bus left n view e = omega (arith, e)
 
@@ -99,32 +104,57 @@ module _ (policy : Policy) (side : Side) where
   fault_client None view = front_all view.client_side
   fault_client (Some f) view = front_all view.client_side
 
-  step_bus : (o : Option (Message × List ℕ)) (view : SessionView) → IsFront view.bus_side (with_front policy side o view).0.bus_side
-  step_bus None view = fault_bus (fault (left_of side view)) view
-  step_bus (Some x) view = bus_front x.0 x.1 view
+  either_bus : (o : Option (Message × List ℕ)) (view : SessionView) → IsFront view.bus_side (with_front policy side o view).0.bus_side
+  either_bus None view = fault_bus (fault (left_of side view)) view
+  either_bus (Some x) view = bus_front x.0 x.1 view
 
-  step_client : (o : Option (Message × List ℕ)) (view : SessionView) → IsFront view.client_side (with_front policy side o view).0.client_side
-  step_client None view = fault_client (fault (left_of side view)) view
-  step_client (Some x) view = client_front x.0 x.1 view
+  either_client : (o : Option (Message × List ℕ)) (view : SessionView) → IsFront view.client_side (with_front policy side o view).0.client_side
+  either_client None view = fault_client (fault (left_of side view)) view
+  either_client (Some x) view = client_front x.0 x.1 view
+
+  at_bus : (p : Phase) (view : SessionView) → IsFront view.bus_side (step_at policy side p view).0.bus_side
+  at_bus (InLines place told) view = line_bus side place told policy view
+  at_bus InMessages view = either_bus (front (left_of side view)) view
+
+  at_client : (p : Phase) (view : SessionView) → IsFront view.client_side (step_at policy side p view).0.client_side
+  at_client (InLines place told) view = line_client side place told policy view
+  at_client InMessages view = either_client (front (left_of side view)) view
+
+  step_bus : (view : SessionView) → IsFront view.bus_side (step_of policy side view).0.bus_side
+  step_bus view = at_bus (stream_of side view).phase view
+
+  step_client : (view : SessionView) → IsFront view.client_side (step_of policy side view).0.client_side
+  step_client view = at_client (stream_of side view).phase view
 
   none_ended : (o : Option End) → is_none o ≡ true → o ≡ None
   none_ended None e = refl
   none_ended (Some end) e = absurd cc
 
-  pub step_runs : (o : Option (Message × List ℕ)) (view : SessionView) → (with_front policy side o view).1 ≡ true → (with_front policy side o view).0.ended ≡ None
-  step_runs None view e = absurd cc
-  step_runs (Some x) view e = none_ended (after x.0 x.1 view).ended e
+  either_runs : (o : Option (Message × List ℕ)) (view : SessionView) → (with_front policy side o view).1 ≡ true → (with_front policy side o view).0.ended ≡ None
+  either_runs None view e = absurd cc
+  either_runs (Some x) view e = none_ended (after x.0 x.1 view).ended e
 
-  step_is : (view : SessionView) (m : Message) (left : List ℕ) → front (left_of side view) ≡ Some (m, left) → step_of policy side view ≡ and_runs (after m left view)
-  step_is view m left e = ap (λ (o : Option (Message × List ℕ)). with_front policy side o view) e
+  at_runs : (p : Phase) (view : SessionView) → view.ended ≡ None → (step_at policy side p view).1 ≡ true → (step_at policy side p view).0.ended ≡ None
+  at_runs (InLines place told) view runs e = line_runs side place told policy view runs e
+  at_runs InMessages view runs e = either_runs (front (left_of side view)) view e
+
+  pub step_runs : (view : SessionView) → view.ended ≡ None → (step_of policy side view).1 ≡ true → (step_of policy side view).0.ended ≡ None
+  step_runs view runs e = at_runs (stream_of side view).phase view runs e
+
+  -- while messages come
+  pub message_step : (view : SessionView) → (stream_of side view).phase ≡ InMessages → step_of policy side view ≡ with_front policy side (front (left_of side view)) view
+  message_step view e = ap (λ (p : Phase). step_at policy side p view) e
+
+  step_is : (view : SessionView) (m : Message) (left : List ℕ) → (stream_of side view).phase ≡ InMessages → front (left_of side view) ≡ Some (m, left) → step_of policy side view ≡ and_runs (after m left view)
+  step_is view m left p e = message_step view p ∙ ap (λ (o : Option (Message × List ℕ)). with_front policy side o view) e
 
   -- a whole message is taken
-  pub whole_step : (old mid new : SessionView) (frame left : List ℕ) (m : Message) → old.ended ≡ None → Takes (left_of side old) frame left m → mid ≡ with_left side left old
+  pub whole_step : (old mid new : SessionView) (frame left : List ℕ) (m : Message) → old.ended ≡ None → (stream_of side old).phase ≡ InMessages → Takes (left_of side old) frame left m → mid ≡ with_left side left old
       → TookMessage (with_message policy side (contents_of m) (spell m) mid) mid new → Stepped (step_of policy side old) old new (is_none new.ended)
-  whole_step old mid new frame left m runs t is (inl done) =
+  whole_step old mid new frame left m runs p t is (inl done) =
       let new_is : new ≡ after m left old = done ∙ ap (λ (v : SessionView). with_message policy side (contents_of m) (spell m) v) is in
-      inl (new_is ∙ ap (λ (x : SessionView × Bool). x.0) (sym (step_is old m left t.in_front)), ap (λ (v : SessionView). is_none v.ended) new_is ∙ ap (λ (x : SessionView × Bool). x.1) (sym (step_is old m left t.in_front)))
-  whole_step old mid new frame left m runs t is (inr refused) =
+      inl (new_is ∙ ap (λ (x : SessionView × Bool). x.0) (sym (step_is old m left p t.in_front)), ap (λ (v : SessionView). is_none v.ended) new_is ∙ ap (λ (x : SessionView × Bool). x.1) (sym (step_is old m left p t.in_front)))
+  whole_step old mid new frame left m runs p t is (inr refused) =
       let bus : new.bus_side ≡ old.bus_side = refused.kept.bus_side ∙ ap (λ (v : SessionView). v.bus_side) is ∙ left_bus side left old in
       let client : new.client_side ≡ old.client_side = refused.kept.client_side ∙ ap (λ (v : SessionView). v.client_side) is ∙ left_client side left old in
       inr (
@@ -132,30 +162,30 @@ module _ (policy : Policy) (side : Side) where
           running = runs;
           ended = refused.ended;
           mode = refused.kept.mode ∙ ap (λ (v : SessionView). v.mode) is ∙ left_mode side left old;
-          for_bus = subst (λ (xs : List ℕ). IsFront xs (step_of policy side old).0.bus_side) (sym bus) (step_bus (front (left_of side old)) old);
-          for_client = subst (λ (xs : List ℕ). IsFront xs (step_of policy side old).0.client_side) (sym client) (step_client (front (left_of side old)) old);
+          for_bus = subst (λ (xs : List ℕ). IsFront xs (step_of policy side old).0.bus_side) (sym bus) (step_bus old);
+          for_client = subst (λ (xs : List ℕ). IsFront xs (step_of policy side old).0.client_side) (sym client) (step_client old);
         },
         ap is_none refused.ended,
       )
 
   weight_bus : (old mid new : SessionView) (left : List ℕ) (n : ℕ) → mid ≡ with_left side left old → length (left_of side old) ≡ n + length left → length new.bus_side ≤ length mid.bus_side + 9 * n
-      → new.client_left ≡ mid.client_left → new.bus_left ≡ mid.bus_left → bus_weight new ≤ bus_weight old + 9 * 0
+      → new.client ≡ mid.client → new.bus ≡ mid.bus → bus_weight new ≤ bus_weight old + 9 * 0
   weight_bus old mid new left n is parts more c b =
-      let here : (length mid.client_left + length mid.bus_left) + n ≡ length old.client_left + length old.bus_left =
-      ap (λ (v : SessionView). (length v.client_left + length v.bus_left) + n) is ∙ left_weight side left n old parts in
+      let here : (length mid.client.left + length mid.bus.left) + n ≡ length old.client.left + length old.bus.left =
+      ap (λ (v : SessionView). (length v.client.left + length v.bus.left) + n) is ∙ left_weight side left n old parts in
       let side_is : length mid.bus_side ≡ length old.bus_side = ap length (ap (λ (v : SessionView). v.bus_side) is ∙ left_bus side left old) in
-      let c_is : length new.client_left ≡ length mid.client_left = ap length c in
-      let b_is : length new.bus_left ≡ length mid.bus_left = ap length b in
+      let c_is : length new.client.left ≡ length mid.client.left = ap (λ (x : StreamView). length x.left) c in
+      let b_is : length new.bus.left ≡ length mid.bus.left = ap (λ (x : StreamView). length x.left) b in
       omega (arith, here, side_is, c_is, b_is, more)
 
   weight_client : (old mid new : SessionView) (left : List ℕ) (n : ℕ) → mid ≡ with_left side left old → length (left_of side old) ≡ n + length left → length new.client_side ≤ length mid.client_side + 9 * n
-      → new.client_left ≡ mid.client_left → new.bus_left ≡ mid.bus_left → client_weight new ≤ client_weight old + 9 * 0
+      → new.client ≡ mid.client → new.bus ≡ mid.bus → client_weight new ≤ client_weight old + 9 * 0
   weight_client old mid new left n is parts more c b =
-      let here : (length mid.client_left + length mid.bus_left) + n ≡ length old.client_left + length old.bus_left =
-      ap (λ (v : SessionView). (length v.client_left + length v.bus_left) + n) is ∙ left_weight side left n old parts in
+      let here : (length mid.client.left + length mid.bus.left) + n ≡ length old.client.left + length old.bus.left =
+      ap (λ (v : SessionView). (length v.client.left + length v.bus.left) + n) is ∙ left_weight side left n old parts in
       let side_is : length mid.client_side ≡ length old.client_side = ap length (ap (λ (v : SessionView). v.client_side) is ∙ left_client side left old) in
-      let c_is : length new.client_left ≡ length mid.client_left = ap length c in
-      let b_is : length new.bus_left ≡ length mid.bus_left = ap length b in
+      let c_is : length new.client.left ≡ length mid.client.left = ap (λ (x : StreamView). length x.left) c in
+      let b_is : length new.bus.left ≡ length mid.bus.left = ap (λ (x : StreamView). length x.left) b in
       omega (arith, here, side_is, c_is, b_is, more)
 
   -- and nine bytes at most come out for each of its own
@@ -170,28 +200,28 @@ module _ (policy : Policy) (side : Side) where
             subst (λ (v : SessionView). IsLight 0 old v) (sym done)
             (record {
               mode = k.mode ∙ mode;
-              for_bus = weight_bus old mid (with_message policy side (contents_of m) (spell m) mid) left (length (spell m)) is parts k.for_bus k.client_left k.bus_left;
-              for_client = weight_client old mid (with_message policy side (contents_of m) (spell m) mid) left (length (spell m)) is parts k.for_client k.client_left k.bus_left;
+              for_bus = weight_bus old mid (with_message policy side (contents_of m) (spell m) mid) left (length (spell m)) is parts k.for_bus k.client k.bus;
+              for_client = weight_client old mid (with_message policy side (contents_of m) (spell m) mid) left (length (spell m)) is parts k.for_client k.client k.bus;
             })
         | inr refused ↦
             let bus : length new.bus_side ≡ length mid.bus_side = ap length refused.kept.bus_side in
             let client : length new.client_side ≡ length mid.client_side = ap length refused.kept.client_side in
             record {
               mode = refused.kept.mode ∙ mode;
-              for_bus = weight_bus old mid new left (length (spell m)) is parts (omega (arith, bus)) refused.kept.client_left refused.kept.bus_left;
-              for_client = weight_client old mid new left (length (spell m)) is parts (omega (arith, client)) refused.kept.client_left refused.kept.bus_left;
+              for_bus = weight_bus old mid new left (length (spell m)) is parts (omega (arith, bus)) refused.kept.client refused.kept.bus;
+              for_client = weight_client old mid new left (length (spell m)) is parts (omega (arith, client)) refused.kept.client refused.kept.bus;
             }
       ]
 
   -- ---- what else stands in front
 
-  pub bad_step : (old mid new : SessionView) (left : List ℕ) (f : Malformed) → front (left_of side old) ≡ None → fault (left_of side old) ≡ Some f → left ≡ left_of side old → mid ≡ with_left side left old
-      → new ≡ ended_by (malformed side (MessageFault f)) mid → Stepped (step_of policy side old) old new false
-  bad_step old mid new left f none wrong same is e =
+  pub bad_step : (old mid new : SessionView) (left : List ℕ) (f : Malformed) → (stream_of side old).phase ≡ InMessages → front (left_of side old) ≡ None → fault (left_of side old) ≡ Some f → left ≡ left_of side old → mid ≡ with_left side left old
+      → new ≡ ended_by (malformed side (OfMessage f)) mid → Stepped (step_of policy side old) old new false
+  bad_step old mid new left f p none wrong same is e =
       let mid_is : mid ≡ old = is ∙ ap (λ (xs : List ℕ). with_left side xs old) same ∙ same_left side old in
-      let step : step_of policy side old ≡ (ended_by (malformed side (MessageFault f)) old, false) =
-      ap (λ (o : Option (Message × List ℕ)). with_front policy side o old) none ∙ ap (λ (o : Option Malformed). (with_fault side o old, false)) wrong in
-      inl (e ∙ ap (ended_by (malformed side (MessageFault f))) mid_is ∙ ap (λ (x : SessionView × Bool). x.0) (sym step), ap (λ (x : SessionView × Bool). x.1) (sym step))
+      let step : step_of policy side old ≡ (ended_by (malformed side (OfMessage f)) old, false) =
+      message_step old p ∙ ap (λ (o : Option (Message × List ℕ)). with_front policy side o old) none ∙ ap (λ (o : Option Malformed). (with_fault side o old, false)) wrong in
+      inl (e ∙ ap (ended_by (malformed side (OfMessage f))) mid_is ∙ ap (λ (x : SessionView × Bool). x.0) (sym step), ap (λ (x : SessionView × Bool). x.1) (sym step))
 
   pub refused_step : (old mid new : SessionView) → old.ended ≡ None → mid ≡ old → new ≡ ended_by Memory mid → Stepped (step_of policy side old) old new false
   refused_step old mid new runs same e =
@@ -201,8 +231,8 @@ module _ (policy : Policy) (side : Side) where
           running = runs;
           ended = ap (λ (v : SessionView). v.ended) new_is;
           mode = ap (λ (v : SessionView). v.mode) new_is;
-          for_bus = subst (λ (v : SessionView). IsFront v.bus_side (step_of policy side old).0.bus_side) (sym new_is) (step_bus (front (left_of side old)) old);
-          for_client = subst (λ (v : SessionView). IsFront v.client_side (step_of policy side old).0.client_side) (sym new_is) (step_client (front (left_of side old)) old);
+          for_bus = subst (λ (v : SessionView). IsFront v.bus_side (step_of policy side old).0.bus_side) (sym new_is) (step_bus old);
+          for_client = subst (λ (v : SessionView). IsFront v.client_side (step_of policy side old).0.client_side) (sym new_is) (step_client old);
         },
         refl,
       )
@@ -214,30 +244,30 @@ module _ (policy : Policy) (side : Side) where
   drained_bus (suc n) view = by (step_of policy side view).1 (drained_bus n (step_of policy side view).0)
     where
       by : (b : Bool) → IsFront (step_of policy side view).0.bus_side (drained policy side n (step_of policy side view).0).bus_side → IsFront view.bus_side (more_if ((step_of policy side view).0, b) (drained policy side n)).bus_side
-      by true more = front_then _ _ _ (step_bus (front (left_of side view)) view) more
-      by false more = step_bus (front (left_of side view)) view
+      by true more = front_then _ _ _ (step_bus view) more
+      by false more = step_bus view
 
   drained_client : (n : ℕ) (view : SessionView) → IsFront view.client_side (drained policy side n view).client_side
   drained_client zero view = front_all view.client_side
   drained_client (suc n) view = by (step_of policy side view).1 (drained_client n (step_of policy side view).0)
     where
       by : (b : Bool) → IsFront (step_of policy side view).0.client_side (drained policy side n (step_of policy side view).0).client_side → IsFront view.client_side (more_if ((step_of policy side view).0, b) (drained policy side n)).client_side
-      by true more = front_then _ _ _ (step_client (front (left_of side view)) view) more
-      by false more = step_client (front (left_of side view)) view
+      by true more = front_then _ _ _ (step_client view) more
+      by false more = step_client view
 
   abbrev step : SessionView → SessionView × Bool
   step view = step_of policy side view
 
   -- where more may follow
-  pub goes_on : (n : ℕ) (view new : SessionView) (more : Bool) → 0 < n → Stepped (step_of policy side view) view new more → more ≡ true → (drained policy side (n - 1) new ≡ drained policy side n view) × (new.ended ≡ None)
-  goes_on zero view new more pos s e = absurd (omega (arith, pos))
-  goes_on (suc n) view new more pos (inl done) e =
+  pub goes_on : (n : ℕ) (view new : SessionView) (more : Bool) → 0 < n → view.ended ≡ None → Stepped (step_of policy side view) view new more → more ≡ true → (drained policy side (n - 1) new ≡ drained policy side n view) × (new.ended ≡ None)
+  goes_on zero view new more pos runs s e = absurd (omega (arith, pos))
+  goes_on (suc n) view new more pos runs (inl done) e =
       let goes : (step_of policy side view).1 ≡ true = sym done.1 ∙ e in
       let less : suc n - 1 ≡ n = omega arith in (
         ap (λ (k : ℕ). drained policy side k new) less ∙ ap (drained policy side n) done.0 ∙ ap (λ (b : Bool). more_if ((step_of policy side view).0, b) (drained policy side n)) (sym goes),
-        ap (λ (v : SessionView). v.ended) done.0 ∙ step_runs (front (left_of side view)) view goes,
+        ap (λ (v : SessionView). v.ended) done.0 ∙ step_runs view runs goes,
       )
-  goes_on (suc n) view new more pos (inr refused) e = absurd (let h : true ≡ false = sym e ∙ refused.1 in cc)
+  goes_on (suc n) view new more pos runs (inr refused) e = absurd (let h : true ≡ false = sym e ∙ refused.1 in cc)
 
   -- where it doesn't
   pub stops : (n : ℕ) (first view new : SessionView) (expected : SessionView) (more : Bool) → 0 < n → first.ended ≡ None → view.mode ≡ first.mode → drained policy side n view ≡ expected
@@ -264,13 +294,13 @@ module _ (policy : Policy) (side : Side) where
 
 -- ---- what a side's stream gave
 
-pub given_client : (view v : SessionView) (side : Side) (next : Next) (left : List ℕ) → side ≡ Client → view ≡ v → Gives view.client_left next left → Given side v next (record view { client_left = left })
-given_client view v side next left is same gives = subst (λ (s : Side). Given s v next (record view { client_left = left })) (sym is)
-    (subst (λ (w : SessionView). Given Client w next (record view { client_left = left })) same (record { left = left; gives = gives; is = refl }))
+pub given_client : (view v : SessionView) (side : Side) (next : Next) (new : StreamView) → side ≡ Client → view ≡ v → GaveMessage view.client next new → Given side v next (record view { client = new })
+given_client view v side next new is same gave = subst (λ (s : Side). Given s v next (record view { client = new })) (sym is)
+    (subst (λ (w : SessionView). Given Client w next (record view { client = new })) same (record { stream = new; gives = gave; is = refl }))
 
-pub given_bus : (view v : SessionView) (side : Side) (next : Next) (left : List ℕ) → side ≡ Bus → view ≡ v → Gives view.bus_left next left → Given side v next (record view { bus_left = left })
-given_bus view v side next left is same gives = subst (λ (s : Side). Given s v next (record view { bus_left = left })) (sym is)
-    (subst (λ (w : SessionView). Given Bus w next (record view { bus_left = left })) same (record { left = left; gives = gives; is = refl }))
+pub given_bus : (view v : SessionView) (side : Side) (next : Next) (new : StreamView) → side ≡ Bus → view ≡ v → GaveMessage view.bus next new → Given side v next (record view { bus = new })
+given_bus view v side next new is same gave = subst (λ (s : Side). Given s v next (record view { bus = new })) (sym is)
+    (subst (λ (w : SessionView). Given Bus w next (record view { bus = new })) same (record { stream = new; gives = gave; is = refl }))
 
 -- ---- by what stands in front
 
@@ -278,20 +308,26 @@ module _ (policy : Policy) (side : Side) (old : SessionView) (runs : old.ended �
   abbrev Kept : List ℕ → SessionView → SessionView → Type 0
   Kept frame mid new = (m : Message) → Valid m → frame ≡ spell m → TookMessage (with_message policy side (contents_of m) (spell m) mid) mid new
 
+  with_given : {mid : SessionView} {s : StreamView} {left : List ℕ} → mid ≡ with_stream side s old → s ≡ record (stream_of side old) { left = left } → mid ≡ with_left side left old
+  with_given e f = e ∙ ap (λ (x : StreamView). with_stream side x old) f
+
   pub whole_taken : (next : Next) (mid new : SessionView) (frame : List ℕ) → next ≡ Whole frame → Given side old next mid → Kept frame mid new → Stepped (step_of policy side old) old new (is_none new.ended)
   whole_taken next mid new frame e g took =
       let h : Given side old (Whole frame) mid = subst (λ (n : Next). Given side old n mid) e g in
-      whole_step policy side old mid new frame h.left h.gives.0 runs h.gives.1 h.is (took h.gives.0 h.gives.1.valid h.gives.1.spelled)
+      let t = h.gives.given in
+      whole_step policy side old mid new frame h.gives.left t.0 runs h.gives.before t.1 (with_given h.is h.gives.is) (took t.0 t.1.valid t.1.spelled)
 
   pub whole_weighs : (next : Next) (mid new : SessionView) (frame : List ℕ) → next ≡ Whole frame → Given side old next mid → Kept frame mid new → IsLight 0 old new
   whole_weighs next mid new frame e g took =
       let h : Given side old (Whole frame) mid = subst (λ (n : Next). Given side old n mid) e g in
-      whole_light policy side old mid new frame h.left h.gives.0 h.gives.1 h.is (took h.gives.0 h.gives.1.valid h.gives.1.spelled)
+      let t = h.gives.given in
+      whole_light policy side old mid new frame h.gives.left t.0 t.1 (with_given h.is h.gives.is) (took t.0 t.1.valid t.1.spelled)
 
-  pub bad_taken : (next : Next) (mid new : SessionView) (f : Malformed) (end : End) → next ≡ Bad f → Given side old next mid → end ≡ malformed side (MessageFault f) → new ≡ ended_by end mid → Stepped (step_of policy side old) old new false
+  pub bad_taken : (next : Next) (mid new : SessionView) (f : Malformed) (end : End) → next ≡ Bad f → Given side old next mid → end ≡ malformed side (OfMessage f) → new ≡ ended_by end mid → Stepped (step_of policy side old) old new false
   bad_taken next mid new f end e g wrong is =
       let h : Given side old (Bad f) mid = subst (λ (n : Next). Given side old n mid) e g in
-      bad_step policy side old mid new h.left f (fault_front (left_of side old) f h.gives.0) h.gives.0 h.gives.1 h.is (is ∙ ap (λ (x : End). ended_by x mid) wrong)
+      let t = h.gives.given in
+      bad_step policy side old mid new h.gives.left f h.gives.before (fault_front (left_of side old) f t.0) t.0 t.1 (with_given h.is h.gives.is) (is ∙ ap (λ (x : End). ended_by x mid) wrong)
 
 pub runs_by : (o p : Option End) (b : Bool) → is_some o ≡ not b → o ≡ p → b ≡ is_none p
 runs_by None p b e f = flip b e ∙ ap is_none f
@@ -314,26 +350,34 @@ not_so false e = refl
 
 -- ---- bytes that come
 
+pushed_bus : (side : Side) (s : StreamView) (view : SessionView) → (with_stream side s view).bus_side ≡ view.bus_side
+pushed_bus Client s view = refl
+pushed_bus Bus s view = refl
+
+pushed_client : (side : Side) (s : StreamView) (view : SessionView) → (with_stream side s view).client_side ≡ view.client_side
+pushed_client Client s view = refl
+pushed_client Bus s view = refl
+
 module _ (policy : Policy) (side : Side) (bytes : List ℕ) where
   more_bus : (view : SessionView) → IsFront view.bus_side (with_more policy side bytes view).bus_side
-  more_bus view = subst (λ (xs : List ℕ). IsFront xs (with_more policy side bytes view).bus_side) (left_bus side (left_of side view ++ bytes) view)
-      (drained_bus policy side (length (left_of side view ++ bytes) + 1) (with_left side (left_of side view ++ bytes) view))
+  more_bus view = subst (λ (xs : List ℕ). IsFront xs (with_more policy side bytes view).bus_side) (pushed_bus side (pushed bytes (stream_of side view)) view)
+      (drained_bus policy side (length (left_of side view ++ bytes) + 2) (with_stream side (pushed bytes (stream_of side view)) view))
 
   more_client : (view : SessionView) → IsFront view.client_side (with_more policy side bytes view).client_side
-  more_client view = subst (λ (xs : List ℕ). IsFront xs (with_more policy side bytes view).client_side) (left_client side (left_of side view ++ bytes) view)
-      (drained_client policy side (length (left_of side view ++ bytes) + 1) (with_left side (left_of side view ++ bytes) view))
+  more_client view = subst (λ (xs : List ℕ). IsFront xs (with_more policy side bytes view).client_side) (pushed_client side (pushed bytes (stream_of side view)) view)
+      (drained_client policy side (length (left_of side view ++ bytes) + 2) (with_stream side (pushed bytes (stream_of side view)) view))
 
-  either_bus : (none built : Bool) (view : SessionView) → IsFront view.bus_side (cond none view (cond built (with_more policy side bytes view) (ended_by NotBuilt view))).bus_side
-  either_bus true built view = front_all view.bus_side
-  either_bus false true view = more_bus view
-  either_bus false false view = front_all view.bus_side
+  built_bus : (none built : Bool) (view : SessionView) → IsFront view.bus_side (cond none view (cond built (with_more policy side bytes view) (ended_by NotBuilt view))).bus_side
+  built_bus true built view = front_all view.bus_side
+  built_bus false true view = more_bus view
+  built_bus false false view = front_all view.bus_side
 
-  either_client : (none built : Bool) (view : SessionView) → IsFront view.client_side (cond none view (cond built (with_more policy side bytes view) (ended_by NotBuilt view))).client_side
-  either_client true built view = front_all view.client_side
-  either_client false true view = more_client view
-  either_client false false view = front_all view.client_side
+  built_client : (none built : Bool) (view : SessionView) → IsFront view.client_side (cond none view (cond built (with_more policy side bytes view) (ended_by NotBuilt view))).client_side
+  built_client true built view = front_all view.client_side
+  built_client false true view = more_client view
+  built_client false false view = front_all view.client_side
 
-  -- memory was refused before a message was looked at
+  -- memory was refused before anything was looked at
   pub bytes_refused : (old mid new : SessionView) → old.ended ≡ None → mid ≡ old → new ≡ ended_by Memory mid → Took (with_bytes policy side bytes old) old new
   bytes_refused old mid new runs same e =
       let new_is : new ≡ ended_by Memory old = e ∙ ap (ended_by Memory) same in
@@ -341,6 +385,6 @@ module _ (policy : Policy) (side : Side) (bytes : List ℕ) where
         running = runs;
         ended = ap (λ (v : SessionView). v.ended) new_is;
         mode = ap (λ (v : SessionView). v.mode) new_is;
-        for_bus = subst (λ (v : SessionView). IsFront v.bus_side (with_bytes policy side bytes old).bus_side) (sym new_is) (either_bus (is_empty bytes) (not old.mode.auth && old.mode.filter) old);
-        for_client = subst (λ (v : SessionView). IsFront v.client_side (with_bytes policy side bytes old).client_side) (sym new_is) (either_client (is_empty bytes) (not old.mode.auth && old.mode.filter) old);
+        for_bus = subst (λ (v : SessionView). IsFront v.bus_side (with_bytes policy side bytes old).bus_side) (sym new_is) (built_bus (is_empty bytes) old.mode.filter old);
+        for_client = subst (λ (v : SessionView). IsFront v.client_side (with_bytes policy side bytes old).client_side) (sym new_is) (built_client (is_empty bytes) old.mode.filter old);
       })

@@ -34,23 +34,21 @@ front_then xs ys zs p q = record { rest = p.rest ++ q.rest; is = sym (append_ass
 
 -- ---- a message
 
--- the same mode, counts and rests of the streams, and at most so many bytes more for either side
+-- the same mode and streams, and at most so many bytes more for either side
 pub record IsKept (n : ℕ) (old new : SessionView) : Type 0 where
   pub mode : new.mode ≡ old.mode
-  pub client_came : new.client_came ≡ old.client_came
-  pub bus_came : new.bus_came ≡ old.bus_came
-  pub client_left : new.client_left ≡ old.client_left
-  pub bus_left : new.bus_left ≡ old.bus_left
+  pub client : new.client ≡ old.client
+  pub bus : new.bus ≡ old.bus
   pub bus_front : IsFront old.bus_side new.bus_side
   pub client_front : IsFront old.client_side new.client_side
   pub for_bus : length new.bus_side ≤ length old.bus_side + n
   pub for_client : length new.client_side ≤ length old.client_side + n
 
 pub itself : (n : ℕ) (view : SessionView) → IsKept n view view
-itself n view = record { mode = refl; client_came = refl; bus_came = refl; client_left = refl; bus_left = refl; bus_front = front_all view.bus_side; client_front = front_all view.client_side; for_bus = omega arith; for_client = omega arith }
+itself n view = record { mode = refl; client = refl; bus = refl; bus_front = front_all view.bus_side; client_front = front_all view.client_side; for_bus = omega arith; for_client = omega arith }
 
 pub ended_kept : (n : ℕ) (end : End) (view : SessionView) → IsKept n view (ended_by end view)
-ended_kept n end view = record { mode = refl; client_came = refl; bus_came = refl; client_left = refl; bus_left = refl; bus_front = front_all view.bus_side; client_front = front_all view.client_side; for_bus = omega arith; for_client = omega arith }
+ended_kept n end view = record { mode = refl; client = refl; bus = refl; bus_front = front_all view.bus_side; client_front = front_all view.client_side; for_bus = omega arith; for_client = omega arith }
 
 either : (n : ℕ) (old x y : SessionView) (b : Bool) → IsKept n old x → IsKept n old y → IsKept n old (cond b x y)
 either n old x y true k l = k
@@ -70,7 +68,7 @@ module _ (policy : Policy) (x : Contents) (bytes : List ℕ) (long : 16 ≤ leng
   sent_kept : (out : List ℕ) (e : Option Expected) (view : SessionView) → length out ≤ 9 * length bytes → IsKept (9 * length bytes) view (with_sent (out, e) view)
   sent_kept out e view h =
       let k = length-append view.bus_side out in
-      record { mode = refl; client_came = refl; bus_came = refl; client_left = refl; bus_left = refl; bus_front = front_more view.bus_side out; client_front = front_all view.client_side; for_bus = omega (arith, h, k); for_client = omega arith }
+      record { mode = refl; client = refl; bus = refl; bus_front = front_more view.bus_side out; client_front = front_all view.client_side; for_bus = omega (arith, h, k); for_client = omega arith }
 
   spent_kept : (out : List ℕ) (e : Option Expected) (view : SessionView) → length out ≤ 9 * length bytes → IsKept (9 * length bytes) view (sent_or_spent (out, e) view)
   spent_kept out e view h = either (9 * length bytes) view _ _ (view.sent == most_sent) (ended_kept (9 * length bytes) SerialsSpent view) (sent_kept out e view h)
@@ -99,7 +97,7 @@ module _ (policy : Policy) (x : Contents) (bytes : List ℕ) (long : 16 ≤ leng
   reply_kept (Some r) (Some place) view =
       let h = incoming_length place (get view.expected r) in
       let k = length-append view.client_side (incoming x bytes place (get view.expected r)) in
-      record { mode = refl; client_came = refl; bus_came = refl; client_left = refl; bus_left = refl; bus_front = front_all view.bus_side; client_front = front_more view.client_side (incoming x bytes place (get view.expected r)); for_bus = omega arith; for_client = omega (arith, h, k) }
+      record { mode = refl; client = refl; bus = refl; bus_front = front_all view.bus_side; client_front = front_more view.client_side (incoming x bytes place (get view.expected r)); for_bus = omega arith; for_client = omega (arith, h, k) }
 
   pub message_kept : (side : Side) (view : SessionView) → IsKept (9 * length bytes) view (with_message policy side x bytes view)
   message_kept Client view = call_kept view

@@ -1,3 +1,8 @@
+pub mod Standing
+pub mod Driven
+pub mod Going
+pub mod LineCuts
+pub mod LineSteps
 pub mod Maps
 pub mod OwnBytes
 pub mod LedgerLaws
@@ -5,8 +10,7 @@ pub mod Knowing
 pub mod Placing
 pub mod CallSteps
 pub mod AnswerSteps
-pub mod StreamSteps
 pub mod Frames
 pub mod Keeping
 pub mod Draining
-pub mod Standing
+pub mod Streams

@@ -1,27 +1,33 @@
 -- A session that stands for events, and one event more.
-use Rattle.std.proofs.Common.{ℕ, zero, suc, ◌≡◌, ◌+◌, ◌-◌, ◌*◌, ◌<◌, ◌≤◌, nat_le, Bool, true, false, cond, List, [], ◌∷◌, ◌++◌, length, take, drop, get_or, map, Option, Some, None, refl, ap, ◌∙◌, sym, subst, arith, append-nil, append_assoc, length-append, inl, inr}
-use Rattle.std.specs.Prelude.{◌⊎◌, ◌&&◌, ◌||◌, not, nat_lt, min, is_none}
+use Rattle.std.proofs.Common.{ℕ, zero, suc, ◌≡◌, ◌+◌, ◌-◌, ◌*◌, ◌<◌, ◌≤◌, Bool, true, false, cond, List, [], ◌∷◌, ◌++◌, length, take, drop, map, Option, Some, None, refl, ap, ◌∙◌, sym, subst, arith, append-nil, append_assoc, length-append, inl, inr}
+use Rattle.std.specs.Prelude.{◌⊎◌, ◌||◌, ◌==◌, not, nat_lt, min}
 use Rattle.std.specs.FinMap.{get-empty}
+use Rattle.std.specs.List.{list_any}
 use Rattle.std.specs.Ordering.{nat_cmp}
 use Rattle.std.proofs.lemmas.Bool.Decides.{nat_tests}
 use Rattle.std.proofs.lemmas.List.{length-take, take-append-drop}
 use Rattle.dbus_names.specs.Names.{is_empty}
 use Rattle.dbus_values.proofs.ValueRead.{AreBytes, AreBytes-take}
-use Rattle.dbus_header.specs.Message.{Message, Valid, spell}
-use Rattle.dbus_header.specs.Malformed.{front, fault}
+use Rattle.dbus_header.specs.Message.{Message, spell}
+use Rattle.dbus_header.specs.Malformed.{fault as message_fault}
 use Rattle.dbus_header.specs.Contents.{contents_of}
-use Rattle.dbus_header.specs.Stream.{split, split_by, more, rest, bad}
+use Rattle.dbus_header.specs.Stream.{split, messages, rest}
 use Rattle.dbus_header.specs.declared.Malformed.{Malformed}
-use Rattle.dbus_header.proofs.MessageRead.{front-is}
-use Rattle.dbus_header.proofs.StreamLaws.{front-shorter}
+use Rattle.dbus_header.proofs.StreamLaws.{split-append}
+use Rattle.sasl_watch.specs.Lines.{is_begin, client_lines, has_begun as begins_in, after_begin, asked, bus_cut, bus_lines}
+use Rattle.sasl_watch.proofs.LinesGrow.{asked-stays}
+use Rattle.sasl_watch.specs.Following.{ClientFollows, BusFollows}
+use Rattle.sasl_watch.specs.Watching.{client_ahead, bus_ahead}
+use Rattle.sasl_watch.specs.declared.LineFault.{LineFault}
+use Rattle.sasl_watch.specs.declared.LineKind.TheVariants.{EarlyBus}
+use Rattle.sasl_watch.proofs.Followed.{client-starts, client-pushed, bus-starts, bus-pushed}
 use Rattle.policy_args.specs.Policy.{Policy, level}
 use Rattle.policy_args.specs.declared.Level.TheVariants.{None as NoLevel, Talk}
 use Rattle.policy_view.specs.Sent.{answered, call_at, nothing_before}
-use Rattle.policy_view.specs.Past.{Item, Msg, Ended, History, past, due}
-use Rattle.policy_view.specs.History.{Event, Bytes, Finished, longest_stream, whole_stream, stream, fault_of, fault_end, malformed, taken_of, is_over, brought, end_if, finished, is_built_piece, arrived, end_of, followed_by, followed_unless, followed_by_all, history, most_sent}
+use Rattle.policy_view.specs.Past.{Item, Line, Msg, Ended, History, past}
+use Rattle.policy_view.specs.History.{Event, Bytes, Finished, longest_stream, whole_stream, stream, lines, content, messages_in, found, fault, taken_of, is_over, brought, end_if, fault_end, new_in, finished, is_built_piece, arrived, followed_by, followed_by_all, history}
 use Rattle.policy_view.specs.Laws.{IsPrefixOf}
 use Rattle.policy_view.specs.Outputs.{bus_bytes, client_bytes}
-use Rattle.policy_view.specs.declared.Fault.TheVariants.{Message as MessageFault}
 use Rattle.policy_view.specs.declared.Mode.{Mode}
 use Rattle.policy_view.specs.declared.End.{End}
 use Rattle.policy_view.specs.declared.End.TheVariants.{NotBuilt, Memory}
@@ -29,21 +35,49 @@ use Rattle.policy_view.specs.declared.Side.{Side}
 use Rattle.policy_view.specs.declared.Side.TheVariants.{Client, Bus}
 use Rattle.policy_view.proofs.Growth.{only_grows}
 use Rattle.policy_view.proofs.PastLaws.{ended_is_final}
-use Rattle.proxy_core.specs.Sessions.{SessionView, Taken, Holds, Follows, StandsFor, IsFront, at_start, nothing, came_of, left_of, is_memory, expected_by}
-use Rattle.proxy_core.specs.Messages.{ended_by, with_message}
-use Rattle.proxy_core.specs.Steps.{with_left, with_fault, with_front, step_of, more_if, drained, with_came, end_unless, closed_if, room_of, with_piece, IsRefused, Took}
-use Rattle.policy_view.proofs.Streams.{stream_more}
-use Rattle.proxy_core.proofs.StreamSteps.{stream_same, none_brought, more_brought, rest_more, bytes_joined, bytes_behind}
-use Rattle.proxy_core.proofs.Placing.{followed, placed_itself, ended_holds, moved}
+use Rattle.policy_view.proofs.Streams.{stream_more, bus_stream, client_stream, apart, lines_by, content_by, found_by, fault_by, client_by, content_more, BusKept, bus_kept}
+use Rattle.proxy_core.specs.Streams.{StreamView, Phase, InLines, InMessages, is_in_lines, new_stream, pushed, watch_at}
+use Rattle.proxy_core.specs.Sessions.{SessionView, Taken, Holds, Follows, FollowsStream, FollowsLines, StandsAt, AllGiven, lines_in, StandsFor, IsFront, at_start, nothing, stream_of, is_memory, expected_by}
+use Rattle.proxy_core.specs.Messages.{ended_by}
+use Rattle.proxy_core.specs.Steps.{with_stream, with_left, behind_line, in_messages, begun_if, asks, with_line_fault, with_lines, with_all_answered, unanswered, has_begun, with_fault, with_front, step_at, step_of, more_if, drained, end_unless, closed_if, room_of, with_piece, IsRefused, Took}
 use Rattle.proxy_core.proofs.Keeping.{IsKept, message_kept}
 use Rattle.proxy_core.proofs.Draining.{spell_long}
 use Rattle.proxy_core.proofs.CallSteps.{call_holds}
 use Rattle.proxy_core.proofs.AnswerSteps.{answer_holds}
+use Rattle.proxy_core.proofs.Going.{Counts, Goes, GoesAt}
+use Rattle.proxy_core.proofs.Driven.{Steps, Final, KnowsClient, KnowsOther, phase_weight, weight, none_last, drained_last, end_followed, end_ignored, stream_holds, bytes_joined}
+use Rattle.dbus_header.specs.Malformed.{front}
 
 -- ---- the start
 
+stream_starts : (mode : Mode) (side : Side) → FollowsStream mode side [] (new_stream mode.auth)
+unfolding stream lines content fault split message_fault
+stream_starts mode side = record { came = came side; stands = stands mode.auth refl side; counts = λ a. counts mode.auth side; sound = sound mode.auth side; bytes = λ i. omega arith }
+  where
+    came : (s : Side) → 0 ≡ length (stream s [])
+    came Client = refl
+    came Bus = refl
+
+    stands : (b : Bool) → mode.auth ≡ b → (s : Side) → StandsAt mode s [] (new_stream mode.auth).phase []
+    stands true a Client = rw a (refl, refl, client-starts, refl)
+    stands true a Bus = rw a (refl, refl, bus-starts, refl)
+    stands false a Client = rw a ([], refl, refl, tt)
+    stands false a Bus = rw a ([], refl, refl, λ e. absurd cc)
+
+    counts : (b : Bool) (s : Side) → 0 ≡ lines_in s (record { auth = b; filter = mode.filter }) []
+    counts true Client = refl
+    counts true Bus = refl
+    counts false Client = refl
+    counts false Bus = refl
+
+    sound : (b : Bool) (s : Side) → fault (record { auth = b; filter = mode.filter }) s [] ≡ None
+    sound true Client = refl
+    sound true Bus = refl
+    sound false Client = refl
+    sound false Bus = refl
+
 pub start_stands : (policy : Policy) (mode : Mode) → StandsFor policy (at_start mode) [] nothing
-unfolding history bus_bytes client_bytes past nothing_before answered call_at stream split fault
+unfolding history bus_bytes client_bytes past nothing_before answered call_at
 start_stands policy mode = record {
   bus_front = record { rest = []; is = refl };
   client_front = record { rest = []; is = refl };
@@ -53,44 +87,14 @@ start_stands policy mode = record {
     end_is = refl;
     knows = λ n. record { count = refl; fits = omega arith; each = λ r. get-empty nat_cmp r ∙ nothing_sent r; built = λ r s g. cc };
   };
-  follows = λ e. record { came = no_bytes; left = no_rest; sound = no_fault; bytes = no_left };
+  follows = λ e. record { client = stream_starts mode Client; bus = stream_starts mode Bus };
 }
   where
     nothing_sent : (r : ℕ) → None ≡ expected_by (answered nothing_before (Some r))
     nothing_sent zero = refl
     nothing_sent (suc r) = refl
 
-    no_bytes : (side : Side) → came_of side (at_start mode) ≡ length (stream side [])
-    no_bytes Client = refl
-    no_bytes Bus = refl
-
-    no_rest : (side : Side) → left_of side (at_start mode) ≡ rest (stream side [])
-    no_rest Client = refl
-    no_rest Bus = refl
-
-    no_fault : (side : Side) → bad (stream side []) ≡ None
-    no_fault Client = refl
-    no_fault Bus = refl
-
-    no_left : (side : Side) (i : ℕ) → get_or (left_of side (at_start mode)) i 0 < 256
-    no_left Client i = omega arith
-    no_left Bus i = omega arith
-
 -- ---- the end of a stream in its place
-
-end_followed : (policy : Policy) (view : SessionView) (items : History) (taken : Taken) (end : End) → view.ended ≡ None →
-    Holds policy view items taken → Holds policy (ended_by end view) (followed_by policy items (Ended end)) taken
-unfolding due
-end_followed policy view items taken end runs h =
-    let fits = (h.knows runs).fits in
-    let room : nat_le (length (past policy items).told.sent + 0) most_sent ≡ true = grind (arith, nat_tests, fits) in
-    moved policy taken (ended_by end view) (ended_by end view) (followed_by policy items (Ended end)) (Ended end ∷ items) refl
-    (followed policy items (Ended end) (sym h.end_is ∙ runs) ∙ ap (λ (i : Item). i ∷ items) (placed_itself policy (past policy items) (Ended end) refl room))
-    (ended_holds policy view items taken end h)
-
-end_ignored : (policy : Policy) (items : History) (item : Item) (end : End) → end_of items ≡ Some end → followed_by policy items item ≡ items
-unfolding followed_by
-end_ignored policy items item end e = ap (λ (o : Option End). followed_unless o policy items item) e
 
 closed_holds : (policy : Policy) (view : SessionView) (items : History) (taken : Taken) (side : Side) (over : Bool) → Holds policy view items taken →
     Holds policy (closed_if over side view) (followed_by_all policy items (end_if over (finished side))) taken
@@ -106,148 +110,8 @@ closed_holds policy view items taken side true h = by view.ended refl
         subst (λ (o : Option End). Holds policy (end_unless o (finished side) view) (followed_by policy items (Ended (finished side))) taken) (sym e)
         (subst (λ (i : History). Holds policy view i taken) (sym (end_ignored policy items (Ended (finished side)) end (sym h.end_is ∙ e))) h)
 
-came_holds : (policy : Policy) (view : SessionView) (items : History) (taken : Taken) (side : Side) (n : ℕ) → Holds policy view items taken → Holds policy (with_came side n view) items taken
-came_holds policy view items taken Client n h = record {
-  for_bus = h.for_bus;
-  for_client = h.for_client;
-  end_is = h.end_is;
-  knows = λ e. let k = h.knows e in record { count = k.count; fits = k.fits; each = k.each; built = k.built };
-}
-came_holds policy view items taken Bus n h = record {
-  for_bus = h.for_bus;
-  for_client = h.for_client;
-  end_is = h.end_is;
-  knows = λ e. let k = h.knows e in record { count = k.count; fits = k.fits; each = k.each; built = k.built };
-}
-
-came_mode : (side : Side) (n : ℕ) (view : SessionView) → (with_came side n view).mode ≡ view.mode
-came_mode Client n view = refl
-came_mode Bus n view = refl
-
-came_ended : (side : Side) (n : ℕ) (view : SessionView) → (with_came side n view).ended ≡ view.ended
-came_ended Client n view = refl
-came_ended Bus n view = refl
-
 over_room : (longest s p : ℕ) → s ≤ longest → nat_lt longest (s + p) ≡ nat_lt (longest - s) p
 over_room longest s p h = grind (arith, nat_tests, h)
-
-empty_is : (xs : List ℕ) → is_empty xs ≡ true → xs ≡ []
-empty_is [] e = refl
-empty_is (x ∷ xs) e = absurd cc
-
--- nothing follows an End
-ignored : (policy : Policy) (items : History) (xs : List Item) (end : End) → end_of items ≡ Some end → followed_by_all policy items xs ≡ items
-unfolding followed_by_all
-ignored policy items [] end e = refl
-ignored policy items (x ∷ xs) end e =
-    ap (λ (i : History). followed_by_all policy i xs) (end_ignored policy items x end e) ∙ ignored policy items xs end e
-
-left_holds : (policy : Policy) (view : SessionView) (items : History) (taken : Taken) (side : Side) (left : List ℕ) → Holds policy view items taken → Holds policy (with_left side left view) items taken
-left_holds policy view items taken Client left h = record {
-  for_bus = h.for_bus;
-  for_client = h.for_client;
-  end_is = h.end_is;
-  knows = λ e. let k = h.knows e in record { count = k.count; fits = k.fits; each = k.each; built = k.built };
-}
-left_holds policy view items taken Bus left h = record {
-  for_bus = h.for_bus;
-  for_client = h.for_client;
-  end_is = h.end_is;
-  knows = λ e. let k = h.knows e in record { count = k.count; fits = k.fits; each = k.each; built = k.built };
-}
-
--- ---- messages one after the other
-
--- what a session does with a valid message is what the history has
-abbrev pub Steps : Policy → Taken → Type 0
-Steps policy taken = (side : Side) (view : SessionView) (items : History) (m : Message) → view.ended ≡ None → Holds policy view items taken → Valid m
-    → Holds policy (with_message policy side (contents_of m) (spell m) view) (followed_by policy items (Msg side m)) taken
-
-module _ (policy : Policy) (taken : Taken) (steps : Steps policy taken) (side : Side) where
-  -- the session holds the items behind those before; where it runs, this is left, and no fault stands in it
-  record Drained (items : History) (found : List Message × List ℕ) (new : SessionView) : Type 0 where
-    pub holds : Holds policy new (followed_by_all policy items (map (Msg side) found.0 ++ fault_end side (fault_of (fault found.1)))) taken
-    pub left : new.ended ≡ None → left_of side new ≡ found.1
-    pub sound : new.ended ≡ None → fault found.1 ≡ None
-    pub bytes : new.ended ≡ None → AreBytes found.1
-
-  left_is : (s : Side) (left : List ℕ) (view : SessionView) → left_of s (with_left s left view) ≡ left
-  left_is Client left view = refl
-  left_is Bus left view = refl
-
-  left_ends : (s : Side) (left : List ℕ) (view : SessionView) → (with_left s left view).ended ≡ view.ended
-  left_ends Client left view = refl
-  left_ends Bus left view = refl
-
-  kept_left : (s : Side) (n : ℕ) (old new : SessionView) → IsKept n old new → left_of s new ≡ left_of s old
-  kept_left Client n old new k = k.client_left
-  kept_left Bus n old new k = k.bus_left
-
-  -- no message stands in front
-  none_drained : (view : SessionView) (items : History) → view.ended ≡ None → Holds policy view items taken → AreBytes (left_of side view) → (f : Option Malformed) → fault (left_of side view) ≡ f
-      → Drained items ([], left_of side view) (with_fault side f view)
-  unfolding followed_by_all
-  none_drained view items runs h are None e = record {
-    holds = subst (λ (o : Option Malformed). Holds policy view (followed_by_all policy items (fault_end side (fault_of o))) taken) (sym e) h;
-    left = λ r. refl;
-    sound = λ r. e;
-    bytes = λ r. are;
-  }
-  none_drained view items runs h are (Some f) e = record {
-    holds = subst (λ (o : Option Malformed). Holds policy (ended_by (malformed side (MessageFault f)) view) (followed_by_all policy items (fault_end side (fault_of o))) taken) (sym e)
-        (end_followed policy view items taken (malformed side (MessageFault f)) runs h);
-    left = λ r. absurd cc;
-    sound = λ r. absurd cc;
-    bytes = λ r. absurd cc;
-  }
-
-  -- a message is taken, and then the others
-  one_drained : (items : History) (m : Message) (found : List Message × List ℕ) (new : SessionView) → Drained (followed_by policy items (Msg side m)) found new → Drained items (m ∷ found.0, found.1) new
-  unfolding followed_by_all
-  one_drained items m found new d = record { holds = d.holds; left = d.left; sound = d.sound; bytes = d.bytes }
-
-  -- where the session ended, the others have no effect
-  last_drained : (items : History) (m : Message) (found : List Message × List ℕ) (new : SessionView) (end : End) → new.ended ≡ Some end → Holds policy new (followed_by policy items (Msg side m)) taken → Drained items (m ∷ found.0, found.1) new
-  unfolding followed_by_all
-  last_drained items m found new end e h = record {
-    holds = subst (λ (i : History). Holds policy new i taken) (sym (ignored policy (followed_by policy items (Msg side m)) (map (Msg side) found.0 ++ fault_end side (fault_of (fault found.1))) end (sym h.end_is ∙ e))) h;
-    left = λ r. absurd (let none : Some end ≡ None = sym e ∙ r in cc);
-    sound = λ r. absurd (let none : Some end ≡ None = sym e ∙ r in cc);
-    bytes = λ r. absurd (let none : Some end ≡ None = sym e ∙ r in cc);
-  }
-
-  drained_holds : (n : ℕ) (view : SessionView) (items : History) → length (left_of side view) < n → view.ended ≡ None → Holds policy view items taken → AreBytes (left_of side view)
-      → Drained items (split_by front n (left_of side view)) (drained policy side n view)
-  drained_holds zero view items short runs h are = absurd (omega (arith, short))
-  drained_holds (suc n) view items short runs h are = go (front (left_of side view)) refl (λ v i. drained_holds n v i)
-    where
-      after : Message → List ℕ → SessionView
-      after m left = with_message policy side (contents_of m) (spell m) (with_left side left view)
-
-      after_holds : (m : Message) (left : List ℕ) → Valid m → Holds policy (after m left) (followed_by policy items (Msg side m)) taken
-      after_holds m left valid = steps side (with_left side left view) items m (left_ends side left view ∙ runs) (left_holds policy view items taken side left h) valid
-
-      after_left : (m : Message) (left : List ℕ) → left_of side (after m left) ≡ left
-      after_left m left = kept_left side (9 * length (spell m)) (with_left side left view) (after m left) (message_kept policy (contents_of m) (spell m) (spell_long m) side (with_left side left view)) ∙ left_is side left view
-
-      by_end : (o : Option End) (m : Message) (left : List ℕ) → (after m left).ended ≡ o → Valid m → AreBytes left → length left < n
-          → ((v : SessionView) (i : History) → length (left_of side v) < n → v.ended ≡ None → Holds policy v i taken → AreBytes (left_of side v) → Drained i (split_by front n (left_of side v)) (drained policy side n v))
-          → Drained items (m ∷ (split_by front n left).0, (split_by front n left).1) (more_if (after m left, is_none o) (drained policy side n))
-      by_end None m left e valid are less ih =
-          let same = after_left m left in
-          let d = ih (after m left) (followed_by policy items (Msg side m)) (subst (λ (xs : List ℕ). length xs < n) (sym same) less) e (after_holds m left valid) (subst AreBytes (sym same) are) in
-          one_drained items m (split_by front n left) (drained policy side n (after m left)) (subst (λ (xs : List ℕ). Drained (followed_by policy items (Msg side m)) (split_by front n xs) (drained policy side n (after m left))) same d)
-      by_end (Some end) m left e valid are less ih = last_drained items m (split_by front n left) (after m left) end e (after_holds m left valid)
-
-      go : (o : Option (Message × List ℕ)) → front (left_of side view) ≡ o
-          → ((v : SessionView) (i : History) → length (left_of side v) < n → v.ended ≡ None → Holds policy v i taken → AreBytes (left_of side v) → Drained i (split_by front n (left_of side v)) (drained policy side n v))
-          → Drained items (more o (left_of side view) (split_by front n)) (more_if (with_front policy side o view) (drained policy side n))
-      go None e ih = none_drained view items runs h are (fault (left_of side view)) refl
-      go (Some x) e ih =
-          let is = front-is (left_of side view) x.0 x.1 are e in
-          let less = front-shorter (left_of side view) x.0 x.1 e in
-          let behind : AreBytes x.1 = bytes_behind (spell x.0) x.1 (subst AreBytes is.1 are) in
-          by_end (after x.0 x.1).ended x.0 x.1 refl is.0 behind (omega (arith, less, short)) ih
 
 -- ---- what a piece leaves as it was
 
@@ -257,65 +121,240 @@ other Bus = Client
 
 record Untouched (side : Side) (old new : SessionView) : Type 0 where
   pub mode : new.mode ≡ old.mode
-  pub client_came : new.client_came ≡ old.client_came
-  pub bus_came : new.bus_came ≡ old.bus_came
-  pub left : left_of (other side) new ≡ left_of (other side) old
+  pub came : (stream_of side new).came ≡ (stream_of side old).came
+  pub other_is : stream_of (other side) new ≡ stream_of (other side) old
 
 untouched_all : (side : Side) (view : SessionView) → Untouched side view view
-untouched_all side view = record { mode = refl; client_came = refl; bus_came = refl; left = refl }
+untouched_all side view = record { mode = refl; came = refl; other_is = refl }
 
 untouched_then : (side : Side) (a b c : SessionView) → Untouched side a b → Untouched side b c → Untouched side a c
-untouched_then side a b c p q = record { mode = q.mode ∙ p.mode; client_came = q.client_came ∙ p.client_came; bus_came = q.bus_came ∙ p.bus_came; left = q.left ∙ p.left }
+untouched_then side a b c p q = record { mode = q.mode ∙ p.mode; came = q.came ∙ p.came; other_is = q.other_is ∙ p.other_is }
 
-left_untouched : (side : Side) (left : List ℕ) (view : SessionView) → Untouched side view (with_left side left view)
-left_untouched Client left view = record { mode = refl; client_came = refl; bus_came = refl; left = refl }
-left_untouched Bus left view = record { mode = refl; client_came = refl; bus_came = refl; left = refl }
+stream_untouched : (side : Side) (s : StreamView) (view : SessionView) → s.came ≡ (stream_of side view).came → Untouched side view (with_stream side s view)
+stream_untouched Client s view e = record { mode = refl; came = e; other_is = refl }
+stream_untouched Bus s view e = record { mode = refl; came = e; other_is = refl }
 
 ended_untouched : (side : Side) (end : End) (view : SessionView) → Untouched side view (ended_by end view)
-ended_untouched Client end view = record { mode = refl; client_came = refl; bus_came = refl; left = refl }
-ended_untouched Bus end view = record { mode = refl; client_came = refl; bus_came = refl; left = refl }
+ended_untouched Client end view = record { mode = refl; came = refl; other_is = refl }
+ended_untouched Bus end view = record { mode = refl; came = refl; other_is = refl }
 
 kept_untouched : (side : Side) (n : ℕ) (old new : SessionView) → IsKept n old new → Untouched side old new
-kept_untouched Client n old new k = record { mode = k.mode; client_came = k.client_came; bus_came = k.bus_came; left = k.bus_left }
-kept_untouched Bus n old new k = record { mode = k.mode; client_came = k.client_came; bus_came = k.bus_came; left = k.client_left }
+kept_untouched Client n old new k = record { mode = k.mode; came = ap (λ (s : StreamView). s.came) k.client; other_is = k.bus }
+kept_untouched Bus n old new k = record { mode = k.mode; came = ap (λ (s : StreamView). s.came) k.bus; other_is = k.client }
 
-module _ (policy : Policy) (side : Side) where
-  fault_untouched : (o : Option Malformed) (view : SessionView) → Untouched side view (with_fault side o view)
-  fault_untouched None view = untouched_all side view
-  fault_untouched (Some f) view = ended_untouched side (malformed side (MessageFault f)) view
+begun_came : (b : Bool) (s : StreamView) → (begun_if b s).came ≡ s.came
+begun_came true s = refl
+begun_came false s = refl
 
-  front_untouched : (o : Option (Message × List ℕ)) (view : SessionView) → Untouched side view (with_front policy side o view).0
-  front_untouched None view = fault_untouched (fault (left_of side view)) view
-  front_untouched (Some x) view =
-      untouched_then side view (with_left side x.1 view) (with_front policy side (Some x) view).0 (left_untouched side x.1 view)
+line_fault_untouched : (side : Side) (place : ℕ) (o : Option LineFault) (view : SessionView) → Untouched side view (with_line_fault side place o view)
+line_fault_untouched side place None view = untouched_all side view
+line_fault_untouched side place (Some f) view =
+    untouched_then side view (with_stream side (record (stream_of side view) { phase = InLines place (Some f) }) view) _ (stream_untouched side (record (stream_of side view) { phase = InLines place (Some f) }) view refl) (ended_untouched side _ _)
+
+lines_untouched : (side : Side) (place : ℕ) (ls : List (List ℕ)) (o : Option LineFault) (view : SessionView) → Untouched side view (with_lines side place ls o view).0
+lines_untouched side place [] o view = line_fault_untouched side place o view
+lines_untouched Client place (l ∷ ls) o view = record { mode = refl; came = begun_came (is_begin l) (behind_line place l (asks place l) view.client); other_is = refl }
+lines_untouched Bus place (l ∷ ls) o view = record { mode = refl; came = refl; other_is = refl }
+
+answered_untouched : (b : Bool) (o : Option LineFault) (place : ℕ) (view : SessionView) → Untouched Bus view (cond {A = SessionView × Bool} b (record view { bus = in_messages view.bus }, true) (with_line_fault Bus place o view, false)).0
+answered_untouched true o place view = record { mode = refl; came = refl; other_is = refl }
+answered_untouched false o place view = line_fault_untouched Bus place o view
+
+module _ (policy : Policy) where
+  fault_untouched : (side : Side) (o : Option Malformed) (view : SessionView) → Untouched side view (with_fault side o view)
+  fault_untouched side None view = untouched_all side view
+  fault_untouched side (Some f) view = ended_untouched side _ view
+
+  front_untouched : (side : Side) (o : Option (Message × List ℕ)) (view : SessionView) → Untouched side view (with_front policy side o view).0
+  front_untouched side None view = fault_untouched side (message_fault (stream_of side view).left) view
+  front_untouched side (Some x) view =
+      untouched_then side view (with_left side x.1 view) (with_front policy side (Some x) view).0 (stream_untouched side (record (stream_of side view) { left = x.1 }) view refl)
       (kept_untouched side (9 * length (spell x.0)) (with_left side x.1 view) (with_front policy side (Some x) view).0 (message_kept policy (contents_of x.0) (spell x.0) (spell_long x.0) side (with_left side x.1 view)))
 
-  drained_untouched : (n : ℕ) (view : SessionView) → Untouched side view (drained policy side n view)
-  drained_untouched zero view = untouched_all side view
-  drained_untouched (suc n) view = by (step_of policy side view).1 (drained_untouched n (step_of policy side view).0)
+  bus_untouched : (b : Bool) (place : ℕ) (view : SessionView) → Untouched Bus view (cond {A = SessionView × Bool} b (with_all_answered place view) (with_lines Bus place (bus_ahead (watch_at place None view.bus.left)).lines (bus_ahead (watch_at place None view.bus.left)).fault view)).0
+  bus_untouched true place view = answered_untouched (has_begun view) (cond (is_empty view.bus.left) None (Some (record { kind = EarlyBus; at = place }))) place view
+  bus_untouched false place view = lines_untouched Bus place (bus_ahead (watch_at place None view.bus.left)).lines (bus_ahead (watch_at place None view.bus.left)).fault view
+
+  at_untouched : (side : Side) (p : Phase) (view : SessionView) → Untouched side view (step_at policy side p view).0
+  at_untouched side (InLines place (Some f)) view = line_fault_untouched side place (Some f) view
+  at_untouched Client (InLines place None) view = lines_untouched Client place (client_ahead (watch_at place None view.client.left)).lines (client_ahead (watch_at place None view.client.left)).fault view
+  at_untouched Bus (InLines place None) view = bus_untouched (unanswered view == 0) place view
+  at_untouched side InMessages view = front_untouched side (front (stream_of side view).left) view
+
+  drained_untouched : (side : Side) (n : ℕ) (view : SessionView) → Untouched side view (drained policy side n view)
+  drained_untouched side zero view = untouched_all side view
+  drained_untouched side (suc n) view = by (step_of policy side view).1 (drained_untouched side n (step_of policy side view).0)
     where
       by : (b : Bool) → Untouched side (step_of policy side view).0 (drained policy side n (step_of policy side view).0) → Untouched side view (more_if ((step_of policy side view).0, b) (drained policy side n))
-      by true more = untouched_then side view (step_of policy side view).0 _ (front_untouched (front (left_of side view)) view) more
-      by false more = front_untouched (front (left_of side view)) view
+      by true more = untouched_then side view (step_of policy side view).0 _ (at_untouched side (stream_of side view).phase view) more
+      by false more = at_untouched side (stream_of side view).phase view
 
-  unless_untouched : (o : Option End) (end : End) (old view : SessionView) → Untouched side old view → Untouched side old (end_unless o end view)
-  unless_untouched None end old view u = untouched_then side old view (ended_by end view) u (ended_untouched side end view)
-  unless_untouched (Some e) end old view u = u
-
-  closed_untouched : (over : Bool) (old view : SessionView) → Untouched side old view → Untouched side old (closed_if over side view)
-  closed_untouched true old view u = unless_untouched view.ended (finished side) old view u
-  closed_untouched false old view u = u
+-- ---- the other side's stream
 
 stream_other : (side : Side) (events : List Event) (piece : List ℕ) → stream (other side) (Bytes side piece ∷ events) ≡ stream (other side) events
-unfolding stream
-stream_other Client events piece = refl
-stream_other Bus events piece = refl
+stream_other Client events piece = bus_stream events piece
+stream_other Bus events piece = client_stream events piece
 
-either_side : (side s : Side) → (s ≡ side) ⊎ (s ≡ other side)
-either_side Client Client = inl refl
-either_side Client Bus = inr refl
-either_side Bus Client = inr refl
-either_side Bus Bus = inl refl
+-- the client's bytes leave the bus's where it is
+bus_follows : (mode : Mode) (events : List Event) (piece : List ℕ) (s : StreamView) → FollowsStream mode Bus events s → FollowsStream mode Bus (Bytes Client piece ∷ events) s
+bus_follows mode events piece s f =
+    let k = bus_kept mode events piece f.sound in
+    record {
+      came = f.came ∙ ap length (sym (bus_stream events piece));
+      stands = by s.phase f.stands k;
+      counts = λ a. f.counts a ∙ sym (ap length k.lines_is);
+      sound = (apart mode events piece f.sound).fault_is;
+      bytes = f.bytes;
+    }
+  where
+    by : (p : Phase) → StandsAt mode Bus events p s.left → BusKept mode events (Bytes Client piece ∷ events) → StandsAt mode Bus (Bytes Client piece ∷ events) p s.left
+    by (InLines place told) (auth, quiet, follows, none) k = (
+      auth,
+      quiet,
+      subst (λ (w : List ℕ). BusFollows w (lines mode Bus (Bytes Client piece ∷ events)) (watch_at place None s.left)) (sym (bus_stream events piece))
+          (subst (λ (ls : List (List ℕ)). BusFollows (stream Bus events) ls (watch_at place None s.left)) (sym k.lines_is) follows),
+      k.quiet none,
+    )
+    by InMessages (bytes, is, left, all) k = (bytes, k.content_is bytes is, left, λ a. ap length k.lines_is ∙ all a ∙ sym (k.asked_is bytes a is))
+
+-- and the bus's the client's
+client_follows : (mode : Mode) (events : List Event) (piece : List ℕ) (s : StreamView) → FollowsStream mode Client events s → FollowsStream mode Client (Bytes Bus piece ∷ events) s
+client_follows mode events piece s f =
+    let same = client_by mode (Bytes Bus piece ∷ events) events (client_stream events piece) in
+    record {
+      came = f.came ∙ ap length (sym (client_stream events piece));
+      stands = by s.phase f.stands same.0 same.1;
+      counts = λ a. f.counts a ∙ ap asked (sym (client_stream events piece));
+      sound = same.2 ∙ f.sound;
+      bytes = f.bytes;
+    }
+  where
+    by : (p : Phase) → StandsAt mode Client events p s.left → lines mode Client (Bytes Bus piece ∷ events) ≡ lines mode Client events → content mode Client (Bytes Bus piece ∷ events) ≡ content mode Client events → StandsAt mode Client (Bytes Bus piece ∷ events) p s.left
+    by (InLines place told) (auth, quiet, follows, none) ls c = (
+      auth,
+      quiet,
+      subst (λ (w : List ℕ). ClientFollows w (lines mode Client (Bytes Bus piece ∷ events)) (watch_at place None s.left)) (sym (client_stream events piece))
+          (subst (λ (x : List (List ℕ)). ClientFollows (stream Client events) x (watch_at place None s.left)) (sym ls) follows),
+      ap messages_in c ∙ none,
+    )
+    by InMessages (bytes, is, left, all) ls c = (bytes, c ∙ is, left, tt)
+
+other_follows : (mode : Mode) (side : Side) (events : List Event) (piece : List ℕ) (view : SessionView) → view.mode ≡ mode → Follows view events → FollowsStream mode (other side) (Bytes side piece ∷ events) (stream_of (other side) view)
+other_follows mode Client events piece view m f = bus_follows mode events piece view.bus (subst (λ (x : Mode). FollowsStream x Bus events view.bus) m f.bus)
+other_follows mode Bus events piece view m f = client_follows mode events piece view.client (subst (λ (x : Mode). FollowsStream x Client events view.client) m f.client)
+
+own_follows : (side : Side) (events : List Event) (view : SessionView) → Follows view events → FollowsStream view.mode side events (stream_of side view)
+own_follows Client events view f = f.client
+own_follows Bus events view f = f.bus
+
+-- what is known of the client's, while the bus's bytes come
+knows_client : (mode : Mode) (events : List Event) (piece : List ℕ) (s : StreamView) → FollowsStream mode Client events s → KnowsClient mode (Bytes Bus piece ∷ events) s
+unfolding lines content
+knows_client mode events piece s f = record {
+  lines = λ a. f.counts a ∙ ap asked (sym (client_stream events piece));
+  begun = λ a. by s.phase f.stands a ∙ ap begins_in (sym (client_stream events piece));
+}
+  where
+    by : (p : Phase) → StandsAt mode Client events p s.left → mode.auth ≡ true → not (is_in_lines p) ≡ begins_in (stream Client events)
+    by (InLines place told) (auth, quiet, follows, none) a =
+        sym (ap (λ (ls : List (List ℕ)). list_any is_begin ls) (sym (ap (λ (b : Bool). cond b (client_lines (stream Client events)) []) a)) ∙ follows.unbegun)
+    by InMessages (bytes, is, left, all) a = sym (seen (begins_in (stream Client events)) refl (sym (ap (λ (b : Bool). cond b (cond (begins_in (stream Client events)) (Some (after_begin (stream Client events))) None) (Some (stream Client events))) a) ∙ is))
+      where
+        seen : (d : Bool) → begins_in (stream Client events) ≡ d → cond d (Some (after_begin (stream Client events))) None ≡ Some bytes → begins_in (stream Client events) ≡ true
+        seen true k e = k
+        seen false k e = absurd cc
+
+knows_other : (mode : Mode) (side : Side) (events : List Event) (piece : List ℕ) (view : SessionView) → view.mode ≡ mode → Follows view events → KnowsOther mode side (Bytes side piece ∷ events) view
+knows_other mode Client events piece view m f = tt
+knows_other mode Bus events piece view m f = knows_client mode events piece view.client (subst (λ (x : Mode). FollowsStream x Client events view.client) m f.client)
+
+-- ---- a side's stream with a piece
+
+take_few : {A : Type 0} (n : ℕ) (xs : List A) → length (take n xs) ≤ n
+take_few zero xs = omega arith
+take_few (suc n) [] = omega arith
+take_few (suc n) (x ∷ xs) = let h = take_few n xs in omega (arith, h)
+
+lines_few : (mode : Mode) (events : List Event) → mode.auth ≡ true → length (lines mode Bus events) ≤ asked (stream Client events)
+unfolding lines
+lines_few mode events a =
+    let h = take_few (asked (stream Client events)) (bus_cut (stream Bus events)).lines in
+    subst (λ (b : Bool). length (cond b (bus_lines (asked (stream Client events)) (stream Bus events)) []) ≤ asked (stream Client events)) (sym a) h
+
+asked_few : (mode : Mode) (events : List Event) → mode.auth ≡ true → list_any is_begin (lines mode Client events) ≡ false → asked (stream Client events) ≡ length (lines mode Client events) - 1
+unfolding lines
+asked_few mode events a none =
+    let is : cond mode.auth (client_lines (stream Client events)) [] ≡ client_lines (stream Client events) = ap (λ (b : Bool). cond b (client_lines (stream Client events)) []) a in
+    let unseen : begins_in (stream Client events) ≡ false = ap (λ (ls : List (List ℕ)). list_any is_begin ls) (sym is) ∙ none in
+    ap (λ (b : Bool). length (client_lines (stream Client events)) - 1 - cond b 1 0) unseen ∙ less (length (client_lines (stream Client events))) ∙ ap (λ (ls : List (List ℕ)). length ls - 1) (sym is)
+  where
+    less : (n : ℕ) → n - 1 - 0 ≡ n - 1
+    less n = omega arith
+
+begun_by : (mode : Mode) (events : List Event) (b : List ℕ) → mode.auth ≡ true → content mode Client events ≡ Some b → begins_in (stream Client events) ≡ true
+unfolding content
+begun_by mode events b a is = seen (begins_in (stream Client events)) refl (sym (ap (λ (x : Bool). cond x (cond (begins_in (stream Client events)) (Some (after_begin (stream Client events))) None) (Some (stream Client events))) a) ∙ is)
+  where
+    seen : (d : Bool) → begins_in (stream Client events) ≡ d → cond d (Some (after_begin (stream Client events))) None ≡ Some b → begins_in (stream Client events) ≡ true
+    seen true k e = k
+    seen false k e = absurd cc
+
+-- more lines may come behind those that were given
+follows_more : (side : Side) (pushed more : List ℕ) (given : List (List ℕ)) (place : ℕ) (left : List ℕ) → FollowsLines side pushed given (watch_at place None left) → FollowsLines side (pushed ++ more) given (watch_at place None (left ++ more))
+follows_more Client pushed more given place left f = client-pushed pushed given (watch_at place None left) more f
+follows_more Bus pushed more given place left f = bus-pushed pushed given (watch_at place None left) more f
+
+lines_counted : (mode : Mode) (side : Side) (events : List Event) (piece : List ℕ) (n place : ℕ) (left : List ℕ) → mode.auth ≡ true → FollowsLines side (stream side events) (lines mode side events) (watch_at place None left) → n ≡ lines_in side mode events
+    → Counts side (Bytes side piece ∷ events) n (length (lines mode side events))
+lines_counted mode Client events piece n place left a f e = e ∙ asked_few mode events a f.unbegun
+lines_counted mode Bus events piece n place left a f e = (e, subst (λ (w : List ℕ). length (lines mode Bus events) ≤ asked w) (sym (client_stream events piece)) (lines_few mode events a))
+
+all_given : (mode : Mode) (side : Side) (events : List Event) (piece : List ℕ) → lines mode side (Bytes side piece ∷ events) ≡ lines mode side events → AllGiven mode side events → AllGiven mode side (Bytes side piece ∷ events)
+all_given mode Client events piece same all = tt
+all_given mode Bus events piece same all = λ a. ap length same ∙ all a ∙ ap asked (sym (client_stream events piece))
+
+all_counted : (mode : Mode) (side : Side) (events : List Event) (piece b : List ℕ) (n : ℕ) → content mode side events ≡ Some b → lines mode side (Bytes side piece ∷ events) ≡ lines mode side events → (mode.auth ≡ true → n ≡ lines_in side mode events)
+    → mode.auth ≡ true → n ≡ lines_in side mode (Bytes side piece ∷ events)
+all_counted mode Client events piece b n is same e a =
+    e a ∙ sym (asked-stays (stream Client events) (taken_of Client events piece) (begun_by mode events b a is)) ∙ ap asked (sym (stream_more Client events piece))
+all_counted mode Bus events piece b n is same e a = e a ∙ ap length (sym same)
+
+all_known : (mode : Mode) (side : Side) (events : List Event) → AllGiven mode side events → side ≡ Bus → mode.auth ≡ true → length (lines mode Bus events) ≡ asked (stream Client events)
+all_known mode Client events all e a = absurd cc
+all_known mode Bus events all e a = all a
+
+-- before anything of the piece is looked at, the side's items are those of before
+piece_goes : (mode : Mode) (side : Side) (events : List Event) (piece bytes : List ℕ) (s : StreamView) → FollowsStream mode side events s → taken_of side events piece ≡ bytes
+    → Goes mode side (Bytes side piece ∷ events) (pushed bytes s) (found mode side events)
+unfolding found
+piece_goes mode side events piece bytes s f is = by s.phase f.stands
+  where
+    more : stream side (Bytes side piece ∷ events) ≡ stream side events ++ bytes
+    more = stream_more side events piece ∙ ap (λ (t : List ℕ). stream side events ++ t) is
+
+    only_lines : messages_in (content mode side events) ≡ [] → map (Line side) (lines mode side events) ++ map (Msg side) (messages_in (content mode side events)) ≡ map (Line side) (lines mode side events)
+    only_lines none = ap (λ (ms : List Message). map (Line side) (lines mode side events) ++ map (Msg side) ms) none ∙ append-nil (map (Line side) (lines mode side events))
+
+    by : (p : Phase) → StandsAt mode side events p s.left → GoesAt mode side (Bytes side piece ∷ events) p (pushed bytes s) (map (Line side) (lines mode side events) ++ map (Msg side) (messages_in (content mode side events)))
+    by (InLines place told) (auth, quiet, follows, none) = record {
+      auth = auth;
+      quiet = quiet;
+      given = lines mode side events;
+      follows = subst (λ (w : List ℕ). FollowsLines side w (lines mode side events) (watch_at place None (s.left ++ bytes))) (sym more) (follows_more side (stream side events) bytes (lines mode side events) place s.left follows);
+      counts = lines_counted mode side events piece s.lines place s.left auth follows (f.counts auth);
+      items_are = only_lines none;
+    }
+    by InMessages (b, c, left, all) =
+        let m = content_more mode side events piece b c (all_known mode side events all) in
+        record {
+          bytes = b ++ taken_of side events piece;
+          content_is = m.content_is;
+          given = messages b;
+          split_is = ap (λ (t : List ℕ). split (b ++ t)) is ∙ split-append b bytes ∙ ap (λ (t : List ℕ). (messages b ++ messages (t ++ bytes), rest (t ++ bytes))) (sym left);
+          all = all_given mode side events piece m.lines_is all;
+          counts = all_counted mode side events piece b s.lines c m.lines_is f.counts;
+          items_are = ap (λ (ls : List (List ℕ)). map (Line side) ls ++ map (Msg side) (messages_in (content mode side events))) (sym m.lines_is) ∙ ap (λ (o : Option (List ℕ)). map (Line side) (lines mode side (Bytes side piece ∷ events)) ++ map (Msg side) (messages_in o)) c;
+        }
 
 -- ---- a piece
 
@@ -323,6 +362,51 @@ all_append : (policy : Policy) (items : History) (xs ys : List Item) → followe
 unfolding followed_by_all
 all_append policy items [] ys = refl
 all_append policy items (x ∷ xs) ys = all_append policy (followed_by policy items x) xs ys
+
+empty_is : (xs : List ℕ) → is_empty xs ≡ true → xs ≡ []
+empty_is [] e = refl
+empty_is (x ∷ xs) e = absurd cc
+
+both_streams : (side : Side) (events : List Event) (piece : List ℕ) → taken_of side events piece ≡ [] → (stream Client (Bytes side piece ∷ events) ≡ stream Client events) × (stream Bus (Bytes side piece ∷ events) ≡ stream Bus events)
+both_streams Client events piece e = (stream_more Client events piece ∙ ap (λ (t : List ℕ). stream Client events ++ t) e ∙ append-nil (stream Client events), bus_stream events piece)
+both_streams Bus events piece e = (client_stream events piece, stream_more Bus events piece ∙ ap (λ (t : List ℕ). stream Bus events ++ t) e ∙ append-nil (stream Bus events))
+
+-- a stream follows events with the same bytes
+same_follows : (mode : Mode) (side : Side) (one two : List Event) (s : StreamView) → stream Client two ≡ stream Client one → stream Bus two ≡ stream Bus one → FollowsStream mode side one s → FollowsStream mode side two s
+same_follows mode side one two s c b f = record {
+  came = f.came ∙ ap length (sym own);
+  stands = by s.phase f.stands;
+  counts = λ a. f.counts a ∙ sym (counted side);
+  sound = fault_by mode side two one c b ∙ f.sound;
+  bytes = f.bytes;
+}
+  where
+    own : stream side two ≡ stream side one
+    own = is side
+      where
+        is : (s : Side) → stream s two ≡ stream s one
+        is Client = c
+        is Bus = b
+
+    ls : lines mode side two ≡ lines mode side one
+    ls = lines_by mode side two one c b
+
+    counted : (s : Side) → lines_in s mode two ≡ lines_in s mode one
+    counted Client = ap asked c
+    counted Bus = ap length (lines_by mode Bus two one c b)
+
+    all_too : (s : Side) → AllGiven mode s one → AllGiven mode s two
+    all_too Client all = tt
+    all_too Bus all = λ a. ap length (lines_by mode Bus two one c b) ∙ all a ∙ ap asked (sym c)
+
+    by : (p : Phase) → StandsAt mode side one p s.left → StandsAt mode side two p s.left
+    by (InLines place told) (auth, quiet, follows, none) = (
+      auth,
+      quiet,
+      subst (λ (w : List ℕ). FollowsLines side w (lines mode side two) (watch_at place None s.left)) (sym own) (subst (λ (x : List (List ℕ)). FollowsLines side (stream side one) x (watch_at place None s.left)) (sym ls) follows),
+      ap messages_in (content_by mode side two one c b) ∙ none,
+    )
+    by InMessages (bytes, is, left, all) = (bytes, content_by mode side two one c b ∙ is, left, all_too side all)
 
 module _ (policy : Policy) (view : SessionView) (events : List Event) (taken : Taken) (steps : Steps policy taken) (side : Side) (piece : List ℕ)
     (runs : view.ended ≡ None) (stands : StandsFor policy view events taken) (are : AreBytes piece) where
@@ -332,11 +416,11 @@ module _ (policy : Policy) (view : SessionView) (events : List Event) (taken : T
   abbrev bytes : List ℕ
   bytes = take (room_of side view) piece
 
-  abbrev counted : SessionView
-  counted = with_came side (length (take (room_of side view) piece)) view
-
   abbrev over : Bool
   over = nat_lt (room_of side view) (length piece)
+
+  abbrev event : List Event
+  event = Bytes side piece ∷ events
 
   holds : Holds policy view (history policy view.mode events) taken
   holds = stands.holds (ap is_memory runs)
@@ -344,24 +428,12 @@ module _ (policy : Policy) (view : SessionView) (events : List Event) (taken : T
   follows : Follows view events
   follows = stands.follows runs
 
-  counted_holds : Holds policy counted items taken
-  counted_holds = came_holds policy view (history policy view.mode events) taken side (length (take (room_of side view) piece)) holds
-
-  counted_runs : counted.ended ≡ None
-  counted_runs = came_ended side (length (take (room_of side view) piece)) view ∙ runs
-
-  counted_left : (s : Side) → left_of s counted ≡ left_of s view
-  counted_left s = by side s
-    where
-      by : (side s : Side) → left_of s (with_came side (length (take (room_of side view) piece)) view) ≡ left_of s view
-      by Client Client = refl
-      by Client Bus = refl
-      by Bus Client = refl
-      by Bus Bus = refl
+  own : FollowsStream view.mode side events (stream_of side view)
+  own = own_follows side events view follows
 
   taken_is : taken_of side events piece ≡ take (room_of side view) piece
   unfolding taken_of
-  taken_is = ap (λ (n : ℕ). take (longest_stream - n) piece) (sym (follows.came side))
+  taken_is = ap (λ (n : ℕ). take (longest_stream - n) piece) (sym own.came)
 
   stream_short : length (stream side events) ≤ longest_stream
   unfolding stream
@@ -374,13 +446,12 @@ module _ (policy : Policy) (view : SessionView) (events : List Event) (taken : T
   unfolding is_over
   over_is =
       over_room longest_stream (length (stream side events)) (length piece) stream_short
-      ∙ ap (λ (n : ℕ). nat_lt (longest_stream - n) (length piece)) (sym (follows.came side))
+      ∙ ap (λ (n : ℕ). nat_lt (longest_stream - n) (length piece)) (sym own.came)
 
+  -- what was done with the bytes
   record IsPieced (new : SessionView) : Type 0 where
     pub holds : Holds policy new (history policy view.mode (Bytes side piece ∷ events)) taken
-    pub left : new.ended ≡ None → left_of side new ≡ rest (stream side (Bytes side piece ∷ events))
-    pub sound : new.ended ≡ None → bad (stream side (Bytes side piece ∷ events)) ≡ None
-    pub bytes : new.ended ≡ None → AreBytes (left_of side new)
+    pub follows : new.ended ≡ None → (came : (stream_of side new).came ≡ length (stream side (Bytes side piece ∷ events))) → FollowsStream view.mode side (Bytes side piece ∷ events) (stream_of side new)
 
   -- items that arrived, and what the session did
   arrived_holds : (new : SessionView) (items_new : List Item) → arrived view.mode events (Bytes side piece) ≡ items_new →
@@ -389,200 +460,188 @@ module _ (policy : Policy) (view : SessionView) (events : List Event) (taken : T
   arrived_holds new items_new is h = subst (λ (xs : List Item). Holds policy new (followed_by_all policy (history policy view.mode events) xs) taken) (sym is) h
 
   arrived_by : (b : Bool) → is_built_piece view.mode (take (room_of side view) piece) ≡ b →
-      arrived view.mode events (Bytes side piece) ≡ cond b (brought side events piece) (Ended NotBuilt ∷ [])
+      arrived view.mode events (Bytes side piece) ≡ cond b (brought view.mode side events piece) (Ended NotBuilt ∷ [])
   unfolding arrived
   arrived_by b e =
-      ap (λ (xs : List ℕ). cond (is_built_piece view.mode xs) (brought side events piece) (Ended NotBuilt ∷ [])) taken_is
-      ∙ ap (λ (b : Bool). cond b (brought side events piece) (Ended NotBuilt ∷ [])) e
+      ap (λ (xs : List ℕ). cond (is_built_piece view.mode xs) (brought view.mode side events piece) (Ended NotBuilt ∷ [])) taken_is
+      ∙ ap (λ (b : Bool). cond b (brought view.mode side events piece) (Ended NotBuilt ∷ [])) e
 
-  not_built_holds : (b : Bool) → Holds policy (closed_if b side (ended_by NotBuilt counted)) (followed_by_all policy (history policy view.mode events) (Ended NotBuilt ∷ [])) taken
+  not_built_holds : (b : Bool) → Holds policy (closed_if b side (ended_by NotBuilt view)) (followed_by_all policy (history policy view.mode events) (Ended NotBuilt ∷ [])) taken
   unfolding followed_by_all
-  not_built_holds false = end_followed policy counted (history policy view.mode events) taken NotBuilt counted_runs counted_holds
-  not_built_holds true = end_followed policy counted (history policy view.mode events) taken NotBuilt counted_runs counted_holds
+  not_built_holds false = end_followed policy view (history policy view.mode events) taken NotBuilt runs holds
+  not_built_holds true = end_followed policy view (history policy view.mode events) taken NotBuilt runs holds
 
-  not_built_ends : {A : Type 0} (b : Bool) → (closed_if b side (ended_by NotBuilt counted)).ended ≡ None → A
+  not_built_ends : {A : Type 0} (b : Bool) → (closed_if b side (ended_by NotBuilt view)).ended ≡ None → A
   not_built_ends false e = absurd cc
   not_built_ends true e = absurd cc
 
-  not_built : is_built_piece view.mode bytes ≡ false → IsPieced (closed_if over side (ended_by NotBuilt counted))
+  not_built : is_built_piece view.mode bytes ≡ false → IsPieced (closed_if over side (ended_by NotBuilt view))
   not_built e = record {
-    holds = arrived_holds (closed_if over side (ended_by NotBuilt counted)) (Ended NotBuilt ∷ []) (arrived_by false e) (not_built_holds over);
-    left = λ r. not_built_ends over r;
-    sound = λ r. not_built_ends over r;
-    bytes = λ r. not_built_ends over r;
+    holds = arrived_holds (closed_if over side (ended_by NotBuilt view)) (Ended NotBuilt ∷ []) (arrived_by false e) (not_built_holds over);
+    follows = λ r c. not_built_ends over r;
   }
 
   -- where the session runs on, it wasn't closed
-  open_left : (b : Bool) (s : Side) (v : SessionView) → (closed_if b side v).ended ≡ None → (left_of s (closed_if b side v) ≡ left_of s v) × (v.ended ≡ None)
-  open_left false s v r = (refl, r)
-  open_left true s v r = by v.ended refl r
+  open_stream : (b : Bool) (v : SessionView) → (closed_if b side v).ended ≡ None → (stream_of side (closed_if b side v) ≡ stream_of side v) × (v.ended ≡ None)
+  open_stream false v r = (refl, r)
+  open_stream true v r = by v.ended refl r
     where
-      by : (o : Option End) → v.ended ≡ o → (end_unless o (finished side) v).ended ≡ None → (left_of s (end_unless o (finished side) v) ≡ left_of s v) × (v.ended ≡ None)
+      by : (o : Option End) → v.ended ≡ o → (end_unless o (finished side) v).ended ≡ None → (stream_of side (end_unless o (finished side) v) ≡ stream_of side v) × (v.ended ≡ None)
       by None e r = absurd cc
       by (Some end) e r = (refl, r)
 
-  no_bytes : bytes ≡ [] → IsPieced (closed_if over side counted)
+  -- all that stood in front was taken
+  built : is_built_piece view.mode (take (room_of side view) piece) ≡ true → (new : SessionView) → Final policy taken view.mode side (Bytes side piece ∷ events) (history policy view.mode events) (found view.mode side events) new → IsPieced (closed_if over side new)
+  built e new f = record {
+    holds = arrived_holds (closed_if over side new) (brought view.mode side events piece) (arrived_by true e)
+        (subst (λ (h : History). Holds policy (closed_if over side new) h taken) (sym (all_append policy (history policy view.mode events) (new_in (found view.mode side events) (found view.mode side (Bytes side piece ∷ events)) ++ fault_end side (fault view.mode side (Bytes side piece ∷ events))) (end_if (is_over side events piece) (finished side))))
+        (subst (λ (b : Bool). Holds policy (closed_if over side new) (followed_by_all policy (followed_by_all policy (history policy view.mode events) (new_in (found view.mode side events) (found view.mode side (Bytes side piece ∷ events)) ++ fault_end side (fault view.mode side (Bytes side piece ∷ events)))) (end_if b (finished side))) taken) (sym over_is)
+        (closed_holds policy new _ taken side over f.holds)));
+    follows = λ r c.
+        let o = open_stream over new r in
+        subst (λ (x : StreamView). FollowsStream view.mode side (Bytes side piece ∷ events) x) (sym o.0) (record {
+          came = ap (λ (x : StreamView). x.came) (sym o.0) ∙ c;
+          stands = f.stands o.1;
+          counts = f.counts o.1;
+          sound = f.sound o.1;
+          bytes = f.bytes o.1;
+        });
+  }
+
+  no_bytes : take (room_of side view) piece ≡ [] → IsPieced (closed_if over side view)
   no_bytes none =
-      let same = stream_same side events piece (taken_is ∙ none) in
-      record {
-        holds = arrived_holds (closed_if over side counted) (end_if over (finished side))
-            (arrived_by true (ap (is_built_piece view.mode) none) ∙ none_brought side events piece (follows.sound side) (taken_is ∙ none) ∙ ap (λ (b : Bool). end_if b (finished side)) over_is)
-            (closed_holds policy counted (history policy view.mode events) taken side over counted_holds);
-        left = λ r. (open_left over side counted r).0 ∙ counted_left side ∙ follows.left side ∙ ap rest (sym same);
-        sound = λ r. ap bad same ∙ follows.sound side;
-        bytes = λ r. subst AreBytes (sym ((open_left over side counted r).0 ∙ counted_left side)) (follows.bytes side);
-      }
+      let same = both_streams side events piece (taken_is ∙ none) in
+      let f = same_follows view.mode side events (Bytes side piece ∷ events) (stream_of side view) same.0 same.1 own in
+      built (ap (is_built_piece view.mode) none) view
+      (none_last policy taken view.mode side (Bytes side piece ∷ events) view (history policy view.mode events) (found view.mode side events) holds
+      (record { found_is = found_by view.mode side (Bytes side piece ∷ events) events same.0 same.1; fault_is = f.sound }) f.stands f.counts f.bytes)
 
   -- bytes behind what is left
-  abbrev behind : List ℕ
-  behind = left_of side counted ++ bytes
+  abbrev behind_left : StreamView
+  behind_left = pushed (take (room_of side view) piece) (stream_of side view)
 
-  behind_is : left_of side counted ++ take (room_of side view) piece ≡ rest (stream side events) ++ taken_of side events piece
-  behind_is = ap (λ (xs : List ℕ). xs ++ take (room_of side view) piece) (counted_left side ∙ follows.left side) ∙ ap (λ (xs : List ℕ). rest (stream side events) ++ xs) (sym taken_is)
-
-  -- as many messages as may stand there
   abbrev most : ℕ
-  most = length (left_of side counted ++ take (room_of side view) piece) + 1
+  most = length ((stream_of side view).left ++ take (room_of side view) piece) + 2
 
-  abbrev pushed : SessionView
-  pushed = with_left side (left_of side counted ++ take (room_of side view) piece) counted
+  abbrev pushed_view : SessionView
+  pushed_view = with_stream side (pushed (take (room_of side view) piece) (stream_of side view)) view
 
-  pushed_left : left_of side pushed ≡ left_of side counted ++ take (room_of side view) piece
-  pushed_left = is side (left_of side counted ++ take (room_of side view) piece) counted
-    where
-      is : (s : Side) (left : List ℕ) (v : SessionView) → left_of s (with_left s left v) ≡ left
-      is Client left v = refl
-      is Bus left v = refl
+  is_stream : (s : Side) (x : StreamView) (v : SessionView) → stream_of s (with_stream s x v) ≡ x
+  is_stream Client x v = refl
+  is_stream Bus x v = refl
 
-  pushed_runs : pushed.ended ≡ None
-  pushed_runs = is side (left_of side counted ++ take (room_of side view) piece) counted ∙ counted_runs
-    where
-      is : (s : Side) (left : List ℕ) (v : SessionView) → (with_left s left v).ended ≡ v.ended
-      is Client left v = refl
-      is Bus left v = refl
+  is_running : (s : Side) (x : StreamView) (v : SessionView) → (with_stream s x v).ended ≡ v.ended
+  is_running Client x v = refl
+  is_running Bus x v = refl
 
-  behind_bytes : AreBytes (left_of side counted ++ take (room_of side view) piece)
-  behind_bytes = bytes_joined (left_of side counted) (take (room_of side view) piece) (subst AreBytes (sym (counted_left side)) (follows.bytes side)) (AreBytes-take (room_of side view) piece are)
+  knows_still : (s : Side) (x : StreamView) → KnowsOther view.mode s (Bytes side piece ∷ events) view → KnowsOther view.mode s (Bytes side piece ∷ events) (with_stream s x view)
+  knows_still Client x k = tt
+  knows_still Bus x k = k
 
-  all_drained : Drained policy taken steps side items (split_by front most (left_of side pushed)) (drained policy side most pushed)
-  all_drained = drained_holds policy taken steps side most pushed items (let same = ap length pushed_left in omega (arith, same)) pushed_runs
-      (left_holds policy counted items taken side (left_of side counted ++ take (room_of side view) piece) counted_holds) (subst AreBytes (sym pushed_left) behind_bytes)
+  light : (p : Phase) → phase_weight p ≤ 1
+  light (InLines place told) = omega arith
+  light InMessages = omega arith
 
-  -- what is found there is what the stream has
-  found_is : split_by front most (left_of side pushed) ≡ split_by front most (rest (stream side events) ++ taken_of side events piece)
-  found_is = ap (split_by front most) (pushed_left ∙ behind_is)
+  more_bytes : is_built_piece view.mode (take (room_of side view) piece) ≡ true → IsPieced (closed_if over side (drained policy side most pushed_view))
+  more_bytes e =
+      let same = is_stream side behind_left view in
+      let l = light (stream_of side view).phase in
+      built e (drained policy side most pushed_view)
+      (drained_last policy taken steps view.mode (Bytes side piece ∷ events) side most pushed_view (history policy view.mode events) (found view.mode side events)
+      (subst (λ (x : StreamView). weight x < most) (sym same) (omega (arith, l)))
+      (is_running side behind_left view ∙ runs)
+      (subst (λ (x : StreamView). Goes view.mode side (Bytes side piece ∷ events) x (found view.mode side events)) (sym same) (piece_goes view.mode side events piece (take (room_of side view) piece) (stream_of side view) own taken_is))
+      (stream_holds policy view (history policy view.mode events) taken side behind_left holds)
+      (subst (λ (x : StreamView). AreBytes x.left) (sym same) (bytes_joined (stream_of side view).left (take (room_of side view) piece) own.bytes (AreBytes-take (room_of side view) piece are)))
+      (knows_still side behind_left (knows_other view.mode side events piece view refl follows)))
 
-  enough_most : length (rest (stream side events) ++ taken_of side events piece) ≤ most
-  enough_most = let same = ap length behind_is in omega (arith, same)
-
-  streamed : Drained policy taken steps side items (split_by front most (rest (stream side events) ++ taken_of side events piece)) (drained policy side most pushed)
-  streamed = subst (λ (f : List Message × List ℕ). Drained policy taken steps side items f (drained policy side most pushed)) found_is all_drained
-
-  rest_is : rest (stream side (Bytes side piece ∷ events)) ≡ (split_by front most (rest (stream side events) ++ taken_of side events piece)).1
-  rest_is = rest_more side events piece most enough_most
-
-  more_bytes : is_built_piece view.mode bytes ≡ true → IsPieced (closed_if over side (drained policy side most pushed))
-  more_bytes built = record {
-    holds = arrived_holds (closed_if over side (drained policy side most pushed))
-        ((map (Msg side) found.0 ++ fault_end side (fault_of (fault found.1))) ++ end_if over (finished side))
-        (arrived_by true built ∙ more_brought side events piece most enough_most ∙ ap (λ (b : Bool). map (Msg side) found.0 ++ fault_end side (fault_of (fault found.1)) ++ end_if b (finished side)) over_is)
-        (subst (λ (i : History). Holds policy (closed_if over side (drained policy side most pushed)) i taken)
-        (sym (all_append policy items (map (Msg side) found.0 ++ fault_end side (fault_of (fault found.1))) (end_if over (finished side))))
-        (closed_holds policy (drained policy side most pushed) (followed_by_all policy items (map (Msg side) found.0 ++ fault_end side (fault_of (fault found.1)))) taken side over streamed.holds));
-    left = λ r. (open_left over side (drained policy side most pushed) r).0 ∙ streamed.left (open_left over side (drained policy side most pushed) r).1 ∙ sym rest_is;
-    sound = λ r. ap fault rest_is ∙ streamed.sound (open_left over side (drained policy side most pushed) r).1;
-    bytes = λ r. subst AreBytes (sym ((open_left over side (drained policy side most pushed) r).0 ∙ streamed.left (open_left over side (drained policy side most pushed) r).1)) (streamed.bytes (open_left over side (drained policy side most pushed) r).1);
-  }
-    where
-      found : List Message × List ℕ
-      found = split_by front most (rest (stream side events) ++ taken_of side events piece)
-
-  by_empty : (none ready : Bool) → is_empty bytes ≡ none → (not view.mode.auth && view.mode.filter) ≡ ready →
-      IsPieced (closed_if over side (cond none counted (cond ready (drained policy side most pushed) (ended_by NotBuilt counted))))
-  by_empty true ready none is = no_bytes (empty_is bytes none)
-  by_empty false false none is = not_built (ap (λ (b : Bool). b || (not view.mode.auth && view.mode.filter)) none ∙ is)
-  by_empty false true none is = more_bytes (ap (λ (b : Bool). b || (not view.mode.auth && view.mode.filter)) none ∙ is)
+  by_empty : (none ready : Bool) → is_empty (take (room_of side view) piece) ≡ none → view.mode.filter ≡ ready
+      → IsPieced (closed_if over side (cond none view (cond ready (drained policy side most pushed_view) (ended_by NotBuilt view))))
+  by_empty true ready none is = no_bytes (empty_is (take (room_of side view) piece) none)
+  by_empty false false none is = not_built (ap (λ (b : Bool). b || view.mode.filter) none ∙ is)
+  by_empty false true none is = more_bytes (ap (λ (b : Bool). b || view.mode.filter) none ∙ is)
 
   piece_step : IsPieced (with_piece policy side piece view)
-  piece_step =
-      subst (λ (mode : Mode). IsPieced (closed_if over side (cond (is_empty bytes) counted (cond (not mode.auth && mode.filter) (drained policy side most pushed) (ended_by NotBuilt counted)))))
-      (sym (came_mode side (length (take (room_of side view) piece)) view))
-      (by_empty (is_empty bytes) (not view.mode.auth && view.mode.filter) refl refl)
+  piece_step = by_empty (is_empty (take (room_of side view) piece)) view.mode.filter refl refl
 
-  -- what the piece left as it was
-  either_untouched : (none ready : Bool) → Untouched side counted (cond none counted (cond ready (drained policy side most pushed) (ended_by NotBuilt counted)))
-  either_untouched true ready = untouched_all side counted
-  either_untouched false true = untouched_then side counted pushed (drained policy side most pushed) (left_untouched side (left_of side counted ++ take (room_of side view) piece) counted) (drained_untouched policy side most pushed)
-  either_untouched false false = ended_untouched side NotBuilt counted
+  -- ---- what the piece left as it was
 
-  piece_untouched : Untouched side counted (with_piece policy side piece view)
-  piece_untouched = closed_untouched policy side over counted _ (either_untouched (is_empty bytes) (not counted.mode.auth && counted.mode.filter))
+  unless_untouched : (o : Option End) (end : End) (old v : SessionView) → Untouched side old v → Untouched side old (end_unless o end v)
+  unless_untouched None end old v u = untouched_then side old v (ended_by end v) u (ended_untouched side end v)
+  unless_untouched (Some e) end old v u = u
 
-  -- the counts
-  came_stream : (s : Side) → came_of s counted ≡ length (stream s (Bytes side piece ∷ events))
-  unfolding stream
-  came_stream s = by side s (stream_more side events piece) taken_is
+  closed_untouched : (b : Bool) (old v : SessionView) → Untouched side old v → Untouched side old (closed_if b side v)
+  closed_untouched true old v u = unless_untouched v.ended (finished side) old v u
+  closed_untouched false old v u = u
+
+  -- the mode, the other side's stream, and where the session runs the count of what came
+  record Leaves (new : SessionView) : Type 0 where
+    pub mode : new.mode ≡ view.mode
+    pub other_is : stream_of (other side) new ≡ stream_of (other side) view
+    pub came : new.ended ≡ None → (stream_of side new).came ≡ length (stream side (Bytes side piece ∷ events))
+
+  came_with : length (stream side events) + length (take (room_of side view) piece) ≡ length (stream side (Bytes side piece ∷ events))
+  came_with =
+      sym (length-append (stream side events) (take (room_of side view) piece))
+      ∙ ap (λ (t : List ℕ). length (stream side events ++ t)) (sym taken_is)
+      ∙ ap length (sym (stream_more side events piece))
+
+  pushed_came : (s : Side) (x : StreamView) (v : SessionView) → (stream_of s (with_stream s x v)).came ≡ x.came
+  pushed_came Client x v = refl
+  pushed_came Bus x v = refl
+
+  pushed_other : (s : Side) (x : StreamView) (v : SessionView) → stream_of (other s) (with_stream s x v) ≡ stream_of (other s) v
+  pushed_other Client x v = refl
+  pushed_other Bus x v = refl
+
+  pushed_mode : (s : Side) (x : StreamView) (v : SessionView) → (with_stream s x v).mode ≡ v.mode
+  pushed_mode Client x v = refl
+  pushed_mode Bus x v = refl
+
+  same_other : (s : Side) (end : End) (v : SessionView) → stream_of (other s) (ended_by end v) ≡ stream_of (other s) v
+  same_other Client end v = refl
+  same_other Bus end v = refl
+
+  leaves_by : (none ready : Bool) → is_empty (take (room_of side view) piece) ≡ none → Leaves (closed_if over side (cond none view (cond ready (drained policy side most pushed_view) (ended_by NotBuilt view))))
+  leaves_by true ready none =
+      let u = closed_untouched over view view (untouched_all side view) in
+      let empty : length (take (room_of side view) piece) ≡ 0 = ap length (empty_is (take (room_of side view) piece) none) in
+      let with : (stream_of side view).came ≡ length (stream side (Bytes side piece ∷ events)) = own.came ∙ plus_none (length (stream side events)) (length (take (room_of side view) piece)) empty ∙ came_with in
+      record { mode = u.mode; other_is = u.other_is; came = λ r. u.came ∙ with }
     where
-      more_came : (side : Side) → stream side (Bytes side piece ∷ events) ≡ stream side events ++ taken_of side events piece →
-          taken_of side events piece ≡ bytes → came_of side view + length bytes ≡ length (stream side (Bytes side piece ∷ events))
-      more_came side more is =
-          ap (λ (n : ℕ). n + length bytes) (follows.came side)
-          ∙ sym (length-append (stream side events) bytes)
-          ∙ ap (λ (t : List ℕ). length (stream side events ++ t)) (sym is)
-          ∙ ap length (sym more)
-
-      by : (side s : Side) → stream side (Bytes side piece ∷ events) ≡ stream side events ++ taken_of side events piece →
-          taken_of side events piece ≡ bytes → came_of s (with_came side (length bytes) view) ≡ length (stream s (Bytes side piece ∷ events))
-      by Client Client more is = more_came Client more is
-      by Client Bus more is = follows.came Bus
-      by Bus Client more is = follows.came Client
-      by Bus Bus more is = more_came Bus more is
-
-  came_kept : (s : Side) → came_of s (with_piece policy side piece view) ≡ came_of s counted
-  came_kept Client = piece_untouched.client_came
-  came_kept Bus = piece_untouched.bus_came
-
-  -- what holds of both sides' streams then
-  record Goes (s : Side) (new : SessionView) : Type 0 where
-    pub left : left_of s new ≡ rest (stream s (Bytes side piece ∷ events))
-    pub sound : bad (stream s (Bytes side piece ∷ events)) ≡ None
-    pub bytes : AreBytes (left_of s new)
-
-  goes_other : (new : SessionView) → Untouched side counted new → Goes (other side) new
-  goes_other new u =
-      let same = stream_other side events piece in
-      let left = u.left ∙ counted_left (other side) in
+      plus_none : (n k : ℕ) → k ≡ 0 → n ≡ n + k
+      plus_none n k e = omega (arith, e)
+  leaves_by false true none =
+      let u = closed_untouched over pushed_view (drained policy side most pushed_view) (drained_untouched policy side most pushed_view) in
       record {
-        left = left ∙ follows.left (other side) ∙ ap rest (sym same);
-        sound = ap bad same ∙ follows.sound (other side);
-        bytes = subst AreBytes (sym left) (follows.bytes (other side));
+        mode = u.mode ∙ pushed_mode side behind_left view;
+        other_is = u.other_is ∙ pushed_other side behind_left view;
+        came = λ r. u.came ∙ pushed_came side behind_left view ∙ ap (λ (n : ℕ). n + length (take (room_of side view) piece)) own.came ∙ came_with;
       }
+  leaves_by false false none =
+      let u = closed_untouched over view (ended_by NotBuilt view) (ended_untouched side NotBuilt view) in
+      record { mode = u.mode; other_is = u.other_is; came = λ r. not_built_ends over r }
 
-  goes_here : (new : SessionView) → IsPieced new → new.ended ≡ None → Goes side new
-  goes_here new p r = record { left = p.left r; sound = p.sound r; bytes = p.bytes r }
+  piece_leaves : Leaves (with_piece policy side piece view)
+  piece_leaves = leaves_by (is_empty (take (room_of side view) piece)) view.mode.filter refl
 
-  goes : (s : Side) (new : SessionView) → IsPieced new → Untouched side counted new → new.ended ≡ None → Goes s new
-  goes s new p u r = elim (either_side side s) [
-    | inl here ↦ subst (λ (t : Side). Goes t new) (sym here) (goes_here new p r)
-    | inr there ↦ subst (λ (t : Side). Goes t new) (sym there) (goes_other new u)
-  ]
+  -- both sides' streams then
+  follows_both : (s : Side) (new : SessionView) → new.mode ≡ view.mode → FollowsStream view.mode s (Bytes side piece ∷ events) (stream_of s new) → FollowsStream view.mode (other s) (Bytes side piece ∷ events) (stream_of (other s) new) → Follows new (Bytes side piece ∷ events)
+  follows_both Client new m here there = record { client = subst (λ (x : Mode). FollowsStream x Client (Bytes side piece ∷ events) new.client) (sym m) here; bus = subst (λ (x : Mode). FollowsStream x Bus (Bytes side piece ∷ events) new.bus) (sym m) there }
+  follows_both Bus new m here there = record { client = subst (λ (x : Mode). FollowsStream x Client (Bytes side piece ∷ events) new.client) (sym m) there; bus = subst (λ (x : Mode). FollowsStream x Bus (Bytes side piece ∷ events) new.bus) (sym m) here }
 
   pub piece_stands : StandsFor policy (with_piece policy side piece view) (Bytes side piece ∷ events) taken
   piece_stands =
       let new = with_piece policy side piece view in
-      let mode : new.mode ≡ view.mode = piece_untouched.mode ∙ came_mode side (length bytes) view in
+      let mode : new.mode ≡ view.mode = piece_leaves.mode in
       let h : Holds policy new (history policy new.mode (Bytes side piece ∷ events)) taken =
       subst (λ (mode : Mode). Holds policy new (history policy mode (Bytes side piece ∷ events)) taken) (sym mode) piece_step.holds in
       record {
         bus_front = record { rest = []; is = append-nil (taken.bus_side ++ new.bus_side) ∙ h.for_bus };
         client_front = record { rest = []; is = append-nil (taken.client_side ++ new.client_side) ∙ h.for_client };
         holds = λ e. h;
-        follows = λ e. record {
-          came = λ s. came_kept s ∙ came_stream s;
-          left = λ s. (goes s new piece_step piece_untouched e).left;
-          sound = λ s. (goes s new piece_step piece_untouched e).sound;
-          bytes = λ s. (goes s new piece_step piece_untouched e).bytes;
-        };
+        follows = λ e. follows_both side new mode (piece_step.follows e (piece_leaves.came e))
+            (subst (λ (x : StreamView). FollowsStream view.mode (other side) (Bytes side piece ∷ events) x) (sym piece_leaves.other_is) (other_follows view.mode side events piece view refl follows));
       }
 
 -- ---- what ended
@@ -655,7 +714,7 @@ feed_stands policy old new events taken side piece runs are levels took stands =
     elim took [
       | inl is ↦ subst (λ (v : SessionView). StandsFor policy v (Bytes side piece ∷ events) taken) (sym is) expected
       | inr refused ↦ refused_stands policy (with_piece policy side piece old) old new events taken (Bytes side piece) refused
-          ((piece_untouched policy old events taken steps side piece runs stands are).mode ∙ came_mode side (length (take (room_of side old) piece)) old) expected
+          (piece_leaves policy old events taken steps side piece runs stands are).mode expected
     ]
 
 -- ---- what was taken
@@ -674,20 +733,8 @@ took_bus policy view events taken n stands =
         end_is = h.end_is;
         knows = λ r. let k = h.knows r in record { count = k.count; fits = k.fits; each = k.each; built = k.built };
       };
-      follows = λ e. let f = stands.follows e in record { came = came f; left = left f; sound = f.sound; bytes = bytes f };
+      follows = λ e. let f = stands.follows e in record { client = f.client; bus = f.bus };
     }
-  where
-    came : Follows view events → (side : Side) → came_of side (record view { bus_side = drop n view.bus_side }) ≡ length (stream side events)
-    came f Client = f.came Client
-    came f Bus = f.came Bus
-
-    left : Follows view events → (side : Side) → left_of side (record view { bus_side = drop n view.bus_side }) ≡ rest (stream side events)
-    left f Client = f.left Client
-    left f Bus = f.left Bus
-
-    bytes : Follows view events → (side : Side) (i : ℕ) → get_or (left_of side (record view { bus_side = drop n view.bus_side })) i 0 < 256
-    bytes f Client = f.bytes Client
-    bytes f Bus = f.bytes Bus
 
 pub took_client : (policy : Policy) (view : SessionView) (events : List Event) (taken : Taken) (n : ℕ) → StandsFor policy view events taken →
     StandsFor policy (record view { client_side = drop n view.client_side }) events (record taken { client_side = taken.client_side ++ take n view.client_side })
@@ -703,17 +750,5 @@ took_client policy view events taken n stands =
         end_is = h.end_is;
         knows = λ r. let k = h.knows r in record { count = k.count; fits = k.fits; each = k.each; built = k.built };
       };
-      follows = λ e. let f = stands.follows e in record { came = came f; left = left f; sound = f.sound; bytes = bytes f };
+      follows = λ e. let f = stands.follows e in record { client = f.client; bus = f.bus };
     }
-  where
-    came : Follows view events → (side : Side) → came_of side (record view { client_side = drop n view.client_side }) ≡ length (stream side events)
-    came f Client = f.came Client
-    came f Bus = f.came Bus
-
-    left : Follows view events → (side : Side) → left_of side (record view { client_side = drop n view.client_side }) ≡ rest (stream side events)
-    left f Client = f.left Client
-    left f Bus = f.left Bus
-
-    bytes : Follows view events → (side : Side) (i : ℕ) → get_or (left_of side (record view { client_side = drop n view.client_side })) i 0 < 256
-    bytes f Client = f.bytes Client
-    bytes f Bus = f.bytes Bus

@@ -1,3 +1,4 @@
+pub mod Streams
 pub mod Sessions
 pub mod Messages
 pub mod Steps

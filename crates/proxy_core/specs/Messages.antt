@@ -105,10 +105,10 @@ with_message policy Bus x bytes view = with_bus_message x bytes view
 
 -- ---- memory that was refused
 
--- what waits for either side, and what is left of the streams, is what was
+-- what waits for either side, and the streams, are what they were
 pub record KeepsSides (old new : SessionView) : Type 0 where
   pub mode : new.mode ≡ old.mode
-  pub client_left : new.client_left ≡ old.client_left
-  pub bus_left : new.bus_left ≡ old.bus_left
+  pub client : new.client ≡ old.client
+  pub bus : new.bus ≡ old.bus
   pub bus_side : new.bus_side ≡ old.bus_side
   pub client_side : new.client_side ≡ old.client_side

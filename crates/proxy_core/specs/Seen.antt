@@ -1,13 +1,13 @@
 -- What messages that were read, and what a stream gives, are seen as.
-use Rattle.std.specs.Prelude.{◌≡◌, List, ℕ}
+use Rattle.std.specs.Prelude.{◌≡◌}
 use Rattle.dbus_header.specs.Contents.{Contents}
 use Rattle.dbus_header.specs.Seen.{text_seen}
 use Rattle.dbus_header.specs.declared.message.Message.{Message}
-use Rattle.dbus_framing.specs.Framing.{Gives}
 use Rattle.dbus_framing.specs.declared.Next.{Next}
 use Rattle.policy_view.specs.declared.Side.{Side}
-use Rattle.proxy_core.specs.Sessions.{SessionView, left_of}
-use Rattle.proxy_core.specs.Steps.{with_left}
+use Rattle.proxy_core.specs.Streams.{StreamView, GaveMessage}
+use Rattle.proxy_core.specs.Sessions.{SessionView, stream_of}
+use Rattle.proxy_core.specs.Steps.{with_stream}
 
 abbrev pub message_seen : Message → Contents
 message_seen x = record {
@@ -29,8 +29,8 @@ message_seen x = record {
   body = x.body.now;
 }
 
--- a side's stream gave this, and nothing else changed
+-- a side's stream gave this message, or has none in front, and nothing else changed
 pub record Given (side : Side) (old : SessionView) (next : Next) (new : SessionView) : Type 0 where
-  pub left : List ℕ
-  pub gives : Gives (left_of side old) next left
-  pub is : new ≡ with_left side left old
+  pub stream : StreamView
+  pub gives : GaveMessage (stream_of side old) next stream
+  pub is : new ≡ with_stream side stream old

@@ -2,18 +2,22 @@
 use Rattle.std.specs.Prelude.{◌≡◌, ◌≤◌, ◌<◌, ◌==◌, ◌&&◌, ℕ, Bool, true, false, List, [], ◌++◌, length, get_or, Option, Some, None, Result, Ok, Err, slice_get}
 use Rattle.std.specs.Ordering.{nat_cmp}
 use Rattle.std.specs.FinMap.{FinMap, get, empty}
-use Rattle.dbus_header.specs.Stream.{rest, bad}
+use Rattle.dbus_header.specs.Stream.{rest}
+use Rattle.sasl_watch.specs.Lines.{asked}
+use Rattle.sasl_watch.specs.Watching.{Watch}
+use Rattle.sasl_watch.specs.Following.{ClientFollows, BusFollows}
 use Rattle.dbus_header.specs.Message.{destination}
 use Rattle.policy_args.specs.Policy.{Policy}
 use Rattle.policy_view.specs.Sent.{Sent, Passed, Pinged, OwnMatch, OwnOwner, OwnNames, Past, answered}
 use Rattle.policy_view.specs.Past.{History, past}
-use Rattle.policy_view.specs.History.{Event, stream, history, end_of, is_service, most_sent}
+use Rattle.policy_view.specs.History.{Event, stream, lines, content, messages_in, fault, history, end_of, is_service, most_sent}
 use Rattle.policy_view.specs.Outputs.{bus_bytes, client_bytes}
 use Rattle.policy_view.specs.declared.Mode.{Mode}
 use Rattle.policy_view.specs.declared.Side.{Side}
 use Rattle.policy_view.specs.declared.Side.TheVariants.{Client, Bus}
 use Rattle.policy_view.specs.declared.End.{End}
 use Rattle.policy_view.specs.declared.End.TheVariants.{ClientMalformed, BusMalformed, ClientEnd, BusEnd, SerialsSpent, Memory, ClientRead, ClientWrite, BusRead, BusWrite, BusConnect, LogFault, NotBuilt}
+use Rattle.proxy_core.specs.Streams.{StreamView, Phase, InLines, InMessages, new_stream, watch_at}
 use Rattle.proxy_core.specs.declared.ledger.Expected.{Expected}
 use Rattle.proxy_core.specs.declared.ledger.Expected.TheVariants as expects
 
@@ -25,25 +29,19 @@ pub record SessionView : Type 0 where
   pub bus_side : List ℕ
   pub client_side : List ℕ
   pub ended : Option End
-  -- how many bytes came of either side, and those of them that are no whole message yet
-  pub client_came : ℕ
-  pub bus_came : ℕ
-  pub client_left : List ℕ
-  pub bus_left : List ℕ
+  -- what came of either side, and how far it was taken
+  pub client : StreamView
+  pub bus : StreamView
   -- how many messages were sent, and what is expected of their answers
   pub sent : ℕ
   pub expected : FinMap nat_cmp Expected
 
 abbrev pub at_start : Mode → SessionView
-at_start mode = record { mode = mode; bus_side = []; client_side = []; ended = None; client_came = 0; bus_came = 0; client_left = []; bus_left = []; sent = 0; expected = empty }
+at_start mode = record { mode = mode; bus_side = []; client_side = []; ended = None; client = new_stream mode.auth; bus = new_stream mode.auth; sent = 0; expected = empty }
 
-abbrev pub came_of : Side → SessionView → ℕ
-came_of Client view = view.client_came
-came_of Bus view = view.bus_came
-
-abbrev pub left_of : Side → SessionView → List ℕ
-left_of Client view = view.client_left
-left_of Bus view = view.bus_left
+abbrev pub stream_of : Side → SessionView → StreamView
+stream_of Client view = view.client
+stream_of Bus view = view.bus
 
 abbrev pub waits_for : Side → SessionView → List ℕ
 waits_for Client view = view.client_side
@@ -111,13 +109,43 @@ pub record Holds (policy : Policy) (view : SessionView) (items : History) (taken
   pub end_is : view.ended ≡ end_of items
   pub knows : view.ended ≡ None → Knows view (past policy items)
 
--- a running session has taken the whole messages of all that came of either side, and has what is left of it, in which
--- no fault stands
+-- the lines that were given, of which these are left, are the first of the stream's
+abbrev pub FollowsLines : Side → List ℕ → List (List ℕ) → Watch → Type 0
+FollowsLines Client pushed given watch = ClientFollows pushed given watch
+FollowsLines Bus pushed given watch = BusFollows pushed given watch
+
+-- how many of a side's lines ask for an answer, or answer
+abbrev pub lines_in : Side → Mode → List Event → ℕ
+lines_in Client mode events = asked (stream Client events)
+lines_in Bus mode events = length (lines mode Bus events)
+
+-- messages come from the bus when all lines that were asked for were given
+abbrev pub AllGiven : Mode → Side → List Event → Type 0
+AllGiven mode Client events = Unit {0}
+AllGiven mode Bus events = mode.auth ≡ true → length (lines mode Bus events) ≡ asked (stream Client events)
+
+-- where a stream stands: all whole lines were given and no message came, or all messages that follow the lines were
+abbrev pub StandsAt : Mode → Side → List Event → Phase → List ℕ → Type 0
+StandsAt mode side events (InLines place told) left =
+    (mode.auth ≡ true)
+    × (told ≡ None)
+    × FollowsLines side (stream side events) (lines mode side events) (watch_at place None left)
+    × (messages_in (content mode side events) ≡ [])
+StandsAt mode side events InMessages left =
+    (bytes : List ℕ) × (content mode side events ≡ Some bytes) × (left ≡ rest bytes) × AllGiven mode side events
+
+-- a side's stream has taken the whole lines and messages of all that came, and no fault stands in it
+pub record FollowsStream (mode : Mode) (side : Side) (events : List Event) (s : StreamView) : Type 0 where
+  pub came : s.came ≡ length (stream side events)
+  pub stands : StandsAt mode side events s.phase s.left
+  pub counts : mode.auth ≡ true → s.lines ≡ lines_in side mode events
+  pub sound : fault mode side events ≡ None
+  pub bytes : (i : ℕ) → get_or s.left i 0 < 256
+
+-- and so have both of a running session
 pub record Follows (view : SessionView) (events : List Event) : Type 0 where
-  pub came : (side : Side) → came_of side view ≡ length (stream side events)
-  pub left : (side : Side) → left_of side view ≡ rest (stream side events)
-  pub sound : (side : Side) → bad (stream side events) ≡ None
-  pub bytes : (side : Side) (i : ℕ) → get_or (left_of side view) i 0 < 256
+  pub client : FollowsStream view.mode Client events view.client
+  pub bus : FollowsStream view.mode Bus events view.bus
 
 -- A session stands for events: it holds their history. One that was refused memory holds a front of what that gives.
 pub record StandsFor (policy : Policy) (view : SessionView) (events : List Event) (taken : Taken) : Type 0 where

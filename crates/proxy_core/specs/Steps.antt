@@ -1,5 +1,5 @@
 -- What a session does with a piece, on what it is seen as.
-use Rattle.std.specs.Prelude.{◌≡◌, ◌≤◌, ◌⊎◌, ℕ, zero, suc, ◌+◌, ◌-◌, ◌*◌, Bool, false, not, ◌&&◌, nat_lt, List, ◌++◌, length, take, Option, Some, None, if◌then◌else◌, is_none}
+use Rattle.std.specs.Prelude.{◌≡◌, ◌≤◌, ◌⊎◌, ℕ, zero, suc, ◌+◌, ◌-◌, ◌*◌, Bool, true, false, not, ◌||◌, ◌==◌, nat_lt, List, [], ◌∷◌, ◌++◌, length, take, drop, Option, Some, None, if◌then◌else◌, is_none}
 use Rattle.dbus_names.specs.Names.{is_empty}
 use Rattle.dbus_header.specs.Message.{Message, spell}
 use Rattle.dbus_header.specs.Malformed.{fault, front}
@@ -7,24 +7,99 @@ use Rattle.dbus_header.specs.Contents.{contents_of}
 use Rattle.dbus_header.specs.declared.Malformed.{Malformed}
 use Rattle.policy_args.specs.Policy.{Policy}
 use Rattle.policy_view.specs.History.{longest_stream, finished, malformed}
-use Rattle.policy_view.specs.declared.Fault.TheVariants.{Message as MessageFault}
+use Rattle.policy_view.specs.declared.Fault.TheVariants.{Line as OfLine, Message as OfMessage}
 use Rattle.policy_view.specs.declared.Side.{Side}
 use Rattle.policy_view.specs.declared.Side.TheVariants.{Client, Bus}
 use Rattle.policy_view.specs.declared.End.{End}
 use Rattle.policy_view.specs.declared.End.TheVariants.{Memory, NotBuilt}
-use Rattle.proxy_core.specs.Sessions.{SessionView, came_of, left_of, IsFront}
+use Rattle.sasl_watch.specs.Lines.{Cut, is_begin, for_bus}
+use Rattle.sasl_watch.specs.Watching.{client_ahead, bus_ahead}
+use Rattle.sasl_watch.specs.declared.LineFault.{LineFault}
+use Rattle.sasl_watch.specs.declared.LineKind.TheVariants.{EarlyBus}
+use Rattle.proxy_core.specs.Streams.{StreamView, Phase, InLines, InMessages, is_in_lines, pushed, watch_at}
+use Rattle.proxy_core.specs.Sessions.{SessionView, stream_of, IsFront}
 use Rattle.proxy_core.specs.Messages.{ended_by, with_message, KeepsSides}
 
--- ---- the messages of a stream
+abbrev pub with_stream : Side → StreamView → SessionView → SessionView
+with_stream Client s view = record view { client = s }
+with_stream Bus s view = record view { bus = s }
+
+-- ---- a line of a stream
+
+-- the stream behind a line that begins at the place
+abbrev pub behind_line : ℕ → List ℕ → ℕ → StreamView → StreamView
+behind_line place line n s = record s { phase = InLines (place + length line) None; left = drop (length line) s.left; lines = s.lines + n }
+
+abbrev pub in_messages : StreamView → StreamView
+in_messages s = record s { phase = InMessages }
+
+abbrev pub begun_if : Bool → StreamView → StreamView
+begun_if begin s = if begin then in_messages s else s
+
+-- the bus answers neither the NUL nor BEGIN
+abbrev pub asks : ℕ → List ℕ → ℕ
+asks place line = if place == 0 || is_begin line then 0 else 1
+
+-- a line of the client goes to the bus, and messages follow BEGIN
+abbrev pub with_client_line : ℕ → List ℕ → SessionView → SessionView
+with_client_line place line view = record view {
+  bus_side = view.bus_side ++ for_bus line;
+  client = begun_if (is_begin line) (behind_line place line (asks place line) view.client);
+}
+
+-- a line of the bus goes to the client
+abbrev pub with_bus_line : ℕ → List ℕ → SessionView → SessionView
+with_bus_line place line view = record view {
+  client_side = view.client_side ++ line;
+  bus = behind_line place line 1 view.bus;
+}
+
+abbrev pub with_line : Side → ℕ → List ℕ → SessionView → SessionView
+with_line Client place line view = with_client_line place line view
+with_line Bus place line view = with_bus_line place line view
+
+-- the fault in front of a stream's whole lines, if there is one, is the session's End
+abbrev pub with_line_fault : Side → ℕ → Option LineFault → SessionView → SessionView
+with_line_fault side place None view = view
+with_line_fault side place (Some f) view =
+    ended_by (malformed side (OfLine f)) (with_stream side (record (stream_of side view) { phase = InLines place (Some f) }) view)
+
+-- with the line in front taken, or the fault; and whether more may follow
+abbrev pub with_lines : Side → ℕ → List (List ℕ) → Option LineFault → SessionView → SessionView × Bool
+with_lines side place [] f view = (with_line_fault side place f view, false)
+with_lines side place (line ∷ lines) f view = (with_line side place line view, true)
+
+abbrev pub with_cut : Side → ℕ → Cut → SessionView → SessionView × Bool
+with_cut side place cut view = with_lines side place cut.lines cut.fault view
+
+-- how many of the client's lines the bus hasn't answered, and whether BEGIN was seen
+abbrev pub unanswered : SessionView → ℕ
+unanswered view = view.client.lines - view.bus.lines
+
+abbrev pub has_begun : SessionView → Bool
+has_begun view = not (is_in_lines view.client.phase)
+
+-- where the bus has answered all lines, messages follow BEGIN; before it no byte may come
+abbrev pub with_all_answered : ℕ → SessionView → SessionView × Bool
+with_all_answered place view =
+    if has_begun view then (record view { bus = in_messages view.bus }, true)
+    else (with_line_fault Bus place (if is_empty view.bus.left then None else Some (record { kind = EarlyBus; at = place })) view, false)
+
+abbrev pub line_step : Side → ℕ → SessionView → SessionView × Bool
+line_step Client place view = with_cut Client place (client_ahead (watch_at place None view.client.left)) view
+line_step Bus place view =
+    if unanswered view == 0 then with_all_answered place view
+    else with_cut Bus place (bus_ahead (watch_at place None view.bus.left)) view
+
+-- ---- a message of a stream
 
 abbrev pub with_left : Side → List ℕ → SessionView → SessionView
-with_left Client left view = record view { client_left = left }
-with_left Bus left view = record view { bus_left = left }
+with_left side left view = with_stream side (record (stream_of side view) { left = left }) view
 
 -- the fault in front, if there is one, is the session's End
 abbrev pub with_fault : Side → Option Malformed → SessionView → SessionView
 with_fault side None view = view
-with_fault side (Some f) view = ended_by (malformed side (MessageFault f)) view
+with_fault side (Some f) view = ended_by (malformed side (OfMessage f)) view
 
 -- and whether the session still runs
 abbrev pub and_runs : SessionView → SessionView × Bool
@@ -32,36 +107,40 @@ and_runs view = (view, is_none view.ended)
 
 -- with the message in front taken, or the fault; and whether more may follow
 abbrev pub with_front : Policy → Side → Option (Message × List ℕ) → SessionView → SessionView × Bool
-with_front policy side None view = (with_fault side (fault (left_of side view)) view, false)
+with_front policy side None view = (with_fault side (fault (stream_of side view).left) view, false)
 with_front policy side (Some x) view = and_runs (with_message policy side (contents_of x.0) (spell x.0) (with_left side x.1 view))
 
+-- ---- what stands in front of a stream
+
+-- a fault that was told is told again
+abbrev pub step_at : Policy → Side → Phase → SessionView → SessionView × Bool
+step_at policy side (InLines place None) view = line_step side place view
+step_at policy side (InLines place (Some f)) view = (with_line_fault side place (Some f) view, false)
+step_at policy side InMessages view = with_front policy side (front (stream_of side view).left) view
+
 abbrev pub step_of : Policy → Side → SessionView → SessionView × Bool
-step_of policy side view = with_front policy side (front (left_of side view)) view
+step_of policy side view = step_at policy side (stream_of side view).phase view
 
 abbrev pub more_if : SessionView × Bool → (SessionView → SessionView) → SessionView
 more_if x others = if x.1 then others x.0 else x.0
 
--- one message after the other, at most so many
+-- one line or message after the other, at most so many
 abbrev pub drained : Policy → Side → ℕ → SessionView → SessionView
 drained policy side zero view = view
 drained policy side (suc n) view = more_if (step_of policy side view) (drained policy side n)
 
 -- ---- a piece
 
--- bytes come behind what is left of a side's stream; each message takes a byte at least
+-- bytes come behind what is left of a side's stream; each line and message takes a byte at least, and the end of the lines none
 abbrev pub with_more : Policy → Side → List ℕ → SessionView → SessionView
 with_more policy side bytes view =
-    drained policy side (length (left_of side view ++ bytes) + 1) (with_left side (left_of side view ++ bytes) view)
+    drained policy side (length ((stream_of side view).left ++ bytes) + 2) (with_stream side (pushed bytes (stream_of side view)) view)
 
 -- bytes of a side's stream that it still takes
 abbrev pub with_bytes : Policy → Side → List ℕ → SessionView → SessionView
 with_bytes policy side bytes view =
     if is_empty bytes then view
-    else (if not view.mode.auth && view.mode.filter then with_more policy side bytes view else ended_by NotBuilt view)
-
-abbrev pub with_came : Side → ℕ → SessionView → SessionView
-with_came Client n view = record view { client_came = view.client_came + n }
-with_came Bus n view = record view { bus_came = view.bus_came + n }
+    else (if view.mode.filter then with_more policy side bytes view else ended_by NotBuilt view)
 
 -- the side's end, where the session still runs
 abbrev pub end_unless : Option End → End → SessionView → SessionView
@@ -74,12 +153,11 @@ closed_if over side view = if over then end_unless view.ended (finished side) vi
 
 -- how many bytes a side's stream still takes
 abbrev pub room_of : Side → SessionView → ℕ
-room_of side view = longest_stream - came_of side view
+room_of side view = longest_stream - (stream_of side view).came
 
 abbrev pub with_piece : Policy → Side → List ℕ → SessionView → SessionView
 with_piece policy side piece view =
-    let bytes = take (room_of side view) piece in
-    closed_if (nat_lt (room_of side view) (length piece)) side (with_bytes policy side bytes (with_came side (length bytes) view))
+    closed_if (nat_lt (room_of side view) (length piece)) side (with_bytes policy side (take (room_of side view) piece) view)
 
 -- ---- memory that was refused
 
@@ -107,14 +185,27 @@ Took expected old new = (new ≡ expected) ⊎ IsRefused expected old new
 abbrev pub Stepped : SessionView × Bool → SessionView → SessionView → Bool → Type 0
 Stepped expected old new more = ((new ≡ expected.0) × (more ≡ expected.1)) ⊎ (IsRefused expected.0 old new × (more ≡ false))
 
+-- at one line, which has no effect on what waits then, or at the end of the lines
+pub record IsCutOff (expected old new : SessionView) : Type 0 where
+  pub ended : new.ended ≡ Some Memory
+  pub mode : new.mode ≡ old.mode
+  pub for_bus : IsFront new.bus_side expected.bus_side
+  pub for_client : IsFront new.client_side expected.client_side
+  pub client : length new.client.left ≤ length old.client.left
+  pub bus : length new.bus.left ≤ length old.bus.left
+
+abbrev pub Did : SessionView → SessionView → SessionView → Bool → Type 0
+Did expected old new goes = ((new ≡ expected) × (goes ≡ true)) ⊎ (IsCutOff expected old new × (goes ≡ false))
+
 -- ---- how much waits
 
--- Nine bytes at most come out for one that comes in: the bytes that wait, with nine for each that is no whole message yet.
+-- Nine bytes at most come out for one that comes in: the bytes that wait, with nine for each that is no whole line or
+-- message yet.
 abbrev pub bus_weight : SessionView → ℕ
-bus_weight view = length view.bus_side + 9 * (length view.client_left + length view.bus_left)
+bus_weight view = length view.bus_side + 9 * (length view.client.left + length view.bus.left)
 
 abbrev pub client_weight : SessionView → ℕ
-client_weight view = length view.client_side + 9 * (length view.client_left + length view.bus_left)
+client_weight view = length view.client_side + 9 * (length view.client.left + length view.bus.left)
 
 -- with so many bytes that came
 pub record IsLight (n : ℕ) (old new : SessionView) : Type 0 where

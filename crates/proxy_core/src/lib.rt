@@ -1,6 +1,8 @@
 //! The session: what comes of either side goes in, and what is to be sent to either side comes out.
 #![tactic(auto)]
 
+mod bus_stream;
+mod client_stream;
 mod ledger;
 mod own;
 mod queue;

@@ -1,22 +1,25 @@
-//! The session: pieces of either side's stream are taken, message by message.
+//! The session: pieces of either side's stream are taken, line by line and then message by message.
 ghost use Rattle.std.specs.Prelude.{◌≡◌, ◌≤◌, ◌<◌, ◌+◌, ◌^◌, ◌∷◌, ◌++◌, ℕ, List, [], Some, None, IfOk, OnOk, OnErr, length, take, drop};
 ghost use Rattle.dbus_header.specs.Message.{Message as MessageTree, Valid, spell};
 ghost use Rattle.dbus_header.specs.Contents.{contents_of};
 ghost use Rattle.policy_view.specs.History.{Event, Bytes, Finished, finished as finished_by, malformed as malformed_by, longest_stream, most_sent};
-ghost use Rattle.policy_view.specs.declared.Fault.TheVariants.{Message as MessageFault};
 ghost use Rattle.policy_view.specs.declared.End.{End as SessionEnd};
 ghost use Rattle.policy_args.specs.Policy.{Policy as PolicyValue};
-ghost use Rattle.proxy_core.specs.Sessions.{StandsFor, Taken, nothing, at_start, came_of, left_of, answer_of, IsFront};
+ghost use Rattle.proxy_core.specs.Streams.{InMessages, is_in_lines as in_lines, pushed};
+ghost use Rattle.proxy_core.specs.Sessions.{StandsFor, Taken, nothing, at_start, stream_of, answer_of, IsFront};
 ghost use Rattle.proxy_core.specs.Messages.{ended_by, with_message};
-ghost use Rattle.proxy_core.specs.Steps.{with_left, step_of, drained, with_bytes, with_came, with_piece, Took, TookMessage, Stepped, IsLight, bus_weight, client_weight};
+ghost use Rattle.proxy_core.specs.Steps.{with_stream, with_left, step_of, drained, with_bytes, with_piece, Took, TookMessage, Stepped, IsLight, bus_weight, client_weight};
 ghost use Rattle.proxy_core.specs.Seen.{message_seen, Given};
 
+mod lines;
 mod messages;
 
+use crate::bus_stream::BusStream;
+use crate::client_stream::ClientStream;
 use crate::ledger::Ledger;
 use crate::queue::Queue;
-use dbus_framing::{Framer, Next};
-use dbus_header::{Malformed, Message, decode};
+use dbus_framing::Next;
+use dbus_header::{Message, decode};
 use policy_args::Policy;
 use policy_view::{End, Fault, Mode, Side};
 use std::alloc::{AllocError, Global};
@@ -32,20 +35,17 @@ pub struct Session {
     to_bus: Queue,
     to_client: Queue,
     ended: Option<End>,
-    client_came: u64,
-    bus_came: u64,
-    client_stream: Framer,
-    bus_stream: Framer,
+    client: ClientStream,
+    bus: BusStream,
     sent: u32,
     ledger: Ledger,
+    alloc: Global,
 }
 
 impl Model for Session {
-    ghost use Rattle.std.specs.Prelude.{◌≤◌};
     ghost use Rattle.std.specs.Ordering.{nat_cmp};
     ghost use Rattle.std.specs.FinMap as map;
     ghost use Rattle.std.specs.Coded.{codes, coded_ℕ};
-    ghost use Rattle.policy_view.specs.History.{longest_stream};
     ghost use Rattle.proxy_core.specs.Sessions.{SessionView};
     ghost use Rattle.proxy_core.specs.declared.ledger.Expected.{Expected};
 
@@ -53,9 +53,7 @@ impl Model for Session {
 
     ghost coded = { Prim.hlevel (codes, map.code {X = Expected} {R = nat_cmp} coded_ℕ (Prim.hlevel codes)) };
 
-    ghost view = { λ s. record { mode = s.mode; bus_side = s.to_bus; client_side = s.to_client; ended = s.ended; client_came = s.client_came; bus_came = s.bus_came; client_left = s.client_stream; bus_left = s.bus_stream; sent = s.sent; expected = s.ledger } };
-
-    ghost invariant = { λ s. (s.client_came ≤ longest_stream) × (s.bus_came ≤ longest_stream) };
+    ghost view = { λ s. record { mode = s.mode; bus_side = s.to_bus; client_side = s.to_client; ended = s.ended; client = s.client; bus = s.bus; sent = s.sent; expected = s.ledger } };
 }
 
 /// The end of a side's stream as an End.
@@ -68,13 +66,13 @@ fn finished(side: Side) -> End
     }
 }
 
-/// A message that isn't valid as the End of its side.
-fn malformed(side: Side, fault: Malformed) -> End
-    ensures { result ≡ malformed_by side (MessageFault fault) }
+/// A fault of a side's stream as an End.
+fn malformed(side: Side, fault: Fault) -> End
+    ensures { result ≡ malformed_by side fault }
 {
     match side {
-        Side::Client => End::ClientMalformed(Fault::Message(fault)),
-        Side::Bus => End::BusMalformed(Fault::Message(fault)),
+        Side::Client => End::ClientMalformed(fault),
+        Side::Bus => End::BusMalformed(fault),
     }
 }
 
@@ -113,12 +111,11 @@ impl Session {
             to_bus: Queue::new(alloc),
             to_client: Queue::new(alloc),
             ended: None,
-            client_came: 0,
-            bus_came: 0,
-            client_stream: Framer::new(alloc),
-            bus_stream: Framer::new(alloc),
+            client: ClientStream::new(alloc, mode.auth),
+            bus: BusStream::new(alloc, mode.auth),
             sent: 0,
             ledger: Ledger::new(alloc),
+            alloc,
         })
     }
 
@@ -224,14 +221,15 @@ impl Session {
         self.ended = Some(end);
     }
 
-    /// The stream of a side.
-    fn next(&mut self, side: Side) -> Result<Next, AllocError>
+    /// What stands in front of the messages of a side's stream.
+    fn next_message(&mut self, side: Side) -> Result<Next, AllocError>
+        requires { (stream_of side self.old).phase ≡ InMessages }
         ensures ok { IfOk result (λ next. Given side self.old next self.new) }
         ensures err { OnErr result (self.new ≡ self.old) }
     {
         match side {
-            Side::Client => self.client_stream.next(),
-            Side::Bus => self.bus_stream.next(),
+            Side::Client => self.client.next_message(),
+            Side::Bus => self.bus.next_message(),
         }
     }
 
@@ -247,19 +245,20 @@ impl Session {
 
     /// Takes the message in front of a side's stream, or ends the session where a fault stands there. Tells whether more
     /// may follow.
-    fn take_front(&mut self, policy: &Policy, side: Side) -> bool
-        requires { self.old.ended ≡ None }
+    fn take_front_message(&mut self, policy: &Policy, side: Side) -> bool
+        requires running { self.old.ended ≡ None }
+        requires messages { (stream_of side self.old).phase ≡ InMessages }
         ensures step { Stepped (step_of policy.now side self.old) self.old self.new result }
         ensures light { IsLight 0 self.old self.new }
     {
-        match self.next(side) {
+        match self.next_message(side) {
             Ok(Next::Whole(frame)) => {
                 self.take_frame(policy, side, frame.as_slice());
                 self.ended.is_none()
             }
             Ok(Next::Rest) => false,
             Ok(Next::Bad(fault)) => {
-                self.end_with(malformed(side, fault));
+                self.end_with(malformed(side, Fault::Message(fault)));
                 false
             }
             Err(_) => {
@@ -269,7 +268,33 @@ impl Session {
         }
     }
 
-    /// Takes messages from the front of a side's stream, at most so many.
+    /// Whether the lines of a side's stream come.
+    fn is_in_lines(&self, side: Side) -> bool
+        ensures { result ≡ in_lines (stream_of side self.now).phase }
+    {
+        match side {
+            Side::Client => self.client.is_in_lines(),
+            Side::Bus => self.bus.is_in_lines(),
+        }
+    }
+
+    /// Takes what stands in front of a side's stream, a line or a message, or ends the session where a fault stands there.
+    /// Tells whether more may follow.
+    fn take_front(&mut self, policy: &Policy, side: Side) -> bool
+        requires { self.old.ended ≡ None }
+        ensures step { Stepped (step_of policy.now side self.old) self.old self.new result }
+        ensures light { IsLight 0 self.old self.new }
+    {
+        if !self.is_in_lines(side) {
+            return self.take_front_message(policy, side);
+        }
+        match side {
+            Side::Client => self.take_client_line(policy),
+            Side::Bus => self.take_bus_line(policy),
+        }
+    }
+
+    /// Takes lines and messages from the front of a side's stream, at most so many.
     fn drain(&mut self, policy: &Policy, side: Side, most: usize)
         requires { self.old.ended ≡ None }
         ensures took { Took (drained policy.now side most self.old) self.old self.new }
@@ -284,43 +309,45 @@ impl Session {
         }
     }
 
-    /// How many bytes of a side's stream are no whole message yet.
+    /// How many bytes of a side's stream are no whole line or message yet.
     fn left_len(&self, side: Side) -> usize
-        ensures value { result ≡ length (left_of side self.now) }
+        ensures value { result ≡ length (stream_of side self.now).left }
         ensures bound { result < 2 ^ 63 }
     {
         match side {
-            Side::Client => self.client_stream.len(),
-            Side::Bus => self.bus_stream.len(),
+            Side::Client => self.client.len(),
+            Side::Bus => self.bus.len(),
         }
     }
 
     /// Puts bytes behind what is left of a side's stream.
     fn push(&mut self, side: Side, bytes: &[u8]) -> Result<(), AllocError>
-        ensures ok { OnOk result (self.new ≡ with_left side (left_of side self.old ++ bytes.now) self.old) }
+        requires { (stream_of side self.old).came + length bytes.now ≤ longest_stream }
+        ensures ok { OnOk result (self.new ≡ with_stream side (pushed bytes.now (stream_of side self.old)) self.old) }
         ensures err { OnErr result (self.new ≡ self.old) }
     {
         match side {
-            Side::Client => self.client_stream.push(bytes),
-            Side::Bus => self.bus_stream.push(bytes),
+            Side::Client => self.client.push(bytes),
+            Side::Bus => self.bus.push(bytes),
         }
     }
 
     /// Takes bytes that come behind what is left of a side's stream.
     fn take_bytes(&mut self, policy: &Policy, side: Side, bytes: &[u8])
-        requires { self.old.ended ≡ None }
+        requires running { self.old.ended ≡ None }
+        requires room { (stream_of side self.old).came + length bytes.now ≤ longest_stream }
         ensures took { Took (with_bytes policy.now side bytes.now self.old) self.old self.new }
         ensures light { IsLight (length bytes.now) self.old self.new }
     {
         if bytes.is_empty() {
             return;
         }
-        if self.mode.auth || !self.mode.filter {
+        if !self.mode.filter {
             return self.end_with(End::NotBuilt);
         }
         match self.push(side, bytes) {
             Ok(()) => {
-                let most = self.left_len(side) + 1;
+                let most = self.left_len(side) + 2;
                 self.drain(policy, side, most);
             }
             Err(_) => self.end_with(End::Memory),
@@ -329,23 +356,12 @@ impl Session {
 
     /// How many bytes came of a side.
     fn came(&self, side: Side) -> u64
-        ensures value { result ≡ came_of side self.now }
+        ensures value { result ≡ (stream_of side self.now).came }
         ensures bound { result ≤ longest_stream }
     {
         match side {
-            Side::Client => self.client_came,
-            Side::Bus => self.bus_came,
-        }
-    }
-
-    /// More bytes came of a side.
-    fn add_came(&mut self, side: Side, n: u64)
-        requires { came_of side self.old + n ≤ longest_stream }
-        ensures { self.new ≡ with_came side n self.old }
-    {
-        match side {
-            Side::Client => self.client_came += n,
-            Side::Bus => self.bus_came += n,
+            Side::Client => self.client.came(),
+            Side::Bus => self.bus.came(),
         }
     }
 
@@ -356,9 +372,7 @@ impl Session {
         ensures light { IsLight (length piece.now) self.old self.new }
     {
         let room = LONGEST_STREAM - self.came(side);
-        let bytes = front_of(room, piece);
-        self.add_came(side, bytes.len() as u64);
-        self.take_bytes(policy, side, bytes);
+        self.take_bytes(policy, side, front_of(room, piece));
         if piece.len() as u64 > room && self.ended.is_none() {
             self.end_with(finished(side));
         }

@@ -275,6 +275,132 @@ fn pieces_of_one_byte_give_the_same(rt: HostRuntime) -> Result<(), Fail> {
     Ok(())
 }
 
+/// A recording of pieces that begins with lines, of the client (0) and of the bus (1), each cut into pieces of so many
+/// bytes at most.
+fn recorded_lines(
+    alloc: Global,
+    items: &[(u8, &[u8])],
+    most: usize,
+) -> Result<Vec<u8>, AllocError> {
+    let mut recording = Vec::from_slice(alloc, b"DBPR\x01\x01")?;
+    for (side, bytes) in items {
+        for piece in bytes.chunks(most.max(1)) {
+            record(&mut recording, *side, piece)?;
+        }
+    }
+    Ok(recording)
+}
+
+/// What a replay writes of these bytes for the bus and for the client, and of its End.
+fn written(
+    alloc: Global,
+    to_bus: &[u8],
+    to_client: &[u8],
+    end: &[u8],
+) -> Result<Vec<u8>, AllocError> {
+    let mut output = Vec::new(alloc);
+    for (kind, bytes) in [(16, to_bus), (17, to_client), (18, end)] {
+        if !bytes.is_empty() {
+            record(&mut output, kind, bytes)?;
+        }
+    }
+    Ok(output)
+}
+
+#[test]
+fn messages_follow_begin_and_the_answered_lines(rt: HostRuntime) -> Result<(), Fail> {
+    let call = message_bytes(rt.alloc(), &Call(1, "org.a.T", "/p", "org.a.I", "A"))?;
+    let reply = message_bytes(rt.alloc(), &Return(9, 1, ":1.7", ":1.40"))?;
+    let mut behind_begin = Vec::from_slice(rt.alloc(), b"\n")?;
+    behind_begin.extend_from_slice(&call)?;
+    let mut answers = Vec::from_slice(rt.alloc(), b"OK 00112233445566778899aabbccddeeff\r\n")?;
+    answers.extend_from_slice(&reply)?;
+    let mut to_bus = Vec::from_slice(rt.alloc(), b"\0AUTH EXTERNAL\r\nBEGIN\r\n")?;
+    to_bus.extend_from_slice(&call)?;
+    let items: [(u8, &[u8]); 3] = [
+        (0, b"\0AUTH EXTERNAL\r\nBEGIN\r"),
+        (0, &behind_begin),
+        (1, &answers),
+    ];
+    let output = written(rt.alloc(), &to_bus, &answers, b"")?;
+    for most in [1, 2, 7, 1000] {
+        let recording = recorded_lines(rt.alloc(), &items, most)?;
+        let ended = replay(rt.alloc(), TALK, &recording, 1000)?;
+        assert_ends(&rt, &ended, 0, &output, b"");
+    }
+    Ok(())
+}
+
+#[test]
+fn descriptors_are_declined_and_lines_are_answered_in_turn(rt: HostRuntime) -> Result<(), Fail> {
+    let lines = b"\0AUTH EXTERNAL\r\nDATA\r\nNEGOTIATE_UNIX_FD\r\nBEGIN\r\n";
+    let answers = b"DATA\r\nOK 0123456789abcdef0123456789abcdef\r\nERROR\r\n";
+    let to_bus = b"\0AUTH EXTERNAL\r\nDATA\r\nNO_UNIX_FD\r\nBEGIN\r\n";
+    let items: [(u8, &[u8]); 2] = [(0, lines), (1, answers)];
+    let output = written(rt.alloc(), to_bus, answers, b"")?;
+    for most in [1, 5, 1000] {
+        let recording = recorded_lines(rt.alloc(), &items, most)?;
+        let ended = replay(rt.alloc(), FILTER, &recording, 1000)?;
+        assert_ends(&rt, &ended, 0, &output, b"");
+    }
+    Ok(())
+}
+
+/// What comes, what goes to the bus and to the client, and the bytes of the End.
+type LineCase<'a> = (&'a [(u8, &'a [u8])], &'a [u8], &'a [u8], &'a [u8]);
+
+#[test]
+fn faulty_lines_end_the_session_and_go_nowhere(rt: HostRuntime) -> Result<(), Fail> {
+    let cases: [LineCase<'_>; 8] = [
+        (&[(0, b"A")], b"", b"", b"\x01\0\x01\0\0\0\0\0\0\0\0"),
+        (
+            &[(0, b"\0"), (1, b"O")],
+            b"\0",
+            b"",
+            b"\x02\0\x04\0\0\0\0\0\0\0\0",
+        ),
+        (
+            &[(0, b"\0NEGOTIATE_UNIX_FD\r\n"), (1, b"AGREE_UNIX_FD\r\n")],
+            b"\0NO_UNIX_FD\r\n",
+            b"",
+            b"\x02\0\x05\x0e\0\0\0\0\0\0\0",
+        ),
+        // BEGIN inside a line doesn't end the lines.
+        (&[(0, b"\0DATA BEGIN\r\n")], b"\0DATA BEGIN\r\n", b"", b""),
+        (
+            &[(0, b"\0DATA BEGIN\r\nAUTH\r\nA\n")],
+            b"\0DATA BEGIN\r\nAUTH\r\n",
+            b"",
+            b"\x01\0\x03\x14\0\0\0\0\0\0\0",
+        ),
+        // A line that isn't whole goes nowhere yet.
+        (&[(0, b"\0AUTH\r"), (1, b"")], b"\0", b"", b""),
+        // The bus answers once too often.
+        (
+            &[(0, b"\0AUTH\r\n"), (1, b"DATA\r\nDATA\r\n")],
+            b"\0AUTH\r\n",
+            b"DATA\r\n",
+            b"\x02\0\x04\x06\0\0\0\0\0\0\0",
+        ),
+        // Behind BEGIN the client's bytes are messages.
+        (
+            &[(0, b"\0BEGIN now\r\nAUTH EXTERNAL\r\n\r\n")],
+            b"\0BEGIN now\r\n",
+            b"",
+            b"\x01\x01\x01\0\0\0\0\0\0\0\0",
+        ),
+    ];
+    for (items, to_bus, to_client, end) in cases {
+        let output = written(rt.alloc(), to_bus, to_client, end)?;
+        for most in [1, 1000] {
+            let recording = recorded_lines(rt.alloc(), items, most)?;
+            let ended = replay(rt.alloc(), FILTER, &recording, 1000)?;
+            assert_ends(&rt, &ended, 0, &output, b"");
+        }
+    }
+    Ok(())
+}
+
 #[test]
 fn output_without_room_is_cut_with_status_6(rt: HostRuntime) -> Result<(), Fail> {
     let recording = recording(rt.alloc(), &[SIGNAL])?;

@@ -3,12 +3,13 @@ use Rattle.std.specs.Prelude.{ℕ, ◌==◌, if◌then◌else◌, Bool, List, []
 use Rattle.std.specs.Int.{w32, w64, to_le_bytes}
 use Rattle.dbus_header.specs.declared.MalformedKind.{MalformedKind}
 use Rattle.dbus_header.specs.declared.MalformedKind.TheVariants.{ByteOrder, MessageType, Version, Length, Serial, Fields, Required, Body, Descriptors}
+use Rattle.sasl_watch.specs.Lines.{line_number}
 use Rattle.policy_args.specs.Policy.{Policy}
 use Rattle.policy_view.specs.declared.Side.{Side}
 use Rattle.policy_view.specs.declared.Side.TheVariants.{Client, Bus}
 use Rattle.policy_view.specs.declared.Mode.{Mode}
 use Rattle.policy_view.specs.declared.Fault.{Fault}
-use Rattle.policy_view.specs.declared.Fault.TheVariants.{Message}
+use Rattle.policy_view.specs.declared.Fault.TheVariants.{Line, Message}
 use Rattle.policy_view.specs.declared.End.{End}
 use Rattle.policy_view.specs.declared.End.TheVariants.{ClientMalformed, BusMalformed, ClientEnd, BusEnd, SerialsSpent, Memory, ClientRead, ClientWrite, BusRead, BusWrite, BusConnect, LogFault, NotBuilt}
 use Rattle.policy_view.specs.History.{Event, Bytes, Finished, history, end_of}
@@ -57,8 +58,10 @@ malformed_number Required = 7
 malformed_number Body = 8
 malformed_number Descriptors = 9
 
--- a byte for the form of the fault, which is 1 for a message's, a byte for its kind, and its place in eight bytes
+-- a byte for the form of the fault, which is 0 for a line's and 1 for a message's, a byte for its kind, and its place in
+-- eight bytes
 abbrev pub fault_bytes : Fault → List ℕ
+fault_bytes (Line f) = 0 ∷ line_number f.kind ∷ to_le_bytes w64 f.at
 fault_bytes (Message m) = 1 ∷ malformed_number m.kind ∷ to_le_bytes w64 m.at
 
 -- the End's number, and what is wrong with a malformed stream

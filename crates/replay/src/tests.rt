@@ -26,7 +26,7 @@ fn writes_what_the_session_gives(rt: HostRuntime) -> Result<(), Fail> {
             b"DBPR\x01\x01\x00\x01\x00\x00\x00\x00",
             64,
             Ok(()),
-            b"\x12\x01\x00\x00\x00\x0d",
+            b"\x10\x01\x00\x00\x00\x00",
         ),
         (
             b"DBPR\x01\x00\x02\x00\x00\x00\x00",

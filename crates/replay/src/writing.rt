@@ -1,14 +1,17 @@
 //! Writing what a session gives out, piece by piece as it lies in the session.
 ghost use Rattle.std.specs.Prelude.{◌≡◌, ◌≤◌, ◌<◌, ◌^◌, ◌∷◌, ◌++◌, [], length, drop, OnOk, OnErr};
+ghost use Rattle.std.specs.Int.{w64, to_le_bytes};
 ghost use Rattle.link_traits.specs.Told.{added, Rose, Part};
+ghost use Rattle.sasl_watch.specs.Lines.{line_number};
 ghost use Rattle.proxy_core.specs.Sessions.{IsFront, waits_for};
 ghost use Rattle.replay.specs.Output.{header, record_of, record_where_any, malformed_number, fault_bytes, end_bytes, end_record};
 ghost use Rattle.replay.specs.Waiting.{with_waiting, kind_of, output_of};
 
-use dbus_header::{Malformed, MalformedKind};
+use dbus_header::MalformedKind;
 use link_traits::{Sink, SinkFault, write_all};
 use policy_view::{End, Fault, Side};
 use proxy_core::Session;
+use sasl_watch::LineKind;
 
 /// The kind of the record that says why the session ended.
 const END_KIND: u8 = 18;
@@ -145,12 +148,41 @@ fn write_number<O: Sink>(number: u8, out: &mut O) -> Result<(), SinkFault>
     write_all(out, &[END_KIND, 1, 0, 0, 0, number])
 }
 
-/// The malformed message of a fault.
-fn malformed_message(fault: Fault) -> Malformed
-    ensures { fault ≡ Fault.Message result }
+/// The number of a kind of faulty line.
+fn line_kind(kind: LineKind) -> u8
+    ensures { result ≡ line_number kind }
+{
+    match kind {
+        LineKind::NoNul => 1,
+        LineKind::LineTooLong => 2,
+        LineKind::BadByte => 3,
+        LineKind::EarlyBus => 4,
+        LineKind::Agreed => 5,
+    }
+}
+
+/// A fault as its record has it.
+struct FaultParts {
+    form: u8,
+    kind: u8,
+    at: u64,
+}
+
+/// The form of a fault, its kind and its place.
+fn parts_of(fault: Fault) -> FaultParts
+    ensures { fault_bytes fault ≡ result.form ∷ result.kind ∷ to_le_bytes w64 result.at }
 {
     match fault {
-        Fault::Message(malformed) => malformed,
+        Fault::Line(line) => FaultParts {
+            form: 0,
+            kind: line_kind(line.kind),
+            at: line.at,
+        },
+        Fault::Message(malformed) => FaultParts {
+            form: 1,
+            kind: malformed_kind(malformed.kind),
+            at: u64::from(malformed.at),
+        },
     }
 }
 
@@ -162,13 +194,12 @@ fn write_malformed<O: Sink>(number: u8, fault: Fault, out: &mut O) -> Result<(),
     ensures cause { OnErr result (Rose (O.faults out.old) (O.faults out.new)) }
     ensures count { O.faults out.old ≤ O.faults out.new }
 {
-    let malformed = malformed_message(fault);
-    let kind = malformed_kind(malformed.kind);
-    let [a, b, c, d, e, f, g, h] = u64::from(malformed.at).to_le_bytes();
+    let FaultParts { form, kind, at } = parts_of(fault);
+    let [a, b, c, d, e, f, g, h] = at.to_le_bytes();
     write_all(
         out,
         &[
-            END_KIND, 11, 0, 0, 0, number, 1, kind, a, b, c, d, e, f, g, h,
+            END_KIND, 11, 0, 0, 0, number, form, kind, a, b, c, d, e, f, g, h,
         ],
     )
 }

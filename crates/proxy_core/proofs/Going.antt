@@ -1,0 +1,411 @@
+-- How far a side's stream was taken, in the midst of a piece.
+use Rattle.std.proofs.Common.{ℕ, zero, suc, ◌≡◌, ◌+◌, ◌-◌, ◌≤◌, ◌<◌, Bool, true, false, cond, List, [], ◌∷◌, ◌++◌, length, take, map, Option, Some, None, refl, ap, ◌∙◌, sym, subst, arith, append-nil, append_assoc, length-append}
+use Rattle.std.specs.Prelude.{◌||◌, nat_lt}
+use Rattle.std.specs.List.{list_any}
+use Rattle.std.proofs.lemmas.List.{map-append}
+use Rattle.std.proofs.lemmas.Bool.Decides.{nat_tests}
+use Rattle.dbus_header.specs.Message.{Message}
+use Rattle.dbus_header.specs.Malformed.{front, fault as message_fault}
+use Rattle.dbus_header.specs.Stream.{split, split_by, messages, rest, bad}
+use Rattle.dbus_header.proofs.StreamLaws.{enough, front-shorter, front-longer}
+use Rattle.sasl_watch.specs.Lines.{Cut, through, is_begin, client_lines, client_cut, has_begun, after_begin, asked, client_fault, bus_cut, bus_lines, after_lines, bus_fault}
+use Rattle.sasl_watch.specs.Watching.{client_ahead, bus_ahead}
+use Rattle.sasl_watch.specs.Following.{ClientFollows, BusFollows, BusEnds, BusWaits}
+use Rattle.sasl_watch.specs.declared.LineFault.{LineFault}
+use Rattle.sasl_watch.specs.declared.LineKind.TheVariants.{EarlyBus}
+use Rattle.sasl_watch.proofs.LinesGrow.{fewer_then_none}
+use Rattle.policy_view.specs.Past.{Item, Line, Msg}
+use Rattle.policy_view.specs.History.{Event, stream, lines, content, messages_in, found, fault, fault_in, fault_of, fault_of_line, line_fault, first_fault}
+use Rattle.policy_view.specs.declared.Fault.{Fault}
+use Rattle.policy_view.specs.declared.Fault.TheVariants.{Line as OfLine}
+use Rattle.policy_view.specs.declared.Mode.{Mode}
+use Rattle.policy_view.specs.declared.Side.{Side}
+use Rattle.policy_view.specs.declared.Side.TheVariants.{Client, Bus}
+use Rattle.proxy_core.specs.Streams.{StreamView, Phase, InLines, InMessages}
+use Rattle.proxy_core.specs.Sessions.{FollowsLines, lines_in, AllGiven, StandsAt}
+use Rattle.proxy_core.proofs.LineCuts.{sound_at, behind, ClientGoes, client_waits, client_fails, BusGoes, bus_waits, bus_waits_for_begin, bus_ends, bus_fails, bus_early}
+
+-- ---- messages in front of bytes
+
+-- as many steps as there are bytes are enough
+split_enough : (n : ℕ) (s : List ℕ) → length s ≤ n → split s ≡ split_by front n s
+unfolding split
+split_enough n s h = enough front front-shorter front-longer (length s) n s (omega arith) h
+
+pub split_some : (s : List ℕ) (m : Message) (r : List ℕ) → front s ≡ Some (m, r) → split s ≡ (m ∷ messages r, rest r)
+split_some s m r e =
+    let less = front-shorter s m r e in
+    split_enough (suc (length s)) s (omega arith)
+    ∙ ap (λ (o : Option (Message × List ℕ)). Rattle.dbus_header.specs.Stream.more o s (split_by front (length s))) e
+    ∙ ap (λ (x : List Message × List ℕ). (m ∷ x.0, x.1)) (sym (split_enough (length s) r (omega (arith, less))))
+
+pub split_none : (s : List ℕ) → front s ≡ None → split s ≡ ([], s)
+split_none s e =
+    split_enough (suc (length s)) s (omega arith)
+    ∙ ap (λ (o : Option (Message × List ℕ)). Rattle.dbus_header.specs.Stream.more o s (split_by front (length s))) e
+
+-- ---- where a stream is
+
+-- how many lines were counted, of so many that were given
+abbrev pub Counts : Side → List Event → ℕ → ℕ → Type 0
+Counts Client events n given = n ≡ given - 1
+Counts Bus events n given = (n ≡ given) × (given ≤ asked (stream Client events))
+
+-- in its lines, of which these items came
+pub record GoesInLines (mode : Mode) (side : Side) (events : List Event) (s : StreamView) (place : ℕ) (told : Option LineFault) (items : List Item) : Type 0 where
+  pub auth : mode.auth ≡ true
+  pub quiet : told ≡ None
+  pub given : List (List ℕ)
+  pub follows : FollowsLines side (stream side events) given (sound_at place s.left)
+  pub counts : Counts side events s.lines (length given)
+  pub items_are : items ≡ map (Line side) given
+
+-- behind them
+pub record GoesInMessages (mode : Mode) (side : Side) (events : List Event) (s : StreamView) (items : List Item) : Type 0 where
+  pub bytes : List ℕ
+  pub content_is : content mode side events ≡ Some bytes
+  pub given : List Message
+  pub split_is : split bytes ≡ (given ++ messages s.left, rest s.left)
+  pub all : AllGiven mode side events
+  pub counts : mode.auth ≡ true → s.lines ≡ lines_in side mode events
+  pub items_are : items ≡ map (Line side) (lines mode side events) ++ map (Msg side) given
+
+abbrev pub GoesAt : Mode → Side → List Event → Phase → StreamView → List Item → Type 0
+GoesAt mode side events (InLines place told) s items = GoesInLines mode side events s place told items
+GoesAt mode side events InMessages s items = GoesInMessages mode side events s items
+
+abbrev pub Goes : Mode → Side → List Event → StreamView → List Item → Type 0
+Goes mode side events s items = GoesAt mode side events s.phase s items
+
+-- where nothing more stands in front: all was given, and this is the fault
+pub record Stops (mode : Mode) (side : Side) (events : List Event) (items : List Item) (f : Option Fault) : Type 0 where
+  pub found_is : found mode side events ≡ items
+  pub fault_is : fault mode side events ≡ f
+
+-- ---- what was given is the first of all
+
+begun_of : List (List ℕ) → Bool
+begun_of ls = list_any is_begin ls
+
+through_given : (given more : List (List ℕ)) → list_any is_begin given ≡ false → through is_begin (given ++ more) ≡ given ++ through is_begin more
+through_given [] more e = refl
+through_given (l ∷ ls) more e = by (is_begin l) refl e (through_given ls more)
+  where
+    by : (b : Bool) → is_begin l ≡ b → (b || list_any is_begin ls) ≡ false → (list_any is_begin ls ≡ false → through is_begin (ls ++ more) ≡ ls ++ through is_begin more)
+        → through is_begin (l ∷ ls ++ more) ≡ l ∷ ls ++ through is_begin more
+    by true k e ih = absurd cc
+    by false k e ih = ap (λ (b : Bool). l ∷ cond b [] (through is_begin (ls ++ more))) k ∙ ap (λ (x : List (List ℕ)). l ∷ x) (ih e)
+
+take_given : {A : Type 0} (n : ℕ) (given more : List A) → length given ≤ n → take n (given ++ more) ≡ given ++ take (n - length given) more
+take_given n [] more h = ap (λ (k : ℕ). take k more) (omega arith)
+take_given zero (x ∷ xs) more h = absurd (omega (arith, h))
+take_given (suc n) (x ∷ xs) more h =
+    ap (λ (t : List _). x ∷ t) (take_given n xs more (omega (arith, h)))
+    ∙ ap (λ (k : ℕ). x ∷ xs ++ take k more) (omega arith)
+
+abbrev pub Begins : List Item → List Item → Type 0
+Begins items all = (more : List Item) × (all ≡ items ++ more)
+
+lines_begin : (side : Side) (given more : List (List ℕ)) (ms items : List Item) → items ≡ map (Line side) given → Begins items (map (Line side) (given ++ more) ++ ms)
+lines_begin side given more ms items e = (
+  map (Line side) more ++ ms,
+  ap (λ (x : List Item). x ++ ms) (map-append (Line side) given more) ∙ append_assoc (map (Line side) given) (map (Line side) more) ms ∙ ap (λ (x : List Item). x ++ (map (Line side) more ++ ms)) (sym e),
+)
+
+pub begins : (mode : Mode) (side : Side) (events : List Event) (p : Phase) (s : StreamView) (items : List Item) → GoesAt mode side events p s items → Begins items (found mode side events)
+unfolding found lines
+begins mode Client events (InLines place told) s items g =
+    let all : client_lines (stream Client events) ≡ g.given ++ through is_begin (client_ahead (sound_at place s.left)).lines = ap (λ (c : Cut). through is_begin c.lines) g.follows.cut ∙ through_given g.given (client_ahead (sound_at place s.left)).lines g.follows.unbegun in
+    let is : cond mode.auth (client_lines (stream Client events)) [] ≡ g.given ++ through is_begin (client_ahead (sound_at place s.left)).lines = ap (λ (b : Bool). cond b (client_lines (stream Client events)) []) g.auth ∙ all in
+    subst (λ (ls : List (List ℕ)). Begins items (map (Line Client) ls ++ map (Msg Client) (messages_in (content mode Client events)))) (sym is)
+    (lines_begin Client g.given (through is_begin (client_ahead (sound_at place s.left)).lines) (map (Msg Client) (messages_in (content mode Client events))) items g.items_are)
+begins mode Bus events (InLines place told) s items g =
+    let n = asked (stream Client events) in
+    let more = take (n - length g.given) (bus_ahead (sound_at place s.left)).lines in
+    let all : bus_lines n (stream Bus events) ≡ g.given ++ more = ap (λ (c : Cut). take n c.lines) g.follows.cut ∙ take_given n g.given (bus_ahead (sound_at place s.left)).lines g.counts.1 in
+    let is : cond mode.auth (bus_lines n (stream Bus events)) [] ≡ g.given ++ more = ap (λ (b : Bool). cond b (bus_lines n (stream Bus events)) []) g.auth ∙ all in
+    subst (λ (ls : List (List ℕ)). Begins items (map (Line Bus) ls ++ map (Msg Bus) (messages_in (content mode Bus events)))) (sym is)
+    (lines_begin Bus g.given more (map (Msg Bus) (messages_in (content mode Bus events))) items g.items_are)
+begins mode side events InMessages s items g =
+    let ms : messages_in (content mode side events) ≡ g.given ++ messages s.left = ap messages_in g.content_is ∙ ap (λ (x : List Message × List ℕ). x.0) g.split_is in (
+      map (Msg side) (messages s.left),
+      ap (λ (x : List Message). map (Line side) (lines mode side events) ++ map (Msg side) x) ms
+          ∙ ap (λ (x : List Item). map (Line side) (lines mode side events) ++ x) (map-append (Msg side) g.given (messages s.left))
+          ∙ sym (append_assoc (map (Line side) (lines mode side events)) (map (Msg side) g.given) (map (Msg side) (messages s.left)))
+          ∙ ap (λ (x : List Item). x ++ map (Msg side) (messages s.left)) (sym g.items_are),
+    )
+
+-- ---- behind the lines
+
+module _ (mode : Mode) (side : Side) (events : List Event) (s : StreamView) (items : List Item) (g : GoesInMessages mode side events s items) where
+  fault_behind : line_fault mode side events ≡ None → fault mode side events ≡ fault_of (message_fault (rest s.left))
+  unfolding fault
+  fault_behind none =
+      ap (λ (o : Option Fault). first_fault o (fault_in (content mode side events))) none
+      ∙ ap fault_in g.content_is
+      ∙ ap (λ (x : List Message × List ℕ). fault_of (message_fault x.1)) g.split_is
+
+  -- no message stands in front
+  pub messages_stop : line_fault mode side events ≡ None → front s.left ≡ None → Stops mode side events items (fault_of (message_fault s.left))
+  unfolding found
+  messages_stop none e =
+      let is = split_none s.left e in
+      record {
+        found_is = ap (λ (o : Option (List ℕ)). map (Line side) (lines mode side events) ++ map (Msg side) (messages_in o)) g.content_is
+            ∙ ap (λ (x : List Message × List ℕ). map (Line side) (lines mode side events) ++ map (Msg side) x.0) g.split_is
+            ∙ ap (λ (x : List Message × List ℕ). map (Line side) (lines mode side events) ++ map (Msg side) (g.given ++ x.0)) is
+            ∙ ap (λ (x : List Message). map (Line side) (lines mode side events) ++ map (Msg side) x) (append-nil g.given)
+            ∙ sym g.items_are;
+        fault_is = fault_behind none ∙ ap (λ (x : List Message × List ℕ). fault_of (message_fault x.1)) is;
+      }
+
+  -- and what is left then is the stream's rest
+  pub messages_stand : front s.left ≡ None → StandsAt mode side events InMessages s.left
+  messages_stand e = (g.bytes, g.content_is, sym (ap (λ (x : List Message × List ℕ). x.1) (g.split_is ∙ ap (λ (x : List Message × List ℕ). (g.given ++ x.0, x.1)) (split_none s.left e))), g.all)
+
+  -- a message stands in front
+  pub message_goes : (m : Message) (left : List ℕ) → front s.left ≡ Some (m, left) → GoesInMessages mode side events (record s { left = left }) (items ++ Msg side m ∷ [])
+  message_goes m left e = record {
+    bytes = g.bytes;
+    content_is = g.content_is;
+    given = g.given ++ m ∷ [];
+    split_is = g.split_is ∙ ap (λ (x : List Message × List ℕ). (g.given ++ x.0, x.1)) (split_some s.left m left e) ∙ ap (λ (x : List Message). (x, rest left)) (sym (append_assoc g.given (m ∷ []) (messages left)));
+    all = g.all;
+    counts = g.counts;
+    items_are = ap (λ (x : List Item). x ++ Msg side m ∷ []) g.items_are
+        ∙ append_assoc (map (Line side) (lines mode side events)) (map (Msg side) g.given) (Msg side m ∷ [])
+        ∙ ap (λ (x : List Item). map (Line side) (lines mode side events) ++ x) (sym (map-append (Msg side) g.given (m ∷ [])));
+  }
+
+-- ---- the client's lines
+
+abbrev some : {A : Type 0} → A → Option A
+some x = Some x
+
+module _ (mode : Mode) (events : List Event) (s : StreamView) (place : ℕ) (items : List Item) (g : GoesInLines mode Client events s place None items) where
+  abbrev C : List ℕ
+  C = stream Client events
+
+  line_added : (side : Side) (given : List (List ℕ)) (l : List ℕ) → items ≡ map (Line side) given → items ++ Line side l ∷ [] ≡ map (Line side) (given ++ l ∷ [])
+  line_added side given l e = ap (λ (x : List Item). x ++ Line side l ∷ []) e ∙ sym (map-append (Line side) given (l ∷ []))
+
+  client_found : (ls : List (List ℕ)) → client_lines C ≡ ls → has_begun C ≡ false → found mode Client events ≡ map (Line Client) ls
+  unfolding found lines content
+  client_found ls e b = rw (g.auth, b, e) (append-nil (map (Line Client) ls))
+
+  client_fault_is : (o : Option LineFault) → client_fault C ≡ o → has_begun C ≡ false → fault mode Client events ≡ fault_of_line o
+  unfolding fault content
+  client_fault_is o e b =
+      ap (λ (a : Bool). first_fault (cond a (fault_of_line (client_fault C)) None) (fault_in (cond a (cond (has_begun C) (some (after_begin C)) None) (some C)))) g.auth
+      ∙ ap (λ (x : Option LineFault). first_fault (fault_of_line x) (fault_in (cond (has_begun C) (some (after_begin C)) None))) e
+      ∙ ap (λ (d : Bool). first_fault (fault_of_line o) (fault_in (cond d (some (after_begin C)) None))) b
+      ∙ by o
+    where
+      by : (o : Option LineFault) → first_fault (fault_of_line o) None ≡ fault_of_line o
+      by None = refl
+      by (Some f) = refl
+
+  pub client_stops : (client_ahead (sound_at place s.left)).lines ≡ [] → (o : Option LineFault) → (client_ahead (sound_at place s.left)).fault ≡ o → Stops mode Client events items (fault_of_line o)
+  client_stops l None e =
+      let w = client_waits C g.given place s.left g.follows l e in
+      record { found_is = client_found g.given w.lines w.unbegun ∙ sym g.items_are; fault_is = client_fault_is None w.sound w.unbegun }
+  client_stops l (Some f) e =
+      let w = client_fails C g.given place s.left f g.follows l e in
+      record { found_is = client_found g.given w.lines w.unbegun ∙ sym g.items_are; fault_is = client_fault_is (Some f) w.fault w.unbegun }
+
+  pub client_stands : (client_ahead (sound_at place s.left)).lines ≡ [] → (client_ahead (sound_at place s.left)).fault ≡ None → StandsAt mode Client events (InLines place None) s.left × (s.lines ≡ asked C)
+  unfolding lines content
+  client_stands l e =
+      let w = client_waits C g.given place s.left g.follows l e in
+      let is : cond mode.auth (client_lines C) [] ≡ g.given = ap (λ (b : Bool). cond b (client_lines C) []) g.auth ∙ w.lines in (
+        (
+          g.auth,
+          refl,
+          subst (λ (ls : List (List ℕ)). ClientFollows C ls (sound_at place s.left)) (sym is) g.follows,
+          rw (g.auth, w.unbegun) refl,
+        ),
+        g.counts ∙ sym w.asked,
+      )
+
+  -- a line that isn't BEGIN
+  pub client_line_goes : (l : List ℕ) (n : ℕ) → ClientGoes C g.given place s.left l → is_begin l ≡ false → (place ≡ 0 → n ≡ 0) → (0 < place → n ≡ 1)
+      → GoesInLines mode Client events (record s { phase = InLines (place + length l) None; left = (behind place s.left l).left; lines = s.lines + n }) (place + length l) None (items ++ Line Client l ∷ [])
+  client_line_goes l n c b zero_is one_is = record {
+    auth = g.auth;
+    quiet = refl;
+    given = g.given ++ l ∷ [];
+    follows = c.more b;
+    counts = counted place refl;
+    items_are = line_added Client g.given l g.items_are;
+  }
+    where
+      more : length (g.given ++ l ∷ []) ≡ length g.given + 1
+      more = length-append g.given (l ∷ [])
+
+      some_given : (given : List (List ℕ)) (p : ℕ) → p ≡ length (Rattle.sasl_watch.specs.Lines.joined given) → 0 < p → 0 < length given
+      some_given [] p e h = absurd (omega (arith, e, h))
+      some_given (x ∷ xs) p e h = omega arith
+
+      counted : (p : ℕ) → place ≡ p → s.lines + n ≡ length (g.given ++ l ∷ []) - 1
+      counted zero e =
+          let none : length g.given ≡ 0 = ap length (c.start e).0 in
+          omega (arith, more, none, zero_is e, g.counts)
+      counted (suc p) e =
+          let pos : 0 < place = omega (arith, e) in
+          let h = some_given g.given place g.follows.place pos in
+          omega (arith, more, h, one_is pos, g.counts)
+
+  -- BEGIN
+  pub begin_goes : (l : List ℕ) → ClientGoes C g.given place s.left l → is_begin l ≡ true → GoesInMessages mode Client events (record s { phase = InMessages; left = (behind place s.left l).left; lines = s.lines + 0 }) (items ++ Line Client l ∷ [])
+  unfolding lines content
+  begin_goes l c b =
+      let e = c.last b in
+      record {
+        bytes = after_begin C;
+        content_is = rw (g.auth, e.begun) refl;
+        given = [];
+        split_is = ap split e.left;
+        all = tt;
+        counts = λ a. omega (arith, g.counts, e.asked);
+        items_are = line_added Client g.given l g.items_are ∙ sym (append-nil (map (Line Client) (g.given ++ l ∷ []))) ∙ ap (λ (ls : List (List ℕ)). map (Line Client) ls ++ []) (sym (ap (λ (b : Bool). cond b (client_lines C) []) g.auth ∙ e.lines));
+      }
+
+-- ---- the bus's lines
+
+module _ (mode : Mode) (events : List Event) (s : StreamView) (place : ℕ) (items : List Item) (g : GoesInLines mode Bus events s place None items) where
+  abbrev n : ℕ
+  n = asked (stream Client events)
+
+  abbrev begun : Bool
+  begun = has_begun (stream Client events)
+
+  abbrev B : List ℕ
+  B = stream Bus events
+
+  bus_found : (ls : List (List ℕ)) → bus_lines n B ≡ ls → after_lines n B ≡ [] → found mode Bus events ≡ map (Line Bus) ls
+  unfolding found lines content split
+  bus_found ls e a =
+      ap (λ (x : Bool). map (Line Bus) (cond x (bus_lines n B) []) ++ map (Msg Bus) (messages_in (cond x (cond begun (some (after_lines n B)) None) (some B)))) g.auth
+      ∙ ap (λ (x : List (List ℕ)). map (Line Bus) x ++ map (Msg Bus) (messages_in (cond begun (some (after_lines n B)) None))) e
+      ∙ ap (λ (t : List ℕ). map (Line Bus) ls ++ map (Msg Bus) (messages_in (cond begun (some t) None))) a
+      ∙ by begun
+    where
+      by : (b : Bool) → map (Line Bus) ls ++ map (Msg Bus) (messages_in (cond b (some []) None)) ≡ map (Line Bus) ls
+      by true = append-nil (map (Line Bus) ls)
+      by false = append-nil (map (Line Bus) ls)
+
+  nothing_bad : (b : Bool) → fault_in (cond b (some []) None) ≡ None
+  unfolding split message_fault
+  nothing_bad true = refl
+  nothing_bad false = refl
+
+  bus_fault_is : (o : Option LineFault) → bus_fault n begun B ≡ o → after_lines n B ≡ [] → fault mode Bus events ≡ fault_of_line o
+  unfolding fault content
+  bus_fault_is o e a =
+      ap (λ (x : Bool). first_fault (cond x (fault_of_line (bus_fault n begun B)) None) (fault_in (cond x (cond begun (some (after_lines n B)) None) (some B)))) g.auth
+      ∙ ap (λ (x : Option LineFault). first_fault (fault_of_line x) (fault_in (cond begun (some (after_lines n B)) None))) e
+      ∙ ap (λ (t : List ℕ). first_fault (fault_of_line o) (fault_in (cond begun (some t) None))) a
+      ∙ by o
+    where
+      by : (o : Option LineFault) → first_fault (fault_of_line o) (fault_in (cond begun (some []) None)) ≡ fault_of_line o
+      by None = nothing_bad begun
+      by (Some f) = refl
+
+  waits_stop : BusWaits B g.given n begun (sound_at place s.left) → Stops mode Bus events items None
+  waits_stop w = record { found_is = bus_found g.given w.lines w.none_left ∙ sym g.items_are; fault_is = bus_fault_is None w.sound w.none_left }
+
+  waits_stand : BusWaits B g.given n begun (sound_at place s.left) → StandsAt mode Bus events (InLines place None) s.left × (s.lines ≡ length (lines mode Bus events))
+  unfolding lines content split
+  waits_stand w =
+      let is : cond mode.auth (bus_lines n B) [] ≡ g.given = ap (λ (b : Bool). cond b (bus_lines n B) []) g.auth ∙ w.lines in (
+        (
+          g.auth,
+          refl,
+          subst (λ (ls : List (List ℕ)). BusFollows B ls (sound_at place s.left)) (sym is) g.follows,
+          ap (λ (x : Bool). messages_in (cond x (cond begun (some (after_lines n B)) None) (some B))) g.auth
+              ∙ ap (λ (t : List ℕ). messages_in (cond begun (some t) None)) w.none_left
+              ∙ by begun,
+        ),
+        g.counts.0 ∙ sym (ap length is),
+      )
+    where
+      by : (b : Bool) → messages_in (cond b (some []) None) ≡ []
+      by true = refl
+      by false = refl
+
+  -- the next line of the bus
+  pub bus_line_goes : (l : List ℕ) → BusGoes B g.given n place s.left l
+      → GoesInLines mode Bus events (record s { phase = InLines (place + length l) None; left = (behind place s.left l).left; lines = s.lines + 1 }) (place + length l) None (items ++ Line Bus l ∷ [])
+  bus_line_goes l c =
+      let more : length (g.given ++ l ∷ []) ≡ length g.given + 1 = length-append g.given (l ∷ []) in
+      record {
+        auth = g.auth;
+        quiet = refl;
+        given = g.given ++ l ∷ [];
+        follows = c.more;
+        counts = (omega (arith, g.counts.0, more), c.few);
+        items_are = ap (λ (x : List Item). x ++ Line Bus l ∷ []) g.items_are ∙ sym (map-append (Line Bus) g.given (l ∷ []));
+      }
+
+  -- the end of its lines
+  pub ends_go : BusEnds B g.given n begun (sound_at place s.left) → GoesInMessages mode Bus events (record s { phase = InMessages }) items
+  unfolding lines content
+  ends_go e =
+      let is : cond mode.auth (bus_lines n B) [] ≡ g.given = ap (λ (b : Bool). cond b (bus_lines n B) []) g.auth ∙ e.lines in
+      record {
+        bytes = s.left;
+        content_is = ap (λ (x : Bool). cond x (cond begun (some (after_lines n B)) None) (some B)) g.auth ∙ ap (λ (x : Bool). cond x (some (after_lines n B)) None) e.seen ∙ ap some e.left;
+        given = [];
+        split_is = refl;
+        all = λ a. ap length is ∙ e.all;
+        counts = λ a. g.counts.0 ∙ sym (ap length is);
+        items_are = g.items_are ∙ sym (append-nil (map (Line Bus) g.given)) ∙ ap (λ (ls : List (List ℕ)). map (Line Bus) ls ++ []) (sym is);
+      }
+
+  -- where its lines stop
+  fails_stop : (f : LineFault) → bus_fault n begun B ≡ Some f → bus_lines n B ≡ g.given → messages_in (cond begun (some (after_lines n B)) None) ≡ [] → Stops mode Bus events items (Some (OfLine f))
+  unfolding found lines content fault
+  fails_stop f is l quiet = record {
+    found_is = ap (λ (x : Bool). map (Line Bus) (cond x (bus_lines n B) []) ++ map (Msg Bus) (messages_in (cond x (cond begun (some (after_lines n B)) None) (some B)))) g.auth
+        ∙ ap (λ (x : List (List ℕ)). map (Line Bus) x ++ map (Msg Bus) (messages_in (cond begun (some (after_lines n B)) None))) l
+        ∙ ap (λ (x : List Message). map (Line Bus) g.given ++ map (Msg Bus) x) quiet
+        ∙ append-nil (map (Line Bus) g.given)
+        ∙ sym g.items_are;
+    fault_is = ap (λ (x : Bool). first_fault (cond x (fault_of_line (bus_fault n begun B)) None) (fault_in (cond x (cond begun (some (after_lines n B)) None) (some B)))) g.auth
+        ∙ ap (λ (x : Option LineFault). first_fault (fault_of_line x) (fault_in (cond begun (some (after_lines n B)) None))) is;
+  }
+
+  fewer_left : bus_lines n B ≡ g.given → 0 < n - length g.given → messages_in (cond begun (some (after_lines n B)) None) ≡ []
+  unfolding split
+  fewer_left same pos =
+      let h : length (bus_lines n B) ≡ length g.given = ap length same in
+      let fewer : nat_lt (length (bus_lines n B)) n ≡ true = grind (arith, nat_tests, h, pos) in
+      ap (λ (t : List ℕ). messages_in (cond begun (some t) None)) (fewer_then_none n B fewer) ∙ by begun
+    where
+      by : (b : Bool) → messages_in (cond b (some []) None) ≡ []
+      by true = refl
+      by false = refl
+
+  pub bus_stops : 0 < n - length g.given → (bus_ahead (sound_at place s.left)).lines ≡ [] → (o : Option LineFault) → (bus_ahead (sound_at place s.left)).fault ≡ o → Stops mode Bus events items (fault_of_line o)
+  bus_stops pos l None e = waits_stop (bus_waits B g.given n begun place s.left g.counts.1 g.follows pos l e)
+  bus_stops pos l (Some f) e =
+      let w = bus_fails B g.given n begun place s.left g.counts.1 g.follows f pos l e in
+      fails_stop f (w.fault refl) (w.lines refl) (fewer_left (w.lines refl) pos)
+
+  pub bus_stands : 0 < n - length g.given → (bus_ahead (sound_at place s.left)).lines ≡ [] → (bus_ahead (sound_at place s.left)).fault ≡ None → StandsAt mode Bus events (InLines place None) s.left × (s.lines ≡ length (lines mode Bus events))
+  bus_stands pos l e = waits_stand (bus_waits B g.given n begun place s.left g.counts.1 g.follows pos l e)
+
+  -- where all lines were answered, and BEGIN wasn't seen
+  pub early_stops : n - length g.given ≡ 0 → begun ≡ false → 0 < length s.left → Stops mode Bus events items (Some (OfLine (record { kind = EarlyBus; at = place })))
+  early_stops none unseen some_left =
+      let w = bus_early B g.given n begun place s.left g.counts.1 g.follows none unseen some_left in
+      fails_stop (record { kind = EarlyBus; at = place }) (w.fault refl) (w.lines refl) (ap (λ (b : Bool). messages_in (cond b (some (after_lines n B)) None)) unseen)
+
+  pub none_stops : n - length g.given ≡ 0 → begun ≡ false → s.left ≡ [] → Stops mode Bus events items None × StandsAt mode Bus events (InLines place None) s.left × (s.lines ≡ length (lines mode Bus events))
+  none_stops none unseen empty =
+      let w = bus_waits_for_begin B g.given n begun place s.left g.counts.1 g.follows none unseen empty in
+      let t = waits_stand w in
+      (waits_stop w, t.0, t.1)
+
+  pub done_goes : n - length g.given ≡ 0 → begun ≡ true → GoesInMessages mode Bus events (record s { phase = InMessages }) items
+  done_goes none seen = ends_go (bus_ends B g.given n begun place s.left g.counts.1 g.follows none seen)

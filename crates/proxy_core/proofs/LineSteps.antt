@@ -1,0 +1,197 @@
+-- Lines taken from the front of a stream.
+use Rattle.std.proofs.Common.{ℕ, zero, suc, ◌≡◌, ◌+◌, ◌≤◌, Bool, true, false, cond, List, [], ◌∷◌, ◌++◌, length, take, drop, Option, Some, None, refl, ap, ◌∙◌, sym, subst, arith, length-append, inl, inr}
+use Rattle.std.specs.Prelude.{◌⊎◌, ◌==◌, ◌||◌, not, codes, bytes_eq, take_while}
+use Rattle.std.specs.List.{prefix_len}
+use Rattle.dbus_values.proofs.ValueLaws.{bytes_eq-true}
+use Rattle.dbus_names.specs.Names.{is_empty}
+use Rattle.sasl_watch.specs.Lines.{Cut, word, has_word, is_begin, for_bus}
+use Rattle.sasl_watch.specs.Lines as lines
+use Rattle.sasl_watch.specs.Watching.{Watch, client_ahead, bus_ahead, ClientGives, BusGives}
+use Rattle.sasl_watch.specs.declared.LineFault.{LineFault}
+use Rattle.sasl_watch.specs.declared.LineKind.TheVariants.{EarlyBus}
+use Rattle.sasl_watch.specs.declared.NextLine.{NextLine}
+use Rattle.sasl_watch.specs.declared.NextLine.TheVariants.{Line, Begin}
+use Rattle.policy_args.specs.Policy.{Policy}
+use Rattle.policy_view.specs.declared.Side.{Side}
+use Rattle.policy_view.specs.declared.Side.TheVariants.{Client, Bus}
+use Rattle.proxy_core.specs.Streams.{StreamView, InLines, watch_at, GaveLine}
+use Rattle.proxy_core.specs.Sessions.{SessionView, IsFront}
+use Rattle.proxy_core.specs.Steps.{behind_line, in_messages, with_line_fault, with_lines, with_cut, unanswered, has_begun, with_all_answered, step_at, Stepped, Did, bus_weight, client_weight, IsLight}
+use Rattle.proxy_core.proofs.Keeping.{front_all, front_more}
+
+-- ---- what waits behind a line starts with what waited before
+
+fault_bus : (side : Side) (place : ℕ) (o : Option LineFault) (view : SessionView) → IsFront view.bus_side (with_line_fault side place o view).bus_side
+fault_bus side place None view = front_all view.bus_side
+fault_bus Client place (Some f) view = front_all view.bus_side
+fault_bus Bus place (Some f) view = front_all view.bus_side
+
+fault_client : (side : Side) (place : ℕ) (o : Option LineFault) (view : SessionView) → IsFront view.client_side (with_line_fault side place o view).client_side
+fault_client side place None view = front_all view.client_side
+fault_client Client place (Some f) view = front_all view.client_side
+fault_client Bus place (Some f) view = front_all view.client_side
+
+lines_bus : (side : Side) (place : ℕ) (ls : List (List ℕ)) (o : Option LineFault) (view : SessionView) → IsFront view.bus_side (with_lines side place ls o view).0.bus_side
+lines_bus side place [] o view = fault_bus side place o view
+lines_bus Client place (l ∷ ls) o view = front_more view.bus_side (for_bus l)
+lines_bus Bus place (l ∷ ls) o view = front_all view.bus_side
+
+lines_client : (side : Side) (place : ℕ) (ls : List (List ℕ)) (o : Option LineFault) (view : SessionView) → IsFront view.client_side (with_lines side place ls o view).0.client_side
+lines_client side place [] o view = fault_client side place o view
+lines_client Client place (l ∷ ls) o view = front_all view.client_side
+lines_client Bus place (l ∷ ls) o view = front_more view.client_side l
+
+abbrev by_begun : Bool → Option LineFault → ℕ → SessionView → SessionView × Bool
+by_begun b o place view = cond b (record view { bus = in_messages view.bus }, true) (with_line_fault Bus place o view, false)
+
+begun_bus : (b : Bool) (o : Option LineFault) (place : ℕ) (view : SessionView) → IsFront view.bus_side (by_begun b o place view).0.bus_side
+begun_bus true o place view = front_all view.bus_side
+begun_bus false o place view = fault_bus Bus place o view
+
+begun_client : (b : Bool) (o : Option LineFault) (place : ℕ) (view : SessionView) → IsFront view.client_side (by_begun b o place view).0.client_side
+begun_client true o place view = front_all view.client_side
+begun_client false o place view = fault_client Bus place o view
+
+abbrev early : ℕ → SessionView → Option LineFault
+early place view = cond (is_empty view.bus.left) None (Some (record { kind = EarlyBus; at = place }))
+
+bus_line_bus : (b : Bool) (place : ℕ) (view : SessionView) → IsFront view.bus_side (cond b (with_all_answered place view) (with_cut Bus place (bus_ahead (watch_at place None view.bus.left)) view)).0.bus_side
+bus_line_bus true place view = begun_bus (has_begun view) (early place view) place view
+bus_line_bus false place view = lines_bus Bus place (bus_ahead (watch_at place None view.bus.left)).lines (bus_ahead (watch_at place None view.bus.left)).fault view
+
+bus_line_client : (b : Bool) (place : ℕ) (view : SessionView) → IsFront view.client_side (cond b (with_all_answered place view) (with_cut Bus place (bus_ahead (watch_at place None view.bus.left)) view)).0.client_side
+bus_line_client true place view = begun_client (has_begun view) (early place view) place view
+bus_line_client false place view = lines_client Bus place (bus_ahead (watch_at place None view.bus.left)).lines (bus_ahead (watch_at place None view.bus.left)).fault view
+
+pub line_bus : (side : Side) (place : ℕ) (o : Option LineFault) (policy : Policy) (view : SessionView) → IsFront view.bus_side (step_at policy side (InLines place o) view).0.bus_side
+line_bus Client place None policy view = lines_bus Client place (client_ahead (watch_at place None view.client.left)).lines (client_ahead (watch_at place None view.client.left)).fault view
+line_bus Bus place None policy view = bus_line_bus (unanswered view == 0) place view
+line_bus side place (Some f) policy view = fault_bus side place (Some f) view
+
+pub line_client : (side : Side) (place : ℕ) (o : Option LineFault) (policy : Policy) (view : SessionView) → IsFront view.client_side (step_at policy side (InLines place o) view).0.client_side
+line_client Client place None policy view = lines_client Client place (client_ahead (watch_at place None view.client.left)).lines (client_ahead (watch_at place None view.client.left)).fault view
+line_client Bus place None policy view = bus_line_client (unanswered view == 0) place view
+line_client side place (Some f) policy view = fault_client side place (Some f) view
+
+-- ---- where more may follow, the session runs
+
+lines_run : (side : Side) (place : ℕ) (ls : List (List ℕ)) (o : Option LineFault) (view : SessionView) → view.ended ≡ None → (with_lines side place ls o view).1 ≡ true → (with_lines side place ls o view).0.ended ≡ None
+lines_run side place [] o view runs e = absurd cc
+lines_run Client place (l ∷ ls) o view runs e = runs
+lines_run Bus place (l ∷ ls) o view runs e = runs
+
+bus_line_runs : (b begun : Bool) (place : ℕ) (o : Option LineFault) (view : SessionView) → view.ended ≡ None
+    → (cond b (by_begun begun o place view) (with_cut Bus place (bus_ahead (watch_at place None view.bus.left)) view)).1 ≡ true
+    → (cond b (by_begun begun o place view) (with_cut Bus place (bus_ahead (watch_at place None view.bus.left)) view)).0.ended ≡ None
+bus_line_runs true true place o view runs e = runs
+bus_line_runs true false place o view runs e = absurd cc
+bus_line_runs false begun place o view runs e = lines_run Bus place (bus_ahead (watch_at place None view.bus.left)).lines (bus_ahead (watch_at place None view.bus.left)).fault view runs e
+
+pub line_runs : (side : Side) (place : ℕ) (o : Option LineFault) (policy : Policy) (view : SessionView) → view.ended ≡ None → (step_at policy side (InLines place o) view).1 ≡ true → (step_at policy side (InLines place o) view).0.ended ≡ None
+line_runs Client place None policy view runs e = lines_run Client place (client_ahead (watch_at place None view.client.left)).lines (client_ahead (watch_at place None view.client.left)).fault view runs e
+line_runs Bus place None policy view runs e = bus_line_runs (unanswered view == 0) (has_begun view) place (early place view) view runs e
+line_runs side place (Some f) policy view runs e = absurd cc
+
+-- ---- the stream behind a line
+
+pub drop_front : (xs ys : List ℕ) → drop (length xs) (xs ++ ys) ≡ ys
+drop_front [] ys = refl
+drop_front (x ∷ xs) ys = drop_front xs ys
+
+pub stream_behind : (s : StreamView) (place n : ℕ) (l : List ℕ) (w : Watch) → s.left ≡ l ++ w.left → w ≡ record { place = place + length l; left = w.left; bad = None } →
+    record { came = s.came; phase = InLines w.place w.bad; left = w.left; lines = s.lines + n } ≡ behind_line place l n s
+stream_behind s place n l w parts is =
+    ap (λ (v : Watch). record { came = s.came; phase = InLines v.place v.bad; left = w.left; lines = s.lines + n }) is
+    ∙ ap (λ (left : List ℕ). record { came = s.came; phase = InLines (place + length l) None; left = left; lines = s.lines + n }) (sym (ap (drop (length l)) parts ∙ drop_front l w.left))
+
+-- ---- what was done with a line
+
+module _ (expected : SessionView × Bool) (old mid new target : SessionView) (goes : Bool) (runs : old.ended ≡ None) (is : target ≡ expected.0) (more : expected.1 ≡ true) (mode : mid.mode ≡ old.mode) where
+  pub did_step : Did target mid new goes → Stepped expected old new goes
+  did_step (inl done) = inl (done.0 ∙ is, done.1 ∙ sym more)
+  did_step (inr cut) = inr (
+    record {
+      running = runs;
+      ended = cut.0.ended;
+      mode = cut.0.mode ∙ mode;
+      for_bus = subst (λ (v : SessionView). IsFront new.bus_side v.bus_side) is cut.0.for_bus;
+      for_client = subst (λ (v : SessionView). IsFront new.client_side v.client_side) is cut.0.for_client;
+    },
+    cut.1,
+  )
+
+front_short : (xs ys : List ℕ) → IsFront xs ys → length xs ≤ length ys
+front_short xs ys f = let h : length xs + length f.rest ≡ length ys = sym (length-append xs f.rest) ∙ ap length f.is in omega (arith, h)
+
+pub did_light : (old mid new target : SessionView) (goes : Bool) → Did target mid new goes → mid.mode ≡ old.mode → target.mode ≡ old.mode
+    → length target.client.left ≡ length mid.client.left → length target.bus.left ≡ length mid.bus.left
+    → bus_weight target ≤ bus_weight old → client_weight target ≤ client_weight old → IsLight 0 old new
+did_light old mid new target goes (inl done) mode mode_is client bus b c =
+    subst (λ (v : SessionView). IsLight 0 old v) (sym done.0) (record { mode = mode_is; for_bus = omega (arith, b); for_client = omega (arith, c) })
+did_light old mid new target goes (inr cut) mode mode_is client bus b c =
+    let fb = front_short new.bus_side target.bus_side cut.0.for_bus in
+    let fc = front_short new.client_side target.client_side cut.0.for_client in
+    let lc = cut.0.client in
+    let lb = cut.0.bus in
+    record { mode = cut.0.mode ∙ mode; for_bus = omega (arith, b, fb, lc, lb, client, bus); for_client = omega (arith, c, fc, lc, lb, client, bus) }
+
+-- ---- a line goes to the bus in no more bytes than it has
+
+take_short : (n : ℕ) (xs : List ℕ) → length (take n xs) ≤ length xs
+take_short zero xs = omega arith
+take_short (suc n) [] = omega arith
+take_short (suc n) (x ∷ xs) = let h = take_short n xs in omega (arith, h)
+
+while_short : (test : ℕ → Bool) (xs : List ℕ) → length (take_while test xs) ≤ length xs
+while_short test xs = take_short (prefix_len test xs) xs
+
+pub for_bus_short : (l : List ℕ) → length (for_bus l) ≤ length l
+for_bus_short l = by (bytes_eq (word l) (codes "NEGOTIATE_UNIX_FD")) refl
+  where
+    by : (b : Bool) → bytes_eq (word l) (codes "NEGOTIATE_UNIX_FD") ≡ b → length (cond b (codes "NO_UNIX_FD" ++ lines.crlf) l) ≤ length l
+    by true e =
+        let same : length (word l) ≡ 17 = ap length (bytes_eq-true (word l) (codes "NEGOTIATE_UNIX_FD") e) in
+        let short : length (word l) ≤ length l = while_short (λ c. not (c == 32 || c == 13)) l in
+        omega (arith, same, short)
+    by false e = omega arith
+
+-- ---- how much waits behind a line
+
+pub client_light : (view old new target : SessionView) (s : StreamView) (l : List ℕ) (goes : Bool) → view ≡ old → view.client.left ≡ l ++ s.left
+    → Did target (record view { client = s }) new goes → target.mode ≡ view.mode → target.client.left ≡ s.left → target.bus.left ≡ view.bus.left
+    → target.bus_side ≡ view.bus_side ++ for_bus l → target.client_side ≡ view.client_side → IsLight 0 old new
+client_light view old new target s l goes same parts did mode client bus out shown =
+    let total : length view.client.left ≡ length l + length s.left = ap length parts ∙ length-append l s.left in
+    let c : length target.client.left ≡ length s.left = ap length client in
+    let b : length target.bus.left ≡ length view.bus.left = ap length bus in
+    let o : length target.bus_side ≡ length view.bus_side + length (for_bus l) = ap length out ∙ length-append view.bus_side (for_bus l) in
+    let h : length target.client_side ≡ length view.client_side = ap length shown in
+    let short = for_bus_short l in
+    subst (λ (v : SessionView). IsLight 0 v new) same
+    (did_light view (record view { client = s }) new target goes did refl mode c b (omega (arith, total, c, b, o, short)) (omega (arith, total, c, b, h)))
+
+pub bus_light : (view old new target : SessionView) (s : StreamView) (l : List ℕ) (goes : Bool) → view ≡ old → view.bus.left ≡ l ++ s.left
+    → Did target (record view { bus = s }) new goes → target.mode ≡ view.mode → target.bus.left ≡ s.left → target.client.left ≡ view.client.left
+    → target.client_side ≡ view.client_side ++ l → target.bus_side ≡ view.bus_side → IsLight 0 old new
+bus_light view old new target s l goes same parts did mode bus client out shown =
+    let total : length view.bus.left ≡ length l + length s.left = ap length parts ∙ length-append l s.left in
+    let c : length target.client.left ≡ length view.client.left = ap length client in
+    let b : length target.bus.left ≡ length s.left = ap length bus in
+    let o : length target.client_side ≡ length view.client_side + length l = ap length out ∙ length-append view.client_side l in
+    let h : length target.bus_side ≡ length view.bus_side = ap length shown in
+    subst (λ (v : SessionView). IsLight 0 v new) same
+    (did_light view (record view { bus = s }) new target goes did refl mode c b (omega (arith, total, c, b, h)) (omega (arith, total, c, b, o)))
+
+-- what is left behind a line
+pub client_left_behind : (s new : StreamView) (next : NextLine) (l : List ℕ) → (next ≡ Line l) ⊎ (next ≡ Begin l) → GaveLine ClientGives s next new → s.left ≡ l ++ new.left
+client_left_behind s new next l (inl e) g =
+    let h : GaveLine ClientGives s (Line l) new = subst (λ (n : NextLine). GaveLine ClientGives s n new) e g in
+    h.given.2.parts ∙ ap (λ (x : StreamView). l ++ x.left) (sym h.is)
+client_left_behind s new next l (inr e) g =
+    let h : GaveLine ClientGives s (Begin l) new = subst (λ (n : NextLine). GaveLine ClientGives s n new) e g in
+    h.given.2.parts ∙ ap (λ (x : StreamView). l ++ x.left) (sym h.is)
+
+pub bus_left_behind : (unanswered : ℕ) (begun : Bool) (s new : StreamView) (next : NextLine) (l : List ℕ) → next ≡ Line l → GaveLine (BusGives unanswered begun) s next new → s.left ≡ l ++ new.left
+bus_left_behind unanswered begun s new next l e g =
+    let h : GaveLine (BusGives unanswered begun) s (Line l) new = subst (λ (n : NextLine). GaveLine (BusGives unanswered begun) s n new) e g in
+    h.given.1.parts ∙ ap (λ (x : StreamView). l ++ x.left) (sym h.is)

@@ -1,0 +1,151 @@
+//! What a session does with a line of the authentication protocol: each goes to the other side, whole.
+ghost use Rattle.std.specs.Prelude.{◌≡◌, ◌∷◌, ◌++◌, [], true, false, None, OnOk, OnErr};
+ghost use Rattle.sasl_watch.specs.Lines.{for_bus as for_the_bus};
+ghost use Rattle.policy_view.specs.declared.Side.TheVariants as Side;
+ghost use Rattle.policy_view.specs.declared.End.TheVariants.{Memory};
+ghost use Rattle.proxy_core.specs.Streams.{is_in_lines as in_lines};
+ghost use Rattle.proxy_core.specs.Messages.{ended_by};
+ghost use Rattle.proxy_core.specs.Steps.{step_of, in_messages, unanswered as unanswered_lines, has_begun as begun, Did, Stepped, IsLight};
+
+use super::Session;
+use bytes::Bytes;
+use policy_args::Policy;
+use policy_view::{End, Fault};
+use sasl_watch::{NextLine, for_bus};
+use std::alloc::AllocError;
+
+impl Session {
+    /// Goes on where memory sufficed, and ends the session where it was refused.
+    fn goes_on(&mut self, done: Result<(), AllocError>) -> bool
+        ensures ok { OnOk done ((result ≡ true) × (self.new ≡ self.old)) }
+        ensures err { OnErr done ((result ≡ false) × (self.new ≡ ended_by Memory self.old)) }
+    {
+        if done.is_err() {
+            self.end_with(End::Memory);
+            return false;
+        }
+        true
+    }
+
+    /// The client's NUL goes to the bus.
+    fn send_nul(&mut self) -> bool
+        ensures { Did (record self.old { bus_side = self.old.bus_side ++ 0 ∷ [] }) self.old self.new result }
+    {
+        let done = self.to_bus.push(b"\0");
+        self.goes_on(done)
+    }
+
+    /// A line of the client as the bus is to have it, put behind what waits for the bus.
+    fn put_line(&mut self, line: &Bytes) -> Result<(), AllocError>
+        ensures ok { OnOk result (self.new ≡ record self.old { bus_side = self.old.bus_side ++ for_the_bus line.now }) }
+        ensures err { OnErr result (self.new ≡ self.old) }
+    {
+        let out = for_bus(self.alloc, line)?;
+        self.to_bus.push(out.as_slice())
+    }
+
+    /// A line of the client goes to the bus.
+    fn send_line(&mut self, line: &Bytes) -> bool
+        ensures { Did (record self.old { bus_side = self.old.bus_side ++ for_the_bus line.now }) self.old self.new result }
+    {
+        let done = self.put_line(line);
+        self.goes_on(done)
+    }
+
+    /// BEGIN goes to the bus, and messages follow it.
+    fn send_begin(&mut self, line: Bytes) -> bool
+        requires { in_lines self.old.client.phase ≡ true }
+        ensures { Did (record self.old { bus_side = self.old.bus_side ++ for_the_bus line; client = in_messages self.old.client }) self.old self.new result }
+    {
+        let sent = self.send_line(&line);
+        drop(line);
+        if !sent {
+            return false;
+        }
+        let done = self.client.begin_messages();
+        self.goes_on(done)
+    }
+
+    /// A line of the bus goes to the client.
+    fn show_line(&mut self, line: &Bytes) -> bool
+        ensures { Did (record self.old { client_side = self.old.client_side ++ line.now }) self.old self.new result }
+    {
+        let done = self.to_client.push(line.as_slice());
+        self.goes_on(done)
+    }
+
+    /// Messages follow the bus's lines.
+    fn end_bus_lines(&mut self) -> bool
+        requires { in_lines self.old.bus.phase ≡ true }
+        ensures { Did (record self.old { bus = in_messages self.old.bus }) self.old self.new result }
+    {
+        let done = self.bus.begin_messages();
+        self.goes_on(done)
+    }
+
+    /// How many of the client's lines the bus hasn't answered.
+    fn unanswered(&self) -> u64
+        ensures { result ≡ unanswered_lines self.now }
+    {
+        self.client.lines().saturating_sub(self.bus.lines())
+    }
+
+    /// Whether BEGIN was seen.
+    fn has_begun(&self) -> bool
+        ensures { result ≡ begun self.now }
+    {
+        !self.client.is_in_lines()
+    }
+
+    /// Takes the line in front of the client's stream, or ends the session where a fault stands there. Tells whether more
+    /// may follow.
+    pub(super) fn take_client_line(&mut self, policy: &Policy) -> bool
+        requires running { self.old.ended ≡ None }
+        requires lines { in_lines self.old.client.phase ≡ true }
+        ensures step { Stepped (step_of policy.now Side.Client self.old) self.old self.new result }
+        ensures light { IsLight 0 self.old self.new }
+    {
+        let _policy = policy;
+        match self.client.next_line() {
+            Ok(NextLine::Nul) => self.send_nul(),
+            Ok(NextLine::Line(line)) => self.send_line(&line),
+            Ok(NextLine::Begin(line)) => self.send_begin(line),
+            Ok(NextLine::Done) => unreachable!(),
+            Ok(NextLine::Rest) => false,
+            Ok(NextLine::Bad(fault)) => {
+                self.end_with(End::ClientMalformed(Fault::Line(fault)));
+                false
+            }
+            Err(_) => {
+                self.end_with(End::Memory);
+                false
+            }
+        }
+    }
+
+    /// Takes the line in front of the bus's stream, or the end of its lines, or ends the session where a fault stands there.
+    /// Tells whether more may follow.
+    pub(super) fn take_bus_line(&mut self, policy: &Policy) -> bool
+        requires running { self.old.ended ≡ None }
+        requires lines { in_lines self.old.bus.phase ≡ true }
+        ensures step { Stepped (step_of policy.now Side.Bus self.old) self.old self.new result }
+        ensures light { IsLight 0 self.old self.new }
+    {
+        let _policy = policy;
+        let (unanswered, begun) = (self.unanswered(), self.has_begun());
+        match self.bus.next_line(unanswered, begun) {
+            Ok(NextLine::Line(line)) => self.show_line(&line),
+            Ok(NextLine::Done) => self.end_bus_lines(),
+            Ok(NextLine::Nul | NextLine::Begin(_)) => unreachable!(),
+            Ok(NextLine::Rest) => false,
+            Ok(NextLine::Bad(fault)) => {
+                self.end_with(End::BusMalformed(Fault::Line(fault)));
+                false
+            }
+            Err(_) => {
+                self.end_with(End::Memory);
+                false
+            }
+        }
+    }
+}
