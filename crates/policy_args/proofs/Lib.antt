@@ -1,7 +1,15 @@
+pub mod Adding
+pub mod BusPaths
+pub mod Cuts
 pub mod EachWord
+pub mod EntryAgain
+pub mod EntryLaws
+pub mod EntryReading
 pub mod FileWords
-pub mod OptionWords
-mod PolicyExamples
-pub mod TalkEntries
-pub mod Talks
-mod WordsExamples
+pub mod Fronts
+pub mod Numbers
+pub mod PolicyExamples
+pub mod PolicyLevels
+pub mod ReadingLine
+pub mod Scanning
+pub mod WordsExamples

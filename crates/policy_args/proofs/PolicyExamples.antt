@@ -1,51 +1,41 @@
--- Worked examples of patterns, rules, entries and levels.
-use Rattle.std.specs.Prelude.{◌≡◌, true, false, [], ◌∷◌, codes, refl, map, Some, None, is_some, option_map}
-use Rattle.policy_args.specs.declared.Level.TheVariants.{None as NoLevel, See, Talk}
-use Rattle.policy_args.specs.Policy.{Pattern, pattern_of, covers, rule_of, matches, level, Entry, policy_of, entry_word, to_talk, to_see, with_entry}
-
-foo : Pattern
-foo = record { name = codes "org.foo"; exact = true }
-
-foos : Pattern
-foos = record { name = codes "org.foo"; exact = false }
-
-read_patterns : map pattern_of (codes "org.foo" ∷ codes "org.foo.*" ∷ []) ≡ Some foo ∷ Some foos ∷ []
-unfolding foo foos
-read_patterns = refl
-
-pattern_forms : map (λ t. is_some (pattern_of t)) (codes "org.*" ∷ codes "org.a.T" ∷ codes "org.a.*" ∷ codes "org" ∷ codes "*" ∷ codes ":1.5" ∷ codes "org.a*" ∷ codes ".*" ∷ []) ≡ true ∷ true ∷ true ∷ false ∷ false ∷ false ∷ false ∷ false ∷ []
-pattern_forms = refl
-
-cover : map (covers foos) (codes "org.foo" ∷ codes "org.foo.bar.baz" ∷ codes "org.foobar" ∷ []) ≡ true ∷ true ∷ false ∷ []
-unfolding foos
-cover = refl
-
-cover_exact : map (covers foo) (codes "org.foo" ∷ codes "org.foo.bar.baz" ∷ codes "org.foobar" ∷ []) ≡ true ∷ false ∷ false ∷ []
-unfolding foo
-cover_exact = refl
-
-rule_forms : map (λ t. is_some (rule_of t)) (codes "*" ∷ codes "" ∷ codes "@/p" ∷ codes "org.a.I.M@/p/*" ∷ codes "org.a.I.*" ∷ codes "Foo" ∷ codes "a.M" ∷ codes "*@" ∷ codes "org.a.I.M@p" ∷ codes "@/p//*" ∷ codes "@//*" ∷ codes "@/*" ∷ []) ≡ true ∷ true ∷ true ∷ true ∷ true ∷ false ∷ false ∷ false ∷ false ∷ false ∷ false ∷ true ∷ []
-rule_forms = refl
-
-below : option_map (λ r. matches r (codes "/p/q") (Some (codes "org.a.I")) (codes "M") ∷ matches r (codes "/p") (Some (codes "org.a.I")) (codes "M") ∷ matches r (codes "/pq") (Some (codes "org.a.I")) (codes "M") ∷ matches r (codes "/p") None (codes "M") ∷ []) (rule_of (codes "org.a.I.*@/p/*")) ≡ Some (true ∷ true ∷ false ∷ false ∷ [])
-below = refl
-
--- ---- entries and levels
-
-talk_T : Entry
-talk_T = record { pattern = record { name = codes "org.a.T"; exact = true }; grant = to_talk }
+-- Worked examples of entries and levels.
+use Rattle.std.specs.Prelude.{◌≡◌, true, false, [], ◌∷◌, codes, refl, map, Some, None}
+use Rattle.policy_args.specs.declared.Level.TheVariants.{None as NoLevel, See, Talk, Own}
+use Rattle.policy_args.specs.declared.entry.Entry.{Entry}
+use Rattle.policy_args.specs.declared.entry.Grant.TheVariants.{See as to_see, Talk as to_talk, Own as to_own, Call as to_call, Broadcast as to_broadcast}
+use Rattle.policy_args.specs.Policy.{entry_word, level, policy_of, with_entry}
 
 see_a : Entry
 see_a = record { pattern = record { name = codes "org.a"; exact = false }; grant = to_see }
 
-words_as_given : map entry_word (talk_T ∷ see_a ∷ []) ≡ codes "--talk=org.a.T" ∷ codes "--see=org.a.*" ∷ []
-unfolding talk_T see_a
+talk_T : Entry
+talk_T = record { pattern = record { name = codes "org.a.T"; exact = true }; grant = to_talk }
+
+own_O : Entry
+own_O = record { pattern = record { name = codes "org.o.O"; exact = true }; grant = to_own }
+
+call_C : Entry
+call_C = record { pattern = record { name = codes "org.c.C"; exact = true }; grant = to_call (record { text = codes "*"; interface = None; member = None; path = None; below = false }) }
+
+broadcast_B : Entry
+broadcast_B = record { pattern = record { name = codes "org.b.B"; exact = true }; grant = to_broadcast (record { text = codes "@/p/*"; interface = None; member = None; path = Some (codes "/p"); below = true }) }
+
+words_as_given : map entry_word (see_a ∷ talk_T ∷ own_O ∷ call_C ∷ broadcast_B ∷ []) ≡ codes "--see=org.a.*" ∷ codes "--talk=org.a.T" ∷ codes "--own=org.o.O" ∷ codes "--call=org.c.C=*" ∷ codes "--broadcast=org.b.B=@/p/*" ∷ []
+unfolding see_a talk_T own_O call_C broadcast_B
 words_as_given = refl
 
 kept_once : with_entry (talk_T ∷ see_a ∷ []) talk_T ≡ talk_T ∷ see_a ∷ []
 unfolding talk_T see_a
 kept_once = refl
 
-levels : map (level (policy_of (talk_T ∷ see_a ∷ []))) (codes "org.a.T" ∷ codes "org.a.B" ∷ codes "org.h.X" ∷ codes "org.freedesktop.DBus" ∷ []) ≡ Talk ∷ See ∷ NoLevel ∷ Talk ∷ []
-unfolding talk_T see_a level
+-- the greatest level counts, and the bus itself may always be talked to
+levels : map (level (policy_of (see_a ∷ talk_T ∷ own_O ∷ call_C ∷ broadcast_B ∷ []))) (codes "org.a.T" ∷ codes "org.a.B" ∷ codes "org.a" ∷ codes "org.o.O" ∷ codes "org.c.C" ∷ codes "org.b.B" ∷ codes "org.h.X" ∷ codes "org.freedesktop.DBus" ∷ []) ≡ Talk ∷ See ∷ See ∷ Own ∷ See ∷ See ∷ NoLevel ∷ Talk ∷ []
+unfolding see_a talk_T own_O call_C broadcast_B level
 levels = refl
+
+own_all : Entry
+own_all = record { pattern = record { name = codes "org.freedesktop"; exact = false }; grant = to_own }
+
+bus_owned : level (policy_of (own_all ∷ [])) (codes "org.freedesktop.DBus") ≡ Own
+unfolding own_all level
+bus_owned = refl

@@ -1,15 +1,51 @@
--- Worked examples of words and of files.
-use Rattle.std.specs.Prelude.{◌≡◌, ℕ, true, false, [], ◌∷◌, ◌++◌, codes, refl, map, Result, Ok, Err}
+-- Worked examples of options, of lines and of files.
+use Rattle.std.specs.Prelude.{◌≡◌, ℕ, true, false, List, [], ◌∷◌, ◌++◌, codes, refl, map, Some, None, Result, Ok, Err}
 use Rattle.std.specs.Char.{encode_utf8}
 use Rattle.std.specs.Str.{chars, is_utf8}
+use Rattle.call_rules.specs.Rules.{Rule}
 use Rattle.policy_args.specs.declared.BadWord.{BadWord}
 use Rattle.policy_args.specs.declared.WordKind.{WordKind}
-use Rattle.policy_args.specs.declared.WordKind.TheVariants.{BadName, UnknownOption}
+use Rattle.policy_args.specs.declared.WordKind.TheVariants.{BadAddress, BadName, BadNumber, BadRule, NoPath, OptionBeforeAddress, UnknownOption}
+use Rattle.policy_args.specs.declared.entry.Entry.{Entry}
+use Rattle.policy_args.specs.declared.entry.Grant.TheVariants.{See as to_see, Talk as to_talk, Own as to_own, Call as to_call, Broadcast as to_broadcast}
+use Rattle.policy_args.specs.Addresses.{bus_path}
 use Rattle.policy_args.specs.Policy.{policy_of}
-use Rattle.policy_args.specs.Words.{options_of, talk_entry, words_in}
+use Rattle.policy_args.specs.ProxyLine.{line_of, sessions_of}
+use Rattle.policy_args.specs.Words.{entry_of, options_of, words_in}
 
 abbrev bad : {A : Type 0} → ℕ → WordKind → Result A BadWord
 bad index kind = Err (record { index = index; kind = kind })
+
+-- ---- options
+
+talk_T : Entry
+talk_T = record { pattern = record { name = codes "org.a.T"; exact = true }; grant = to_talk }
+
+see_a : Entry
+see_a = record { pattern = record { name = codes "org.a"; exact = false }; grant = to_see }
+
+own_org : Entry
+own_org = record { pattern = record { name = codes "org"; exact = false }; grant = to_own }
+
+-- of any member at any path
+any : List ℕ → Rule
+any text = record { text = text; interface = None; member = None; path = None; below = false }
+
+call_C : List ℕ → Entry
+call_C text = record { pattern = record { name = codes "org.a.C"; exact = true }; grant = to_call (any text) }
+
+broadcast_B : Entry
+broadcast_B = record { pattern = record { name = codes "org.a.B"; exact = true }; grant = to_broadcast (any []) }
+
+entries : map entry_of (codes "--see=org.a.*" ∷ codes "--talk=org.a.T" ∷ codes "--own=org.*" ∷ codes "--call=org.a.C=*" ∷ codes "--broadcast=org.a.B=" ∷ [])
+    ≡ Ok see_a ∷ Ok talk_T ∷ Ok own_org ∷ Ok (call_C (codes "*")) ∷ Ok broadcast_B ∷ []
+unfolding see_a talk_T own_org call_C broadcast_B any
+entries = refl
+
+-- NAME is looked at first, whatever follows
+no_entries : map entry_of (codes "--call=org.a.C" ∷ codes "--call=org=x" ∷ codes "--call=org.a.C=Foo" ∷ codes "--see=org" ∷ codes "--talk=*" ∷ codes "--own=:1.5" ∷ codes "--sessions=1" ∷ codes "--filter" ∷ [])
+    ≡ Err BadRule ∷ Err BadName ∷ Err BadRule ∷ Err BadName ∷ Err BadName ∷ Err BadName ∷ Err UnknownOption ∷ Err UnknownOption ∷ []
+no_entries = refl
 
 no_words : options_of [] ≡ Ok (record { filter = false; policy = policy_of [] })
 unfolding options_of
@@ -19,13 +55,58 @@ filter_alone : options_of (codes "--filter" ∷ []) ≡ Ok (record { filter = tr
 unfolding options_of
 filter_alone = refl
 
-talk_twice : options_of (codes "--talk=org.a.T" ∷ codes "--filter" ∷ codes "--talk=org.b" ∷ codes "--talk=org.a.T" ∷ []) ≡ Ok (record { filter = true; policy = policy_of (talk_entry (codes "org.a.T") ∷ talk_entry (codes "org.b") ∷ []) })
-unfolding options_of
-talk_twice = refl
+given_again : options_of (codes "--talk=org.a.T" ∷ codes "--filter" ∷ codes "--see=org.a.*" ∷ codes "--talk=org.a.T" ∷ []) ≡ Ok (record { filter = true; policy = policy_of (talk_T ∷ see_a ∷ []) })
+unfolding options_of talk_T see_a
+given_again = refl
 
-bad_words : map options_of ((codes "--talk=org" ∷ []) ∷ (codes "--filter" ∷ codes "--talk=:1.5" ∷ []) ∷ (codes "--talk=org.a.*" ∷ []) ∷ (codes "--talk=" ∷ []) ∷ (codes "--filter" ∷ codes "--colour" ∷ codes "--talk=org" ∷ []) ∷ (codes "--talk" ∷ []) ∷ (codes "--log" ∷ []) ∷ (codes "--see=org.a.T" ∷ []) ∷ (codes "--filter=" ∷ []) ∷ ([] ∷ []) ∷ [])
-    ≡ bad 0 BadName ∷ bad 1 BadName ∷ bad 0 BadName ∷ bad 0 BadName ∷ bad 1 UnknownOption ∷ bad 0 UnknownOption ∷ bad 0 UnknownOption ∷ bad 0 UnknownOption ∷ bad 0 UnknownOption ∷ bad 0 UnknownOption ∷ []
+-- two words of one meaning are two entries
+two_spellings : options_of (codes "--call=org.a.C=" ∷ codes "--call=org.a.C=*" ∷ codes "--call=org.a.C=" ∷ []) ≡ Ok (record { filter = false; policy = policy_of (call_C [] ∷ call_C (codes "*") ∷ []) })
+unfolding options_of call_C any
+two_spellings = refl
+
+bad_options : map options_of ((codes "--talk=org" ∷ []) ∷ (codes "--filter" ∷ codes "--talk=:1.5" ∷ []) ∷ (codes "--talk=" ∷ []) ∷ (codes "--filter" ∷ codes "--colour" ∷ codes "--talk=org" ∷ []) ∷ (codes "--talk" ∷ []) ∷ (codes "--log" ∷ []) ∷ (codes "--filter=" ∷ []) ∷ ([] ∷ []) ∷ [])
+    ≡ bad 0 BadName ∷ bad 1 BadName ∷ bad 0 BadName ∷ bad 1 UnknownOption ∷ bad 0 UnknownOption ∷ bad 0 UnknownOption ∷ bad 0 UnknownOption ∷ bad 0 UnknownOption ∷ []
 unfolding options_of
+bad_options = refl
+
+-- ---- addresses
+
+addresses : map bus_path (codes "unix:path=/a" ∷ codes "unix:abstract=/x;unix:path=/a%20b" ∷ codes "tcp:host=h;unix:guid=1,path=/q" ∷ codes "unix:path=/a,path=/b" ∷ codes "unix:path=/a%e2%82%AC" ∷ [])
+    ≡ Some (codes "/a") ∷ Some (codes "/a b") ∷ Some (codes "/q") ∷ Some (codes "/a") ∷ Some (47 ∷ 97 ∷ 226 ∷ 130 ∷ 172 ∷ []) ∷ []
+unfolding is_utf8 chars encode_utf8
+addresses = refl
+
+no_addresses : map bus_path ([] ∷ codes "tcp:path=/a" ∷ codes "unix:path=" ∷ codes "unix:path=/a%2" ∷ codes "unix:path=/a%2g" ∷ codes "unix:path=/a%00" ∷ codes "unix:path=/a%ff" ∷ codes "unix:path=;unix:path=/b" ∷ []) ≡ None ∷ None ∷ None ∷ None ∷ None ∷ None ∷ None ∷ None ∷ []
+unfolding is_utf8 chars encode_utf8
+no_addresses = refl
+
+-- ---- lines
+
+numbers : map sessions_of (codes "1" ∷ codes "1000000" ∷ codes "1000001" ∷ codes "0" ∷ codes "01" ∷ codes "+1" ∷ [] ∷ []) ≡ Ok 1 ∷ Ok 1000000 ∷ Err BadNumber ∷ Err BadNumber ∷ Err BadNumber ∷ Err BadNumber ∷ Err BadNumber ∷ []
+numbers = refl
+
+one_block : line_of (codes "unix:path=/run/user/1000/bus,guid=00" ∷ codes "/tmp/p" ∷ codes "--filter" ∷ codes "--talk=org.a.T" ∷ codes "--talk=org.a.T" ∷ codes "--see=org.a.*" ∷ [])
+    ≡ Ok (record { blocks = record { address = codes "/run/user/1000/bus"; path = codes "/tmp/p"; options = record { filter = true; policy = policy_of (talk_T ∷ see_a ∷ []) } } ∷ []; sessions = 4294967295 })
+unfolding line_of talk_T see_a is_utf8 chars encode_utf8
+one_block = refl
+
+-- each block has its own options, and the last --sessions counts
+two_blocks : line_of (codes "unix:path=/a" ∷ codes "/p" ∷ codes "--filter" ∷ codes "--sessions=2" ∷ codes "unix:path=/b" ∷ codes "/q" ∷ codes "--talk=org.a.T" ∷ codes "--sessions=3" ∷ [])
+    ≡ Ok (record { blocks = record { address = codes "/a"; path = codes "/p"; options = record { filter = true; policy = policy_of [] } } ∷ record { address = codes "/b"; path = codes "/q"; options = record { filter = false; policy = policy_of (talk_T ∷ []) } } ∷ []; sessions = 3 })
+unfolding line_of talk_T is_utf8 chars encode_utf8
+two_blocks = refl
+
+abbrev after : List (List ℕ) → List (List ℕ)
+after words = codes "unix:path=/a" ∷ codes "/p" ∷ words
+
+bad_lines : map line_of ([] ∷ (codes "--filter" ∷ []) ∷ (codes "tcp:path=/a" ∷ []) ∷ (codes "unix:path=/a" ∷ []) ∷ (codes "unix:path=/a" ∷ codes "--log" ∷ []) ∷ (codes "unix:path=/a" ∷ [] ∷ []) ∷ [])
+    ≡ bad 0 BadAddress ∷ bad 0 OptionBeforeAddress ∷ bad 0 BadAddress ∷ bad 1 NoPath ∷ bad 1 NoPath ∷ bad 1 NoPath ∷ []
+unfolding line_of is_utf8 chars encode_utf8
+bad_lines = refl
+
+bad_words : map line_of (after (codes "--talk=org" ∷ []) ∷ after (codes "--call=org.a.C=Foo" ∷ []) ∷ after (codes "--colour" ∷ []) ∷ after (codes "--sessions=0" ∷ []) ∷ after (codes "unix:path=" ∷ []) ∷ after (codes "unix:path=/b" ∷ []) ∷ [])
+    ≡ bad 2 BadName ∷ bad 2 BadRule ∷ bad 2 UnknownOption ∷ bad 2 BadNumber ∷ bad 2 BadAddress ∷ bad 3 NoPath ∷ []
+unfolding line_of is_utf8 chars encode_utf8
 bad_words = refl
 
 -- ---- files

@@ -1,16 +1,54 @@
--- What the private functions do: one more entry, and one part of a file.
-use Rattle.std.specs.Prelude.{ℕ, ◌==◌, Bool, nat_lt, List, length, Result, Ok, Err, if◌then◌else◌}
+-- What the private functions do: one more entry, the parts of a word, and one part of a file.
+use Rattle.std.specs.Prelude.{ℕ, suc, ◌==◌, Bool, nat_lt, List, [], length, Option, Some, None, Result, Ok, Err, if◌then◌else◌}
+use Rattle.std.specs.List.{list_any, before_first, after_first}
 use Rattle.std.specs.Str.{is_utf8}
+use Rattle.name_patterns.specs.Patterns.{Pattern, pattern_of}
+use Rattle.call_rules.specs.Rules.{Rule, rule_of}
+use Rattle.dbus_names.specs.Names.{parts_at}
 use Rattle.policy_args.specs.Policy.{Policy, with_entry}
-use Rattle.policy_args.specs.Words.{talk_entry}
+use Rattle.policy_args.specs.Words.{◌>>=◌, is_equals, or_kind}
+use Rattle.policy_args.specs.declared.entry.Entry.{Entry}
 use Rattle.policy_args.specs.declared.WordKind.{WordKind}
-use Rattle.policy_args.specs.declared.WordKind.TheVariants.{UnknownOption, TooMany}
+use Rattle.policy_args.specs.declared.WordKind.TheVariants.{UnknownOption, BadName, BadRule, TooMany}
 
--- a policy with one more name that may be talked to
-abbrev pub with_talk : Policy → List ℕ → Result Policy WordKind
-with_talk policy name =
-    let entries = with_entry policy.entries (talk_entry name) in
+-- a policy with one more entry
+abbrev pub with_one_more : Policy → Entry → Result Policy WordKind
+with_one_more policy e =
+    let entries = with_entry policy.entries e in
     if nat_lt 65535 (length entries) then Err TooMany else Ok (record { entries = entries })
+
+-- what stands before the first '=', or all
+abbrev pub name_before : List ℕ → List ℕ
+name_before text = before_first is_equals text
+
+abbrev pub rule_behind : List ℕ → Option (List ℕ)
+rule_behind text = if list_any is_equals text then Some (after_first is_equals text) else None
+
+abbrev pub rule_in : Option (List ℕ) → Result Rule WordKind
+rule_in None = Err BadRule
+rule_in (Some text) = or_kind BadRule (rule_of text)
+
+-- NAME=RULE
+abbrev pub name_and_rule : List ℕ → Result (Pattern × Rule) WordKind
+name_and_rule text =
+    or_kind BadName (pattern_of (name_before text)) >>= λ p. rule_in (rule_behind text) >>= λ r. Ok (p, r)
+
+-- what stands before the first place of a byte, or all
+abbrev pub front_at : ℕ → List ℕ → List ℕ
+front_at separator text = before_first (λ c. c == separator) text
+
+-- what follows that place
+abbrev pub behind_at : ℕ → List ℕ → Option (List ℕ)
+behind_at separator text = if list_any (λ c. c == separator) text then Some (after_first (λ c. c == separator) text) else None
+
+-- the parts of what is left
+abbrev pub parts_left : ℕ → Option (List ℕ) → List (List ℕ)
+parts_left separator None = []
+parts_left separator (Some text) = parts_at separator text
+
+abbrev pub bytes_left : Option (List ℕ) → ℕ
+bytes_left None = 0
+bytes_left (Some text) = suc (length text)
 
 abbrev pub is_nul : ℕ → Bool
 is_nul c = c == 0

@@ -1,16 +1,27 @@
 -- The words of a policy file, and what they give.
-use Rattle.std.specs.Prelude.{ℕ, ◌+◌, Bool, true, false, nat_lt, List, [], ◌∷◌, ◌++◌, length, drop, codes, Option, Some, None, Result, Ok, Err, if◌then◌else◌, bytes_eq}
+use Rattle.std.specs.Prelude.{ℕ, ◌+◌, Bool, true, false, ◌==◌, nat_lt, List, [], ◌∷◌, ◌++◌, length, drop, codes, Option, Some, None, Result, Ok, Err, if◌then◌else◌, bytes_eq}
+use Rattle.std.specs.List.{list_any, before_first, after_first}
 use Rattle.std.specs.Str.{is_utf8}
-use Rattle.dbus_names.specs.Names.{parts_at, is_well_known}
-use Rattle.policy_args.specs.Policy.{Entry, to_talk, with_entry, Policy, policy_of, begins_with}
+use Rattle.dbus_names.specs.Names.{parts_at}
+use Rattle.dbus_names.specs.Texts.{begins_with}
+use Rattle.name_patterns.specs.Patterns.{pattern_of}
+use Rattle.call_rules.specs.Rules.{Rule, rule_of}
+use Rattle.policy_args.specs.Policy.{with_entry, Policy, policy_of}
+use Rattle.policy_args.specs.declared.entry.Grant.{Grant}
+use Rattle.policy_args.specs.declared.entry.Grant.TheVariants.{See as to_see, Talk as to_talk, Own as to_own, Call as to_call, Broadcast as to_broadcast}
+use Rattle.policy_args.specs.declared.entry.Entry.{Entry}
 use Rattle.policy_args.specs.declared.WordKind.{WordKind}
-use Rattle.policy_args.specs.declared.WordKind.TheVariants.{UnknownOption, BadName, TooMany}
+use Rattle.policy_args.specs.declared.WordKind.TheVariants.{UnknownOption, BadName, BadRule, TooMany}
 use Rattle.policy_args.specs.declared.BadWord.{BadWord}
 
 infixl 10 ◌>>=◌
 abbrev pub ◌>>=◌ : {A B E : Type 0} → Result A E → (A → Result B E) → Result B E
 (Ok x) >>= f = f x
 (Err e) >>= f = Err e
+
+abbrev pub or_kind : {A : Type 0} → WordKind → Option A → Result A WordKind
+or_kind kind None = Err kind
+or_kind kind (Some x) = Ok x
 
 -- the kind of what a word is, at that word's index
 abbrev pub at_word : {A : Type 0} → ℕ → Result A WordKind → Result A BadWord
@@ -36,17 +47,38 @@ no_options = record { filter = false; policy = policy_of [] }
 abbrev pub behind : List ℕ → List ℕ → Option (List ℕ)
 behind front w = if begins_with front w then Some (drop (length front) w) else None
 
--- the entry that lets a name be talked to
-abbrev pub talk_entry : List ℕ → Entry
-talk_entry name = record { pattern = record { name = name; exact = true }; grant = to_talk }
+-- NAME
+abbrev pub name_entry : Grant → List ℕ → Result Entry WordKind
+name_entry grant name = or_kind BadName (pattern_of name) >>= λ p. Ok (record { pattern = p; grant = grant })
 
-abbrev pub entry_named : Option (List ℕ) → Result Entry WordKind
-entry_named None = Err UnknownOption
-entry_named (Some name) = if is_well_known name then Ok (talk_entry name) else Err BadName
+abbrev pub is_equals : ℕ → Bool
+is_equals c = c == 61
+
+-- NAME=RULE: NAME ends at the first '=', and is looked at first
+abbrev pub rule_entry : (Rule → Grant) → List ℕ → Result Entry WordKind
+rule_entry grant text = do
+  p ← or_kind BadName (pattern_of (before_first is_equals text))
+  r ← or_kind BadRule (if list_any is_equals text then rule_of (after_first is_equals text) else None)
+  Ok (record { pattern = p; grant = grant r })
+
+abbrev pub where_front : {A : Type 0} → Option (List ℕ) → (List ℕ → Result A WordKind) → Result A WordKind → Result A WordKind
+where_front None reading other = other
+where_front (Some text) reading other = reading text
+
+-- the first front that the word has decides
+abbrev pub first_front : {A : Type 0} → List (List ℕ × (List ℕ → Result A WordKind)) → List ℕ → Result A WordKind
+first_front [] w = Err UnknownOption
+first_front (f ∷ fronts) w = where_front (behind f.0 w) f.1 (first_front fronts w)
 
 -- the entry that a word gives
 abbrev pub entry_of : List ℕ → Result Entry WordKind
-entry_of w = entry_named (behind (codes "--talk=") w)
+entry_of w = first_front (
+    (codes "--see=", name_entry to_see)
+    ∷ (codes "--talk=", name_entry to_talk)
+    ∷ (codes "--own=", name_entry to_own)
+    ∷ (codes "--call=", rule_entry to_call)
+    ∷ (codes "--broadcast=", rule_entry to_broadcast)
+    ∷ []) w
 
 -- there are at most 65,535 entries
 abbrev pub with_policy : PolicyOptions → List Entry → Result PolicyOptions WordKind

@@ -1,14 +1,24 @@
-//! The words of a policy file, and the policy that they give.
+//! The words of a policy and of a proxy line, and the policy that they give.
 //!
-//! A policy file has one option a word, as xdg-dbus-proxy(1) reads them from its `--args` file.
-//! Two options are known: `--filter`, and `--talk=NAME` of one well-known bus name.
+//! A policy file has one option a word, as xdg-dbus-proxy(1) reads them from its `--args` file. A
+//! proxy line has blocks of a bus address, a path to listen on, and options.
 #![tactic(auto)]
 
+ghost use Rattle.std.specs.Prelude.{◌≡◌};
+ghost use Rattle.policy_args.specs.Policy.{greater};
+
+mod address;
+mod entry;
+mod laws;
+mod line;
 mod options;
 mod policy;
 mod refusals;
 mod words;
 
+pub use entry::{Entry, Grant};
+pub use laws::{entries_have_one_word, words_give_their_entries};
+pub use line::{Block, ProxyLine, read_line};
 pub use options::{Options, read_options};
 pub use policy::Policy;
 pub use refusals::LineRefusal;
@@ -25,6 +35,20 @@ pub enum Level {
     Talk,
     /// The name may be owned, too.
     Own,
+}
+
+impl Level {
+    /// The greater of two levels.
+    pub fn max_with(self, other: Level) -> Level
+        ensures { result ≡ greater self other }
+    {
+        match (self, other) {
+            (Level::Own, _) | (_, Level::Own) => Level::Own,
+            (Level::Talk, _) | (_, Level::Talk) => Level::Talk,
+            (Level::See, _) | (_, Level::See) => Level::See,
+            (Level::None, Level::None) => Level::None,
+        }
+    }
 }
 
 /// What is wrong with a word.
@@ -44,14 +68,18 @@ pub enum WordKind {
     OptionBeforeAddress,
     /// An option's number is none, or out of its range.
     BadNumber,
-    /// The word would give one more entry than the 65,535 that a policy may have.
+    /// The word would give one more entry than the 65,535 that a policy may have, or one more block
+    /// than the 65,535 that a line may have.
     TooMany,
 }
 
-/// The first bad word, by its index from 0.
+/// The first bad word.
 #[derive(Clone, Copy, Debug, PartialEq, Eq)]
 pub struct BadWord {
+    /// Its place among the words, from 0. A path that is missing behind the last word stands behind
+    /// it, and an address that is missing since there are no words stands at 0.
     pub index: usize,
+    /// What is wrong with it.
     pub kind: WordKind,
 }
 

@@ -1,9 +1,10 @@
-//! A policy: the names that may be talked to.
-ghost use Rattle.std.specs.Prelude.{◌≡◌, ◌⊎◌, ◌==◌, ℕ, List, [], length, OnErr};
+//! A policy: the entries that words gave.
+ghost use Rattle.std.specs.Prelude.{◌≡◌, ◌≤◌, ◌-◌, ◌==◌, Some as Just, [], length, slice_get, OnErr};
 ghost use Rattle.policy_args.specs.Gives.{StepGives};
-ghost use Rattle.policy_args.specs.Policy.{level, policy_of};
-ghost use Rattle.policy_args.specs.Steps.{with_talk};
+ghost use Rattle.policy_args.specs.Policy.{entry_word, greater, level, policy_of};
+ghost use Rattle.policy_args.specs.Steps.{with_one_more};
 
+use crate::entry::Entry;
 use crate::refusals::WordRefusal;
 use crate::{Level, WordKind};
 use indexmap::IndexSet;
@@ -20,19 +21,20 @@ const MOST_ENTRIES: usize = 65_535;
 /// (xdg-dbus-proxy(1), "Filtering").
 #[derive(Drop)]
 pub struct Policy {
-    talks: IndexSet<String>,
+    // The words that gave the entries, in the same order.
+    words: IndexSet<String>,
+    entries: Vec<Entry>,
 }
 
 impl Model for Policy {
-    ghost use Rattle.std.specs.Prelude.{◌≤◌, map, length, string_bytes};
-    ghost use Rattle.policy_args.specs.Policy.{Policy as PolicyValue, policy_of};
-    ghost use Rattle.policy_args.specs.Words.{talk_entry};
+    ghost use Rattle.std.specs.Prelude.{◌≡◌, ◌≤◌, map, length, string_bytes};
+    ghost use Rattle.policy_args.specs.Policy.{Policy as PolicyValue, entry_word, policy_of};
 
     ghost Value = { PolicyValue };
 
-    ghost view = { λ p. policy_of (map talk_entry (map (λ k. string_bytes k) p.talks.keys)) };
+    ghost view = { λ p. policy_of p.entries.items };
 
-    ghost invariant = { λ p. length p.talks.keys ≤ 65535 };
+    ghost invariant = { λ p. (map (λ k. string_bytes k) p.words.keys ≡ map entry_word p.entries.items) × (length p.entries.items ≤ 65535) };
 }
 
 impl Policy {
@@ -41,7 +43,8 @@ impl Policy {
         ensures { result ≡ policy_of [] }
     {
         Policy {
-            talks: IndexSet::new(alloc),
+            words: IndexSet::new(alloc),
+            entries: Vec::new(alloc),
         }
     }
 
@@ -49,14 +52,23 @@ impl Policy {
     pub fn len(&self) -> u32
         ensures { result ≡ length self.now.entries }
     {
-        self.talks.len() as u32
+        self.entries.len() as u32
     }
 
     /// Whether the policy has no entry.
     pub fn is_empty(&self) -> bool
         ensures { result ≡ (length self.now.entries == 0) }
     {
-        self.talks.is_empty()
+        self.entries.is_empty()
+    }
+
+    /// The entry of a number, from 1 to the length.
+    pub fn entry(&self, number: u32) -> &Entry
+        requires first { 1 ≤ number }
+        requires last { number ≤ length self.now.entries }
+        ensures { slice_get self.now.entries (number - 1) ≡ Just result.now }
+    {
+        &self.entries[number as usize - 1]
     }
 
     /// How far a name may be used: the greatest level that an entry gives it, and at least `Talk`
@@ -64,32 +76,34 @@ impl Policy {
     pub fn level(&self, name: &str) -> Level
         ensures { result ≡ level self.now name.now }
     {
-        if name == BUS_NAME || self.talks.contains(name) {
+        let mut level = if name == BUS_NAME {
             Level::Talk
         } else {
             Level::None
+        };
+        for entry in &self.entries {
+            if entry.pattern.covers(name) {
+                level = level.max_with(entry.grant.level());
+            }
         }
+        level
     }
 
-    /// Of every name the level is `None` or `Talk`: the options that are read give no other.
-    pub fn gives_talk_alone(&self)
-        ensures { (name : List ℕ) → (level self.now name ≡ Level.None) ⊎ (level self.now name ≡ Level.Talk) }
-    {
-        let _talks = &self.talks;
-    }
-
-    // Lets one more name be talked to.
-    pub(crate) fn let_talk(&mut self, alloc: Global, name: &str) -> Result<(), WordRefusal>
-        ensures exact { StepGives (λ _. self.new) result (with_talk self.old name.now) }
+    // Takes the entry that a word gave. A word that was taken before adds nothing.
+    pub(crate) fn add(&mut self, alloc: Global, word: &str, entry: Entry) -> Result<(), WordRefusal>
+        requires { entry_word entry ≡ word.now }
+        ensures exact { StepGives (λ _. self.new) result (with_one_more self.old entry) }
         ensures err { OnErr result (self.new ≡ self.old) }
     {
-        if self.talks.contains(name) {
+        if self.words.contains(word) {
             return Ok(());
         }
-        if self.talks.len() == MOST_ENTRIES {
+        if self.entries.len() == MOST_ENTRIES {
             return Err(WordRefusal::Bad(WordKind::TooMany));
         }
-        self.talks.insert(String::from_str(alloc, name)?)?;
+        self.entries.reserve(1)?;
+        self.words.insert(String::from_str(alloc, word)?)?;
+        self.entries.push_reserved(entry);
         Ok(())
     }
 }

@@ -10,16 +10,16 @@ use Rattle.dbus_header.specs.Message.{Message, destination, interface, member, r
 use Rattle.dbus_header.specs.declared.Instead.{Instead}
 use Rattle.dbus_header.specs.declared.Instead.TheVariants.{ServiceUnknown, NameHasNoOwner}
 use Rattle.policy_args.specs.Policy.{Policy, level, bus_name}
-use Rattle.policy_args.specs.declared.Level.TheVariants.{None as NoLevel, Talk}
+use Rattle.policy_args.specs.declared.Level.TheVariants.{None as NoLevel}
 use Rattle.policy_view.specs.Texts.{Text, is_text}
 use Rattle.policy_view.specs.Levels.{Fact, level_of, level_of_id, entries}
-use Rattle.policy_view.specs.Sent.{Kind, Call, Return, Error, Signal, Other, kind_of, Told, Past, wants_reply, has_no_auto_start, is_bus, is_hello, is_bus_member, asks_names, answered}
+use Rattle.policy_view.specs.Sent.{Kind, Call, Return, Error, Signal, Other, kind_of, Told, Past, has_no_auto_start, is_bus, is_hello, is_bus_member, asks_names, answered}
 use Rattle.policy_view.specs.Verdicts.{CallTo, OfUnknownType, client_role, client_role_at, role_of_call, role_of_bus_call, verdict, verdict_at, on_call, not_visible, refused}
 use Rattle.policy_view.specs.Shown.{BusRole, NoRole, bus_role, bus_role_at, seen, seen_as, shown, showing_at}
 use Rattle.policy_view.specs.History.{is_service}
 use Rattle.policy_view.specs.Past.{Msg, due, due_on, due_at, used_by, used_at}
 use Rattle.policy_view.specs.declared.Side.TheVariants.{Client, Bus}
-use Rattle.policy_view.specs.declared.Verdict.TheVariants.{Pass, Ping, Drop}
+use Rattle.policy_view.specs.declared.Verdict.TheVariants.{Drop}
 use Rattle.policy_view.specs.declared.Reason.TheVariants.{NotVisible, UnknownType}
 
 -- ---- a call of a service
@@ -61,7 +61,7 @@ service_level : (policy : Policy) (facts : List Fact) (name : Text) → is_well_
 unfolding level_of
 service_level policy facts name e = ap (λ (b : Bool). cond b (level policy name) (cond (is_unique name) (level_of_id policy facts name) NoLevel)) e
 
-service_verdict : (policy : Policy) (told : Told) (m : Message) (s : IsServiceCall m) → verdict policy told m ≡ on_call policy m s.name (entries policy told.facts s.name) (level policy s.name)
+pub service_verdict : (policy : Policy) (told : Told) (m : Message) (s : IsServiceCall m) → verdict policy told m ≡ on_call policy m s.name (entries policy told.facts s.name) (level policy s.name)
 unfolding verdict
 service_verdict policy told m s =
     ap (verdict_at policy told m) (service_role m s)
@@ -71,32 +71,9 @@ service_verdict policy told m s =
 abbrev pub hidden_by : Message → Instead
 hidden_by m = if has_no_auto_start m then NameHasNoOwner else ServiceUnknown
 
-hidden_call : (m : Message) (s : IsServiceCall m) → not_visible m s.name ≡ refused m (hidden_by m) NotVisible
+pub hidden_call : (m : Message) (s : IsServiceCall m) → not_visible m s.name ≡ refused m (hidden_by m) NotVisible
 hidden_call m s =
     ap (λ (b : Bool). refused m (cond (b || has_no_auto_start m) NameHasNoOwner ServiceUnknown) NotVisible) (well_known_is_not_unique s.name s.well_known)
-
--- where the policy gives the name no level, the call is answered in a ping's place, or dropped
-pub verdict_hidden : (policy : Policy) (told : Told) (m : Message) (s : IsServiceCall m) → level policy s.name ≡ NoLevel → verdict policy told m ≡ refused m (hidden_by m) NotVisible
-verdict_hidden policy told m s e =
-    service_verdict policy told m s
-    ∙ ap (on_call policy m s.name (entries policy told.facts s.name)) e
-    ∙ hidden_call m s
-
-pub verdict_pinged : (policy : Policy) (told : Told) (m : Message) (s : IsServiceCall m) → level policy s.name ≡ NoLevel →
-    wants_reply m ≡ true → verdict policy told m ≡ Ping (hidden_by m) NotVisible
-verdict_pinged policy told m s e w =
-    verdict_hidden policy told m s e ∙ ap (λ (b : Bool). cond b (Ping (hidden_by m) NotVisible) (Drop NotVisible)) w
-
-pub verdict_dropped : (policy : Policy) (told : Told) (m : Message) (s : IsServiceCall m) → level policy s.name ≡ NoLevel →
-    wants_reply m ≡ false → verdict policy told m ≡ Drop NotVisible
-verdict_dropped policy told m s e w =
-    verdict_hidden policy told m s e ∙ ap (λ (b : Bool). cond b (Ping (hidden_by m) NotVisible) (Drop NotVisible)) w
-
--- where it lets it be talked to, the call passes
-pub verdict_talk : (policy : Policy) (told : Told) (m : Message) (s : IsServiceCall m) → level policy s.name ≡ Talk → verdict policy told m ≡ Pass
-verdict_talk policy told m s e =
-    service_verdict policy told m s
-    ∙ ap (on_call policy m s.name (entries policy told.facts s.name)) e
 
 -- it is none of the calls to the bus
 service_no_bus : (m : Message) (s : IsServiceCall m) (wanted : Text) → is_bus_member wanted m ≡ false

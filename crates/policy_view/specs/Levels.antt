@@ -4,7 +4,9 @@ use Rattle.std.specs.Str.{bytes_eq}
 use Rattle.std.specs.List.{list_any}
 use Rattle.policy_view.specs.Texts.{Text}
 use Rattle.dbus_names.specs.Names.{is_unique, is_well_known}
-use Rattle.policy_args.specs.Policy.{Policy, Entry, covers, level, greater}
+use Rattle.name_patterns.specs.Patterns.{covers}
+use Rattle.policy_args.specs.Policy.{Policy, level, greater}
+use Rattle.policy_args.specs.declared.entry.Entry.{Entry}
 use Rattle.policy_args.specs.declared.Level.{Level}
 use Rattle.policy_args.specs.declared.Level.TheVariants.{None as Hidden, See, Talk}
 

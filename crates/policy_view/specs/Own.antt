@@ -6,7 +6,8 @@ use Rattle.dbus_values.specs.declared.Order.{Order}
 use Rattle.dbus_values.specs.declared.Order.TheVariants.{Little}
 use Rattle.dbus_header.specs.Message.{Field, Message}
 use Rattle.policy_view.specs.Texts.{Text}
-use Rattle.policy_args.specs.Policy.{Pattern, bus_name}
+use Rattle.name_patterns.specs.Patterns.{Pattern}
+use Rattle.policy_args.specs.Policy.{bus_name}
 use Rattle.dbus_header.specs.declared.Instead.{Instead}
 use Rattle.dbus_header.specs.declared.Instead.TheVariants.{AccessDenied, NameHasNoOwner, ServiceUnknown, False}
 

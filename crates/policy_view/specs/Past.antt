@@ -4,7 +4,8 @@ use Rattle.std.specs.List.{list_any}
 use Rattle.policy_view.specs.Texts.{Text}
 use Rattle.dbus_header.specs.Message.{Message, sender, reply_serial, only_text, three_texts, text_list}
 use Rattle.dbus_names.specs.Names.{is_unique, is_well_known}
-use Rattle.policy_args.specs.Policy.{Policy, covers}
+use Rattle.name_patterns.specs.Patterns.{covers}
+use Rattle.policy_args.specs.Policy.{Policy}
 use Rattle.policy_view.specs.Levels.{Fact, Owned, SelfId, Met}
 use Rattle.policy_view.specs.Sent.{Kind, Call, Return, Error, Signal, Other, kind_of, Past, Told, Exchange, nothing_before, Sent, Passed, Pinged, OwnOwner, own_calls, is_passed_hello, is_hello, asked, wants_reply}
 use Rattle.policy_view.specs.Verdicts.{ClientRole, Reply, client_role, verdict, reply_to}

@@ -5,7 +5,9 @@ use Rattle.std.specs.List.{list_any}
 use Rattle.policy_view.specs.Texts.{Text, is_text, only_if}
 use Rattle.dbus_header.specs.Message.{Message, interface, member, destination, with_serial, spell}
 use Rattle.dbus_names.specs.Names.{is_well_known}
-use Rattle.policy_args.specs.Policy.{Policy, Entry, Pattern, covers, bus_name}
+use Rattle.name_patterns.specs.Patterns.{Pattern, covers}
+use Rattle.policy_args.specs.Policy.{Policy, bus_name}
+use Rattle.policy_args.specs.declared.entry.Entry.{Entry}
 use Rattle.policy_view.specs.Levels.{Fact}
 use Rattle.policy_view.specs.Own.{ping, add_match, get_owner, list_names}
 use Rattle.dbus_header.specs.declared.Instead.{Instead}

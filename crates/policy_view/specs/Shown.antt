@@ -3,7 +3,9 @@ use Rattle.std.specs.Prelude.{ℕ, Bool, false, ◌&&◌, ◌||◌, List, [], �
 use Rattle.std.specs.List.{list_any}
 use Rattle.policy_view.specs.Texts.{Text, is_text, matches}
 use Rattle.dbus_header.specs.Message.{Message, path, interface, member, destination, sender, reply_serial, three_texts, text_list, with_reply_serial, with_names}
-use Rattle.policy_args.specs.Policy.{Policy, Grant, to_see, to_talk, to_own, to_call, to_broadcast, at_least, bus_name}
+use Rattle.policy_args.specs.Policy.{Policy, at_least, bus_name}
+use Rattle.policy_args.specs.declared.entry.Grant.{Grant}
+use Rattle.policy_args.specs.declared.entry.Grant.TheVariants.{See as to_see, Talk as to_talk, Own as to_own, Call as to_call, Broadcast as to_broadcast}
 use Rattle.policy_view.specs.Levels.{Fact, level_of, entries}
 use Rattle.policy_view.specs.Own.{answer_in_place}
 use Rattle.policy_view.specs.Sent.{Kind, Call, Return, Error, Signal, Other, kind_of, Past, Told, Sent, Passed, Pinged, OwnMatch, OwnOwner, OwnNames, answered, asks_names}

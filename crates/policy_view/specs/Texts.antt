@@ -2,7 +2,7 @@
 use Rattle.std.specs.Prelude.{ℕ, nat_eq, Bool, false, ◌||◌, List, [], ◌∷◌, if◌then◌else◌, Option, Some, None}
 use Rattle.std.specs.Str.{bytes_eq}
 use Rattle.std.specs.List.{starts_with, list_any}
-use Rattle.policy_args.specs.Policy.{Rule, matches as rule_matches}
+use Rattle.call_rules.specs.Rules.{Rule, matches as rule_matches}
 
 -- a text or a name: its bytes
 abbrev pub Text : Type 0

@@ -5,7 +5,10 @@ use Rattle.std.specs.List.{list_any}
 use Rattle.policy_view.specs.Texts.{Text, is_one_of, stands_in, matches}
 use Rattle.dbus_header.specs.Message.{Message, path, interface, member, destination, reply_serial, first_text}
 use Rattle.dbus_names.specs.Names.{is_unique}
-use Rattle.policy_args.specs.Policy.{Policy, Entry, Grant, to_see, to_talk, to_own, to_call, to_broadcast, at_least, bus_name}
+use Rattle.policy_args.specs.Policy.{Policy, at_least, bus_name}
+use Rattle.policy_args.specs.declared.entry.Grant.{Grant}
+use Rattle.policy_args.specs.declared.entry.Grant.TheVariants.{See as to_see, Talk as to_talk, Own as to_own, Call as to_call, Broadcast as to_broadcast}
+use Rattle.policy_args.specs.declared.entry.Entry.{Entry}
 use Rattle.policy_view.specs.Levels.{Fact, level_of, entries, entry_at}
 use Rattle.policy_view.specs.Sent.{Kind, Call, Return, Error, Signal, Other, kind_of, Told, owed, Exchange, wants_reply, has_no_auto_start}
 use Rattle.policy_args.specs.declared.Level.{Level}
@@ -68,13 +71,13 @@ abbrev pub first_or_0 : List ℕ → ℕ
 first_or_0 [] = 0
 first_or_0 (n ∷ ns) = n
 
--- a Call rule of the entry matches
-abbrev pub rule_matches : Message → Grant → Bool
-rule_matches m to_see = false
-rule_matches m to_talk = false
-rule_matches m to_own = false
-rule_matches m (to_call rule) = matches rule (path m) (interface m) (member m)
-rule_matches m (to_broadcast rule) = false
+-- a Call rule of the entry matches a call of this path, interface and member
+abbrev pub rule_matches : Option Text → Option Text → Option Text → Grant → Bool
+rule_matches path interface member to_see = false
+rule_matches path interface member to_talk = false
+rule_matches path interface member to_own = false
+rule_matches path interface member (to_call rule) = matches rule path interface member
+rule_matches path interface member (to_broadcast rule) = false
 
 -- the entry has a rule on calls
 abbrev pub rules_calls : Grant → Bool
@@ -99,7 +102,7 @@ on_ruled_call m None numbers = refused m AccessDenied (OnlySee (first_or_0 numbe
 
 abbrev pub on_seen_call : Policy → Message → List ℕ → Verdict
 on_seen_call policy m numbers =
-    if list_any (entry_passes policy (rule_matches m)) numbers then Pass
+    if list_any (entry_passes policy (rule_matches (path m) (interface m) (member m))) numbers then Pass
     else on_ruled_call m (find (entry_passes policy rules_calls) numbers) numbers
 
 abbrev pub not_visible : Message → Text → Verdict

@@ -8,15 +8,16 @@ use Rattle.dbus_header.specs.Message.{Message, Valid, spell, with_reply_serial, 
 use Rattle.dbus_header.specs.Contents.{contents_of}
 use Rattle.dbus_header.proofs.NumberLaws.{reply_patched, reply_stands}
 use Rattle.policy_args.specs.Policy.{Policy}
+use Rattle.policy_view.specs.Levels.{Fact}
 use Rattle.policy_view.specs.Own.{answer_in_place}
 use Rattle.policy_view.specs.Sent.{Kind, Call, Return, Error, Signal, Other, kind_of, Sent, Passed, Pinged, OwnMatch, OwnOwner, OwnNames, answered, call_at, spelled_from}
-use Rattle.policy_view.specs.Past.{Item, Msg, Ended, History, past, after, due, due_at, used_by, used_at, place_used}
+use Rattle.policy_view.specs.Past.{Item, Msg, Ended, History, past, after, due, due_at, used_by, used_at, place_used, learned_at, self_by}
 use Rattle.policy_view.specs.Shown.{BusRole, NoRole, Unexpected, OtherAnswer, PingAnswer, NameList, bus_role, bus_role_at, seen, seen_as, shown, showing_at}
 use Rattle.policy_view.specs.History.{end_of, followed_by, most_sent}
 use Rattle.policy_view.specs.Outputs.{bus_bytes, client_bytes, to_bus, to_client, seen_of}
 use Rattle.policy_view.specs.declared.Side.TheVariants.{Bus}
 use Rattle.policy_view.specs.declared.End.TheVariants.{NotBuilt}
-use Rattle.policy_view.proofs.BuiltLaws.{service_call, service_no_list, other_bus_role, other_bus_due, other_seen, other_used}
+use Rattle.policy_view.proofs.BuiltLaws.{service_call, service_no_hello, service_no_list, other_bus_role, other_bus_due, other_seen, other_used}
 use Rattle.proxy_core.specs.Sessions.{SessionView, Taken, Holds, IsBuiltSent, expected_by}
 use Rattle.proxy_core.specs.Messages.{ended_by, incoming, with_reply, with_bus_message}
 use Rattle.proxy_core.proofs.LedgerLaws.{answered_sent}
@@ -131,6 +132,21 @@ module _ (policy : Policy) (view : SessionView) (items : History) (taken : Taken
   unfolding past after
   sent_same a = ap (λ (ds : List Sent). (past policy items).told.sent ++ ds) (due_open a) ∙ append-nil (past policy items).told.sent
 
+  facts_same : Answers m → (past policy (Msg Bus m ∷ items)).told.facts ≡ (past policy items).told.facts
+  unfolding past after
+  facts_same a =
+      ap (λ (fs : List Fact). (past policy items).told.facts ++ fs)
+      (ap (learned_at policy m) (role_here a) ∙ by (answered (past policy items) (reply_serial m)) (built_answered (reply_serial m)))
+      ∙ append-nil (past policy items).told.facts
+    where
+      by : (o : Option Sent) → IsBuiltAnswered o → learned_at policy m (role_by o) ≡ []
+      by None b = refl
+      by (Some (Passed q)) b = ap (λ (hello : Bool). self_by hello m) (service_no_hello q (service_call q b))
+      by (Some (Pinged q w)) b = refl
+      by (Some (OwnMatch p)) b = refl
+      by (Some (OwnOwner n)) b = refl
+      by (Some OwnNames) b = refl
+
   used_more : Answers m → (past policy (Msg Bus m ∷ items)).used ≡ (past policy items).used ++ place_used (length (past policy items).told.sent) (reply_serial m)
   unfolding past after
   used_more a = ap (λ (us : List ℕ). (past policy items).used ++ us) (used_here a)
@@ -175,7 +191,8 @@ module _ (policy : Policy) (view : SessionView) (items : History) (taken : Taken
         ∙ client_more a [] (sym (ap (λ (o : Option ℕ). flat_map spell (shown_by m (answered (past policy items) o))) number ∙ ap (λ (o : Option Sent). flat_map spell (shown_by m o)) nothing_answered));
     end_is = holds.end_is;
     knows = λ n. knows_same view (past policy items) (past policy (Msg Bus m ∷ items)) (holds.knows runs) (sent_same a)
-        (used_more a ∙ ap (λ (o : Option ℕ). (past policy items).used ++ place_used (length (past policy items).told.sent) o) number ∙ append-nil (past policy items).used);
+        (used_more a ∙ ap (λ (o : Option ℕ). (past policy items).used ++ place_used (length (past policy items).told.sent) o) number ∙ append-nil (past policy items).used)
+        (facts_same a);
   }
   reply_holds a (Some r) number None at =
       absurd (let p = reply_stands m r number in let h : Some p.0 ≡ None = sym p.1 ∙ at in cc)
@@ -185,7 +202,7 @@ module _ (policy : Policy) (view : SessionView) (items : History) (taken : Taken
         (incoming_is r place number at ∙ ap (λ (o : Option ℕ). flat_map spell (shown_by m (answered (past policy items) o))) (sym number));
     end_is = holds.end_is;
     knows = λ n. knows_answered view (past policy items) (past policy (Msg Bus m ∷ items)) r (view.client_side ++ incoming (contents_of m) bytes place (get view.expected r)) (holds.knows runs) (sent_same a)
-        (used_more a ∙ ap (λ (o : Option ℕ). (past policy items).used ++ place_used (length (past policy items).told.sent) o) number);
+        (used_more a ∙ ap (λ (o : Option ℕ). (past policy items).used ++ place_used (length (past policy items).told.sent) o) number) (facts_same a);
   }
 
   -- what the history has for an answer
@@ -218,7 +235,8 @@ module _ (policy : Policy) (view : SessionView) (items : History) (taken : Taken
     end_is = holds.end_is;
     knows = λ n. knows_same view (past policy items) (past policy (Msg Bus m ∷ items)) (holds.knows runs)
         (ap (λ (r : BusRole). (past policy items).told.sent ++ due_at policy m r) (other_bus_role (past policy items) m other) ∙ append-nil (past policy items).told.sent)
-        (ap (λ (us : List ℕ). (past policy items).used ++ us) (other_used (past policy items) m other) ∙ append-nil (past policy items).used);
+        (ap (λ (us : List ℕ). (past policy items).used ++ us) (other_used (past policy items) m other) ∙ append-nil (past policy items).used)
+        (ap (λ (r : BusRole). (past policy items).told.facts ++ learned_at policy m r) (other_bus_role (past policy items) m other) ∙ append-nil (past policy items).told.facts);
   }
 
   -- a message of the bus

@@ -1,15 +1,18 @@
 -- A message of the client: what the session does is what the history has.
-use Rattle.std.proofs.Common.{ℕ, ◌≡◌, ◌+◌, ◌≤◌, nat_le, Bool, true, false, cond, List, [], ◌∷◌, ◌++◌, length, Option, Some, None, refl, ap, ◌∙◌, sym, arith, append-nil, append_assoc, inl, inr}
-use Rattle.std.specs.Prelude.{◌⊎◌, ◌==◌, ◌&&◌, ◌||◌, not, nat_lt}
+use Rattle.std.proofs.Common.{ℕ, ◌≡◌, ◌+◌, ◌≤◌, nat_le, Bool, true, false, cond, List, [], ◌∷◌, ◌++◌, length, Option, Some, None, refl, ap, ◌∙◌, sym, arith, append-nil, append_assoc}
+use Rattle.std.specs.Prelude.{◌==◌, ◌&&◌, ◌||◌, not, nat_lt}
 use Rattle.std.specs.List.{list_any}
 use Rattle.std.proofs.lemmas.Bool.Decides.{nat_tests}
 use Rattle.std.proofs.lemmas.Bool.{eqb-true}
 use Rattle.dbus_header.specs.Message.{Message, Valid, spell, with_serial, with_number, destination}
 use Rattle.dbus_header.specs.Contents.{contents_of}
 use Rattle.dbus_header.proofs.NumberLaws.{serial_patched}
-use Rattle.policy_args.specs.Policy.{Policy, level, at_least}
-use Rattle.policy_args.specs.declared.Level.{Level}
-use Rattle.policy_args.specs.declared.Level.TheVariants.{None as NoLevel, Talk}
+use Rattle.policy_args.specs.Policy.{Policy}
+use Rattle.verdicts.specs.Judging.{judged}
+use Rattle.verdicts.proofs.JudgedLaws.{judged-is}
+use Rattle.policy_view.specs.declared.Verdict.{Verdict}
+use Rattle.policy_view.specs.declared.Verdict.TheVariants.{Pass, Ping, Drop}
+use Rattle.policy_view.specs.declared.Reason.TheVariants.{UnknownType}
 use Rattle.policy_view.specs.Sent.{Sent, Passed, Pinged, message_of, spelled_from, if_expected, is_passed_hello, own_calls, wants_reply}
 use Rattle.policy_view.specs.Past.{Item, Msg, Ended, History, past, after, due, due_on, with_client}
 use Rattle.policy_view.specs.Verdicts.{verdict}
@@ -17,10 +20,10 @@ use Rattle.policy_view.specs.History.{end_of, followed_by, is_built_for, is_serv
 use Rattle.policy_view.specs.Outputs.{bus_bytes, client_bytes, to_bus, to_client, seen_of}
 use Rattle.policy_view.specs.declared.Side.TheVariants.{Client}
 use Rattle.policy_view.specs.declared.End.TheVariants.{SerialsSpent, NotBuilt}
-use Rattle.policy_view.proofs.BuiltLaws.{IsServiceCall, service_call, hidden_by, verdict_pinged, verdict_dropped, verdict_talk, service_no_hello, verdict_other}
+use Rattle.policy_view.proofs.BuiltLaws.{IsServiceCall, service_call, service_no_hello, verdict_other}
 use Rattle.policy_view.proofs.PastLaws.{used_sent}
 use Rattle.proxy_core.specs.Sessions.{SessionView, Taken, Holds, IsBuiltSent, expected_by}
-use Rattle.proxy_core.specs.Messages.{ended_by, may_talk, passed, pinged, with_sent, sent_or_spent, with_service_call, with_call}
+use Rattle.proxy_core.specs.Messages.{ended_by, passed, pinged, with_sent, sent_or_spent, with_verdict, with_call}
 use Rattle.proxy_core.specs.declared.ledger.Expected.{Expected}
 use Rattle.proxy_core.specs.declared.ledger.Expected.TheVariants as expects
 use Rattle.proxy_core.proofs.Knowing.{knows_sent, knows_same}
@@ -47,7 +50,7 @@ module _ (policy : Policy) (view : SessionView) (items : History) (taken : Taken
     for_client = holds.for_client ∙ sym (append-nil (client_bytes policy items));
     end_is = holds.end_is;
     knows = λ n. knows_sent view (past policy items) (past policy (Msg Client m ∷ items)) s e out (holds.knows runs) (used_sent policy items)
-        (ap (λ (ds : List Sent). (past policy items).told.sent ++ ds) d) refl built is room;
+        (ap (λ (ds : List Sent). (past policy items).told.sent ++ ds) d) refl refl built is room;
   }
 
   -- none is
@@ -61,7 +64,7 @@ module _ (policy : Policy) (view : SessionView) (items : History) (taken : Taken
     for_client = holds.for_client ∙ sym (append-nil (client_bytes policy items));
     end_is = holds.end_is;
     knows = λ n. knows_same view (past policy items) (past policy (Msg Client m ∷ items)) (holds.knows runs)
-        (ap (λ (ds : List Sent). (past policy items).told.sent ++ ds) d ∙ append-nil (past policy items).told.sent) refl;
+        (ap (λ (ds : List Sent). (past policy items).told.sent ++ ds) d ∙ append-nil (past policy items).told.sent) refl refl;
   }
 
   due_is : (ds : List Sent) → due_on policy (past policy items).told m (verdict policy (past policy items).told m) ≡ ds → due policy (past policy items) (Msg Client m) ≡ ds
@@ -107,9 +110,9 @@ module _ (policy : Policy) (view : SessionView) (items : History) (taken : Taken
       (sent_none d)
 
   -- the call passes
-  passed_due : (s : IsServiceCall m) → level policy s.name ≡ Talk → due_on policy (past policy items).told m (verdict policy (past policy items).told m) ≡ Passed m ∷ []
+  passed_due : IsServiceCall m → verdict policy (past policy items).told m ≡ Pass → due_on policy (past policy items).told m (verdict policy (past policy items).told m) ≡ Passed m ∷ []
   passed_due s e =
-      ap (due_on policy (past policy items).told m) (verdict_talk policy (past policy items).told m s e)
+      ap (due_on policy (past policy items).told m) e
       ∙ ap (λ (b : Bool). Passed m ∷ cond (b && not (list_any is_passed_hello (past policy items).told.sent)) (own_calls policy) []) (service_no_hello m s)
 
   passed_bytes : (n : ℕ) → with_number m.order 8 n bytes ≡ spell (with_serial n m)
@@ -123,47 +126,35 @@ module _ (policy : Policy) (view : SessionView) (items : History) (taken : Taken
       by true = refl
       by false = refl
 
-  talks_by : (s : IsServiceCall m) (l : Level) → level policy s.name ≡ l → may_talk policy (destination m) ≡ at_least Talk l
-  talks_by s l e = ap (may_talk policy) s.to ∙ ap (at_least Talk) e
+  -- what is done by the verdict, where only a call of a service passes
+  verdict_holds : is_built_for Client m ≡ true → (v : Verdict) → verdict policy (past policy items).told m ≡ v → (v ≡ Pass → (m.kind == 1 && is_service (destination m)) ≡ true) →
+      Holds policy (with_verdict v (contents_of m) bytes view) (followed_by policy items (Msg Client m)) taken
+  verdict_holds built Pass e passes =
+      let call = passes refl in
+      let s = service_call m call in
+      sends_holds built (Passed m) (passed (contents_of m) bytes (view.sent + 1)).0 (passed (contents_of m) bytes (view.sent + 1)).1
+      (passed_due s e) call (passed_expects s.call) (passed_bytes (view.sent + 1)) (view.sent == most_sent) refl
+  verdict_holds built (Ping what reason) e passes =
+      sends_holds built (Pinged m what) (pinged (contents_of m) what (view.sent + 1)).0 (pinged (contents_of m) what (view.sent + 1)).1
+      (ap (due_on policy (past policy items).told m) e) tt refl refl (view.sent == most_sent) refl
+  verdict_holds built (Drop reason) e passes = quiet_holds built (ap (due_on policy (past policy items).told m) e)
 
-  -- where the name is hidden, a ping takes the call's place, or nothing
-  hidden_holds : is_built_for Client m ≡ true → (s : IsServiceCall m) → level policy s.name ≡ NoLevel → (wants : Bool) → wants_reply m ≡ wants →
-      Holds policy (cond wants (sent_or_spent (pinged (contents_of m) (view.sent + 1)) view) view) (followed_by policy items (Msg Client m)) taken
-  hidden_holds built s none true w =
-      sends_holds built (Pinged m (hidden_by m)) (pinged (contents_of m) (view.sent + 1)).0 (pinged (contents_of m) (view.sent + 1)).1
-      (ap (due_on policy (past policy items).told m) (verdict_pinged policy (past policy items).told m s none w))
-      tt refl refl (view.sent == most_sent) refl
-  hidden_holds built s none false w =
-      quiet_holds built (ap (due_on policy (past policy items).told m) (verdict_dropped policy (past policy items).told m s none w))
+  -- no message of a type above 4 passes
+  passes_call : (call : Bool) → (m.kind == 1 && is_service (destination m)) ≡ call → (call || nat_lt 4 m.kind) ≡ true → verdict policy (past policy items).told m ≡ Pass → call ≡ true
+  passes_call true c e v = refl
+  passes_call false c e v = absurd (let other : Drop UnknownType ≡ Pass = sym (verdict_other policy (past policy items).told m e) ∙ v in cc)
 
-  service_holds : is_built_for Client m ≡ true → (m.kind == 1 && is_service (destination m)) ≡ true → (s : IsServiceCall m) →
-      (level policy s.name ≡ NoLevel) ⊎ (level policy s.name ≡ Talk) →
-      Holds policy (with_service_call policy (contents_of m) bytes view) (followed_by policy items (Msg Client m)) taken
-  service_holds built is_call s (inl none) =
-      moved policy taken (with_service_call policy (contents_of m) bytes view)
-      (cond (wants_reply m) (sent_or_spent (pinged (contents_of m) (view.sent + 1)) view) view) (followed_by policy items (Msg Client m)) (followed_by policy items (Msg Client m))
-      (ap (λ (b : Bool). cond b (sent_or_spent (passed (contents_of m) bytes (view.sent + 1)) view) (cond (wants_reply m) (sent_or_spent (pinged (contents_of m) (view.sent + 1)) view) view)) (talks_by s NoLevel none)) refl
-      (hidden_holds built s none (wants_reply m) refl)
-  service_holds built is_call s (inr talk) =
-      moved policy taken (with_service_call policy (contents_of m) bytes view)
-      (sent_or_spent (passed (contents_of m) bytes (view.sent + 1)) view) (followed_by policy items (Msg Client m)) (followed_by policy items (Msg Client m))
-      (ap (λ (b : Bool). cond b (sent_or_spent (passed (contents_of m) bytes (view.sent + 1)) view) (cond (wants_reply m) (sent_or_spent (pinged (contents_of m) (view.sent + 1)) view) view)) (talks_by s Talk talk)) refl
-      (sends_holds built (Passed m) (passed (contents_of m) bytes (view.sent + 1)).0 (passed (contents_of m) bytes (view.sent + 1)).1
-      (passed_due s talk) is_call (passed_expects s.call) (passed_bytes (view.sent + 1)) (view.sent == most_sent) refl)
-
-  -- a message of the client, where the policy gives no level but None and Talk
-  pub call_holds : ((name : List ℕ) → (level policy name ≡ NoLevel) ⊎ (level policy name ≡ Talk)) →
-      Holds policy (with_call policy (contents_of m) bytes view) (followed_by policy items (Msg Client m)) taken
-  call_holds levels = by (m.kind == 1 && is_service (destination m)) refl (nat_lt 4 m.kind) refl
+  -- a message of the client
+  pub call_holds : Holds policy (with_call policy (contents_of m) bytes view) (followed_by policy items (Msg Client m)) taken
+  call_holds = by (is_built_for Client m) refl
     where
-      by : (call : Bool) → (m.kind == 1 && is_service (destination m)) ≡ call → (other : Bool) → nat_lt 4 m.kind ≡ other →
-          Holds policy (cond call (with_service_call policy (contents_of m) bytes view) (cond other view (ended_by NotBuilt view))) (followed_by policy items (Msg Client m)) taken
-      by true call other o =
-          let s = service_call m call in
-          service_holds (ap (λ (b : Bool). b || nat_lt 4 m.kind) call) call s (levels s.name)
-      by false call true o =
-          quiet_holds (ap (λ (b : Bool). b || nat_lt 4 m.kind) call ∙ o) (ap (due_on policy (past policy items).told m) (verdict_other policy (past policy items).told m o))
-      by false call false o =
+      by : (built : Bool) → is_built_for Client m ≡ built → Holds policy (cond built (with_verdict (judged policy (contents_of m)) (contents_of m) bytes view) (ended_by NotBuilt view)) (followed_by policy items (Msg Client m)) taken
+      by true built =
+          moved policy taken (with_verdict (judged policy (contents_of m)) (contents_of m) bytes view) (with_verdict (verdict policy (past policy items).told m) (contents_of m) bytes view)
+          (followed_by policy items (Msg Client m)) (followed_by policy items (Msg Client m))
+          (ap (λ (v : Verdict). with_verdict v (contents_of m) bytes view) (judged-is policy (past policy items).told m built (holds.knows runs).facts)) refl
+          (verdict_holds built (verdict policy (past policy items).told m) refl (λ e. passes_call (m.kind == 1 && is_service (destination m)) refl built e))
+      by false built =
           moved policy taken (ended_by NotBuilt view) (ended_by NotBuilt view) (followed_by policy items (Msg Client m)) (Ended NotBuilt ∷ items) refl
-          (followed policy items (Msg Client m) ends ∙ ap (λ (i : Item). i ∷ items) (placed_not_built policy (past policy items) (Msg Client m) (ap (λ (b : Bool). b || nat_lt 4 m.kind) call ∙ o)))
+          (followed policy items (Msg Client m) ends ∙ ap (λ (i : Item). i ∷ items) (placed_not_built policy (past policy items) (Msg Client m) built))
           (ended_holds policy view items taken NotBuilt holds)

@@ -66,13 +66,13 @@ stream_holds policy view items taken Client s h = record {
   for_bus = h.for_bus;
   for_client = h.for_client;
   end_is = h.end_is;
-  knows = λ e. let k = h.knows e in record { count = k.count; fits = k.fits; each = k.each; built = k.built };
+  knows = λ e. let k = h.knows e in record { count = k.count; fits = k.fits; each = k.each; built = k.built; facts = k.facts };
 }
 stream_holds policy view items taken Bus s h = record {
   for_bus = h.for_bus;
   for_client = h.for_client;
   end_is = h.end_is;
-  knows = λ e. let k = h.knows e in record { count = k.count; fits = k.fits; each = k.each; built = k.built };
+  knows = λ e. let k = h.knows e in record { count = k.count; fits = k.fits; each = k.each; built = k.built; facts = k.facts };
 }
 
 -- ---- a line in its place
@@ -94,7 +94,7 @@ client_line_holds policy view items taken l s runs h =
       for_bus = sym (append_assoc taken.bus_side view.bus_side (for_bus l)) ∙ ap (λ (w : List ℕ). w ++ for_bus l) h.for_bus;
       for_client = h.for_client ∙ sym (append-nil (client_bytes policy items));
       end_is = h.end_is;
-      knows = λ e. let k = h.knows e in record { count = k.count; fits = k.fits; each = k.each; built = k.built };
+      knows = λ e. let k = h.knows e in record { count = k.count; fits = k.fits; each = k.each; built = k.built; facts = k.facts };
     })
 
 bus_line_holds : (policy : Policy) (view : SessionView) (items : History) (taken : Taken) (l : List ℕ) (s : StreamView) → view.ended ≡ None → Holds policy view items taken
@@ -107,7 +107,7 @@ bus_line_holds policy view items taken l s runs h =
       for_bus = h.for_bus ∙ sym (append-nil (bus_bytes policy items));
       for_client = sym (append_assoc taken.client_side view.client_side l) ∙ ap (λ (w : List ℕ). w ++ l) h.for_client;
       end_is = h.end_is;
-      knows = λ e. let k = h.knows e in record { count = k.count; fits = k.fits; each = k.each; built = k.built };
+      knows = λ e. let k = h.knows e in record { count = k.count; fits = k.fits; each = k.each; built = k.built; facts = k.facts };
     })
 
 -- ---- bytes

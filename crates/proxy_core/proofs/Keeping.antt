@@ -2,7 +2,7 @@
 use Rattle.std.proofs.Common.{ℕ, ◌≡◌, ◌+◌, ◌*◌, ◌≤◌, Bool, true, false, cond, List, [], ◌++◌, length, take, drop, Option, Some, None, refl, ap, ◌∙◌, sym, arith, length-append, append-nil, append_assoc}
 use Rattle.std.specs.Int.{w32}
 use Rattle.std.proofs.lemmas.List.{length-drop, take-append-drop}
-use Rattle.std.specs.Prelude.{◌==◌, ◌&&◌, ◌||◌, nat_lt}
+use Rattle.std.specs.Prelude.{◌==◌, ◌||◌, nat_lt}
 use Rattle.std.specs.FinMap.{get}
 use Rattle.dbus_values.specs.Values.{number_bytes}
 use Rattle.dbus_values.proofs.ValueLaws.{wide_32}
@@ -10,13 +10,16 @@ use Rattle.dbus_values.specs.declared.Order.{Order}
 use Rattle.dbus_header.specs.Message.{with_number}
 use Rattle.dbus_header.specs.Contents.{Contents}
 use Rattle.policy_args.specs.Policy.{Policy}
-use Rattle.policy_view.specs.History.{is_service, most_sent}
+use Rattle.policy_view.specs.History.{most_sent}
 use Rattle.policy_view.specs.declared.End.{End}
 use Rattle.policy_view.specs.declared.End.TheVariants.{SerialsSpent, NotBuilt}
 use Rattle.policy_view.specs.declared.Side.{Side}
 use Rattle.policy_view.specs.declared.Side.TheVariants.{Client, Bus}
 use Rattle.proxy_core.specs.Sessions.{SessionView, IsFront}
-use Rattle.proxy_core.specs.Messages.{ended_by, may_talk, wants_answer, passed, pinged, with_sent, sent_or_spent, with_service_call, with_call, incoming, with_reply, with_message}
+use Rattle.proxy_core.specs.Messages.{ended_by, passed, pinged, with_sent, sent_or_spent, with_verdict, with_call, incoming, with_reply, with_message}
+use Rattle.verdicts.specs.Judging.{is_judged, judged}
+use Rattle.policy_view.specs.declared.Verdict.{Verdict}
+use Rattle.policy_view.specs.declared.Verdict.TheVariants.{Pass, Ping, Drop}
 use Rattle.proxy_core.specs.declared.ledger.Expected.{Expected}
 use Rattle.proxy_core.specs.declared.ledger.Expected.TheVariants as expects
 use Rattle.proxy_core.proofs.OwnBytes.{ping_length, error_length}
@@ -73,18 +76,16 @@ module _ (policy : Policy) (x : Contents) (bytes : List ℕ) (long : 16 ≤ leng
   spent_kept : (out : List ℕ) (e : Option Expected) (view : SessionView) → length out ≤ 9 * length bytes → IsKept (9 * length bytes) view (sent_or_spent (out, e) view)
   spent_kept out e view h = either (9 * length bytes) view _ _ (view.sent == most_sent) (ended_kept (9 * length bytes) SerialsSpent view) (sent_kept out e view h)
 
-  service_kept : (view : SessionView) → IsKept (9 * length bytes) view (with_service_call policy x bytes view)
-  service_kept view =
-      either (9 * length bytes) view _ _ (may_talk policy x.parts.destination)
-      (spent_kept (passed x bytes (view.sent + 1)).0 (passed x bytes (view.sent + 1)).1 view (let h = number_length x.order 8 (view.sent + 1) bytes in omega (arith, h, long)))
-      (either (9 * length bytes) view _ _ (wants_answer x)
-      (spent_kept (pinged x (view.sent + 1)).0 (pinged x (view.sent + 1)).1 view (let h = ping_length (view.sent + 1) in omega (arith, h, long)))
-      (itself (9 * length bytes) view))
+  verdict_kept : (v : Verdict) (view : SessionView) → IsKept (9 * length bytes) view (with_verdict v x bytes view)
+  verdict_kept Pass view =
+      spent_kept (passed x bytes (view.sent + 1)).0 (passed x bytes (view.sent + 1)).1 view (let h = number_length x.order 8 (view.sent + 1) bytes in omega (arith, h, long))
+  verdict_kept (Ping what reason) view =
+      spent_kept (pinged x what (view.sent + 1)).0 (pinged x what (view.sent + 1)).1 view (let h = ping_length (view.sent + 1) in omega (arith, h, long))
+  verdict_kept (Drop reason) view = itself (9 * length bytes) view
 
   call_kept : (view : SessionView) → IsKept (9 * length bytes) view (with_call policy x bytes view)
   call_kept view =
-      either (9 * length bytes) view _ _ (x.kind == 1 && is_service x.parts.destination) (service_kept view)
-      (either (9 * length bytes) view _ _ (nat_lt 4 x.kind) (itself (9 * length bytes) view) (ended_kept (9 * length bytes) NotBuilt view))
+      either (9 * length bytes) view _ _ (is_judged x) (verdict_kept (judged policy x) view) (ended_kept (9 * length bytes) NotBuilt view)
 
   incoming_length : (place : ℕ) (o : Option Expected) → length (incoming x bytes place o) ≤ 9 * length bytes
   incoming_length place None = omega arith

@@ -21,10 +21,10 @@ some_same a b e = cc
 -- a message that is sent, and what its answer is for
 pub knows_sent : (view : SessionView) (before after : Past) (s : Sent) (e : Option Expected) (out : List ℕ) → Knows view before →
     ((r : ℕ) → list_any (nat_eq r) before.used ≡ true → r ≤ length before.told.sent) →
-    after.told.sent ≡ before.told.sent ++ s ∷ [] → after.used ≡ before.used →
+    after.told.sent ≡ before.told.sent ++ s ∷ [] → after.used ≡ before.used → after.told.facts ≡ before.told.facts →
     IsBuiltSent s → expected_by (if_expected (Some s)) ≡ e → length before.told.sent + 1 ≤ most_sent →
     Knows (with_sent (out, e) view) after
-knows_sent view before after s e out k within sent used built is room = record {
+knows_sent view before after s e out k within sent used facts built is room = record {
   count = ap (λ (n : ℕ). n + 1) k.count ∙ sym (ap length sent ∙ length-append before.told.sent (s ∷ []));
   fits = (let h : length after.told.sent ≡ length before.told.sent + 1 = ap length sent ∙ length-append before.told.sent (s ∷ []) in omega (arith, h, room));
   each = λ r.
@@ -34,6 +34,7 @@ knows_sent view before after s e out k within sent used built is room = record {
       ∙ ap (λ (us : List ℕ). expected_by (answered_in us after.told.sent r)) (sym used)
       ∙ ap expected_by (sym (answered_is after r));
   built = λ r t g. each_built r t (sym (ap (λ (xs : List Sent). slice_get xs r) sent) ∙ g) (nat_eq r (length before.told.sent)) refl;
+  facts = facts ∙ k.facts;
 }
   where
     each_built : (r : ℕ) (t : Sent) → slice_get (before.told.sent ++ s ∷ []) r ≡ Some t → (here : Bool) → nat_eq r (length before.told.sent) ≡ here → IsBuiltSent t
@@ -45,9 +46,9 @@ knows_sent view before after s e out k within sent used built is room = record {
         k.built r t (sym (get_other before.told.sent s r (other_nat r (length before.told.sent) h)) ∙ g)
 
 pub knows_answered : (view : SessionView) (before after : Past) (a : ℕ) (out : List ℕ) → Knows view before →
-    after.told.sent ≡ before.told.sent → after.used ≡ before.used ++ place_used (length before.told.sent) (Some a) →
+    after.told.sent ≡ before.told.sent → after.used ≡ before.used ++ place_used (length before.told.sent) (Some a) → after.told.facts ≡ before.told.facts →
     Knows (record view { client_side = out; expected = remove view.expected a }) after
-knows_answered view before after a out k sent used = record {
+knows_answered view before after a out k sent used facts = record {
   count = k.count ∙ ap length (sym sent);
   fits = (let h : length after.told.sent ≡ length before.told.sent = ap length sent in omega (arith, h, k.fits));
   each = λ r.
@@ -56,11 +57,12 @@ knows_answered view before after a out k sent used = record {
       ∙ ap (λ (xs : List Sent). expected_by (answered_in after.used xs r)) (sym sent)
       ∙ ap expected_by (sym (answered_is after r));
   built = λ r t g. k.built r t (ap (λ (xs : List Sent). slice_get xs r) (sym sent) ∙ g);
+  facts = facts ∙ k.facts;
 }
 
 pub knows_same : (view : SessionView) (before after : Past) → Knows view before →
-    after.told.sent ≡ before.told.sent → after.used ≡ before.used → Knows view after
-knows_same view before after k sent used = record {
+    after.told.sent ≡ before.told.sent → after.used ≡ before.used → after.told.facts ≡ before.told.facts → Knows view after
+knows_same view before after k sent used facts = record {
   count = k.count ∙ ap length (sym sent);
   fits = (let h : length after.told.sent ≡ length before.told.sent = ap length sent in omega (arith, h, k.fits));
   each = λ r.
@@ -69,4 +71,5 @@ knows_same view before after k sent used = record {
       ∙ ap (λ (xs : List Sent). expected_by (answered_in after.used xs r)) (sym sent)
       ∙ ap expected_by (sym (answered_is after r));
   built = λ r t g. k.built r t (ap (λ (xs : List Sent). slice_get xs r) (sym sent) ∙ g);
+  facts = facts ∙ k.facts;
 }

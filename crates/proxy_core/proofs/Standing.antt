@@ -1,6 +1,6 @@
 -- A session that stands for events, and one event more.
 use Rattle.std.proofs.Common.{ℕ, zero, suc, ◌≡◌, ◌+◌, ◌-◌, ◌*◌, ◌<◌, ◌≤◌, Bool, true, false, cond, List, [], ◌∷◌, ◌++◌, length, take, drop, map, Option, Some, None, refl, ap, ◌∙◌, sym, subst, arith, append-nil, append_assoc, length-append, inl, inr}
-use Rattle.std.specs.Prelude.{◌⊎◌, ◌||◌, ◌==◌, not, nat_lt, min}
+use Rattle.std.specs.Prelude.{◌||◌, ◌==◌, not, nat_lt, min}
 use Rattle.std.specs.FinMap.{get-empty}
 use Rattle.std.specs.List.{list_any}
 use Rattle.std.specs.Ordering.{nat_cmp}
@@ -21,8 +21,7 @@ use Rattle.sasl_watch.specs.Watching.{client_ahead, bus_ahead}
 use Rattle.sasl_watch.specs.declared.LineFault.{LineFault}
 use Rattle.sasl_watch.specs.declared.LineKind.TheVariants.{EarlyBus}
 use Rattle.sasl_watch.proofs.Followed.{client-starts, client-pushed, bus-starts, bus-pushed}
-use Rattle.policy_args.specs.Policy.{Policy, level}
-use Rattle.policy_args.specs.declared.Level.TheVariants.{None as NoLevel, Talk}
+use Rattle.policy_args.specs.Policy.{Policy}
 use Rattle.policy_view.specs.Sent.{answered, call_at, nothing_before}
 use Rattle.policy_view.specs.Past.{Item, Line, Msg, Ended, History, past}
 use Rattle.policy_view.specs.History.{Event, Bytes, Finished, longest_stream, whole_stream, stream, lines, content, messages_in, found, fault, taken_of, is_over, brought, end_if, fault_end, new_in, finished, is_built_piece, arrived, followed_by, followed_by_all, history}
@@ -85,7 +84,7 @@ start_stands policy mode = record {
     for_bus = refl;
     for_client = refl;
     end_is = refl;
-    knows = λ n. record { count = refl; fits = omega arith; each = λ r. get-empty nat_cmp r ∙ nothing_sent r; built = λ r s g. cc };
+    knows = λ n. record { count = refl; fits = omega arith; each = λ r. get-empty nat_cmp r ∙ nothing_sent r; built = λ r s g. cc; facts = refl };
   };
   follows = λ e. record { client = stream_starts mode Client; bus = stream_starts mode Bus };
 }
@@ -700,16 +699,15 @@ finish_stands policy view events taken side runs stands =
 
 -- ---- a feed
 
--- what a session does with a valid message is what the history has, where the policy gives no level but None and Talk
-pub all_steps : (policy : Policy) (taken : Taken) → ((name : List ℕ) → (level policy name ≡ NoLevel) ⊎ (level policy name ≡ Talk)) → Steps policy taken
-all_steps policy taken levels Client view items m runs holds valid = call_holds policy view items taken m (spell m) runs holds valid refl levels
-all_steps policy taken levels Bus view items m runs holds valid = answer_holds policy view items taken m (spell m) runs holds valid refl
+-- what a session does with a valid message is what the history has
+pub all_steps : (policy : Policy) (taken : Taken) → Steps policy taken
+all_steps policy taken Client view items m runs holds valid = call_holds policy view items taken m (spell m) runs holds valid refl
+all_steps policy taken Bus view items m runs holds valid = answer_holds policy view items taken m (spell m) runs holds valid refl
 
 pub feed_stands : (policy : Policy) (old new : SessionView) (events : List Event) (taken : Taken) (side : Side) (piece : List ℕ) → old.ended ≡ None → AreBytes piece →
-    ((name : List ℕ) → (level policy name ≡ NoLevel) ⊎ (level policy name ≡ Talk)) →
     Took (with_piece policy side piece old) old new → StandsFor policy old events taken → StandsFor policy new (Bytes side piece ∷ events) taken
-feed_stands policy old new events taken side piece runs are levels took stands =
-    let steps = all_steps policy taken levels in
+feed_stands policy old new events taken side piece runs are took stands =
+    let steps = all_steps policy taken in
     let expected = piece_stands policy old events taken steps side piece runs stands are in
     elim took [
       | inl is ↦ subst (λ (v : SessionView). StandsFor policy v (Bytes side piece ∷ events) taken) (sym is) expected
@@ -731,7 +729,7 @@ took_bus policy view events taken n stands =
         for_bus = same ∙ h.for_bus;
         for_client = h.for_client;
         end_is = h.end_is;
-        knows = λ r. let k = h.knows r in record { count = k.count; fits = k.fits; each = k.each; built = k.built };
+        knows = λ r. let k = h.knows r in record { count = k.count; fits = k.fits; each = k.each; built = k.built; facts = k.facts };
       };
       follows = λ e. let f = stands.follows e in record { client = f.client; bus = f.bus };
     }
@@ -748,7 +746,7 @@ took_client policy view events taken n stands =
         for_bus = h.for_bus;
         for_client = same ∙ h.for_client;
         end_is = h.end_is;
-        knows = λ r. let k = h.knows r in record { count = k.count; fits = k.fits; each = k.each; built = k.built };
+        knows = λ r. let k = h.knows r in record { count = k.count; fits = k.fits; each = k.each; built = k.built; facts = k.facts };
       };
       follows = λ e. let f = stands.follows e in record { client = f.client; bus = f.bus };
     }

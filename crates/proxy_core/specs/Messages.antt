@@ -1,19 +1,20 @@
 -- What a session does with a message, on what it is seen as.
-use Rattle.std.specs.Prelude.{◌≡◌, ℕ, ◌+◌, ◌/◌, ◌%◌, Bool, false, ◌&&◌, ◌||◌, ◌==◌, nat_lt, List, [], ◌++◌, Option, Some, None, if◌then◌else◌}
+use Rattle.std.specs.Prelude.{◌≡◌, ℕ, ◌+◌, ◌||◌, ◌==◌, nat_lt, List, [], ◌++◌, Option, Some, None, if◌then◌else◌}
 use Rattle.std.specs.Ordering.{nat_cmp}
 use Rattle.std.specs.FinMap.{FinMap, get, insert, remove}
 use Rattle.dbus_header.specs.Message.{spell, with_serial, with_number}
 use Rattle.dbus_header.specs.Contents.{Contents}
 use Rattle.dbus_header.specs.declared.Instead.{Instead}
-use Rattle.dbus_header.specs.declared.Instead.TheVariants.{NameHasNoOwner, ServiceUnknown}
-use Rattle.policy_args.specs.Policy.{Policy, level, at_least}
-use Rattle.policy_args.specs.declared.Level.TheVariants.{Talk}
+use Rattle.policy_args.specs.Policy.{Policy}
 use Rattle.policy_view.specs.Own.{ping, answer_in_place}
-use Rattle.policy_view.specs.History.{is_service, most_sent}
+use Rattle.policy_view.specs.History.{most_sent}
+use Rattle.policy_view.specs.declared.Verdict.{Verdict}
+use Rattle.policy_view.specs.declared.Verdict.TheVariants.{Pass, Ping, Drop}
 use Rattle.policy_view.specs.declared.Side.{Side}
 use Rattle.policy_view.specs.declared.Side.TheVariants.{Client, Bus}
 use Rattle.policy_view.specs.declared.End.{End}
 use Rattle.policy_view.specs.declared.End.TheVariants.{SerialsSpent, NotBuilt}
+use Rattle.verdicts.specs.Judging.{is_judged, judged, wants_answer}
 use Rattle.proxy_core.specs.declared.ledger.Expected.{Expected}
 use Rattle.proxy_core.specs.declared.ledger.Expected.TheVariants as expects
 use Rattle.proxy_core.specs.Sessions.{SessionView}
@@ -23,28 +24,12 @@ ended_by end view = record view { ended = Some end }
 
 -- ---- a message of the client
 
--- whether the policy lets the name be talked to
-abbrev pub may_talk : Policy → Option (List ℕ) → Bool
-may_talk policy None = false
-may_talk policy (Some name) = at_least Talk (level policy name)
-
--- NO_REPLY_EXPECTED isn't set; NO_AUTO_START is set
-abbrev pub wants_answer : Contents → Bool
-wants_answer x = x.flags % 2 == 0
-
-abbrev pub is_no_start : Contents → Bool
-is_no_start x = (x.flags / 2) % 2 == 1
-
--- what the call of a hidden name is answered with
-abbrev pub instead_of : Contents → Instead
-instead_of x = if is_no_start x then NameHasNoOwner else ServiceUnknown
-
 -- what goes to the bus with serial n, and what its answer is for: the call itself, or a ping in its place
 abbrev pub passed : Contents → List ℕ → ℕ → List ℕ × Option Expected
 passed x bytes n = (with_number x.order 8 n bytes, if wants_answer x then Some (expects.Call x.serial) else None)
 
-abbrev pub pinged : Contents → ℕ → List ℕ × Option Expected
-pinged x n = (spell (with_serial n ping), Some (expects.Ping x.serial x.order (instead_of x)))
+abbrev pub pinged : Contents → Instead → ℕ → List ℕ × Option Expected
+pinged x what n = (spell (with_serial n ping), Some (expects.Ping x.serial x.order what))
 
 abbrev pub expecting : FinMap nat_cmp Expected → ℕ → Option Expected → FinMap nat_cmp Expected
 expecting expected n None = expected
@@ -61,17 +46,14 @@ with_sent sent view = record view {
 abbrev pub sent_or_spent : List ℕ × Option Expected → SessionView → SessionView
 sent_or_spent sent view = if view.sent == most_sent then ended_by SerialsSpent view else with_sent sent view
 
--- a call of a service: it passes, or a ping takes its place, or it is dropped where it wants no answer
-abbrev pub with_service_call : Policy → Contents → List ℕ → SessionView → SessionView
-with_service_call policy x bytes view =
-    if may_talk policy x.parts.destination then sent_or_spent (passed x bytes (view.sent + 1)) view
-    else (if wants_answer x then sent_or_spent (pinged x (view.sent + 1)) view else view)
+-- by the verdict: the message goes to the bus, or a ping in its place, or nothing
+abbrev pub with_verdict : Verdict → Contents → List ℕ → SessionView → SessionView
+with_verdict Pass x bytes view = sent_or_spent (passed x bytes (view.sent + 1)) view
+with_verdict (Ping what reason) x bytes view = sent_or_spent (pinged x what (view.sent + 1)) view
+with_verdict (Drop reason) x bytes view = view
 
--- a message of a type above 4 is dropped
 abbrev pub with_call : Policy → Contents → List ℕ → SessionView → SessionView
-with_call policy x bytes view =
-    if x.kind == 1 && is_service x.parts.destination then with_service_call policy x bytes view
-    else (if nat_lt 4 x.kind then view else ended_by NotBuilt view)
+with_call policy x bytes view = if is_judged x then with_verdict (judged policy x) x bytes view else ended_by NotBuilt view
 
 -- ---- a message of the bus
 

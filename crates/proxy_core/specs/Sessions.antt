@@ -79,6 +79,8 @@ pub record Knows (view : SessionView) (before : Past) : Type 0 where
   pub fits : length before.told.sent ≤ most_sent
   pub each : (r : ℕ) → get view.expected r ≡ expected_by (answered before (Some r))
   pub built : (r : ℕ) (s : Sent) → slice_get before.told.sent r ≡ Some s → IsBuiltSent s
+  -- nothing that is built tells of a unique id
+  pub facts : before.told.facts ≡ []
 
 -- ---- standing for events
 

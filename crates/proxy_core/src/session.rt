@@ -9,7 +9,8 @@ ghost use Rattle.proxy_core.specs.Streams.{InMessages, is_in_lines as in_lines, 
 ghost use Rattle.proxy_core.specs.Sessions.{StandsFor, Taken, nothing, at_start, stream_of, answer_of, IsFront};
 ghost use Rattle.proxy_core.specs.Messages.{ended_by, with_message};
 ghost use Rattle.proxy_core.specs.Steps.{with_stream, with_left, step_of, drained, with_bytes, with_piece, Took, TookMessage, Stepped, IsLight, bus_weight, client_weight};
-ghost use Rattle.proxy_core.specs.Seen.{message_seen, Given};
+ghost use Rattle.proxy_core.specs.Seen.{Given};
+ghost use Rattle.verdicts.specs.Seen.{message_seen};
 
 mod lines;
 mod messages;
@@ -388,7 +389,6 @@ impl Session {
         if let Some(end) = self.ended {
             return Err(end);
         }
-        policy.gives_talk_alone();
         self.take_piece(policy, side, piece);
         match self.ended {
             None => Ok(()),

@@ -3,7 +3,10 @@ mod messages;
 
 use crate::{DiskFiles, POLICY_LIMIT, StdSink, run};
 use link_traits::{FileFault, Files, MemFile, MemFiles, MemSink, Sink};
-use messages::Message::{Call, OtherServiceUnknown, Ping, Return, ServiceUnknown, Signal};
+use messages::Message::{
+    AccessDenied, BareCall, Call, OtherPing, OtherServiceUnknown, Ping, Return, ServiceUnknown,
+    Signal,
+};
 use messages::{
     BIG_CALL, Message, NAME_HAS_NO_OWNER, SENDER_FIRST, message_bytes, output, put, record,
     recording,
@@ -99,7 +102,19 @@ fn assert_gives(
     to_bus: &[Message<'_>],
     to_client: &[Message<'_>],
 ) -> Result<(), AllocError> {
-    let ended = replay(alloc, TALK, &recording(alloc, items)?, 10_000)?;
+    assert_gives_under(rt, alloc, TALK, items, to_bus, to_client)
+}
+
+/// Asserts the same under another policy.
+fn assert_gives_under(
+    rt: &impl Abort,
+    alloc: Global,
+    policy: &[u8],
+    items: &[(u8, Message<'_>)],
+    to_bus: &[Message<'_>],
+    to_client: &[Message<'_>],
+) -> Result<(), AllocError> {
+    let ended = replay(alloc, policy, &recording(alloc, items)?, 10_000)?;
     assert_ends(rt, &ended, 0, &output(alloc, to_bus, to_client)?, b"");
     Ok(())
 }
@@ -173,6 +188,73 @@ fn hidden_call_is_a_ping_and_its_answer_an_error(rt: HostRuntime) -> Result<(), 
     ];
     let to_bus = [Call(1, "org.a.T", "/x", "org.h.I", "M"), Ping];
     assert_gives(&rt, rt.alloc(), &items, &to_bus, &[ServiceUnknown])?;
+    Ok(())
+}
+
+#[test]
+fn call_rules_decide_calls_of_a_name_that_is_only_seen(rt: HostRuntime) -> Result<(), Fail> {
+    let items = [
+        (0, Call(1, "org.a.C", "/p/q", "org.a.I", "M")),
+        (0, Call(2, "org.a.C", "/p", "org.a.I", "M")),
+        (0, Call(3, "org.a.C", "/pq", "org.a.I", "M")),
+        (0, BareCall(4, "org.a.C", "/p", "M")),
+        (1, Return(80, 4, BUS, ":1.40")),
+        (1, Return(81, 3, BUS, ":1.40")),
+        (1, Return(82, 2, ":1.7", ":1.40")),
+    ];
+    let to_bus = [
+        Call(1, "org.a.C", "/p/q", "org.a.I", "M"),
+        Call(2, "org.a.C", "/p", "org.a.I", "M"),
+        OtherPing(3),
+        OtherPing(4),
+    ];
+    let to_client = [
+        AccessDenied(80, 4),
+        AccessDenied(81, 3),
+        Return(82, 2, ":1.7", ":1.40"),
+    ];
+    let policy = b"--filter\0--call=org.a.C=org.a.I.*@/p/*\0";
+    assert_gives_under(&rt, rt.alloc(), policy, &items, &to_bus, &to_client)?;
+    Ok(())
+}
+
+#[test]
+fn the_greatest_level_decides_a_call(rt: HostRuntime) -> Result<(), Fail> {
+    let items = [
+        (0, Call(1, "org.a.T", "/p", "org.a.I", "M")),
+        (0, Call(2, "org.a.S", "/p", "org.a.I", "M")),
+        (0, Call(3, "org.o.O", "/p", "org.a.I", "M")),
+        (0, Call(4, "org.b.B", "/p", "org.a.I", "M")),
+        (0, Call(5, "org.ab", "/p", "org.a.I", "M")),
+        (1, Return(80, 2, BUS, ":1.40")),
+        (1, Return(81, 4, BUS, ":1.40")),
+        (1, Return(82, 5, BUS, ":1.40")),
+    ];
+    let to_bus = [
+        Call(1, "org.a.T", "/p", "org.a.I", "M"),
+        OtherPing(2),
+        Call(3, "org.o.O", "/p", "org.a.I", "M"),
+        OtherPing(4),
+        OtherPing(5),
+    ];
+    let to_client = [
+        AccessDenied(80, 2),
+        AccessDenied(81, 4),
+        OtherServiceUnknown(82, 5),
+    ];
+    let policy = b"--filter\0--see=org.a.*\0--talk=org.a.T\0--own=org.o.O\0--broadcast=org.b.B=\0";
+    assert_gives_under(&rt, rt.alloc(), policy, &items, &to_bus, &to_client)?;
+    Ok(())
+}
+
+#[test]
+fn a_denied_call_that_wants_no_answer_is_dropped(rt: HostRuntime) -> Result<(), Fail> {
+    let mut call = message_bytes(rt.alloc(), &Call(1, "org.a.S", "/p", "org.a.I", "M"))?;
+    put(&mut call, 2, 1);
+    let mut recording = Vec::from_slice(rt.alloc(), EMPTY_RECORDING)?;
+    record(&mut recording, 0, &call)?;
+    let ended = replay(rt.alloc(), b"--filter\0--see=org.a.S\0", &recording, 1000)?;
+    assert_ends(&rt, &ended, 0, b"", b"");
     Ok(())
 }
 
@@ -431,7 +513,7 @@ fn words_of_another_form_are_usage(rt: HostRuntime) -> Result<(), Fail> {
 
 #[test]
 fn bad_files_have_a_status_and_a_line(rt: HostRuntime) -> Result<(), Fail> {
-    let cases: [(&[u8], &[u8], u8, &[u8]); 12] = [
+    let cases: [(&[u8], &[u8], u8, &[u8]); 14] = [
         (
             b"--filter\0--colour\0",
             EMPTY_RECORDING,
@@ -443,6 +525,18 @@ fn bad_files_have_a_status_and_a_line(rt: HostRuntime) -> Result<(), Fail> {
             EMPTY_RECORDING,
             2,
             b"error: policy word 0: BadName\n",
+        ),
+        (
+            b"--filter\0--talk=org.a.T\0--call=org.a.C=Foo\0",
+            EMPTY_RECORDING,
+            2,
+            b"error: policy word 2: BadRule\n",
+        ),
+        (
+            b"--filter\0--sessions=1",
+            EMPTY_RECORDING,
+            2,
+            b"error: policy word 1: UnknownOption\n",
         ),
         (
             b"--filter\0\xff",

@@ -24,6 +24,14 @@ pub const NAME_HAS_NO_OWNER: &[u8] = b"l\x03\x01\x01\x16\0\0\0\x66\0\0\0\x67\0\0
 \x08\x01g\0\x01s\0\0\
 \x11\0\0\0name has no owner\0";
 
+/// The error that says that access is denied, with serial 101 and reply serial 10.
+const ACCESS_DENIED: &[u8] = b"l\x03\x01\x01\x1c\0\0\0\x65\0\0\0\x5f\0\0\0\
+\x04\x01s\0\x27\0\0\0org.freedesktop.DBus.Error.AccessDenied\0\
+\x05\x01u\0\x0a\0\0\0\
+\x07\x01s\0\x14\0\0\0org.freedesktop.DBus\0\0\0\0\
+\x08\x01g\0\x01s\0\0\
+\x17\0\0\0access denied by policy\0";
+
 /// A call in big order to `a.b`, with serial 0x01020304.
 pub const BIG_CALL: [u8; 64] = *b"B\x01\0\x01\0\0\0\0\x01\x02\x03\x04\0\0\0\x2c\
 \x01\x01o\0\0\0\0\x01/\0\0\0\0\0\0\0\
@@ -40,16 +48,22 @@ pub const SENDER_FIRST: [u8; 40] = *b"l\x02\x01\x01\0\0\0\0\x09\0\0\0\x18\0\0\0\
 pub enum Message<'a> {
     /// A method call: serial, destination, path, interface and member.
     Call(u32, &'a str, &'a str, &'a str, &'a str),
+    /// A method call without an interface: serial, destination, path and member.
+    BareCall(u32, &'a str, &'a str, &'a str),
     /// A method return: serial, reply serial, sender and destination.
     Return(u32, u32, &'a str, &'a str),
     /// A signal without a destination: serial, path, interface and member.
     Signal(u32, &'a str, &'a str, &'a str),
     /// The ping with serial 2.
     Ping,
+    /// The ping with another serial.
+    OtherPing(u32),
     /// The error with serial 101 and reply serial 10.
     ServiceUnknown,
     /// The same error with another serial and reply serial.
     OtherServiceUnknown(u32, u32),
+    /// The error that says that access is denied: serial and reply serial.
+    AccessDenied(u32, u32),
 }
 
 /// A recording of messages, each a record of its own of the client (0) or of the bus (1).
@@ -108,6 +122,10 @@ pub fn message_bytes(alloc: Global, message: &Message<'_>) -> Result<Vec<u8>, Al
             ];
             with_header(alloc, [1, 0], serial, &text_fields(alloc, &[], &texts)?)
         }
+        Message::BareCall(serial, destination, path, member) => {
+            let texts = [(1, b'o', path), (3, b's', member), (6, b's', destination)];
+            with_header(alloc, [1, 0], serial, &text_fields(alloc, &[], &texts)?)
+        }
         Message::Signal(serial, path, interface, member) => {
             let texts = [(1, b'o', path), (2, b's', interface), (3, b's', member)];
             with_header(alloc, [4, 0], serial, &text_fields(alloc, &[], &texts)?)
@@ -119,19 +137,30 @@ pub fn message_bytes(alloc: Global, message: &Message<'_>) -> Result<Vec<u8>, Al
             with_header(alloc, [2, 1], serial, &text_fields(alloc, &front, &texts)?)
         }
         Message::Ping => Vec::from_slice(alloc, PING),
+        Message::OtherPing(serial) => numbered(alloc, PING, &[(8, serial)]),
         Message::ServiceUnknown => Vec::from_slice(alloc, SERVICE_UNKNOWN),
         Message::OtherServiceUnknown(serial, reply_serial) => {
-            service_unknown(alloc, serial, reply_serial)
+            numbered(alloc, SERVICE_UNKNOWN, &[(8, serial), (76, reply_serial)])
+        }
+        Message::AccessDenied(serial, reply_serial) => {
+            numbered(alloc, ACCESS_DENIED, &[(8, serial), (68, reply_serial)])
         }
     }
 }
 
-/// The error that says that a service is unknown, with other serials.
-fn service_unknown(alloc: Global, serial: u32, reply_serial: u32) -> Result<Vec<u8>, AllocError> {
-    let mut error = Vec::from_slice(alloc, SERVICE_UNKNOWN)?;
-    error[8..12].copy_from_slice(&serial.to_le_bytes());
-    error[76..80].copy_from_slice(&reply_serial.to_le_bytes());
-    Ok(error)
+/// A message with other numbers at these places.
+fn numbered(
+    alloc: Global,
+    message: &[u8],
+    numbers: &[(usize, u32)],
+) -> Result<Vec<u8>, AllocError> {
+    let mut bytes = Vec::from_slice(alloc, message)?;
+    for (place, number) in numbers {
+        for (index, byte) in number.to_le_bytes().into_iter().enumerate() {
+            put(&mut bytes, place.saturating_add(index), byte);
+        }
+    }
+    Ok(bytes)
 }
 
 /// A message of a type and with flags, which has these header fields.

@@ -1,0 +1,4 @@
+pub mod Cutting
+mod RuleExamples
+pub mod RuleLaws
+pub mod Trees

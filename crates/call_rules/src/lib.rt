@@ -1,0 +1,36 @@
+//! Rules of calls and broadcasts, as xdg-dbus-proxy(1) has them behind `--call=NAME=` and `--broadcast=NAME=`.
+//!
+//! A rule is `[METHOD][@PATH]`: METHOD names an interface and one of its members or all of them, and PATH names an
+//! object path, or a path and all below it. A rule without METHOD is of any member, and one without PATH of any path.
+#![tactic(auto)]
+
+mod parts;
+mod rule;
+#[cfg(test)]
+mod tests;
+
+pub use rule::Rule;
+use std::alloc::AllocError;
+use thiserror::Error;
+
+/// Why a rule was not read.
+#[derive(Clone, Copy, Debug, PartialEq, Eq, Error)]
+pub enum BadRule {
+    /// The text is no rule (xdg-dbus-proxy(1), `--call`).
+    #[error("the text is no rule")]
+    Form,
+    /// Memory ran out.
+    #[error("out of memory")]
+    Memory,
+}
+
+impl From<AllocError> for BadRule {
+    ghost use Rattle.std.specs.Prelude.{◌≡◌};
+    ghost use Rattle.call_rules.specs.declared.BadRule.TheVariants.{Memory};
+
+    ghost from_gives = { λ _ e. e ≡ Memory };
+
+    fn from(_error: AllocError) -> BadRule {
+        BadRule::Memory
+    }
+}

@@ -1,0 +1,13 @@
+-- The ends of a text.
+use Rattle.std.specs.Prelude.{ℕ, ◌-◌, Bool, nat_eq, List, length, take}
+use Rattle.std.specs.List.{starts_with, ends_with}
+
+abbrev pub begins_with : List ℕ → List ℕ → Bool
+begins_with front text = starts_with nat_eq text front
+
+abbrev pub has_end : List ℕ → List ℕ → Bool
+has_end end text = ends_with nat_eq text end
+
+-- the text without its last n bytes
+abbrev pub without_last : ℕ → List ℕ → List ℕ
+without_last n text = take (length text - n) text

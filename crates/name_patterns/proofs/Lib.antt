@@ -1,0 +1,3 @@
+pub mod PatternCuts
+mod PatternExamples
+pub mod PatternLaws

@@ -1,0 +1,61 @@
+-- Levels, one entry after the other.
+use Rattle.std.proofs.Common.{◌≡◌, ℕ, Bool, true, false, List, if◌then◌else◌, refl, ap, sym, ◌∙◌}
+use Rattle.std.specs.Str.{bytes_eq}
+use Rattle.policy_args.specs.declared.Level.{Level}
+use Rattle.policy_args.specs.declared.Level.TheVariants.{None as NoLevel, See, Talk, Own}
+use Rattle.policy_args.specs.declared.entry.Entry.{Entry}
+use Rattle.policy_args.specs.Policy.{Policy, policy_of, bus_name, granted, greater, level}
+
+-- the level at the start: the bus itself may be talked to
+pub level-start : (policy : Policy) (entries : List Entry) (name : List ℕ) (start : Level) (is_bus : Bool) → is_bus ≡ bytes_eq name bus_name → policy_of entries ≡ policy →
+    (if is_bus then Talk else NoLevel) ≡ start → greater start (granted entries name) ≡ level policy name
+unfolding level
+level-start policy entries name start is_bus tested is begun =
+    ap (λ s. greater s (granted entries name)) (sym begun) ∙ go is_bus ∙ ap (λ b. if b then greater Talk (granted entries name) else granted entries name) tested
+    ∙ ap (λ (p : Policy). level p name) is
+  where
+    go : (b : Bool) → greater (if b then Talk else NoLevel) (granted entries name) ≡ (if b then greater Talk (granted entries name) else granted entries name)
+    go true = refl
+    go false = refl
+
+pub greater-assoc : (a b c : Level) → greater (greater a b) c ≡ greater a (greater b c)
+greater-assoc NoLevel b c = refl
+greater-assoc See NoLevel c = refl
+greater-assoc See See NoLevel = refl
+greater-assoc See See See = refl
+greater-assoc See See Talk = refl
+greater-assoc See See Own = refl
+greater-assoc See Talk NoLevel = refl
+greater-assoc See Talk See = refl
+greater-assoc See Talk Talk = refl
+greater-assoc See Talk Own = refl
+greater-assoc See Own NoLevel = refl
+greater-assoc See Own See = refl
+greater-assoc See Own Talk = refl
+greater-assoc See Own Own = refl
+greater-assoc Talk NoLevel c = refl
+greater-assoc Talk See NoLevel = refl
+greater-assoc Talk See See = refl
+greater-assoc Talk See Talk = refl
+greater-assoc Talk See Own = refl
+greater-assoc Talk Talk NoLevel = refl
+greater-assoc Talk Talk See = refl
+greater-assoc Talk Talk Talk = refl
+greater-assoc Talk Talk Own = refl
+greater-assoc Talk Own NoLevel = refl
+greater-assoc Talk Own See = refl
+greater-assoc Talk Own Talk = refl
+greater-assoc Talk Own Own = refl
+greater-assoc Own NoLevel c = refl
+greater-assoc Own See NoLevel = refl
+greater-assoc Own See See = refl
+greater-assoc Own See Talk = refl
+greater-assoc Own See Own = refl
+greater-assoc Own Talk NoLevel = refl
+greater-assoc Own Talk See = refl
+greater-assoc Own Talk Talk = refl
+greater-assoc Own Talk Own = refl
+greater-assoc Own Own NoLevel = refl
+greater-assoc Own Own See = refl
+greater-assoc Own Own Talk = refl
+greater-assoc Own Own Own = refl

@@ -1,0 +1,112 @@
+-- The words of a proxy line: [ADDRESS PATH [OPTIONS..]]..
+use Rattle.std.specs.Prelude.{ℕ, ◌+◌, ◌-◌, ◌*◌, Bool, false, not, ◌&&◌, ◌||◌, ◌==◌, nat_lt, nat_le, List, [], ◌∷◌, ◌++◌, length, codes, Option, Some, None, Result, Ok, Err, if◌then◌else◌}
+use Rattle.std.specs.Char.{is_ascii_digit}
+use Rattle.std.specs.List.{list_all}
+use Rattle.dbus_names.specs.Names.{is_empty}
+use Rattle.dbus_names.specs.Texts.{begins_with}
+use Rattle.policy_args.specs.Addresses.{bus_path}
+use Rattle.policy_args.specs.Words.{◌>>=◌, or_kind, each_word, behind, PolicyOptions, no_options, with_option}
+use Rattle.policy_args.specs.declared.WordKind.{WordKind}
+use Rattle.policy_args.specs.declared.WordKind.TheVariants.{BadAddress, NoPath, OptionBeforeAddress, BadNumber, TooMany}
+use Rattle.policy_args.specs.declared.BadWord.{BadWord}
+
+-- ---- numbers
+
+abbrev pub has_leading_zero : List ℕ → Bool
+has_leading_zero (c ∷ d ∷ text) = c == 48
+has_leading_zero _ = false
+
+abbrev pub digits_worth : ℕ → List ℕ → ℕ
+digits_worth n [] = n
+digits_worth n (c ∷ text) = digits_worth (n * 10 + (c - 48)) text
+
+-- a decimal number without leading zeros
+abbrev pub number_of : List ℕ → Option ℕ
+number_of text = if not (is_empty text) && list_all is_ascii_digit text && not (has_leading_zero text) then Some (digits_worth 0 text) else None
+
+-- how many sessions are served: 1 to 1,000,000
+abbrev pub count_of : ℕ → Result ℕ WordKind
+count_of n = if nat_lt 0 n && nat_le n 1000000 then Ok n else Err BadNumber
+
+abbrev pub sessions_of : List ℕ → Result ℕ WordKind
+sessions_of text = or_kind BadNumber (number_of text) >>= count_of
+
+-- ---- what contracts see of a proxy line
+
+-- the bus's path, the path of the socket that is listened on, and the options
+pub record BlockValue : Type 0 where
+  pub address : List ℕ
+  pub path : List ℕ
+  pub options : PolicyOptions
+
+pub record LineValue : Type 0 where
+  pub blocks : List BlockValue
+  pub sessions : ℕ
+
+-- what the words so far give, and the bus's path of a block whose PATH is next
+pub record SoFar : Type 0 where
+  pub line : LineValue
+  pub pending : Option (List ℕ)
+
+-- without --sessions so many are served
+abbrev pub no_words : SoFar
+no_words = record { line = record { blocks = []; sessions = 4294967295 }; pending = None }
+
+-- ---- one more word
+
+abbrev pub is_option : List ℕ → Bool
+is_option w = begins_with (codes "--") w
+
+-- one more option of the last block
+abbrev pub in_last : List ℕ → List BlockValue → Result (List BlockValue) WordKind
+in_last w [] = Err OptionBeforeAddress
+in_last w (b ∷ []) = with_option b.options w >>= λ o. Ok (record b { options = o } ∷ [])
+in_last w (b ∷ blocks) = in_last w blocks >>= λ rest. Ok (b ∷ rest)
+
+abbrev pub with_sessions : SoFar → List ℕ → Result SoFar WordKind
+with_sessions s text = sessions_of text >>= λ n. Ok (record s { line = record { blocks = s.line.blocks; sessions = n } })
+
+abbrev pub with_block_option : SoFar → List ℕ → Result SoFar WordKind
+with_block_option s w = in_last w s.line.blocks >>= λ blocks. Ok (record s { line = record { blocks = blocks; sessions = s.line.sessions } })
+
+-- --sessions=N of any block, of which the last counts, or an option of the last block
+abbrev pub line_option : SoFar → List ℕ → Option (List ℕ) → Result SoFar WordKind
+line_option s w (Some text) = with_sessions s text
+line_option s w None = with_block_option s w
+
+abbrev pub option_word : SoFar → List ℕ → Result SoFar WordKind
+option_word s w = if length s.line.blocks == 0 then Err OptionBeforeAddress else line_option s w (behind (codes "--sessions=") w)
+
+-- there are at most 65,535 blocks
+abbrev pub line_address : SoFar → List ℕ → Result SoFar WordKind
+line_address s address = if length s.line.blocks == 65535 then Err TooMany else Ok (record s { pending = Some address })
+
+-- a word where an ADDRESS or an option may stand
+abbrev pub line_word : SoFar → List ℕ → Result SoFar WordKind
+line_word s w =
+    if is_option w then option_word s w
+    else (or_kind BadAddress (bus_path w) >>= line_address s)
+
+-- a word where a PATH has to stand
+abbrev pub line_path : SoFar → List ℕ → List ℕ → Result SoFar WordKind
+line_path s address w =
+    if is_empty w || is_option w then Err NoPath
+    else Ok (record { line = record { blocks = s.line.blocks ++ record { address = address; path = w; options = no_options } ∷ []; sessions = s.line.sessions }; pending = None })
+
+abbrev pub line_step_at : SoFar → Option (List ℕ) → List ℕ → Result SoFar WordKind
+line_step_at s None w = line_word s w
+line_step_at s (Some address) w = line_path s address w
+
+abbrev pub line_step : SoFar → List ℕ → Result SoFar WordKind
+line_step s w = line_step_at s s.pending w
+
+-- at the end no PATH may be missing, and there is a block
+abbrev pub finished_at : ℕ → LineValue → Option (List ℕ) → Result LineValue BadWord
+finished_at words line (Some address) = Err (record { index = words; kind = NoPath })
+finished_at words line None = if length line.blocks == 0 then Err (record { index = 0; kind = BadAddress }) else Ok line
+
+abbrev pub finished : ℕ → SoFar → Result LineValue BadWord
+finished words s = finished_at words s.line s.pending
+
+unfoldable pub line_of : List (List ℕ) → Result LineValue BadWord
+line_of words = each_word line_step 0 no_words words >>= finished (length words)

@@ -1,0 +1,35 @@
+-- What contracts see of a proxy line, of one that is being read, and of its digits.
+use Rattle.std.specs.Prelude.{ℕ, ◌&&◌, nat_le, List, [], ◌∷◌, ◌++◌, map, Option, Some, None, option_map, String, string_bytes, if◌then◌else◌}
+use Rattle.std.specs.Char.{is_ascii_digit}
+use Rattle.std.specs.List.{list_all}
+use Rattle.policy_args.specs.declared.line.Block.{Block}
+use Rattle.policy_args.specs.declared.line.ProxyLine.{ProxyLine}
+use Rattle.policy_args.specs.ProxyLine.{BlockValue, LineValue, SoFar, digits_worth}
+use Rattle.policy_args.specs.Seen.{options_seen}
+
+abbrev pub block_seen : Block → BlockValue
+block_seen b = record { address = string_bytes b.address; path = string_bytes b.path; options = options_seen b.options }
+
+abbrev pub line_seen : ProxyLine → LineValue
+line_seen l = record { blocks = map block_seen l.blocks.items; sessions = l.sessions }
+
+abbrev pub last_seen : Option Block → List BlockValue
+last_seen None = []
+last_seen (Some b) = block_seen b ∷ []
+
+abbrev pub blocks_seen : List Block → Option Block → List BlockValue
+blocks_seen blocks last = map block_seen blocks ++ last_seen last
+
+abbrev pub so_far : {Z : Type 0} → List Block → Option Block → ℕ → Option (String Z) → SoFar
+so_far blocks last sessions pending = record {
+  line = record { blocks = blocks_seen blocks last; sessions = sessions };
+  pending = option_map (λ p. string_bytes p) pending;
+}
+
+-- with one more block
+abbrev pub with_block : BlockValue → SoFar → SoFar
+with_block b s = record { line = record { blocks = s.line.blocks ++ b ∷ []; sessions = s.line.sessions }; pending = None }
+
+-- digits that are worth 1,000,000 at most
+abbrev pub worth_of : List ℕ → Option ℕ
+worth_of digits = if list_all is_ascii_digit digits && nat_le (digits_worth 0 digits) 1000000 then Some (digits_worth 0 digits) else None

@@ -1,0 +1,158 @@
+//! The entries of a policy, and how a word gives one.
+ghost use Rattle.std.specs.Prelude.{◌≡◌, option_map};
+ghost use Rattle.policy_args.specs.Gives.{StepGives};
+ghost use Rattle.policy_args.specs.Policy.{given_by};
+ghost use Rattle.policy_args.specs.Steps.{name_and_rule, name_before, rule_behind, rule_in};
+ghost use Rattle.policy_args.specs.Words.{behind as behind_front, entry_of, name_entry, rule_entry};
+ghost use Rattle.policy_args.specs.declared.entry.Grant.TheVariants.{Call as to_call, Broadcast as to_broadcast};
+
+use crate::refusals::WordRefusal;
+use crate::{Level, WordKind};
+use call_rules::{BadRule, Rule};
+use name_patterns::{BadPattern, Pattern};
+use std::alloc::Global;
+
+/// What an entry lets be done with the names that its pattern covers (xdg-dbus-proxy(1),
+/// "Options").
+#[derive(Drop)]
+pub enum Grant {
+    /// `--see=NAME`: the names are seen to be there.
+    See,
+    /// `--talk=NAME`: their methods may be called, and their signals come.
+    Talk,
+    /// `--own=NAME`: they may be owned, too.
+    Own,
+    /// `--call=NAME=RULE`: they are seen, and what the rule matches may be called.
+    Call(Rule),
+    /// `--broadcast=NAME=RULE`: they are seen, and their broadcasts that the rule matches come.
+    Broadcast(Rule),
+}
+
+impl Grant {
+    /// The level that the grant gives by itself: `See` where it has a rule.
+    pub fn level(&self) -> Level
+        ensures { result ≡ given_by self.now }
+    {
+        match self {
+            Grant::See | Grant::Call(_) | Grant::Broadcast(_) => Level::See,
+            Grant::Talk => Level::Talk,
+            Grant::Own => Level::Own,
+        }
+    }
+}
+
+/// One entry of a policy.
+#[derive(Drop)]
+pub struct Entry {
+    /// The names that the entry speaks of.
+    pub pattern: Pattern,
+    /// What it lets be done with them.
+    pub grant: Grant,
+}
+
+// The entry that a word gives.
+pub(crate) fn read_entry(alloc: Global, word: &str) -> Result<Entry, WordRefusal>
+    ensures { StepGives (λ e. e) result (entry_of word.now) }
+{
+    if let Some(name) = behind("--see=", word) {
+        return of_name(alloc, name, Grant::See);
+    }
+    if let Some(name) = behind("--talk=", word) {
+        return of_name(alloc, name, Grant::Talk);
+    }
+    if let Some(name) = behind("--own=", word) {
+        return of_name(alloc, name, Grant::Own);
+    }
+    if let Some(text) = behind("--call=", word) {
+        return call(alloc, text);
+    }
+    if let Some(text) = behind("--broadcast=", word) {
+        return broadcast(alloc, text);
+    }
+    Err(WordRefusal::Bad(WordKind::UnknownOption))
+}
+
+// What follows the front of a word.
+pub(crate) fn behind<'a>(front: &str, word: &'a str) -> Option<&'a str>
+    ensures { option_map (λ text. text.now) result ≡ behind_front front.now word.now }
+{
+    word.strip_prefix(front)
+}
+
+// The entry of NAME.
+fn of_name(alloc: Global, name: &str, grant: Grant) -> Result<Entry, WordRefusal>
+    ensures { StepGives (λ e. e) result (name_entry grant name.now) }
+{
+    match Pattern::read(alloc, name) {
+        Ok(pattern) => Ok(Entry { pattern, grant }),
+        Err(BadPattern::Form) => Err(WordRefusal::Bad(WordKind::BadName)),
+        Err(BadPattern::Memory) => Err(WordRefusal::Memory),
+    }
+}
+
+// The entry of `--call=`, by what follows that.
+fn call(alloc: Global, text: &str) -> Result<Entry, WordRefusal>
+    ensures { StepGives (λ e. e) result (rule_entry to_call text.now) }
+{
+    match split(alloc, text) {
+        Ok((pattern, rule)) => Ok(Entry {
+            pattern,
+            grant: Grant::Call(rule),
+        }),
+        Err(refusal) => Err(refusal),
+    }
+}
+
+// The entry of `--broadcast=`, by what follows that.
+fn broadcast(alloc: Global, text: &str) -> Result<Entry, WordRefusal>
+    ensures { StepGives (λ e. e) result (rule_entry to_broadcast text.now) }
+{
+    match split(alloc, text) {
+        Ok((pattern, rule)) => Ok(Entry {
+            pattern,
+            grant: Grant::Broadcast(rule),
+        }),
+        Err(refusal) => Err(refusal),
+    }
+}
+
+// NAME=RULE; a bad NAME is told whatever follows it.
+fn split(alloc: Global, text: &str) -> Result<(Pattern, Rule), WordRefusal>
+    ensures { StepGives (λ p. p) result (name_and_rule text.now) }
+{
+    let (name, rule) = cut(text);
+    let pattern = match Pattern::read(alloc, name) {
+        Ok(pattern) => pattern,
+        Err(BadPattern::Form) => return Err(WordRefusal::Bad(WordKind::BadName)),
+        Err(BadPattern::Memory) => return Err(WordRefusal::Memory),
+    };
+    match read_rule(alloc, rule) {
+        Ok(rule) => Ok((pattern, rule)),
+        Err(refusal) => Err(refusal),
+    }
+}
+
+// What stands before the first `=`, and what follows it.
+fn cut(text: &str) -> (&str, Option<&str>)
+    ensures name { result.0.now ≡ name_before text.now }
+    ensures rule { option_map (λ rule. rule.now) result.1 ≡ rule_behind text.now }
+{
+    match text.split_once('=') {
+        Some((name, rule)) => (name, Some(rule)),
+        None => (text, None),
+    }
+}
+
+// RULE, where there is one.
+fn read_rule(alloc: Global, text: Option<&str>) -> Result<Rule, WordRefusal>
+    ensures { StepGives (λ r. r) result (rule_in (option_map (λ t. t.now) text.entry)) }
+{
+    match text {
+        Some(text) => match Rule::read(alloc, text) {
+            Ok(rule) => Ok(rule),
+            Err(BadRule::Form) => Err(WordRefusal::Bad(WordKind::BadRule)),
+            Err(BadRule::Memory) => Err(WordRefusal::Memory),
+        },
+        None => Err(WordRefusal::Bad(WordKind::BadRule)),
+    }
+}

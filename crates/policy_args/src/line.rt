@@ -1,0 +1,288 @@
+//! The words of a proxy line: blocks of a bus address, a path, and options.
+ghost use Rattle.std.specs.Prelude.{◌≡◌, OnOk, length, map, string_bytes};
+ghost use Rattle.policy_args.specs.Gives.{Gives, StepGives, refusal_at};
+ghost use Rattle.policy_args.specs.ProxyLine.{finished, line_address, line_of, line_path, line_step, line_word, no_words, option_word, sessions_of, with_block_option, with_sessions};
+ghost use Rattle.policy_args.specs.Reading.{block_seen, line_seen, with_block, worth_of};
+ghost use Rattle.policy_args.specs.Words.{each_word, or_kind};
+ghost use Rattle.policy_args.specs.declared.WordKind.TheVariants.{BadNumber};
+ghost use Rattle.policy_args.specs.declared.refusals.WordRefusal.TheVariants.{Bad};
+
+use crate::address::read_address;
+use crate::entry::behind;
+use crate::options::Options;
+use crate::refusals::{LineRefusal, WordRefusal};
+use crate::{BadWord, WordKind};
+use std::alloc::{AllocError, Global};
+use std::marker::Model;
+use std::mem;
+
+/// The most blocks that a line has.
+const MOST_BLOCKS: usize = 65_535;
+
+/// The greatest number that `--sessions` takes.
+const MOST_SESSIONS: u32 = 1_000_000;
+
+/// How many sessions are served where `--sessions` isn't given.
+const ALL_SESSIONS: u32 = 4_294_967_295;
+
+/// One proxy: the bus that it stands before, and the socket that it listens on
+/// (xdg-dbus-proxy(1), "Synopsis").
+#[derive(Drop)]
+pub struct Block {
+    /// The path of the bus's Unix socket, with each `%XX` of its address replaced.
+    pub address: String,
+    /// The path of the socket that is listened on.
+    pub path: String,
+    /// What the options of this block ask for.
+    pub options: Options,
+}
+
+/// What a proxy line asks for.
+#[derive(Drop)]
+pub struct ProxyLine {
+    /// The blocks, one or more and at most 65,535, in their order.
+    pub blocks: Vec<Block>,
+    /// How many sessions are served in all: 1 to 1,000,000, or 4,294,967,295 where nothing is said.
+    pub sessions: u32,
+}
+
+// What the words so far give. The last block stands by itself, since options are added to it.
+#[derive(Drop)]
+struct Reading {
+    blocks: Vec<Block>,
+    last: Option<Block>,
+    sessions: u32,
+    // The bus's path of a block whose own path comes next.
+    pending: Option<String>,
+}
+
+impl Model for Reading {
+    ghost use Rattle.std.specs.Prelude.{◌≡◌, None, []};
+    ghost use Rattle.policy_args.specs.ProxyLine.{SoFar};
+    ghost use Rattle.policy_args.specs.Reading.{so_far};
+
+    ghost Value = { SoFar };
+
+    ghost view = { λ r. so_far r.blocks.items r.last r.sessions r.pending };
+
+    ghost invariant = { λ r. r.last ≡ None → r.blocks.items ≡ [] };
+}
+
+impl Reading {
+    // No words.
+    fn new(alloc: Global) -> Reading
+        ensures { result ≡ no_words }
+    {
+        Reading {
+            blocks: Vec::new(alloc),
+            last: None,
+            sessions: ALL_SESSIONS,
+            pending: None,
+        }
+    }
+
+    // Takes one more word.
+    fn take(&mut self, alloc: Global, word: &str) -> Result<(), WordRefusal>
+        ensures { StepGives (λ _. self.new) result (line_step self.old word.now) }
+    {
+        match mem::take(&mut self.pending) {
+            Some(address) => self.take_path(alloc, address, word),
+            None => self.take_word(alloc, word),
+        }
+    }
+
+    // Takes the path of a block.
+    fn take_path(&mut self, alloc: Global, address: String, word: &str) -> Result<(), WordRefusal>
+        ensures { StepGives (λ _. self.new) result (line_path self.old (string_bytes address) word.now) }
+    {
+        if word.is_empty() || word.starts_with("--") {
+            return Err(WordRefusal::Bad(WordKind::NoPath));
+        }
+        let path = match String::from_str(alloc, word) {
+            Ok(path) => path,
+            Err(_) => return Err(WordRefusal::Memory),
+        };
+        let block = Block {
+            address,
+            path,
+            options: Options::new(alloc),
+        };
+        match self.begin(block) {
+            Ok(()) => Ok(()),
+            Err(_) => Err(WordRefusal::Memory),
+        }
+    }
+
+    // Begins one more block.
+    fn begin(&mut self, block: Block) -> Result<(), AllocError>
+        ensures { OnOk result (self.new ≡ with_block (block_seen block) self.old) }
+    {
+        self.pending = None;
+        if let Some(last) = mem::replace(&mut self.last, Some(block)) {
+            self.blocks.push(last)?;
+        }
+        Ok(())
+    }
+
+    // Takes an address or an option.
+    fn take_word(&mut self, alloc: Global, word: &str) -> Result<(), WordRefusal>
+        ensures { StepGives (λ _. self.new) result (line_word self.old word.now) }
+    {
+        if word.starts_with("--") {
+            return self.take_option(alloc, word);
+        }
+        match read_address(alloc, word) {
+            Ok(Some(address)) => self.take_address(address),
+            Ok(None) => Err(WordRefusal::Bad(WordKind::BadAddress)),
+            Err(_) => Err(WordRefusal::Memory),
+        }
+    }
+
+    // Takes the address of one more block.
+    fn take_address(&mut self, address: String) -> Result<(), WordRefusal>
+        ensures { StepGives (λ _. self.new) result (line_address self.old (string_bytes address)) }
+    {
+        if self.count() == MOST_BLOCKS {
+            return Err(WordRefusal::Bad(WordKind::TooMany));
+        }
+        self.pending = Some(address);
+        Ok(())
+    }
+
+    // Takes one more option of the last block.
+    fn take_option(&mut self, alloc: Global, word: &str) -> Result<(), WordRefusal>
+        ensures { StepGives (λ _. self.new) result (option_word self.old word.now) }
+    {
+        if self.last.is_none() {
+            return Err(WordRefusal::Bad(WordKind::OptionBeforeAddress));
+        }
+        match behind("--sessions=", word) {
+            Some(text) => self.take_sessions(text),
+            None => self.take_block_option(alloc, word),
+        }
+    }
+
+    // Takes how many sessions are served.
+    fn take_sessions(&mut self, text: &str) -> Result<(), WordRefusal>
+        ensures { StepGives (λ _. self.new) result (with_sessions self.old text.now) }
+    {
+        match read_sessions(text) {
+            Some(sessions) => {
+                self.sessions = sessions;
+                Ok(())
+            }
+            None => Err(WordRefusal::Bad(WordKind::BadNumber)),
+        }
+    }
+
+    // Takes one more option of the last block, other than `--sessions`.
+    fn take_block_option(&mut self, alloc: Global, word: &str) -> Result<(), WordRefusal>
+        ensures { StepGives (λ _. self.new) result (with_block_option self.old word.now) }
+    {
+        match mem::take(&mut self.last) {
+            Some(mut block) => {
+                let taken = block.options.take(alloc, word);
+                self.last = Some(block);
+                taken
+            }
+            None => Err(WordRefusal::Bad(WordKind::OptionBeforeAddress)),
+        }
+    }
+
+    // How many blocks there are.
+    fn count(&self) -> usize
+        ensures { result ≡ length self.now.line.blocks }
+    {
+        match &self.last {
+            Some(_) => self.blocks.len() + 1,
+            None => self.blocks.len(),
+        }
+    }
+
+    // The line, where no path is missing and there is a block.
+    fn finish(mut self, words: usize) -> Result<ProxyLine, LineRefusal>
+        ensures { Gives line_seen result (finished words self) }
+    {
+        if self.pending.is_some() {
+            return Err(bad(words, WordKind::NoPath));
+        }
+        match mem::take(&mut self.last) {
+            Some(last) => {
+                self.blocks.push(last)?;
+                Ok(ProxyLine {
+                    blocks: self.blocks,
+                    sessions: self.sessions,
+                })
+            }
+            None => Err(bad(0, WordKind::BadAddress)),
+        }
+    }
+}
+
+fn bad(index: usize, kind: WordKind) -> LineRefusal
+    ensures { result ≡ refusal_at index (Bad kind) }
+{
+    LineRefusal::Bad(BadWord { index, kind })
+}
+
+// How many sessions: a number from 1 to 1,000,000, in decimal with no zero before it.
+fn read_sessions(text: &str) -> Option<u32>
+    ensures { or_kind BadNumber result ≡ sessions_of text.now }
+{
+    let digits = text.as_bytes();
+    if digits.is_empty() || digits[0] == b'0' {
+        return None;
+    }
+    read_digits(digits)
+}
+
+// What decimal digits are worth, up to 1,000,000.
+fn read_digits(digits: &[u8]) -> Option<u32>
+    ensures { result ≡ worth_of digits.now }
+{
+    let mut number = 0;
+    for digit in digits {
+        if !digit.is_ascii_digit() {
+            return None;
+        }
+        number = number * 10 + (*digit - b'0') as u32;
+        if number > MOST_SESSIONS {
+            return None;
+        }
+    }
+    Some(number)
+}
+
+/// The proxy line that the words give, or the first bad word.
+///
+/// A line has blocks, each a bus address, a path to listen on, and then options, which begin with
+/// `--` (xdg-dbus-proxy(1), "Synopsis"). The options are those of `read_options` and `--sessions=N`,
+/// which may stand in any block, and of which the last counts; N is 1 to 1,000,000.
+///
+/// Of an address, the `path` of its first part that begins with `unix:` and has one is taken
+/// (D-Bus Specification, "Server Addresses"). `BadAddress` is an address without such a path, or
+/// whose path is empty, holds NUL, isn't UTF-8 or has `%` without two hexadecimal digits, and, at
+/// index 0, where there are no words. `NoPath` is an empty word, an option or the end where the
+/// path has to stand; `OptionBeforeAddress` is an option before the first block, `BadNumber` a
+/// wrong N, and `TooMany` the address of block 65,536, too.
+pub fn read_line(alloc: Global, words: &[String]) -> Result<ProxyLine, LineRefusal>
+    ensures { Gives line_seen result (line_of (map (λ w. string_bytes w) words.now)) }
+{
+    match read_words(alloc, words) {
+        Ok(reading) => reading.finish(words.len()),
+        Err(refusal) => Err(refusal),
+    }
+}
+
+// What the words give, one after the other.
+fn read_words(alloc: Global, words: &[String]) -> Result<Reading, LineRefusal>
+    ensures { Gives (λ r. r) result (each_word line_step 0 no_words (map (λ w. string_bytes w) words.now)) }
+{
+    let mut reading = Reading::new(alloc);
+    for (index, word) in words.iter().enumerate() {
+        if let Err(refusal) = reading.take(alloc, word.as_str()) {
+            return Err(refusal.at(index));
+        }
+    }
+    Ok(reading)
+}

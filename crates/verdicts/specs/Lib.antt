@@ -1,0 +1,3 @@
+pub mod Judging
+pub mod Seen
+pub mod Entries
