@@ -151,8 +151,8 @@ pub fn bytes_only_grow()
 {}
 
 /// Where a session that filters messages takes a stream in two pieces or in one makes no difference, whatever comes
-/// before and after, in lines and in messages: it has the same history, and so the same bytes for either side, the same
-/// notes and the same End.
+/// before and after, in lines and in messages: it has the same history, and so the same bytes for either side and the
+/// same End.
 pub fn cuts_change_nothing()
     ensures { (policy : Policy) (mode : SessionMode) (later earlier : List Event) (side : StreamSide) (first second : List ℕ) → IsTrue mode.filter → history policy mode (later ++ Bytes side second ∷ Bytes side first ∷ earlier) ≡ history policy mode (later ++ Bytes side (first ++ second) ∷ earlier) }
 {}
