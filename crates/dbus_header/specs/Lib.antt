@@ -7,3 +7,5 @@ pub mod HeaderReading
 pub mod HeaderFields
 pub mod Seen
 pub mod Whole
+pub mod Kinds
+pub mod Read

@@ -2,7 +2,7 @@
 ghost use Rattle.std.specs.Prelude.{◌≡◌, ◌≤◌, ◌<◌, ◌+◌, ◌^◌, ◌∷◌, [], Some, None, option_map, length, if◌then◌else◌};
 ghost use Rattle.dbus_types.specs.Signature.{variant};
 ghost use Rattle.dbus_values.specs.Ends.{values_end};
-ghost use Rattle.dbus_header.specs.HeaderReading.{is_text_of as is_text, type_code, ended_text as text_ended, text_part, number_part, signature_part, known_value as value_known, known_part, unread_to, coded_part, part_at, with_text, with_number_part, with_part, nothing_found};
+ghost use Rattle.dbus_header.specs.HeaderReading.{is_text_of as is_value_text, type_code, ended_text as text_ended, text_part, number_part, signature_part, known_value as value_known, known_part, unread_to, coded_part, part_at, with_text, with_number_part, with_part, nothing_found};
 ghost use Rattle.dbus_header.specs.HeaderFields.{FieldsRead};
 ghost use Rattle.dbus_header.specs.Seen.{part_seen, end_seen, fields_seen, parts_seen};
 
@@ -63,7 +63,7 @@ pub(crate) struct Fields<'a> {
 
 /// Whether a text is in the grammar of the field with this code.
 fn is_text_of(code: u8, text: &[u8]) -> bool
-    ensures { result ≡ is_text code text.now }
+    ensures { result ≡ is_value_text code text.now }
 {
     match code {
         PATH => is_path(text),

@@ -4,6 +4,7 @@
 mod decoding;
 mod fields;
 mod head;
+mod kinds;
 mod message;
 mod numbers;
 #[cfg(test)]
@@ -17,6 +18,7 @@ ghost use Rattle.dbus_header.specs.declared.Malformed.{Malformed as Fault};
 
 pub use decoding::decode;
 pub use head::length;
+pub use kinds::{ERROR, METHOD_CALL, METHOD_RETURN, NO_AUTO_START, NO_REPLY_EXPECTED, SIGNAL};
 pub use message::Message;
 pub use numbers::{SERIAL_PLACE, set_reply_serial, set_serial, write_u32};
 

@@ -1,5 +1,5 @@
--- The grammars of names and object paths, each a test on the bytes of a text.
-use Rattle.std.specs.Prelude.{ℕ, Bool, true, false, ◌||◌, ◌&&◌, not, ◌==◌, nat_lt, nat_le, List, [], ◌∷◌, length}
+-- The grammars of names and object paths, each a test on the bytes of a text, and the name of the bus itself.
+use Rattle.std.specs.Prelude.{ℕ, Bool, true, false, ◌||◌, ◌&&◌, not, ◌==◌, nat_lt, nat_le, List, [], ◌∷◌, length, codes, bytes_eq}
 use Rattle.std.specs.Char.{is_ascii_digit, is_ascii_alphanumeric}
 use Rattle.std.specs.List.{list_all, slice_split}
 
@@ -72,6 +72,13 @@ is_unique (c ∷ text) = is_short (c ∷ text) && c == 58 && are_two_joined is_u
 
 abbrev pub is_bus_name : List ℕ → Bool
 is_bus_name text = is_well_known text || is_unique text
+
+-- the name under which the bus itself is called
+abbrev pub bus_name : List ℕ
+bus_name = codes "org.freedesktop.DBus"
+
+abbrev pub is_bus : List ℕ → Bool
+is_bus text = bytes_eq text bus_name
 
 -- '/', or elements each preceded by '/'
 abbrev pub is_path : List ℕ → Bool

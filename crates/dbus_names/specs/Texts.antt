@@ -1,6 +1,10 @@
--- The ends of a text.
+-- Texts, and their ends.
 use Rattle.std.specs.Prelude.{ℕ, ◌-◌, Bool, nat_eq, List, length, take}
 use Rattle.std.specs.List.{starts_with, ends_with}
+
+-- a text or a name: its bytes
+abbrev pub Text : Type 0
+Text = List ℕ
 
 abbrev pub begins_with : List ℕ → List ℕ → Bool
 begins_with front text = starts_with nat_eq text front

@@ -1,4 +1,4 @@
-//! The grammars of D-Bus names and object paths, as tests on bytes.
+//! The grammars of D-Bus names and object paths, as tests on bytes; the name of the bus itself; and names that are owned.
 //!
 //! A test reads a text once, allocates nothing, and stops at the first byte that is wrong.
 #![tactic(auto)]
@@ -6,7 +6,14 @@
 ghost use Rattle.std.specs.Prelude.{◌≡◌};
 ghost use Rattle.std.specs.List.{list_all};
 ghost use Rattle.dbus_names.specs.Elements.{are_two_elements, element_count, is_element_of, is_among as is_among_kinds};
-ghost use Rattle.dbus_names.specs.Names.{is_bus_name as is_either_bus_name, is_error_name as is_name_of_error, is_interface as is_interface_name, is_member as is_member_name, is_path as is_object_path, is_unique as is_unique_name, is_well_known as is_well_known_name};
+ghost use Rattle.dbus_names.specs.Names.{is_bus as is_name_of_bus, is_bus_name as is_either_bus_name, is_error_name as is_name_of_error, is_interface as is_interface_name, is_member as is_member_name, is_path as is_object_path, is_unique as is_unique_name, is_well_known as is_well_known_name};
+
+mod name;
+
+pub use name::Name;
+
+/// The name under which the bus itself is called (D-Bus Specification, "Message Bus Specification").
+pub const BUS_NAME: &str = "org.freedesktop.DBus";
 
 /// The most bytes that a name may have.
 const LONGEST_NAME: usize = 255;
@@ -66,6 +73,14 @@ pub fn is_bus_name(text: &[u8]) -> bool
         [b':', ..] => is_unique(text),
         _ => is_well_known(text),
     }
+}
+
+/// Whether the text is the name of the bus itself, `org.freedesktop.DBus` (D-Bus Specification, "Message Bus
+/// Specification").
+pub fn is_bus(text: &str) -> bool
+    ensures { result ≡ is_name_of_bus text.now }
+{
+    text == BUS_NAME
 }
 
 /// Whether the text is an interface's name: two or more elements joined by dots, each of one or

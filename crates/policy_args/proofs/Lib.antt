@@ -1,6 +1,7 @@
 pub mod Adding
 pub mod BusPaths
 pub mod Cuts
+pub mod Distincts
 pub mod EachWord
 pub mod EntryAgain
 pub mod EntryLaws

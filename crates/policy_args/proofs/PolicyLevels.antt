@@ -4,14 +4,15 @@ use Rattle.std.specs.Str.{bytes_eq}
 use Rattle.policy_args.specs.declared.Level.{Level}
 use Rattle.policy_args.specs.declared.Level.TheVariants.{None as NoLevel, See, Talk, Own}
 use Rattle.policy_args.specs.declared.entry.Entry.{Entry}
-use Rattle.policy_args.specs.Policy.{Policy, policy_of, bus_name, granted, greater, level}
+use Rattle.policy_args.specs.Policy.{Policy, policy_of, granted, greater, level}
+use Rattle.dbus_names.specs.Names.{is_bus}
 
 -- the level at the start: the bus itself may be talked to
-pub level-start : (policy : Policy) (entries : List Entry) (name : List ℕ) (start : Level) (is_bus : Bool) → is_bus ≡ bytes_eq name bus_name → policy_of entries ≡ policy →
-    (if is_bus then Talk else NoLevel) ≡ start → greater start (granted entries name) ≡ level policy name
+pub level-start : (policy : Policy) (entries : List Entry) (name : List ℕ) (start : Level) (called : Bool) → called ≡ is_bus name → policy_of entries ≡ policy →
+    (if called then Talk else NoLevel) ≡ start → greater start (granted entries name) ≡ level policy name
 unfolding level
-level-start policy entries name start is_bus tested is begun =
-    ap (λ s. greater s (granted entries name)) (sym begun) ∙ go is_bus ∙ ap (λ b. if b then greater Talk (granted entries name) else granted entries name) tested
+level-start policy entries name start called tested is begun =
+    ap (λ s. greater s (granted entries name)) (sym begun) ∙ go called ∙ ap (λ b. if b then greater Talk (granted entries name) else granted entries name) tested
     ∙ ap (λ (p : Policy). level p name) is
   where
     go : (b : Bool) → greater (if b then Talk else NoLevel) (granted entries name) ≡ (if b then greater Talk (granted entries name) else granted entries name)

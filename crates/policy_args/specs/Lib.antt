@@ -1,5 +1,7 @@
 pub mod Addresses
+pub mod Distinct
 pub mod Gives
+pub mod Levels
 pub mod Policy
 pub mod ProxyLine
 pub mod Reading

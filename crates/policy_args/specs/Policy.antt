@@ -1,7 +1,8 @@
 -- The policy: levels, entries, and the level that entries give a name.
-use Rattle.std.specs.Prelude.{◌≡◌, ◌⊎◌, ℕ, Bool, true, false, List, [], ◌∷◌, ◌++◌, codes, Some, if◌then◌else◌, bytes_eq}
+use Rattle.std.specs.Prelude.{◌≡◌, ◌⊎◌, ℕ, zero, suc, Bool, true, false, not, ◌&&◌, List, [], ◌∷◌, ◌++◌, codes, Option, Some, None, slice_get, if◌then◌else◌, bytes_eq}
 use Rattle.std.specs.List.{list_any}
-use Rattle.name_patterns.specs.Patterns.{covers, pattern_text, is_pattern}
+use Rattle.dbus_names.specs.Names.{is_bus}
+use Rattle.name_patterns.specs.Patterns.{Pattern, covers, pattern_text, is_pattern}
 use Rattle.call_rules.specs.Rules.{Rule, rule_of}
 use Rattle.policy_args.specs.declared.Level.{Level}
 use Rattle.policy_args.specs.declared.Level.TheVariants.{None as NoLevel, See, Talk, Own}
@@ -61,6 +62,28 @@ is_given entries e = list_any (λ other. bytes_eq (entry_word other) (entry_word
 abbrev pub with_entry : List Entry → Entry → List Entry
 with_entry entries e = if is_given entries e then entries else entries ++ e ∷ []
 
+-- the entry of a number, from 1
+abbrev pub entry_at : List Entry → ℕ → Option Entry
+entry_at entries zero = None
+entry_at entries (suc n) = slice_get entries n
+
+-- ---- patterns
+
+abbrev pub same_pattern : Pattern → Pattern → Bool
+same_pattern a b = bytes_eq a.name b.name && (if a.exact then b.exact else not b.exact)
+
+-- one pattern more, unless it stands there already
+abbrev pub with_pattern : List Pattern → Pattern → List Pattern
+with_pattern patterns p = if list_any (same_pattern p) patterns then patterns else patterns ++ p ∷ []
+
+abbrev pub patterns_with : List Pattern → List Entry → List Pattern
+patterns_with patterns [] = patterns
+patterns_with patterns (e ∷ es) = patterns_with (with_pattern patterns e.pattern) es
+
+-- the patterns of the entries, each once, in the order of their first entries
+unfoldable pub patterns_of : List Entry → List Pattern
+patterns_of entries = patterns_with [] entries
+
 -- ---- policies
 
 -- What contracts see of a policy. A truth value beside the entries is a further field here and a further line of policy_of.
@@ -71,9 +94,6 @@ pub record Policy : Type 0 where
 abbrev pub policy_of : List Entry → Policy
 policy_of entries = record { entries = entries }
 
-abbrev pub bus_name : List ℕ
-bus_name = codes "org.freedesktop.DBus"
-
 -- the greatest level that the entries which cover the name give
 abbrev pub granted : List Entry → List ℕ → Level
 granted [] name = NoLevel
@@ -81,4 +101,4 @@ granted (e ∷ es) name = if covers e.pattern name then greater (given_by e.gran
 
 -- the level of a name; the bus itself may always be talked to
 unfoldable pub level : Policy → List ℕ → Level
-level policy name = if bytes_eq name bus_name then greater Talk (granted policy.entries name) else granted policy.entries name
+level policy name = if is_bus name then greater Talk (granted policy.entries name) else granted policy.entries name

@@ -9,14 +9,17 @@ ghost use Rattle.policy_args.specs.Policy.{greater};
 
 mod address;
 mod entry;
+mod fact;
 mod laws;
 mod line;
 mod options;
+mod patterns;
 mod policy;
 mod refusals;
 mod words;
 
 pub use entry::{Entry, Grant};
+pub use fact::Fact;
 pub use laws::{entries_have_one_word, words_give_their_entries};
 pub use line::{Block, ProxyLine, read_line};
 pub use options::{Options, read_options};

@@ -1,18 +1,18 @@
 //! A policy: the entries that words gave.
 ghost use Rattle.std.specs.Prelude.{◌≡◌, ◌≤◌, ◌-◌, ◌==◌, Some as Just, [], length, slice_get, OnErr};
 ghost use Rattle.policy_args.specs.Gives.{StepGives};
-ghost use Rattle.policy_args.specs.Policy.{entry_word, greater, level, policy_of};
+ghost use Rattle.policy_args.specs.Policy.{entry_word, greater, level, patterns_of, policy_of};
 ghost use Rattle.policy_args.specs.Steps.{with_one_more};
 
 use crate::entry::Entry;
+use crate::patterns::Patterns;
 use crate::refusals::WordRefusal;
 use crate::{Level, WordKind};
+use dbus_names::is_bus;
 use indexmap::IndexSet;
+use name_patterns::Pattern;
 use std::alloc::Global;
 use std::marker::Model;
-
-/// The name of the bus itself.
-const BUS_NAME: &str = "org.freedesktop.DBus";
 
 /// The most entries that a policy has.
 const MOST_ENTRIES: usize = 65_535;
@@ -24,17 +24,19 @@ pub struct Policy {
     // The words that gave the entries, in the same order.
     words: IndexSet<String>,
     entries: Vec<Entry>,
+    patterns: Patterns,
 }
 
 impl Model for Policy {
     ghost use Rattle.std.specs.Prelude.{◌≡◌, ◌≤◌, map, length, string_bytes};
+    ghost use Rattle.policy_args.specs.Distinct.{AreOf};
     ghost use Rattle.policy_args.specs.Policy.{Policy as PolicyValue, entry_word, policy_of};
 
     ghost Value = { PolicyValue };
 
     ghost view = { λ p. policy_of p.entries.items };
 
-    ghost invariant = { λ p. (map (λ k. string_bytes k) p.words.keys ≡ map entry_word p.entries.items) × (length p.entries.items ≤ 65535) };
+    ghost invariant = { λ p. (map (λ k. string_bytes k) p.words.keys ≡ map entry_word p.entries.items) × (length p.entries.items ≤ 65535) × (AreOf p.entries.items p.patterns) };
 }
 
 impl Policy {
@@ -45,6 +47,7 @@ impl Policy {
         Policy {
             words: IndexSet::new(alloc),
             entries: Vec::new(alloc),
+            patterns: Patterns::new(alloc),
         }
     }
 
@@ -71,12 +74,29 @@ impl Policy {
         &self.entries[number as usize - 1]
     }
 
+    /// How many patterns the entries have, each counted once.
+    pub fn pattern_count(&self) -> u32
+        ensures { result ≡ length (patterns_of self.now.entries) }
+    {
+        self.patterns.len() as u32
+    }
+
+    /// The pattern of a number, from 1 to their count, in the order of the entries in which they stand first.
+    pub fn pattern(&self, number: u32) -> &Pattern
+        requires first { 1 ≤ number }
+        requires last { number ≤ length (patterns_of self.now.entries) }
+        ensures { slice_get (patterns_of self.now.entries) (number - 1) ≡ Just result.now }
+    {
+        let first = self.patterns.first(number as usize - 1);
+        &self.entries[first as usize - 1].pattern
+    }
+
     /// How far a name may be used: the greatest level that an entry gives it, and at least `Talk`
     /// for the bus itself, `org.freedesktop.DBus` (xdg-dbus-proxy(1), "Filtering").
     pub fn level(&self, name: &str) -> Level
         ensures { result ≡ level self.now name.now }
     {
-        let mut level = if name == BUS_NAME {
+        let mut level = if is_bus(name) {
             Level::Talk
         } else {
             Level::None
@@ -101,8 +121,15 @@ impl Policy {
         if self.entries.len() == MOST_ENTRIES {
             return Err(WordRefusal::Bad(WordKind::TooMany));
         }
+        let word = String::from_str(alloc, word)?;
         self.entries.reserve(1)?;
-        self.words.insert(String::from_str(alloc, word)?)?;
+        self.words.reserve(1)?;
+        let number = self.entries.len() as u32 + 1;
+        self.patterns.add(alloc, &entry.pattern, number)?;
+        match self.words.insert(word) {
+            Ok(_) => {}
+            Err(_) => unreachable!(),
+        }
         self.entries.push_reserved(entry);
         Ok(())
     }

@@ -4,16 +4,19 @@ use Rattle.std.specs.Prelude.{not, ◌&&◌, ◌||◌, ◌==◌, nat_lt, codes, 
 use Rattle.std.specs.Str.{bytes_eq}
 use Rattle.std.proofs.lemmas.Bool.{and_parts, eqb-true, eq-eqb, ne_eqb}
 use Rattle.std.proofs.lemmas.Bool.Decides.{nat_tests}
-use Rattle.dbus_names.specs.Names.{is_well_known, is_unique}
 use Rattle.dbus_names.proofs.NameBytes.{well_known_is_not_unique}
 use Rattle.dbus_header.specs.Message.{Message, destination, interface, member, reply_serial}
 use Rattle.dbus_header.specs.declared.Instead.{Instead}
 use Rattle.dbus_header.specs.declared.Instead.TheVariants.{ServiceUnknown, NameHasNoOwner}
-use Rattle.policy_args.specs.Policy.{Policy, level, bus_name}
+use Rattle.policy_args.specs.Policy.{Policy, level}
+use Rattle.dbus_names.specs.Names.{is_bus, is_well_known, is_unique}
 use Rattle.policy_args.specs.declared.Level.TheVariants.{None as NoLevel}
-use Rattle.policy_view.specs.Texts.{Text, is_text}
-use Rattle.policy_view.specs.Levels.{Fact, level_of, level_of_id, entries}
-use Rattle.policy_view.specs.Sent.{Kind, Call, Return, Error, Signal, Other, kind_of, Told, Past, has_no_auto_start, is_bus, is_hello, is_bus_member, asks_names, answered}
+use Rattle.policy_view.specs.Texts.{has_text}
+use Rattle.dbus_names.specs.Texts.{Text}
+use Rattle.policy_args.specs.Levels.{level_of, level_of_id, entries}
+use Rattle.policy_args.specs.declared.fact.Fact.{Fact}
+use Rattle.policy_view.specs.Sent.{Told, Past, is_bus_or_absent, is_hello, is_bus_member, asks_names, answered}
+use Rattle.dbus_header.specs.Kinds.{Kind, Call, Return, Error, Signal, Other, kind_of, forbids_auto_start}
 use Rattle.policy_view.specs.Verdicts.{CallTo, OfUnknownType, client_role, client_role_at, role_of_call, role_of_bus_call, verdict, verdict_at, on_call, not_visible, refused}
 use Rattle.policy_view.specs.Shown.{BusRole, NoRole, bus_role, bus_role_at, seen, seen_as, shown, showing_at}
 use Rattle.policy_view.specs.History.{is_service}
@@ -29,7 +32,7 @@ pub record IsServiceCall (m : Message) : Type 0 where
   pub name : List ℕ
   pub to : destination m ≡ Some name
   pub well_known : is_well_known name ≡ true
-  pub other : bytes_eq name bus_name ≡ false
+  pub other : is_bus name ≡ false
 
 pub service_call : (m : Message) → (m.kind == 1 && is_service (destination m)) ≡ true → IsServiceCall m
 service_call m e =
@@ -43,8 +46,8 @@ service_call m e =
     by : (o : Option Text) → destination m ≡ o → m.kind ≡ 1 → is_service o ≡ true → IsServiceCall m
     by None is one e = absurd cc
     by (Some name) is one e =
-        let k = and_parts (is_well_known name) (not (bytes_eq name bus_name)) e in
-        record { call = one; name = name; to = is; well_known = k.0; other = absent (bytes_eq name bus_name) k.1 }
+        let k = and_parts (is_well_known name) (not (is_bus name)) e in
+        record { call = one; name = name; to = is; well_known = k.0; other = absent (is_bus name) k.1 }
 
 call_kind : (m : Message) → m.kind ≡ 1 → kind_of m ≡ Call
 unfolding kind_of
@@ -69,18 +72,18 @@ service_verdict policy told m s =
 
 -- what the call of a hidden name is answered with
 abbrev pub hidden_by : Message → Instead
-hidden_by m = if has_no_auto_start m then NameHasNoOwner else ServiceUnknown
+hidden_by m = if forbids_auto_start m then NameHasNoOwner else ServiceUnknown
 
 pub hidden_call : (m : Message) (s : IsServiceCall m) → not_visible m s.name ≡ refused m (hidden_by m) NotVisible
 hidden_call m s =
-    ap (λ (b : Bool). refused m (cond (b || has_no_auto_start m) NameHasNoOwner ServiceUnknown) NotVisible) (well_known_is_not_unique s.name s.well_known)
+    ap (λ (b : Bool). refused m (cond (b || forbids_auto_start m) NameHasNoOwner ServiceUnknown) NotVisible) (well_known_is_not_unique s.name s.well_known)
 
 -- it is none of the calls to the bus
 service_no_bus : (m : Message) (s : IsServiceCall m) (wanted : Text) → is_bus_member wanted m ≡ false
 service_no_bus m s wanted =
-    ap (λ (o : Option Text). m.kind == 1 && is_bus o && is_bus (interface m) && is_text (member m) wanted) s.to
-    ∙ ap (λ (b : Bool). m.kind == 1 && b && is_bus (interface m) && is_text (member m) wanted) s.other
-    ∙ none (m.kind == 1) (is_bus (interface m)) (is_text (member m) wanted)
+    ap (λ (o : Option Text). m.kind == 1 && is_bus_or_absent o && is_bus_or_absent (interface m) && has_text (member m) wanted) s.to
+    ∙ ap (λ (b : Bool). m.kind == 1 && b && is_bus_or_absent (interface m) && has_text (member m) wanted) s.other
+    ∙ none (m.kind == 1) (is_bus_or_absent (interface m)) (has_text (member m) wanted)
   where
     none : (a c d : Bool) → (a && false && c && d) ≡ false
     none true c d = refl

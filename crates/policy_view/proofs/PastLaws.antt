@@ -6,7 +6,8 @@ use Rattle.std.specs.List.{list_any}
 use Rattle.std.proofs.lemmas.List.Folds.{list_any-append}
 use Rattle.dbus_header.specs.Message.{reply_serial}
 use Rattle.policy_args.specs.Policy.{Policy}
-use Rattle.policy_view.specs.Sent.{Kind, Call, Return, Error, Signal, Other, kind_of, Past, nothing_before}
+use Rattle.policy_view.specs.Sent.{Past, nothing_before}
+use Rattle.dbus_header.specs.Kinds.{Kind, Call, Return, Error, Signal, Other, kind_of}
 use Rattle.policy_view.specs.Past.{Item, Line, Msg, Ended, History, past, after, due, with_client, used_by, used_at, place_used}
 use Rattle.policy_view.specs.History.{Event, history, end_of, arrived, is_built, placed, followed_by, followed_unless, followed_by_all, most_sent}
 use Rattle.policy_view.specs.declared.Side.TheVariants.{Client, Bus}

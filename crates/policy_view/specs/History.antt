@@ -1,13 +1,13 @@
 -- The events of a session and the history that they make.
 use Rattle.std.specs.Prelude.{ℕ, ◌+◌, ◌-◌, nat_lt, nat_le, Bool, true, false, not, ◌&&◌, ◌||◌, ◌==◌, List, [], ◌∷◌, ◌++◌, length, map, take, drop, if◌then◌else◌, Option, Some, None}
-use Rattle.dbus_names.specs.Names.{is_empty, is_well_known}
 use Rattle.dbus_header.specs.declared.Malformed.{Malformed}
 use Rattle.dbus_header.specs.Message.{Message, destination}
 use Rattle.sasl_watch.specs.Lines.{client_lines, has_begun, after_begin, asked, client_fault, bus_lines, after_lines, bus_fault}
 use Rattle.sasl_watch.specs.declared.LineFault.{LineFault}
 use Rattle.dbus_header.specs.Stream.{messages, bad}
-use Rattle.policy_args.specs.Policy.{Policy, bus_name}
-use Rattle.policy_view.specs.Texts.{Text, is_text}
+use Rattle.policy_args.specs.Policy.{Policy}
+use Rattle.dbus_names.specs.Names.{is_bus, is_empty, is_well_known}
+use Rattle.dbus_names.specs.Texts.{Text}
 use Rattle.policy_view.specs.Sent.{Past}
 use Rattle.policy_view.specs.Past.{Item, Line, Msg, Ended, History, past, due}
 use Rattle.policy_view.specs.declared.Mode.{Mode}
@@ -127,7 +127,7 @@ taken_of side events piece = take (longest_stream - length (stream side events))
 -- a well-known name other than the bus's own
 abbrev pub is_service : Option Text → Bool
 is_service None = false
-is_service (Some name) = is_well_known name && not (is_text (Some name) bus_name)
+is_service (Some name) = is_well_known name && not (is_bus name)
 
 -- The forms of messages that are built so far: of the client calls of services, of the bus returns and errors, and of
 -- either side those of types above 4.

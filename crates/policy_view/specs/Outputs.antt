@@ -2,7 +2,7 @@
 use Rattle.std.specs.Prelude.{ℕ, ◌+◌, List, [], ◌∷◌, ◌++◌, length, flat_map}
 use Rattle.dbus_header.specs.Message.{Message, spell}
 use Rattle.policy_args.specs.Policy.{Policy}
-use Rattle.policy_view.specs.Levels.{Fact}
+use Rattle.policy_args.specs.declared.fact.Fact.{Fact}
 use Rattle.policy_view.specs.Sent.{Sent, Past, spelled_from}
 use Rattle.policy_view.specs.Shown.{seen}
 use Rattle.policy_view.specs.Past.{Item, Line, Msg, Ended, History, past, due}

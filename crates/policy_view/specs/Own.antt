@@ -5,9 +5,9 @@ use Rattle.dbus_values.specs.Values.{Value, a_number, a_string, a_path, a_signat
 use Rattle.dbus_values.specs.declared.Order.{Order}
 use Rattle.dbus_values.specs.declared.Order.TheVariants.{Little}
 use Rattle.dbus_header.specs.Message.{Field, Message}
-use Rattle.policy_view.specs.Texts.{Text}
+use Rattle.dbus_names.specs.Texts.{Text}
 use Rattle.name_patterns.specs.Patterns.{Pattern}
-use Rattle.policy_args.specs.Policy.{bus_name}
+use Rattle.dbus_names.specs.Names.{bus_name}
 use Rattle.dbus_header.specs.declared.Instead.{Instead}
 use Rattle.dbus_header.specs.declared.Instead.TheVariants.{AccessDenied, NameHasNoOwner, ServiceUnknown, False}
 

@@ -1,13 +1,15 @@
 -- How each item adds to the past: the messages that are due, the facts, the calls and replies, the answers used up.
 use Rattle.std.specs.Prelude.{ℕ, nat_le, Bool, ◌&&◌, not, List, [], ◌∷◌, ◌++◌, length, map, if◌then◌else◌, Option, Some, None}
 use Rattle.std.specs.List.{list_any}
-use Rattle.policy_view.specs.Texts.{Text}
+use Rattle.dbus_names.specs.Texts.{Text}
 use Rattle.dbus_header.specs.Message.{Message, sender, reply_serial, only_text, three_texts, text_list}
 use Rattle.dbus_names.specs.Names.{is_unique, is_well_known}
 use Rattle.name_patterns.specs.Patterns.{covers}
 use Rattle.policy_args.specs.Policy.{Policy}
-use Rattle.policy_view.specs.Levels.{Fact, Owned, SelfId, Met}
-use Rattle.policy_view.specs.Sent.{Kind, Call, Return, Error, Signal, Other, kind_of, Past, Told, Exchange, nothing_before, Sent, Passed, Pinged, OwnOwner, own_calls, is_passed_hello, is_hello, asked, wants_reply}
+use Rattle.policy_args.specs.declared.fact.Fact.TheVariants.{Owned, SelfId, Met}
+use Rattle.policy_args.specs.declared.fact.Fact.{Fact}
+use Rattle.policy_view.specs.Sent.{Past, Told, Exchange, nothing_before, Sent, Passed, Pinged, OwnOwner, own_calls, is_passed_hello, is_hello, asked}
+use Rattle.dbus_header.specs.Kinds.{Kind, Call, Return, Error, Signal, Other, kind_of, expects_reply}
 use Rattle.policy_view.specs.Verdicts.{ClientRole, Reply, client_role, verdict, reply_to}
 use Rattle.policy_view.specs.Shown.{BusRole, NoRole, Unexpected, MatchAnswer, OwnerAnswer, NamesAnswer, PingAnswer, NameList, OtherAnswer, CallIn, OwnerChange, SignalIn, BroadcastIn, bus_role}
 use Rattle.policy_view.specs.declared.Side.{Side}
@@ -115,7 +117,7 @@ due_at policy m _ = []
 
 -- a call of the bus asks for a reply
 abbrev pub called_at : Message → BusRole → List Exchange
-called_at m CallIn = if wants_reply m then record { peer = sender m; number = m.serial } ∷ [] else []
+called_at m CallIn = if expects_reply m then record { peer = sender m; number = m.serial } ∷ [] else []
 called_at m _ = []
 
 -- what a bus message adds in its role
@@ -140,15 +142,15 @@ used_at count Signal r = []
 used_at count Other r = []
 
 unfoldable pub used_by : Past → Message → List ℕ
-used_by past m = used_at (length past.told.sent) (kind_of m) (reply_serial m)
+used_by before m = used_at (length before.told.sent) (kind_of m) (reply_serial m)
 
 -- the past after an item
 unfoldable pub after : Policy → Item → Past → Past
-after policy (Msg Client m) past = record { told = with_client policy m past.told; used = past.used }
-after policy (Msg Bus m) past =
-    record { told = with_bus policy m (bus_role past m) past.told; used = past.used ++ used_by past m }
-after policy (Line side bytes) past = past
-after policy (Ended end) past = past
+after policy (Msg Client m) before = record { told = with_client policy m before.told; used = before.used }
+after policy (Msg Bus m) before =
+    record { told = with_bus policy m (bus_role before m) before.told; used = before.used ++ used_by before m }
+after policy (Line side bytes) before = before
+after policy (Ended end) before = before
 
 -- the past of a history
 unfoldable pub past : Policy → History → Past
@@ -157,7 +159,7 @@ past policy (item ∷ before) = after policy item (past policy before)
 
 -- the messages that an item causes
 unfoldable pub due : Policy → Past → Item → List Sent
-due policy past (Msg Client m) = due_on policy past.told m (verdict policy past.told m)
-due policy past (Msg Bus m) = due_at policy m (bus_role past m)
-due policy past (Line side bytes) = []
-due policy past (Ended end) = []
+due policy before (Msg Client m) = due_on policy before.told m (verdict policy before.told m)
+due policy before (Msg Bus m) = due_at policy m (bus_role before m)
+due policy before (Line side bytes) = []
+due policy before (Ended end) = []

@@ -1,56 +1,28 @@
 -- What was sent to the bus and told by it: the record of a session's past, as lists that never forget.
-use Rattle.std.specs.Prelude.{ℕ, zero, suc, ◌+◌, ◌-◌, ◌/◌, ◌%◌, nat_eq, ◌==◌, Bool, true, false, ◌&&◌, ◌||◌, not, List, [], ◌∷◌, ◌++◌, flat_map, filter, count_by, if◌then◌else◌, Option, Some, None, slice_get, codes}
+use Rattle.std.specs.Prelude.{ℕ, zero, suc, ◌+◌, ◌-◌, nat_eq, ◌==◌, Bool, true, false, ◌&&◌, ◌||◌, not, List, [], ◌∷◌, ◌++◌, flat_map, filter, count_by, if◌then◌else◌, Option, Some, None, slice_get, codes}
 use Rattle.std.specs.Str.{bytes_eq}
 use Rattle.std.specs.List.{list_any}
-use Rattle.policy_view.specs.Texts.{Text, is_text, only_if}
+use Rattle.policy_view.specs.Texts.{has_text, only_if}
+use Rattle.dbus_names.specs.Texts.{Text}
 use Rattle.dbus_header.specs.Message.{Message, interface, member, destination, with_serial, spell}
-use Rattle.dbus_names.specs.Names.{is_well_known}
+use Rattle.dbus_header.specs.Kinds.{expects_reply}
 use Rattle.name_patterns.specs.Patterns.{Pattern, covers}
-use Rattle.policy_args.specs.Policy.{Policy, bus_name}
+use Rattle.policy_args.specs.Policy.{Policy, patterns_of}
+use Rattle.dbus_names.specs.Names.{is_bus, is_well_known}
 use Rattle.policy_args.specs.declared.entry.Entry.{Entry}
-use Rattle.policy_view.specs.Levels.{Fact}
+use Rattle.policy_args.specs.declared.fact.Fact.{Fact}
 use Rattle.policy_view.specs.Own.{ping, add_match, get_owner, list_names}
 use Rattle.dbus_header.specs.declared.Instead.{Instead}
 
--- the type of a message
-pub data Kind : Type 0 where
-  Call : Kind
-  Return : Kind
-  Error : Kind
-  Signal : Kind
-  Other : Kind
-
-unfoldable pub kind_of : Message → Kind
-kind_of m =
-    if m.kind == 1 then Call
-    else (if m.kind == 2 then Return
-    else (if m.kind == 3 then Error
-    else (if m.kind == 4 then Signal else Other)))
-
--- returns and errors alone answer
-abbrev pub answers_kind : Kind → Bool
-answers_kind Call = false
-answers_kind Return = true
-answers_kind Error = true
-answers_kind Signal = false
-answers_kind Other = false
-
--- NO_REPLY_EXPECTED isn't set; NO_AUTO_START is set
-abbrev pub wants_reply : Message → Bool
-wants_reply m = m.flags % 2 == 0
-
-abbrev pub has_no_auto_start : Message → Bool
-has_no_auto_start m = (m.flags / 2) % 2 == 1
-
 -- absent, or the bus's own name
-abbrev pub is_bus : Option Text → Bool
-is_bus None = true
-is_bus (Some name) = bytes_eq name bus_name
+abbrev pub is_bus_or_absent : Option Text → Bool
+is_bus_or_absent None = true
+is_bus_or_absent (Some name) = is_bus name
 
 -- a call to the bus that its table of members judges, with this member
 abbrev pub is_bus_member : Text → Message → Bool
 is_bus_member name m =
-    m.kind == 1 && is_bus (destination m) && is_bus (interface m) && is_text (member m) name
+    m.kind == 1 && is_bus_or_absent (destination m) && is_bus_or_absent (interface m) && has_text (member m) name
 
 unfoldable pub is_hello : Message → Bool
 is_hello m = is_bus_member (codes "Hello") m
@@ -77,7 +49,7 @@ message_of OwnNames = list_names
 
 -- it is a call, and its answer is wanted
 abbrev pub expects_answer : Sent → Bool
-expects_answer (Passed request) = request.kind == 1 && wants_reply request
+expects_answer (Passed request) = request.kind == 1 && expects_reply request
 expects_answer (Pinged request what) = true
 expects_answer (OwnMatch pattern) = true
 expects_answer (OwnOwner name) = true
@@ -143,18 +115,9 @@ is_used used (Some r) = list_any (nat_eq r) used
 
 -- the sent call that a bus message with this REPLY_SERIAL answers
 unfoldable pub answered : Past → Option ℕ → Option Sent
-answered past r = if is_used past.used r then None else call_at past.told r
+answered before r = if is_used before.used r then None else call_at before.told r
 
--- the patterns of the policy, each once
-abbrev pub same_pattern : Pattern → Pattern → Bool
-same_pattern a b = bytes_eq a.name b.name && (if a.exact then b.exact else not b.exact)
-
-abbrev pub patterns_beside : List Pattern → List Entry → List Pattern
-patterns_beside seen [] = []
-patterns_beside seen (e ∷ es) =
-    if list_any (same_pattern e.pattern) seen then patterns_beside seen es
-    else e.pattern ∷ patterns_beside (e.pattern ∷ seen) es
-
+-- the own calls that learn who owns the names of a pattern
 abbrev pub calls_for : Pattern → List Sent
 calls_for p = OwnMatch p ∷ only_if p.exact (OwnOwner p.name)
 
@@ -163,7 +126,7 @@ is_subtree e = not e.pattern.exact
 
 -- the calls right after the first passed Hello
 unfoldable pub own_calls : Policy → List Sent
-own_calls policy = flat_map calls_for (patterns_beside [] policy.entries) ++ only_if (list_any is_subtree policy.entries) OwnNames
+own_calls policy = flat_map calls_for (patterns_of policy.entries) ++ only_if (list_any is_subtree policy.entries) OwnNames
 
 -- a well-known name that a subtree covers and no exact pattern names
 abbrev pub is_asked : Policy → Text → Bool

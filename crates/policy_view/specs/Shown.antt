@@ -1,14 +1,18 @@
 -- What the client is shown of a bus message: the role that the message has, and a row for each role.
-use Rattle.std.specs.Prelude.{ℕ, Bool, false, ◌&&◌, ◌||◌, List, [], ◌∷◌, filter, if◌then◌else◌, Option, Some, None, codes, is_some}
+use Rattle.std.specs.Prelude.{ℕ, Bool, true, false, ◌&&◌, ◌||◌, List, [], ◌∷◌, filter, if◌then◌else◌, Option, Some, None, codes, is_some}
 use Rattle.std.specs.List.{list_any}
-use Rattle.policy_view.specs.Texts.{Text, is_text, matches}
+use Rattle.policy_view.specs.Texts.{has_text, matches}
+use Rattle.dbus_names.specs.Texts.{Text}
 use Rattle.dbus_header.specs.Message.{Message, path, interface, member, destination, sender, reply_serial, three_texts, text_list, with_reply_serial, with_names}
-use Rattle.policy_args.specs.Policy.{Policy, at_least, bus_name}
+use Rattle.policy_args.specs.Policy.{Policy, at_least}
+use Rattle.dbus_names.specs.Names.{bus_name}
 use Rattle.policy_args.specs.declared.entry.Grant.{Grant}
 use Rattle.policy_args.specs.declared.entry.Grant.TheVariants.{See as to_see, Talk as to_talk, Own as to_own, Call as to_call, Broadcast as to_broadcast}
-use Rattle.policy_view.specs.Levels.{Fact, level_of, entries}
+use Rattle.policy_args.specs.Levels.{level_of, entries}
+use Rattle.policy_args.specs.declared.fact.Fact.{Fact}
 use Rattle.policy_view.specs.Own.{answer_in_place}
-use Rattle.policy_view.specs.Sent.{Kind, Call, Return, Error, Signal, Other, kind_of, Past, Told, Sent, Passed, Pinged, OwnMatch, OwnOwner, OwnNames, answered, asks_names}
+use Rattle.policy_view.specs.Sent.{Past, Told, Sent, Passed, Pinged, OwnMatch, OwnOwner, OwnNames, answered, asks_names}
+use Rattle.dbus_header.specs.Kinds.{Kind, Call, Return, Error, Signal, Other, kind_of}
 use Rattle.policy_view.specs.Verdicts.{entry_passes}
 use Rattle.policy_args.specs.declared.Level.TheVariants.{See, Talk}
 use Rattle.dbus_header.specs.declared.Instead.{Instead}
@@ -31,26 +35,19 @@ pub data BusRole : Type 0 where
   SignalIn : BusRole
   BroadcastIn : BusRole
 
-abbrev pub role_of_return : Option Sent → BusRole
-role_of_return None = Unexpected
-role_of_return (Some (Passed request)) = if asks_names request then NameList request else OtherAnswer request
-role_of_return (Some (Pinged request what)) = PingAnswer request what
-role_of_return (Some (OwnMatch pattern)) = MatchAnswer
-role_of_return (Some (OwnOwner name)) = OwnerAnswer name
-role_of_return (Some OwnNames) = NamesAnswer
-
-abbrev pub role_of_error : Option Sent → BusRole
-role_of_error None = Unexpected
-role_of_error (Some (Passed request)) = OtherAnswer request
-role_of_error (Some (Pinged request what)) = PingAnswer request what
-role_of_error (Some (OwnMatch pattern)) = MatchAnswer
-role_of_error (Some (OwnOwner name)) = OwnerAnswer name
-role_of_error (Some OwnNames) = NamesAnswer
+-- the role of a return or an error by the sent call that it answers; a list of names comes in a return alone
+abbrev pub role_of_reply : Bool → Option Sent → BusRole
+role_of_reply is_return None = Unexpected
+role_of_reply is_return (Some (Passed request)) = if is_return && asks_names request then NameList request else OtherAnswer request
+role_of_reply is_return (Some (Pinged request what)) = PingAnswer request what
+role_of_reply is_return (Some (OwnMatch pattern)) = MatchAnswer
+role_of_reply is_return (Some (OwnOwner name)) = OwnerAnswer name
+role_of_reply is_return (Some OwnNames) = NamesAnswer
 
 -- NameOwnerChanged from the bus
 unfoldable pub is_owner_change : Message → Bool
 is_owner_change m =
-    is_text (sender m) bus_name && is_text (interface m) bus_name && is_text (member m) (codes "NameOwnerChanged")
+    has_text (sender m) bus_name && has_text (interface m) bus_name && has_text (member m) (codes "NameOwnerChanged")
 
 abbrev pub role_of_signal : Message → BusRole
 role_of_signal m =
@@ -58,13 +55,13 @@ role_of_signal m =
 
 abbrev pub bus_role_at : Kind → Message → Option Sent → BusRole
 bus_role_at Call m answer = CallIn
-bus_role_at Return m answer = role_of_return answer
-bus_role_at Error m answer = role_of_error answer
+bus_role_at Return m answer = role_of_reply true answer
+bus_role_at Error m answer = role_of_reply false answer
 bus_role_at Signal m answer = role_of_signal m
 bus_role_at Other m answer = NoRole
 
 unfoldable pub bus_role : Past → Message → BusRole
-bus_role past m = bus_role_at (kind_of m) m (answered past (reply_serial m))
+bus_role before m = bus_role_at (kind_of m) m (answered before (reply_serial m))
 
 -- the sender may be talked to, or a Broadcast rule of its entries matches
 abbrev pub broadcast_matches : Message → Grant → Bool
@@ -108,7 +105,7 @@ showing_at policy told m SignalIn = Whole
 showing_at policy told m BroadcastIn = if may_broadcast policy told.facts m (sender m) then Whole else Hide SenderNotTalk
 
 unfoldable pub shown : Policy → Past → Message → Showing
-shown policy past m = showing_at policy past.told m (bus_role past m)
+shown policy before m = showing_at policy before.told m (bus_role before m)
 
 -- the names at See or more
 abbrev pub seen_names : Policy → List Fact → List Text → List Text
@@ -131,4 +128,4 @@ seen_as policy facts m (InsteadOf order reply what) = answer_in_place order repl
 seen_as policy facts m (Hide reason) = []
 
 unfoldable pub seen : Policy → Past → Message → List Message
-seen policy past m = seen_as policy past.told.facts m (shown policy past m)
+seen policy before m = seen_as policy before.told.facts m (shown policy before m)

@@ -2,16 +2,13 @@
 use Rattle.std.specs.Prelude.{ℕ, nat_eq, Bool, false, ◌||◌, List, [], ◌∷◌, if◌then◌else◌, Option, Some, None}
 use Rattle.std.specs.Str.{bytes_eq}
 use Rattle.std.specs.List.{starts_with, list_any}
+use Rattle.dbus_names.specs.Texts.{Text}
 use Rattle.call_rules.specs.Rules.{Rule, matches as rule_matches}
 
--- a text or a name: its bytes
-abbrev pub Text : Type 0
-Text = List ℕ
-
 -- an optional text that stands and is this one
-abbrev pub is_text : Option Text → Text → Bool
-is_text None wanted = false
-is_text (Some text) wanted = bytes_eq text wanted
+abbrev pub has_text : Option Text → Text → Bool
+has_text None wanted = false
+has_text (Some text) wanted = bytes_eq text wanted
 
 abbrev pub is_one_of : Text → List Text → Bool
 is_one_of text texts = list_any (bytes_eq text) texts

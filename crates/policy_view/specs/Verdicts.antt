@@ -2,15 +2,18 @@
 use Rattle.std.specs.Prelude.{ℕ, nat_lt, Bool, true, false, ◌||◌, List, [], ◌∷◌, if◌then◌else◌, Option, Some, None, codes, find}
 use Rattle.std.specs.Str.{bytes_eq}
 use Rattle.std.specs.List.{list_any}
-use Rattle.policy_view.specs.Texts.{Text, is_one_of, stands_in, matches}
+use Rattle.policy_view.specs.Texts.{is_one_of, stands_in, matches}
+use Rattle.dbus_names.specs.Texts.{Text}
 use Rattle.dbus_header.specs.Message.{Message, path, interface, member, destination, reply_serial, first_text}
-use Rattle.dbus_names.specs.Names.{is_unique}
-use Rattle.policy_args.specs.Policy.{Policy, at_least, bus_name}
 use Rattle.policy_args.specs.declared.entry.Grant.{Grant}
 use Rattle.policy_args.specs.declared.entry.Grant.TheVariants.{See as to_see, Talk as to_talk, Own as to_own, Call as to_call, Broadcast as to_broadcast}
 use Rattle.policy_args.specs.declared.entry.Entry.{Entry}
-use Rattle.policy_view.specs.Levels.{Fact, level_of, entries, entry_at}
-use Rattle.policy_view.specs.Sent.{Kind, Call, Return, Error, Signal, Other, kind_of, Told, owed, Exchange, wants_reply, has_no_auto_start}
+use Rattle.policy_args.specs.Levels.{level_of, entries}
+use Rattle.policy_args.specs.Policy.{Policy, at_least, entry_at}
+use Rattle.dbus_names.specs.Names.{is_bus, is_unique}
+use Rattle.policy_args.specs.declared.fact.Fact.{Fact}
+use Rattle.policy_view.specs.Sent.{Told, owed, Exchange}
+use Rattle.dbus_header.specs.Kinds.{Kind, Call, Return, Error, Signal, Other, kind_of, expects_reply, forbids_auto_start}
 use Rattle.policy_args.specs.declared.Level.{Level}
 use Rattle.policy_args.specs.declared.Level.TheVariants.{None as Hidden, See, Talk, Own}
 use Rattle.dbus_header.specs.declared.Instead.{Instead}
@@ -39,11 +42,11 @@ standard_interfaces =
 abbrev pub role_of_bus_call : Option Text → ClientRole
 role_of_bus_call None = BusCall
 role_of_bus_call (Some i) =
-    if is_one_of i standard_interfaces then StandardBusCall else (if bytes_eq i bus_name then BusCall else OtherBusCall)
+    if is_one_of i standard_interfaces then StandardBusCall else (if is_bus i then BusCall else OtherBusCall)
 
 abbrev pub role_of_call : Option Text → Option Text → ClientRole
 role_of_call None interface = role_of_bus_call interface
-role_of_call (Some name) interface = if bytes_eq name bus_name then role_of_bus_call interface else CallTo name
+role_of_call (Some name) interface = if is_bus name then role_of_bus_call interface else CallTo name
 
 abbrev pub role_of_signal : Option Text → ClientRole
 role_of_signal None = Broadcast
@@ -61,7 +64,7 @@ client_role m = client_role_at (kind_of m) m
 
 -- refused: dropped where no reply is wanted, else answered in a ping's place
 abbrev pub refused : Message → Instead → Reason → Verdict
-refused m what reason = if wants_reply m then Ping what reason else Drop reason
+refused m what reason = if expects_reply m then Ping what reason else Drop reason
 
 abbrev pub number_or_0 : Option ℕ → ℕ
 number_or_0 None = 0
@@ -72,12 +75,12 @@ first_or_0 [] = 0
 first_or_0 (n ∷ ns) = n
 
 -- a Call rule of the entry matches a call of this path, interface and member
-abbrev pub rule_matches : Option Text → Option Text → Option Text → Grant → Bool
-rule_matches path interface member to_see = false
-rule_matches path interface member to_talk = false
-rule_matches path interface member to_own = false
-rule_matches path interface member (to_call rule) = matches rule path interface member
-rule_matches path interface member (to_broadcast rule) = false
+abbrev pub call_rule_matches : Option Text → Option Text → Option Text → Grant → Bool
+call_rule_matches path interface member to_see = false
+call_rule_matches path interface member to_talk = false
+call_rule_matches path interface member to_own = false
+call_rule_matches path interface member (to_call rule) = matches rule path interface member
+call_rule_matches path interface member (to_broadcast rule) = false
 
 -- the entry has a rule on calls
 abbrev pub rules_calls : Grant → Bool
@@ -93,7 +96,7 @@ passes test None = false
 passes test (Some e) = test e.grant
 
 abbrev pub entry_passes : Policy → (Grant → Bool) → ℕ → Bool
-entry_passes policy test n = passes test (entry_at policy n)
+entry_passes policy test n = passes test (entry_at policy.entries n)
 
 -- a call to a name that is only seen
 abbrev pub on_ruled_call : Message → Option ℕ → List ℕ → Verdict
@@ -102,12 +105,12 @@ on_ruled_call m None numbers = refused m AccessDenied (OnlySee (first_or_0 numbe
 
 abbrev pub on_seen_call : Policy → Message → List ℕ → Verdict
 on_seen_call policy m numbers =
-    if list_any (entry_passes policy (rule_matches (path m) (interface m) (member m))) numbers then Pass
+    if list_any (entry_passes policy (call_rule_matches (path m) (interface m) (member m))) numbers then Pass
     else on_ruled_call m (find (entry_passes policy rules_calls) numbers) numbers
 
 abbrev pub not_visible : Message → Text → Verdict
 not_visible m name =
-    refused m (if is_unique name || has_no_auto_start m then NameHasNoOwner else ServiceUnknown) NotVisible
+    refused m (if is_unique name || forbids_auto_start m then NameHasNoOwner else ServiceUnknown) NotVisible
 
 abbrev pub on_call : Policy → Message → Text → List ℕ → Level → Verdict
 on_call policy m name numbers Hidden = not_visible m name
@@ -137,23 +140,27 @@ abbrev pub name_members : List Text
 name_members = codes "RequestName" ∷ codes "ReleaseName" ∷ codes "ListQueuedOwners" ∷ []
 
 -- what a member asks of its text
+pub data TextDemand : Type 0 where
+  NoEavesdrop : TextDemand
+  SeenOwner : TextDemand
+  SeenName : TextDemand
+  Startable : TextDemand
+  Ownable : TextDemand
+
+-- what is asked of a call of a member: nothing, something of its text, or that it isn't made
 pub data Demand : Type 0 where
   Free : Demand
-  NoEavesdrop : Demand
-  SeenOwner : Demand
-  SeenName : Demand
-  Startable : Demand
-  Ownable : Demand
+  OnText : (demand : TextDemand) → Demand
   Unlisted : Demand
 
 unfoldable pub demand_of : Text → Demand
 demand_of member =
     if is_one_of member free_members then Free
-    else (if is_one_of member match_members then NoEavesdrop
-    else (if is_one_of member owner_members then SeenOwner
-    else (if bytes_eq member (codes "NameHasOwner") then SeenName
-    else (if bytes_eq member (codes "StartServiceByName") then Startable
-    else (if is_one_of member name_members then Ownable else Unlisted)))))
+    else (if is_one_of member match_members then OnText NoEavesdrop
+    else (if is_one_of member owner_members then OnText SeenOwner
+    else (if bytes_eq member (codes "NameHasOwner") then OnText SeenName
+    else (if bytes_eq member (codes "StartServiceByName") then OnText Startable
+    else (if is_one_of member name_members then OnText Ownable else Unlisted)))))
 
 abbrev pub on_start : Message → Level → Verdict
 on_start m Hidden = refused m ServiceUnknown ArgNotTalk
@@ -161,28 +168,22 @@ on_start m See = refused m AccessDenied ArgNotTalk
 on_start m Talk = Pass
 on_start m Own = Pass
 
-abbrev pub on_text : Message → Demand → Text → Level → Verdict
-on_text m Free text level = Pass
+abbrev pub on_text : Message → TextDemand → Text → Level → Verdict
 on_text m NoEavesdrop text level =
     if stands_in (codes "eavesdrop") text then refused m AccessDenied Eavesdrop else Pass
 on_text m SeenOwner text level = if at_least See level then Pass else refused m NameHasNoOwner ArgNotVisible
 on_text m SeenName text level = if at_least See level then Pass else refused m False ArgNotVisible
 on_text m Startable text level = on_start m level
 on_text m Ownable text level = if at_least Own level then Pass else refused m AccessDenied ArgNotOwn
-on_text m Unlisted text level = refused m AccessDenied BusMember
 
--- every demand but the first and the last is on a text
-abbrev pub on_argument : Policy → List Fact → Message → Demand → Option Text → Verdict
+-- the text that is asked of has to stand
+abbrev pub on_argument : Policy → List Fact → Message → TextDemand → Option Text → Verdict
 on_argument policy facts m demand None = refused m AccessDenied BadArgument
 on_argument policy facts m demand (Some text) = on_text m demand text (level_of policy facts text)
 
 abbrev pub on_bus_call : Policy → List Fact → Message → Demand → Verdict
 on_bus_call policy facts m Free = Pass
-on_bus_call policy facts m NoEavesdrop = on_argument policy facts m NoEavesdrop (first_text m)
-on_bus_call policy facts m SeenOwner = on_argument policy facts m SeenOwner (first_text m)
-on_bus_call policy facts m SeenName = on_argument policy facts m SeenName (first_text m)
-on_bus_call policy facts m Startable = on_argument policy facts m Startable (first_text m)
-on_bus_call policy facts m Ownable = on_argument policy facts m Ownable (first_text m)
+on_bus_call policy facts m (OnText demand) = on_argument policy facts m demand (first_text m)
 on_bus_call policy facts m Unlisted = refused m AccessDenied BusMember
 
 abbrev pub text_or_empty : Option Text → Text

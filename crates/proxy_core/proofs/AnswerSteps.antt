@@ -8,9 +8,10 @@ use Rattle.dbus_header.specs.Message.{Message, Valid, spell, with_reply_serial, 
 use Rattle.dbus_header.specs.Contents.{contents_of}
 use Rattle.dbus_header.proofs.NumberLaws.{reply_patched, reply_stands}
 use Rattle.policy_args.specs.Policy.{Policy}
-use Rattle.policy_view.specs.Levels.{Fact}
+use Rattle.policy_args.specs.declared.fact.Fact.{Fact}
 use Rattle.policy_view.specs.Own.{answer_in_place}
-use Rattle.policy_view.specs.Sent.{Kind, Call, Return, Error, Signal, Other, kind_of, Sent, Passed, Pinged, OwnMatch, OwnOwner, OwnNames, answered, call_at, spelled_from}
+use Rattle.policy_view.specs.Sent.{Sent, Passed, Pinged, OwnMatch, OwnOwner, OwnNames, answered, call_at, spelled_from}
+use Rattle.dbus_header.specs.Kinds.{Kind, Call, Return, Error, Signal, Other, kind_of}
 use Rattle.policy_view.specs.Past.{Item, Msg, Ended, History, past, after, due, due_at, used_by, used_at, place_used, learned_at, self_by}
 use Rattle.policy_view.specs.Shown.{BusRole, NoRole, Unexpected, OtherAnswer, PingAnswer, NameList, bus_role, bus_role_at, seen, seen_as, shown, showing_at}
 use Rattle.policy_view.specs.History.{end_of, followed_by, most_sent}

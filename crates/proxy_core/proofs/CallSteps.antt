@@ -13,7 +13,8 @@ use Rattle.verdicts.proofs.JudgedLaws.{judged-is}
 use Rattle.policy_view.specs.declared.Verdict.{Verdict}
 use Rattle.policy_view.specs.declared.Verdict.TheVariants.{Pass, Ping, Drop}
 use Rattle.policy_view.specs.declared.Reason.TheVariants.{UnknownType}
-use Rattle.policy_view.specs.Sent.{Sent, Passed, Pinged, message_of, spelled_from, if_expected, is_passed_hello, own_calls, wants_reply}
+use Rattle.policy_view.specs.Sent.{Sent, Passed, Pinged, message_of, spelled_from, if_expected, is_passed_hello, own_calls}
+use Rattle.dbus_header.specs.Kinds.{expects_reply}
 use Rattle.policy_view.specs.Past.{Item, Msg, Ended, History, past, after, due, due_on, with_client}
 use Rattle.policy_view.specs.Verdicts.{verdict}
 use Rattle.policy_view.specs.History.{end_of, followed_by, is_built_for, is_service, most_sent}
@@ -120,7 +121,7 @@ module _ (policy : Policy) (view : SessionView) (items : History) (taken : Taken
 
   -- its answer is expected where it wants one
   passed_expects : m.kind ≡ 1 → expected_by (if_expected (Some (Passed m))) ≡ (passed (contents_of m) bytes (view.sent + 1)).1
-  passed_expects one = ap (λ (k : ℕ). expected_by (cond (k == 1 && wants_reply m) (Some (Passed m)) None)) one ∙ by (wants_reply m)
+  passed_expects one = ap (λ (k : ℕ). expected_by (cond (k == 1 && expects_reply m) (Some (Passed m)) None)) one ∙ by (expects_reply m)
     where
       by : (b : Bool) → expected_by (cond (1 == 1 && b) (Some (Passed m)) None) ≡ cond b (Some (expects.Call m.serial)) None
       by true = refl

@@ -10,7 +10,7 @@ ghost use Rattle.proxy_core.specs.Sessions.{StandsFor, Taken, nothing, at_start,
 ghost use Rattle.proxy_core.specs.Messages.{ended_by, with_message};
 ghost use Rattle.proxy_core.specs.Steps.{with_stream, with_left, step_of, drained, with_bytes, with_piece, Took, TookMessage, Stepped, IsLight, bus_weight, client_weight};
 ghost use Rattle.proxy_core.specs.Seen.{Given};
-ghost use Rattle.verdicts.specs.Seen.{message_seen};
+ghost use Rattle.dbus_header.specs.Read.{message_seen};
 
 mod lines;
 mod messages;

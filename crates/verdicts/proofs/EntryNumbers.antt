@@ -10,8 +10,8 @@ use Rattle.dbus_header.specs.Contents.{Contents}
 use Rattle.policy_args.specs.Policy.{Policy}
 use Rattle.policy_args.specs.declared.entry.Entry.{Entry}
 use Rattle.policy_args.specs.declared.entry.Grant.{Grant}
-use Rattle.policy_view.specs.Texts.{Text}
-use Rattle.policy_view.specs.Levels.{numbers_where}
+use Rattle.dbus_names.specs.Texts.{Text}
+use Rattle.policy_args.specs.Levels.{numbers_where}
 use Rattle.policy_view.specs.Verdicts.{entry_passes, first_or_0, number_or_0, passes, rules_calls}
 use Rattle.policy_view.specs.declared.Verdict.{Verdict}
 use Rattle.policy_view.specs.declared.Verdict.TheVariants.{Pass}

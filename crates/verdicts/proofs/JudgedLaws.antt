@@ -9,8 +9,9 @@ use Rattle.policy_args.specs.Policy.{Policy, level}
 use Rattle.policy_args.specs.declared.Level.{Level}
 use Rattle.policy_args.specs.declared.Level.TheVariants.{None as Hidden, See, Talk, Own}
 use Rattle.policy_args.specs.declared.entry.Entry.{Entry}
-use Rattle.policy_view.specs.Texts.{Text}
-use Rattle.policy_view.specs.Levels.{Fact, applies_to, entries, numbers_where}
+use Rattle.dbus_names.specs.Texts.{Text}
+use Rattle.policy_args.specs.Levels.{applies_to, entries, numbers_where}
+use Rattle.policy_args.specs.declared.fact.Fact.{Fact}
 use Rattle.policy_view.specs.Sent.{Told}
 use Rattle.policy_view.specs.Verdicts.{verdict, on_call, on_seen_call}
 use Rattle.policy_view.specs.History.{is_built_for, is_service}

@@ -5,7 +5,7 @@ use Rattle.dbus_header.specs.declared.Instead.TheVariants.{AccessDenied}
 use Rattle.name_patterns.specs.Patterns.{covers}
 use Rattle.policy_args.specs.declared.entry.Entry.{Entry}
 use Rattle.policy_args.specs.declared.entry.Grant.{Grant}
-use Rattle.policy_view.specs.Texts.{Text}
+use Rattle.dbus_names.specs.Texts.{Text}
 use Rattle.policy_view.specs.Verdicts.{number_or_0, rules_calls}
 use Rattle.policy_view.specs.declared.Reason.TheVariants.{OnlySee, NoRule}
 use Rattle.policy_view.specs.declared.Verdict.{Verdict}

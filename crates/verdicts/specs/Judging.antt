@@ -10,9 +10,9 @@ use Rattle.policy_args.specs.Policy.{Policy, level}
 use Rattle.policy_args.specs.declared.Level.{Level}
 use Rattle.policy_args.specs.declared.Level.TheVariants.{None as Hidden, See, Talk, Own}
 use Rattle.policy_args.specs.declared.entry.Grant.{Grant}
-use Rattle.policy_view.specs.Texts.{Text}
-use Rattle.policy_view.specs.Levels.{numbers_where}
-use Rattle.policy_view.specs.Verdicts.{entry_passes, first_or_0, rule_matches, rules_calls}
+use Rattle.dbus_names.specs.Texts.{Text}
+use Rattle.policy_args.specs.Levels.{numbers_where}
+use Rattle.policy_view.specs.Verdicts.{entry_passes, first_or_0, call_rule_matches, rules_calls}
 use Rattle.policy_view.specs.History.{is_service}
 use Rattle.policy_view.specs.declared.Reason.{Reason}
 use Rattle.policy_view.specs.declared.Reason.TheVariants.{NotVisible, OnlySee, NoRule, UnknownType}
@@ -43,7 +43,7 @@ covering policy name = numbers_where (λ e. covers e.pattern name) 1 policy.entr
 
 -- a Call rule matches the call
 abbrev pub allows : Contents → Grant → Bool
-allows x = rule_matches x.parts.path x.parts.interface x.parts.member
+allows x = call_rule_matches x.parts.path x.parts.interface x.parts.member
 
 abbrev pub judged_unruled : Contents → Option ℕ → List ℕ → Verdict
 judged_unruled x (Some n) numbers = refused_by x AccessDenied (NoRule n)

@@ -4,7 +4,7 @@ ghost use Rattle.policy_view.specs.Texts.{matches};
 ghost use Rattle.policy_view.specs.Verdicts.{rules_calls};
 ghost use Rattle.verdicts.specs.Entries.{looked_at, unruled_by, with_number};
 ghost use Rattle.verdicts.specs.Judging.{allows as grant_allows, covering, judged_seen};
-ghost use Rattle.verdicts.specs.Seen.{message_seen};
+ghost use Rattle.dbus_header.specs.Read.{message_seen};
 
 use crate::refused;
 use call_rules::Rule;

@@ -11,7 +11,7 @@ ghost use Rattle.policy_view.specs.History.{is_service as service};
 ghost use Rattle.policy_view.specs.Sent.{Told};
 ghost use Rattle.policy_view.specs.Verdicts.{verdict as verdict_of};
 ghost use Rattle.verdicts.specs.Judging.{is_judged as judged_so_far, is_no_start, judged, judged_at, judged_to, refused_by, wants_answer as answer_wanted};
-ghost use Rattle.verdicts.specs.Seen.{message_seen};
+ghost use Rattle.dbus_header.specs.Read.{message_seen};
 
 mod entries;
 #[cfg(test)]

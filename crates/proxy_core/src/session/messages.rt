@@ -3,7 +3,7 @@ ghost use Rattle.std.specs.Prelude.{◌≡◌, ◌≤◌, ◌<◌, ◌+◌, ◌+
 ghost use Rattle.policy_view.specs.History.{most_sent};
 ghost use Rattle.proxy_core.specs.Messages.{passed, pinged, expecting, with_sent, sent_or_spent, with_call, incoming, with_reply, with_bus_message, with_message, KeepsSides};
 ghost use Rattle.verdicts.specs.Judging.{wants_answer as is_answer_wanted};
-ghost use Rattle.verdicts.specs.Seen.{message_seen};
+ghost use Rattle.dbus_header.specs.Read.{message_seen};
 ghost use Rattle.proxy_core.specs.Steps.{TookMessage};
 
 use super::Session;

@@ -1,5 +1,5 @@
 use Rattle.std.proofs.Common.{◌∙◌}
-use Rattle.verdicts.specs.Seen.{message_seen}
+use Rattle.dbus_header.specs.Read.{message_seen}
 use Rattle.verdicts.proofs.Judges.{call-judged, other-judged, of-message}
 use Rattle.verdicts.proofs.judge.Goals as goal
 

@@ -1,5 +1,5 @@
 use Rattle.std.proofs.Common.{◌∙◌, arith}
-use Rattle.verdicts.specs.Seen.{message_seen}
+use Rattle.dbus_header.specs.Read.{message_seen}
 use Rattle.proxy_core.proofs.Frames.{frame_whole, frame_sound, contents_read, no_fault}
 use Rattle.proxy_core.proofs.session.message_of.Goals as goal
 

@@ -1,5 +1,5 @@
 use Rattle.std.proofs.Common.{sym, ◌∙◌}
-use Rattle.verdicts.specs.Seen.{message_seen}
+use Rattle.dbus_header.specs.Read.{message_seen}
 use Rattle.verdicts.proofs.EntryNumbers.{from-first, step}
 use Rattle.verdicts.proofs.entries.judge_seen.Goals as goal
 

@@ -1,7 +1,7 @@
 use Rattle.std.proofs.Common.{◌≡◌, ◌+◌, drop}
 use Rattle.verdicts.specs.Entries.{judged_from}
 use Rattle.verdicts.specs.Judging.{covering, judged_seen}
-use Rattle.verdicts.specs.Seen.{message_seen}
+use Rattle.dbus_header.specs.Read.{message_seen}
 use Rattle.verdicts.proofs.entries.judge_seen.Given as goal
 
 abbrev pub invariant-loop-index : goal.invariant-loop-index

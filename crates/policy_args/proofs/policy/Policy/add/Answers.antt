@@ -1,4 +1,9 @@
-use Rattle.std.proofs.Common.{◌≡◌, ◌∷◌, ◌++◌, [], ◌<◌, length, ap, sym, ◌∙◌, arith}
+use Rattle.std.proofs.Common.{◌≡◌, ◌+◌, List, ◌∷◌, ◌++◌, [], ◌<◌, length, ap, sym, ◌∙◌, subst, arith}
+use Rattle.std.specs.String.{string_eq}
+use Rattle.indexmap.specs.IndexSet.{insert_key}
+use Rattle.policy_args.specs.Distinct.{AreOf, Distinct, noted, pattern_key}
+use Rattle.policy_args.specs.declared.entry.Entry.{Entry}
+use Rattle.policy_args.proofs.Distincts.{still-of}
 use Rattle.policy_args.proofs.Adding.{adds-nothing, adds-too-many, adds-one, words-added, few-entries}
 use Rattle.policy_args.proofs.policy.Policy.add.Goals as goal
 
@@ -14,11 +19,19 @@ returns-then-len-eq-MOST_ENTRIES-clause-exact c =
 
 pub invariant_of-self-2 : goal.invariant_of-self-2
 invariant_of-self-2 c =
+    let entries = c.self.inside.entries.items in
     let pushed : c.push_reserved.new.self.items ≡ c.self.inside.entries.items ++ c.args.entry ∷ [] = c.push_reserved.ensures.items ∙ ap (λ es. es ++ c.args.entry ∷ []) c.reserve.ensures.items in
-    let room : length c.self.inside.entries.items < 65535 = omega arith in (
+    let room : length c.self.inside.entries.items < 65535 = omega arith in
+    let counted : c.len-2.result ≡ length c.self.inside.entries.items = let same = ap length c.reserve.ensures.items in omega (arith, same) in
+    let noted-is : c.add.new.self ≡ noted c.self.inside.patterns (pattern_key c.args.entry.pattern) (length c.self.inside.entries.items + 1) =
+    c.in_ok-add.ensures.ok ∙ ap (λ n. noted c.self.inside.patterns (pattern_key c.args.entry.pattern) (n + 1)) counted in (
       words-added c.self.inside.words.keys c.self.inside.entries.items c.args.self.now c.args.entry c.args.word.now c.self.invariant.0 c.self.view_is c.requires
-          c.insert.new.self.keys _ _ (sym c.contains.ensures ∙ c.if-contains.false) c.in_ok-from_str.ensures.ok c.in_ok-insert.ensures.keys pushed,
+          c.insert.new.self.keys _ c.in_ok-word.word (sym c.contains.ensures ∙ c.if-contains.false) c.in_ok-word.ensures.ok
+          (c.in-Ok.ensures.keys ∙ ap (λ ks. insert_key string_eq ks c.in_ok-word.word) c.reserve-2.ensures.keys) pushed,
       few-entries c.self.inside.words.keys c.self.inside.entries.items c.args.self.now c.args.entry c.args.word.now c.self.invariant.0 c.self.view_is c.requires _ room pushed,
+      subst (λ (d : Distinct). AreOf c.push_reserved.new.self.items d) (sym noted-is)
+          (subst (λ (es : List Entry). AreOf es (noted c.self.inside.patterns (pattern_key c.args.entry.pattern) (length entries + 1))) (sym pushed)
+          (still-of entries c.args.entry c.self.inside.patterns c.self.invariant.2)),
     )
 
 pub returns-clause-exact : goal.returns-clause-exact

@@ -1,20 +1,16 @@
--- What is known of unique ids, the level of a name and the entries that cover it.
-use Rattle.std.specs.Prelude.{ℕ, ◌+◌, ◌-◌, Bool, false, ◌&&◌, ◌||◌, List, [], ◌∷◌, if◌then◌else◌, Option, slice_get}
+-- The level of a name or a unique id by the facts that are known, and the entries that cover it.
+use Rattle.std.specs.Prelude.{ℕ, ◌+◌, Bool, false, ◌&&◌, ◌||◌, List, [], ◌∷◌, if◌then◌else◌}
 use Rattle.std.specs.Str.{bytes_eq}
 use Rattle.std.specs.List.{list_any}
-use Rattle.policy_view.specs.Texts.{Text}
+use Rattle.dbus_names.specs.Texts.{Text}
 use Rattle.dbus_names.specs.Names.{is_unique, is_well_known}
 use Rattle.name_patterns.specs.Patterns.{covers}
 use Rattle.policy_args.specs.Policy.{Policy, level, greater}
 use Rattle.policy_args.specs.declared.entry.Entry.{Entry}
+use Rattle.policy_args.specs.declared.fact.Fact.{Fact}
+use Rattle.policy_args.specs.declared.fact.Fact.TheVariants.{Owned, SelfId, Met}
 use Rattle.policy_args.specs.declared.Level.{Level}
 use Rattle.policy_args.specs.declared.Level.TheVariants.{None as Hidden, See, Talk}
-
--- a fact about a unique id: a name that it owns or owned, that it is the client's own, that the client met it
-pub data Fact : Type 0 where
-  Owned : (name id : Text) → Fact
-  SelfId : (id : Text) → Fact
-  Met : (id : Text) → Fact
 
 -- the level that one fact gives to the id
 abbrev pub level_by : Policy → Text → Fact → Level
@@ -50,7 +46,3 @@ numbers_where test n (e ∷ es) = if test e then n ∷ numbers_where test (n + 1
 -- the entries that cover the text or a name that it owned, ascending
 unfoldable pub entries : Policy → List Fact → Text → List ℕ
 entries policy facts text = numbers_where (applies_to facts text) 1 policy.entries
-
--- the entry of a number, from 1
-abbrev pub entry_at : Policy → ℕ → Option Entry
-entry_at policy n = slice_get policy.entries (n - 1)

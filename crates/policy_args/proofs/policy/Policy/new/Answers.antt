@@ -1,0 +1,17 @@
+use Rattle.std.proofs.Common.{◌≡◌, ◌≤◌, [], List, length, map, refl, ap, ap₂, sym, ◌∙◌, subst, arith, String, string_bytes}
+use Rattle.policy_args.specs.Policy.{entry_word, patterns_of}
+use Rattle.policy_args.specs.Distinct.{AreOf, Distinct, no_patterns}
+use Rattle.policy_args.specs.declared.entry.Entry.{Entry}
+use Rattle.policy_args.proofs.policy.Policy.new.Goals as goal
+
+none-of : AreOf [] no_patterns
+unfolding patterns_of
+none-of = (refl, refl)
+
+pub invariant_of-result : goal.invariant_of-result
+invariant_of-result c =
+    let none : c.new-2.result.items ≡ [] = c.new-2.ensures.items in (
+      ap (map (λ k. string_bytes k)) c.new.ensures.empty ∙ sym (ap (map entry_word) none),
+      (let short = ap length none in omega arith),
+      subst (λ (es : List Entry). AreOf es c.new-3.result) (sym none) (subst (AreOf []) (sym c.new-3.ensures) none-of),
+    )

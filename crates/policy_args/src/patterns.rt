@@ -1,0 +1,78 @@
+//! The patterns that a policy's entries have, each once.
+ghost use Rattle.std.specs.Prelude.{◌≡◌, ◌<◌, IfOk, OnOk, OnErr, Some as Just, length, slice_get, string_bytes};
+ghost use Rattle.policy_args.specs.Distinct.{no_patterns, noted, pattern_key};
+
+use indexmap::IndexSet;
+use name_patterns::Pattern;
+use std::alloc::{AllocError, Global};
+use std::marker::Model;
+
+// The patterns, in the order of the entries in which they stand first: their keys, and the numbers of those entries.
+#[derive(Drop)]
+pub(crate) struct Patterns {
+    keys: IndexSet<String>,
+    firsts: Vec<u32>,
+}
+
+impl Model for Patterns {
+    ghost use Rattle.std.specs.Prelude.{map, string_bytes};
+    ghost use Rattle.policy_args.specs.Distinct.{Distinct};
+
+    ghost Value = { Distinct };
+
+    ghost view = { λ p. record { keys = map (λ k. string_bytes k) p.keys.keys; firsts = p.firsts.items } };
+}
+
+impl Patterns {
+    // No pattern.
+    pub(crate) fn new(alloc: Global) -> Patterns
+        ensures { result ≡ no_patterns }
+    {
+        Patterns {
+            keys: IndexSet::new(alloc),
+            firsts: Vec::new(alloc),
+        }
+    }
+
+    // How many there are.
+    pub(crate) fn len(&self) -> usize
+        ensures { result ≡ length self.now.firsts }
+    {
+        self.firsts.len()
+    }
+
+    // The number of the entry in which the pattern at a place stands first.
+    pub(crate) fn first(&self, index: usize) -> u32
+        requires { index < length self.now.firsts }
+        ensures { slice_get self.now.firsts index ≡ Just result }
+    {
+        self.firsts[index]
+    }
+
+    // Takes the pattern of the entry with that number. One that stands there already adds nothing.
+    pub(crate) fn add(
+        &mut self,
+        alloc: Global,
+        pattern: &Pattern,
+        number: u32,
+    ) -> Result<(), AllocError>
+        ensures ok { OnOk result (self.new ≡ noted self.old (pattern_key pattern.now) number) }
+        ensures err { OnErr result (self.new ≡ self.old) }
+    {
+        let key = key_of(alloc, pattern)?;
+        self.firsts.reserve(1)?;
+        if self.keys.insert(key)? {
+            self.firsts.push_reserved(number);
+        }
+        Ok(())
+    }
+}
+
+// A text that no other pattern has.
+fn key_of(alloc: Global, pattern: &Pattern) -> Result<String, AllocError>
+    ensures { IfOk result (λ key. string_bytes key ≡ pattern_key pattern.now) }
+{
+    let mut key = String::from_str(alloc, if pattern.is_exact() { "=" } else { "*" })?;
+    key.push_str(pattern.name())?;
+    Ok(key)
+}
