@@ -1,5 +1,4 @@
 pub mod Texts
-pub mod Levels
 pub mod Own
 pub mod Sent
 pub mod Verdicts

@@ -4,6 +4,7 @@ use Rattle.std.specs.Ordering.{nat_cmp}
 use Rattle.std.specs.FinMap.{FinMap, get, insert, remove}
 use Rattle.dbus_header.specs.Message.{spell, with_serial, with_number}
 use Rattle.dbus_header.specs.Contents.{Contents}
+use Rattle.dbus_header.specs.Kinds.{expects_reply_by}
 use Rattle.dbus_header.specs.declared.Instead.{Instead}
 use Rattle.policy_args.specs.Policy.{Policy}
 use Rattle.policy_view.specs.Own.{ping, answer_in_place}
@@ -14,7 +15,7 @@ use Rattle.policy_view.specs.declared.Side.{Side}
 use Rattle.policy_view.specs.declared.Side.TheVariants.{Client, Bus}
 use Rattle.policy_view.specs.declared.End.{End}
 use Rattle.policy_view.specs.declared.End.TheVariants.{SerialsSpent, NotBuilt}
-use Rattle.verdicts.specs.Judging.{is_judged, judged, wants_answer}
+use Rattle.verdicts.specs.Judging.{is_judged, judged}
 use Rattle.proxy_core.specs.declared.ledger.Expected.{Expected}
 use Rattle.proxy_core.specs.declared.ledger.Expected.TheVariants as expects
 use Rattle.proxy_core.specs.Sessions.{SessionView}
@@ -26,7 +27,7 @@ ended_by end view = record view { ended = Some end }
 
 -- what goes to the bus with serial n, and what its answer is for: the call itself, or a ping in its place
 abbrev pub passed : Contents → List ℕ → ℕ → List ℕ × Option Expected
-passed x bytes n = (with_number x.order 8 n bytes, if wants_answer x then Some (expects.Call x.serial) else None)
+passed x bytes n = (with_number x.order 8 n bytes, if expects_reply_by x.flags then Some (expects.Call x.serial) else None)
 
 abbrev pub pinged : Contents → Instead → ℕ → List ℕ × Option Expected
 pinged x what n = (spell (with_serial n ping), Some (expects.Ping x.serial x.order what))

@@ -1,5 +1,5 @@
 -- The entries looked at one after the other, and their numbers.
-use Rattle.std.proofs.Common.{◌≡◌, ℕ, ◌+◌, ◌-◌, ◌<◌, Bool, true, false, cond, List, [], ◌∷◌, Option, Some, None, drop, length, get_or, slice_get, refl, ap, sym, ◌∙◌, arith}
+use Rattle.std.proofs.Common.{◌≡◌, ℕ, ◌+◌, ◌-◌, ◌<◌, Bool, true, false, cond, List, [], ◌∷◌, Option, Some, None, drop, length, get_or, slice_get, refl, ap, sym, ◌∙◌, arith, add-one}
 use Rattle.std.specs.Prelude.{◌||◌, find}
 use Rattle.std.specs.List.{list_any}
 use Rattle.std.proofs.Math.Nat.{add-sub_cancel}
@@ -7,7 +7,7 @@ use Rattle.std.proofs.lemmas.List.{drop_more, length-drop}
 use Rattle.std.proofs.lemmas.Option.{slice_get_within, get_or_from_slice_get, slice_get-get_or}
 use Rattle.name_patterns.specs.Patterns.{covers}
 use Rattle.dbus_header.specs.Contents.{Contents}
-use Rattle.policy_args.specs.Policy.{Policy}
+use Rattle.policy_args.specs.Policy.{Policy, entry_at}
 use Rattle.policy_args.specs.declared.entry.Entry.{Entry}
 use Rattle.policy_args.specs.declared.entry.Grant.{Grant}
 use Rattle.dbus_names.specs.Texts.{Text}
@@ -47,7 +47,7 @@ is-at all k e es from =
     }
 
 entry-passes : (policy : Policy) (test : Grant → Bool) (k : ℕ) (e : Entry) → slice_get policy.entries k ≡ Some e → entry_passes policy test (k + 1) ≡ test e.grant
-entry-passes policy test k e at = ap (λ n. passes test (slice_get policy.entries n)) (add-sub_cancel k 1) ∙ ap (passes test) at
+entry-passes policy test k e at = ap (λ n. passes test (entry_at policy.entries n)) (add-one k) ∙ ap (passes test) at
 
 -- ---- the numbers
 

@@ -1,8 +1,9 @@
 -- The verdict on a client's message by what is read of it, as far as such messages are built: a call of a service, or a
 -- message of a type that nobody knows.
-use Rattle.std.specs.Prelude.{ℕ, ◌/◌, ◌%◌, Bool, ◌&&◌, ◌||◌, ◌==◌, nat_lt, List, if◌then◌else◌, Option, Some, None, find}
+use Rattle.std.specs.Prelude.{ℕ, Bool, ◌&&◌, ◌||◌, ◌==◌, nat_lt, List, if◌then◌else◌, Option, Some, None, find}
 use Rattle.std.specs.List.{list_any}
 use Rattle.dbus_header.specs.Contents.{Contents}
+use Rattle.dbus_header.specs.Kinds.{expects_reply_by, forbids_auto_start_by}
 use Rattle.dbus_header.specs.declared.Instead.{Instead}
 use Rattle.dbus_header.specs.declared.Instead.TheVariants.{AccessDenied, NameHasNoOwner, ServiceUnknown}
 use Rattle.name_patterns.specs.Patterns.{covers}
@@ -27,15 +28,8 @@ is_service_call x = x.kind == 1 && is_service x.parts.destination
 abbrev pub is_judged : Contents → Bool
 is_judged x = is_service_call x || nat_lt 4 x.kind
 
--- NO_REPLY_EXPECTED isn't set; NO_AUTO_START is set
-abbrev pub wants_answer : Contents → Bool
-wants_answer x = x.flags % 2 == 0
-
-abbrev pub is_no_start : Contents → Bool
-is_no_start x = (x.flags / 2) % 2 == 1
-
 abbrev pub refused_by : Contents → Instead → Reason → Verdict
-refused_by x what reason = if wants_answer x then Ping what reason else Drop reason
+refused_by x what reason = if expects_reply_by x.flags then Ping what reason else Drop reason
 
 -- the numbers of the entries that cover the name, ascending
 abbrev pub covering : Policy → Text → List ℕ
@@ -56,7 +50,7 @@ judged_seen policy x numbers =
     else judged_unruled x (find (entry_passes policy rules_calls) numbers) numbers
 
 abbrev pub judged_at : Policy → Contents → Text → Level → Verdict
-judged_at policy x name Hidden = refused_by x (if is_no_start x then NameHasNoOwner else ServiceUnknown) NotVisible
+judged_at policy x name Hidden = refused_by x (if forbids_auto_start_by x.flags then NameHasNoOwner else ServiceUnknown) NotVisible
 judged_at policy x name See = judged_seen policy x (covering policy name)
 judged_at policy x name Talk = Pass
 judged_at policy x name Own = Pass

@@ -4,13 +4,14 @@
 
 ghost use Rattle.std.specs.Prelude.{◌≡◌, true, [], if◌then◌else◌};
 ghost use Rattle.dbus_header.specs.Contents.{contents_of};
+ghost use Rattle.dbus_header.specs.Kinds.{forbids_auto_start_by};
 ghost use Rattle.dbus_header.specs.Message.{Message as MessageTree};
 ghost use Rattle.dbus_header.specs.Seen.{text_seen};
 ghost use Rattle.dbus_header.specs.declared.Instead.TheVariants.{NameHasNoOwner, ServiceUnknown};
 ghost use Rattle.policy_view.specs.History.{is_service as service};
 ghost use Rattle.policy_view.specs.Sent.{Told};
 ghost use Rattle.policy_view.specs.Verdicts.{verdict as verdict_of};
-ghost use Rattle.verdicts.specs.Judging.{is_judged as judged_so_far, is_no_start, judged, judged_at, judged_to, refused_by, wants_answer as answer_wanted};
+ghost use Rattle.verdicts.specs.Judging.{is_judged as judged_so_far, judged, judged_at, judged_to, refused_by};
 ghost use Rattle.dbus_header.specs.Read.{message_seen};
 
 mod entries;
@@ -18,19 +19,10 @@ mod entries;
 mod tests;
 
 use dbus_header::{Instead, Message};
-use dbus_names::is_well_known;
+use dbus_names::{is_bus, is_well_known};
 use entries::judge_seen;
 use policy_args::{Level, Policy};
 use policy_view::{Reason, Verdict};
-
-/// The type of a call, METHOD_CALL (D-Bus Specification, "Message Format").
-const CALL: u8 = 1;
-
-/// The last type that has a name, SIGNAL (D-Bus Specification, "Message Format").
-const LAST_NAMED_KIND: u8 = 4;
-
-/// The name of the bus itself.
-const BUS_NAME: &str = "org.freedesktop.DBus";
 
 /// Whether a destination is a service's name: a well-known name other than the bus's own, `org.freedesktop.DBus` (D-Bus
 /// Specification, "Message Protocol", "Valid Names").
@@ -39,7 +31,7 @@ pub fn is_service(destination: Option<&str>) -> bool
 {
     match destination {
         None => false,
-        Some(name) => is_well_known(name.as_bytes()) && name != BUS_NAME,
+        Some(name) => is_well_known(name.as_bytes()) && !is_bus(name),
     }
 }
 
@@ -48,7 +40,7 @@ pub fn is_service(destination: Option<&str>) -> bool
 pub fn is_judged(message: &Message<'_>) -> bool
     ensures { result ≡ judged_so_far (message_seen message.now) }
 {
-    (message.kind == CALL && is_service(message.destination)) || message.kind > LAST_NAMED_KIND
+    (message.is_method_call() && is_service(message.destination)) || message.has_unknown_type()
 }
 
 /// The verdict on a client's message (xdg-dbus-proxy(1), "Filtering").
@@ -69,7 +61,7 @@ pub fn judge(policy: &Policy, message: &Message<'_>) -> Verdict
     ensures verdict { (told : Told) (m : MessageTree) → message_seen message.now ≡ contents_of m → told.facts ≡ [] → result ≡ verdict_of policy.now told m }
     ensures contents { result ≡ judged policy.now (message_seen message.now) }
 {
-    if message.kind == CALL {
+    if message.is_method_call() {
         judge_to(policy, message, message.destination)
     } else {
         Verdict::Drop(Reason::UnknownType)
@@ -99,9 +91,9 @@ fn judge_at(policy: &Policy, message: &Message<'_>, name: &str, level: Level) ->
 
 // What the call of a hidden name is answered with: NO_AUTO_START tells whether the name could have been started.
 fn instead_of_hidden(message: &Message<'_>) -> Instead
-    ensures { result ≡ (if is_no_start (message_seen message.now) then NameHasNoOwner else ServiceUnknown) }
+    ensures { result ≡ (if forbids_auto_start_by message.now.flags then NameHasNoOwner else ServiceUnknown) }
 {
-    if (message.flags / 2) % 2 == 1 {
+    if message.forbids_auto_start() {
         Instead::NameHasNoOwner
     } else {
         Instead::ServiceUnknown
@@ -112,16 +104,9 @@ fn instead_of_hidden(message: &Message<'_>) -> Instead
 fn refused(message: &Message<'_>, what: Instead, reason: Reason) -> Verdict
     ensures { result ≡ refused_by (message_seen message.now) what reason }
 {
-    if wants_answer(message) {
+    if message.expects_reply() {
         Verdict::Ping(what, reason)
     } else {
         Verdict::Drop(reason)
     }
-}
-
-// Whether a call wants an answer: NO_REPLY_EXPECTED isn't set.
-fn wants_answer(message: &Message<'_>) -> bool
-    ensures { result ≡ answer_wanted (message_seen message.now) }
-{
-    message.flags % 2 == 0
 }

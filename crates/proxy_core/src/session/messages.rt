@@ -2,7 +2,6 @@
 ghost use Rattle.std.specs.Prelude.{◌≡◌, ◌≤◌, ◌<◌, ◌+◌, ◌++◌, Some, None, OnOk, OnErr, length};
 ghost use Rattle.policy_view.specs.History.{most_sent};
 ghost use Rattle.proxy_core.specs.Messages.{passed, pinged, expecting, with_sent, sent_or_spent, with_call, incoming, with_reply, with_bus_message, with_message, KeepsSides};
-ghost use Rattle.verdicts.specs.Judging.{wants_answer as is_answer_wanted};
 ghost use Rattle.dbus_header.specs.Read.{message_seen};
 ghost use Rattle.proxy_core.specs.Steps.{TookMessage};
 
@@ -14,16 +13,6 @@ use policy_args::Policy;
 use policy_view::{End, Side, Verdict};
 use std::alloc::AllocError;
 use verdicts::{is_judged, judge};
-
-/// The last message type that has a name, SIGNAL (D-Bus Specification, "Message Format").
-const LAST_NAMED_KIND: u8 = 4;
-
-/// Whether a call wants an answer: NO_REPLY_EXPECTED isn't set (D-Bus Specification, "Message Format").
-fn wants_answer(message: &Message<'_>) -> bool
-    ensures { result ≡ is_answer_wanted (message_seen message.now) }
-{
-    message.flags % 2 == 0
-}
 
 impl Session {
     /// The call goes to the bus, and where it wants an answer, that is expected.
@@ -45,7 +34,7 @@ impl Session {
         ensures ok { OnOk result (self.new ≡ record self.old { expected = expecting self.old.expected serial (passed (message_seen message.now) message.now.bytes.now serial).1 }) }
         ensures err { OnErr result (self.new ≡ self.old) }
     {
-        if wants_answer(message) {
+        if message.expects_reply() {
             return self.ledger.expect(serial, Expected::Call(message.serial));
         }
         Ok(())
@@ -157,9 +146,9 @@ impl Session {
         requires { self.old.ended ≡ None }
         ensures { TookMessage (with_bus_message (message_seen message.now) message.now.bytes.now self.old) self.old self.new }
     {
-        if message.kind == 2 || message.kind == 3 {
+        if message.is_reply() {
             self.take_reply(message);
-        } else if message.kind <= LAST_NAMED_KIND {
+        } else if !message.has_unknown_type() {
             self.end_with(End::NotBuilt);
         }
     }
