@@ -131,10 +131,15 @@ is_path-ascii (c ∷ text) e =
       | inr elements ↦ bytes_of_joined is_ascii_text_byte is_path_element path_element-ascii 47 refl text elements
     ])
 
+-- elements of a well-known name, joined by dots, don't begin with a colon
+pub joined-no_colon : (c : ℕ) (text : List ℕ) → are_joined is_bus_element (c ∷ text) ≡ true → nat_eq c 58 ≡ false
+joined-no_colon c text e =
+    let bytes = bytes_of_joined (λ x. not (nat_eq x 58)) is_bus_element (bus_element_bytes (λ x. not (nat_eq x 58)) bus_is_no_colon) 46 refl (c ∷ text) e in
+    not-true (nat_eq c 58) (and_parts (not (nat_eq c 58)) (list_all (λ x. not (nat_eq x 58)) text) bytes).0
+
 pub well_known_is_not_unique : (text : List ℕ) → is_well_known text ≡ true → is_unique text ≡ false
 well_known_is_not_unique [] e = refl
 well_known_is_not_unique (c ∷ text) e =
-    let bytes = bytes_of_two_joined (λ x. not (nat_eq x 58)) is_bus_element (bus_element_bytes (λ x. not (nat_eq x 58)) bus_is_no_colon) refl (c ∷ text)
-    (and_parts (is_short (c ∷ text)) (are_two_joined is_bus_element (c ∷ text)) e).1 in
-    let other = not-true (nat_eq c 58) (and_parts (not (nat_eq c 58)) (list_all (λ x. not (nat_eq x 58)) text) bytes).0 in
-    and_left (is_short (c ∷ text) && nat_eq c 58) (are_two_joined is_unique_element text) (and_right (is_short (c ∷ text)) (nat_eq c 58) other)
+    let joined = (and_parts (nat_le 2 (length (parts_at 46 (c ∷ text)))) (are_joined is_bus_element (c ∷ text))
+    (and_parts (is_short (c ∷ text)) (are_two_joined is_bus_element (c ∷ text)) e).1).1 in
+    and_left (is_short (c ∷ text) && nat_eq c 58) (are_two_joined is_unique_element text) (and_right (is_short (c ∷ text)) (nat_eq c 58) (joined-no_colon c text joined))

@@ -31,4 +31,11 @@ impl Name {
     {
         self.text.as_str()
     }
+
+    /// The text, whose memory the name kept.
+    pub fn into_text(self) -> String
+        ensures { string_bytes result ≡ self }
+    {
+        self.text
+    }
 }

@@ -1,3 +1,4 @@
 pub mod PatternCuts
 mod PatternExamples
 pub mod PatternLaws
+pub mod PatternUnique

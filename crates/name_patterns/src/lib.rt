@@ -4,11 +4,11 @@
 //! suffix .*" (xdg-dbus-proxy(1), "Filtering").
 #![tactic(auto)]
 
-ghost use Rattle.std.specs.Prelude.{◌≡◌, None, Some, IfOk, IfErr, IsSome, option_map, codes};
+ghost use Rattle.std.specs.Prelude.{◌≡◌, ◌≤◌, true, None, Some, IfOk, IfErr, IsSome, option_map, codes, length};
 ghost use Rattle.std.specs.List.{list_all};
 ghost use Rattle.dbus_names.specs.Names.{are_joined, is_bus_byte as is_byte_of_name, is_bus_element};
 ghost use Rattle.name_patterns.specs.Cuts.{before_end, behind as behind_front, rest_covered};
-ghost use Rattle.name_patterns.specs.Patterns.{covers as pattern_covers, is_subtree_name as is_name_of_subtree, pattern_of};
+ghost use Rattle.name_patterns.specs.Patterns.{covers as pattern_covers, is_pattern, is_subtree_name as is_name_of_subtree, pattern_of};
 ghost use Rattle.name_patterns.specs.declared.BadPattern.TheVariants.{Form, Memory};
 
 use dbus_names::is_well_known;
@@ -98,9 +98,11 @@ impl Pattern {
         }
     }
 
-    /// The exact name, or the N of `N.*`: at most 255 bytes.
+    /// The exact name, or the N of `N.*`.
     pub fn name(&self) -> &str
-        ensures { result.now ≡ self.now.name }
+        ensures name { result.now ≡ self.now.name }
+        ensures short { length result.now ≤ LONGEST_NAME }
+        ensures grammar { is_pattern self.now ≡ true }
     {
         self.name.as_str()
     }

@@ -1,15 +1,17 @@
 -- The patterns of entries, kept by their keys and the numbers of the entries in which they stand first.
 use Rattle.std.proofs.Common.{◌≡◌, ℕ, zero, suc, ◌+◌, ◌-◌, ◌≤◌, ◌<◌, Bool, true, false, ◌||◌, List, [], ◌∷◌, ◌++◌, length, map, Option, Some, None, get_or, slice_get, if◌then◌else◌, String, string_bytes, refl, ap, ap₂, sym, ◌∙◌, subst, arith, length-append, add-one}
 use Rattle.std.specs.Prelude.{◌&&◌, not, option_map}
-use Rattle.std.specs.List.{list_any}
+use Rattle.std.specs.List.{list_all, list_any}
 use Rattle.std.specs.Str.{bytes_eq}
 use Rattle.std.specs.String.{string_eq}
 use Rattle.std.proofs.Math.Bool.{and-true, and-false}
-use Rattle.std.proofs.lemmas.Cmp.{nat_list_eq_equiv}
+use Rattle.std.proofs.lemmas.Bool.{and_from, and_parts}
 use Rattle.std.proofs.lemmas.List.{map-append}
 use Rattle.std.proofs.lemmas.Option.{slice_get_within, slice_get-get_or, slice_get-map, get_or_from_slice_get}
 use Rattle.indexmap.specs.IndexSet.{insert_key}
-use Rattle.name_patterns.specs.Patterns.{Pattern}
+use Rattle.dbus_names.specs.Names.{is_unique}
+use Rattle.name_patterns.specs.Patterns.{Pattern, covers, is_pattern}
+use Rattle.name_patterns.proofs.PatternUnique.{covers_no_unique}
 use Rattle.policy_args.specs.declared.entry.Entry.{Entry}
 use Rattle.policy_args.specs.Policy.{Policy, policy_of, entry_at, same_pattern, with_pattern, patterns_with, patterns_of}
 use Rattle.policy_args.specs.Distinct.{AreOf, Distinct, noted, pattern_at, pattern_key}
@@ -198,3 +200,18 @@ module _ {Z : Type 0} (keys : List (String Z)) (k : String Z) (key : List ℕ) (
 
       grown : Distinct
       grown = record { keys = map (λ s. string_bytes s) keys ++ key ∷ []; firsts = firsts ++ number ∷ [] }
+
+-- ---- a test that all entries pass
+
+pub all-last : (test : Entry → Bool) (es : List Entry) (e : Entry) → list_all test es ≡ true → test e ≡ true → list_all test (es ++ e ∷ []) ≡ true
+all-last test [] e all here = and_from (test e) true here refl
+all-last test (x ∷ es) e all here =
+    let both = and_parts (test x) (list_all test es) all in
+    and_from (test x) (list_all test (es ++ e ∷ [])) both.0 (all-last test es e both.1 here)
+
+-- no entry covers a unique name
+pub none-unique : (es : List Entry) (name : List ℕ) → list_all (λ e. is_pattern e.pattern) es ≡ true → is_unique name ≡ true → list_any (λ e. covers e.pattern name) es ≡ false
+none-unique [] name all unique = refl
+none-unique (e ∷ es) name all unique =
+    let both = and_parts (is_pattern e.pattern) (list_all (λ e. is_pattern e.pattern) es) all in
+    ap₂ (λ a b. a || b) (covers_no_unique e.pattern name both.0 unique) (none-unique es name both.1 unique)

@@ -1,5 +1,6 @@
 //! The patterns that a policy's entries have, each once.
-ghost use Rattle.std.specs.Prelude.{◌≡◌, ◌<◌, IfOk, OnOk, OnErr, Some as Just, length, slice_get, string_bytes};
+ghost use Rattle.std.specs.Prelude.{◌≡◌, ◌<◌, true, IfOk, OnOk, OnErr, Some as Just, length, slice_get, string_bytes};
+ghost use Rattle.name_patterns.specs.Patterns.{is_pattern};
 ghost use Rattle.policy_args.specs.Distinct.{no_patterns, noted, pattern_key};
 
 use indexmap::IndexSet;
@@ -57,6 +58,7 @@ impl Patterns {
         number: u32,
     ) -> Result<(), AllocError>
         ensures ok { OnOk result (self.new ≡ noted self.old (pattern_key pattern.now) number) }
+        ensures grammar { OnOk result (is_pattern pattern.now ≡ true) }
         ensures err { OnErr result (self.new ≡ self.old) }
     {
         let key = key_of(alloc, pattern)?;
@@ -70,7 +72,8 @@ impl Patterns {
 
 // A text that no other pattern has.
 fn key_of(alloc: Global, pattern: &Pattern) -> Result<String, AllocError>
-    ensures { IfOk result (λ key. string_bytes key ≡ pattern_key pattern.now) }
+    ensures key { IfOk result (λ key. string_bytes key ≡ pattern_key pattern.now) }
+    ensures grammar { OnOk result (is_pattern pattern.now ≡ true) }
 {
     let mut key = String::from_str(alloc, if pattern.is_exact() { "=" } else { "*" })?;
     key.push_str(pattern.name())?;

@@ -1,5 +1,8 @@
 //! A policy: the entries that words gave.
-ghost use Rattle.std.specs.Prelude.{◌≡◌, ◌≤◌, ◌-◌, ◌==◌, Some as Just, [], length, slice_get, OnErr};
+ghost use Rattle.std.specs.Prelude.{◌≡◌, ◌≤◌, ◌-◌, ◌==◌, ℕ, true, false, List, Some as Just, [], length, slice_get, OnErr};
+ghost use Rattle.std.specs.List.{list_any};
+ghost use Rattle.dbus_names.specs.Names.{is_unique};
+ghost use Rattle.name_patterns.specs.Patterns.{covers};
 ghost use Rattle.policy_args.specs.Gives.{StepGives};
 ghost use Rattle.policy_args.specs.Policy.{entry_word, greater, level, patterns_of, policy_of};
 ghost use Rattle.policy_args.specs.Steps.{with_one_more};
@@ -29,6 +32,9 @@ pub struct Policy {
 
 impl Model for Policy {
     ghost use Rattle.std.specs.Prelude.{◌≡◌, ◌≤◌, map, length, string_bytes};
+    ghost use Rattle.std.specs.Prelude.{true};
+    ghost use Rattle.std.specs.List.{list_all};
+    ghost use Rattle.name_patterns.specs.Patterns.{is_pattern};
     ghost use Rattle.policy_args.specs.Distinct.{AreOf};
     ghost use Rattle.policy_args.specs.Policy.{Policy as PolicyValue, entry_word, policy_of};
 
@@ -36,7 +42,7 @@ impl Model for Policy {
 
     ghost view = { λ p. policy_of p.entries.items };
 
-    ghost invariant = { λ p. (map (λ k. string_bytes k) p.words.keys ≡ map entry_word p.entries.items) × (length p.entries.items ≤ 65535) × (AreOf p.entries.items p.patterns) };
+    ghost invariant = { λ p. (map (λ k. string_bytes k) p.words.keys ≡ map entry_word p.entries.items) × (length p.entries.items ≤ 65535) × (AreOf p.entries.items p.patterns) × (list_all (λ e. is_pattern e.pattern) p.entries.items ≡ true) };
 }
 
 impl Policy {
@@ -107,6 +113,13 @@ impl Policy {
             }
         }
         level
+    }
+
+    /// No entry covers a unique name: what an entry names has elements of well-known names alone.
+    pub fn covers_no_unique_name(&self)
+        ensures { (name : List ℕ) → is_unique name ≡ true → list_any (λ e. covers e.pattern name) self.now.entries ≡ false }
+    {
+        let _entries = self.entries.len();
     }
 
     // Takes the entry that a word gave. A word that was taken before adds nothing.

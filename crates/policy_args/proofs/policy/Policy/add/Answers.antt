@@ -3,7 +3,9 @@ use Rattle.std.specs.String.{string_eq}
 use Rattle.indexmap.specs.IndexSet.{insert_key}
 use Rattle.policy_args.specs.Distinct.{AreOf, Distinct, noted, pattern_key}
 use Rattle.policy_args.specs.declared.entry.Entry.{Entry}
-use Rattle.policy_args.proofs.Distincts.{still-of}
+use Rattle.std.specs.List.{list_all}
+use Rattle.name_patterns.specs.Patterns.{is_pattern}
+use Rattle.policy_args.proofs.Distincts.{all-last, still-of}
 use Rattle.policy_args.proofs.Adding.{adds-nothing, adds-too-many, adds-one, words-added, few-entries}
 use Rattle.policy_args.proofs.policy.Policy.add.Goals as goal
 
@@ -32,6 +34,7 @@ invariant_of-self-2 c =
       subst (λ (d : Distinct). AreOf c.push_reserved.new.self.items d) (sym noted-is)
           (subst (λ (es : List Entry). AreOf es (noted c.self.inside.patterns (pattern_key c.args.entry.pattern) (length entries + 1))) (sym pushed)
           (still-of entries c.args.entry c.self.inside.patterns c.self.invariant.2)),
+      ap (list_all (λ e. is_pattern e.pattern)) pushed ∙ all-last (λ e. is_pattern e.pattern) entries c.args.entry c.self.invariant.3 c.in_ok-add.ensures.grammar,
     )
 
 pub returns-clause-exact : goal.returns-clause-exact

@@ -1,4 +1,6 @@
 use Rattle.std.proofs.Common.{◌≡◌, ◌≤◌, [], List, length, map, refl, ap, ap₂, sym, ◌∙◌, subst, arith, String, string_bytes}
+use Rattle.std.specs.List.{list_all}
+use Rattle.name_patterns.specs.Patterns.{is_pattern}
 use Rattle.policy_args.specs.Policy.{entry_word, patterns_of}
 use Rattle.policy_args.specs.Distinct.{AreOf, Distinct, no_patterns}
 use Rattle.policy_args.specs.declared.entry.Entry.{Entry}
@@ -14,4 +16,5 @@ invariant_of-result c =
       ap (map (λ k. string_bytes k)) c.new.ensures.empty ∙ sym (ap (map entry_word) none),
       (let short = ap length none in omega arith),
       subst (λ (es : List Entry). AreOf es c.new-3.result) (sym none) (subst (AreOf []) (sym c.new-3.ensures) none-of),
+      ap (list_all (λ e. is_pattern e.pattern)) none,
     )
