@@ -5,7 +5,7 @@
 #![tactic(auto)]
 
 ghost use Rattle.std.specs.Prelude.{◌≡◌};
-ghost use Rattle.policy_args.specs.Policy.{greater};
+ghost use Rattle.policy_args.specs.Policy.{at_least, greater};
 
 mod address;
 mod entry;
@@ -50,6 +50,20 @@ impl Level {
             (Level::Talk, _) | (_, Level::Talk) => Level::Talk,
             (Level::See, _) | (_, Level::See) => Level::See,
             (Level::None, Level::None) => Level::None,
+        }
+    }
+
+    /// Whether it is this level or a greater one.
+    pub fn is_at_least(self, least: Level) -> bool
+        ensures { result ≡ at_least least self }
+    {
+        match (least, self) {
+            (Level::None, _) => true,
+            (_, Level::None) => false,
+            (Level::See, _) => true,
+            (_, Level::See) => false,
+            (Level::Talk, _) | (_, Level::Own) => true,
+            (Level::Own, Level::Talk) => false,
         }
     }
 }

@@ -59,7 +59,8 @@ impl Policy {
 
     /// How many entries the policy has, at most 65,535.
     pub fn len(&self) -> u32
-        ensures { result ≡ length self.now.entries }
+        ensures count { result ≡ length self.now.entries }
+        ensures most { result ≤ 65535 }
     {
         self.entries.len() as u32
     }

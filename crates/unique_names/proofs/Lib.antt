@@ -1,0 +1,4 @@
+pub mod Learned
+pub mod Levels
+pub mod Merging
+pub mod Texts

@@ -1,0 +1,4 @@
+pub mod Keyed
+pub mod Known
+pub mod Merged
+pub mod Taught

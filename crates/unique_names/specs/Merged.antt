@@ -1,0 +1,22 @@
+-- The numbers of entries, walked in one pass over the entries: those that are known, and those of the entries that cover a name.
+use Rattle.std.specs.Prelude.{ℕ, ◌+◌, ◌==◌, Bool, false, List, [], ◌∷◌, if◌then◌else◌}
+use Rattle.dbus_names.specs.Texts.{Text}
+use Rattle.name_patterns.specs.Patterns.{covers}
+use Rattle.policy_args.specs.declared.entry.Entry.{Entry}
+
+-- the first of the known numbers is this one
+abbrev pub is_next : ℕ → List ℕ → Bool
+is_next n [] = false
+is_next n (k ∷ known) = k == n
+
+-- the known numbers without the first, where that is this one
+abbrev pub passed : ℕ → List ℕ → List ℕ
+passed n [] = []
+passed n (k ∷ known) = if k == n then known else k ∷ known
+
+-- of the entries from a number on, and the known numbers from there on
+abbrev pub merged_from : Text → ℕ → List Entry → List ℕ → List ℕ
+merged_from name n [] known = []
+merged_from name n (e ∷ es) known =
+    if is_next n known then n ∷ merged_from name (n + 1) es (passed n known)
+    else (if covers e.pattern name then n ∷ merged_from name (n + 1) es known else merged_from name (n + 1) es known)

@@ -1,0 +1,118 @@
+//! The numbers of a name's entries, one after the other.
+ghost use Rattle.std.specs.Prelude.{◌≡◌, ◌≤◌, ◌<◌, ◌+◌, ◌-◌, ◌∷◌, [], MatchOption, drop, length};
+ghost use Rattle.unique_names.specs.Merged.{is_next as next_is, merged_from, passed as passed_in};
+
+use policy_args::Policy;
+use std::marker::Model;
+
+/// The numbers of the entries that speak of a name, from 1, ascending and each once.
+#[derive(Drop)]
+pub struct Entries<'a> {
+    policy: &'a Policy,
+    name: &'a str,
+    /// The number of the first entry that wasn't looked at.
+    number: u32,
+    /// The known numbers from there on.
+    known: &'a [u32],
+    /// Whether entries are looked at, or the known numbers are all.
+    looks: bool,
+}
+
+impl<'a> Model for Entries<'a> {
+    ghost use Rattle.std.specs.Prelude.{◌≤◌, ◌-◌, ℕ, List, drop, if◌then◌else◌};
+    ghost use Rattle.unique_names.specs.Merged.{merged_from};
+
+    ghost Value = { List ℕ };
+
+    ghost view = { λ e. if e.looks then merged_from e.name.now e.number (drop (e.number - 1) e.policy.now.entries) e.known.now else e.known.now };
+
+    ghost invariant = { λ e. (1 ≤ e.number) × (e.number ≤ 65536) };
+}
+
+impl<'a> Entries<'a> {
+    /// The known numbers, and those of the entries that cover the name.
+    pub(crate) fn covering(policy: &'a Policy, name: &'a str, known: &'a [u32]) -> Entries<'a>
+        ensures { result ≡ merged_from name.entry.now 1 policy.entry.now.entries known.entry.now }
+    {
+        Entries {
+            policy,
+            name,
+            number: 1,
+            known,
+            looks: true,
+        }
+    }
+
+    /// The known numbers.
+    pub(crate) fn known(policy: &'a Policy, name: &'a str, known: &'a [u32]) -> Entries<'a>
+        ensures { result ≡ known.entry.now }
+    {
+        Entries {
+            policy,
+            name,
+            number: 1,
+            known,
+            looks: false,
+        }
+    }
+}
+
+impl Iterator for Entries<'_> {
+    type Item = u32;
+
+    ghost use Rattle.std.specs.Iterator.{YieldsFirst, item_count};
+
+    ghost next_gives = { YieldsFirst (λ s. s) };
+
+    ghost remaining = { item_count (λ s. s) };
+
+    fn next(&mut self) -> Option<u32> {
+        if !self.looks {
+            let [first, rest @ ..] = self.known else {
+                return None;
+            };
+            self.known = rest;
+            return Some(*first);
+        }
+        let found = find(self.policy, self.name, self.number, self.known)?;
+        self.known = passed(found, self.known);
+        self.number = found + 1;
+        Some(found)
+    }
+}
+
+// Whether the first of the known numbers is this one.
+fn is_next(number: u32, known: &[u32]) -> bool
+    ensures { result ≡ next_is number known.now }
+{
+    match known {
+        [first, ..] => *first == number,
+        [] => false,
+    }
+}
+
+// The known numbers without the first, where that is this one.
+fn passed(number: u32, known: &[u32]) -> &[u32]
+    ensures { result.now ≡ passed_in number known.now }
+{
+    match known {
+        [first, rest @ ..] if *first == number => rest,
+        _ => known,
+    }
+}
+
+// The lowest number, from one on, that is known or whose entry covers the name.
+fn find(policy: &Policy, name: &str, from: u32, known: &[u32]) -> Option<u32>
+    requires low { 1 ≤ from }
+    requires high { from ≤ 65536 }
+    ensures found { MatchOption result (merged_from name.now from (drop (from - 1) policy.now.entries) known.now ≡ []) (λ n. merged_from name.now from (drop (from - 1) policy.now.entries) known.now ≡ n ∷ merged_from name.now (n + 1) (drop n policy.now.entries) (passed_in n known.now)) }
+    ensures within { MatchOption result (from ≡ from) (λ n. (from ≤ n) × (n ≤ 65535)) }
+{
+    for index in from - 1..policy.len() {
+        let number = index + 1;
+        if is_next(number, known) || policy.entry(number).pattern.covers(name) {
+            return Some(number);
+        }
+    }
+    None
+}

@@ -1,0 +1,198 @@
+//! The tracker of unique names.
+ghost use Rattle.std.specs.Prelude.{◌≡◌, ◌∷◌, ◌++◌, [], List, OnOk, OnErr, length};
+ghost use Rattle.std.specs.FinMap as map;
+ghost use Rattle.std.specs.Option.{option_copied};
+ghost use Rattle.policy_args.specs.Policy.{Policy as PolicyValue};
+ghost use Rattle.policy_args.specs.Levels.{entries as entries_of, level_of};
+ghost use Rattle.policy_args.specs.declared.Level.TheVariants.{See as LevelSee, Talk as LevelTalk};
+ghost use Rattle.policy_args.specs.declared.fact.Fact.{Fact as FactValue};
+ghost use Rattle.policy_args.specs.declared.fact.Fact.TheVariants.{Owned, SelfId, Met};
+ghost use Rattle.unique_names.specs.Known.{Known as KnownValue};
+ghost use Rattle.unique_names.specs.Taught.{AreNumbers, Fits, Taught, kept_level, kept_numbers, learned, raised as raised_from};
+
+use crate::entries::Entries;
+use crate::known::{Known, has_level, level_in, numbers_in};
+use dbus_names::{is_unique, is_well_known};
+use policy_args::{Fact, Level, Policy};
+use std::alloc::{AllocError, Global};
+use std::collections::BTreeMap;
+use std::marker::Model;
+
+/// What is known of unique names, by the facts that it was taught under one policy.
+///
+/// It is given that policy with each call. What is known of a unique name takes memory once.
+#[derive(Drop)]
+pub struct Tracker {
+    ids: BTreeMap<String, Known>,
+    alloc: Global,
+}
+
+impl Model for Tracker {
+    ghost use Rattle.std.specs.Prelude.{ℕ};
+    ghost use Rattle.std.specs.Ordering.{nat_cmp};
+    ghost use Rattle.std.specs.Cmp.Lexicographic.{slice_cmp};
+    ghost use Rattle.std.specs.FinMap as map;
+    ghost use Rattle.std.specs.Coded.{codes, coded_ℕ, coded_list};
+    ghost use Rattle.unique_names.specs.Keyed.{by_bytes};
+    ghost use Rattle.unique_names.specs.Known.{Known as KnownValue};
+    ghost use Rattle.unique_names.specs.Taught.{Ids};
+
+    ghost Value = { Ids };
+
+    ghost coded = { map.code {X = KnownValue} (coded_list coded_ℕ) (Prim.hlevel (codes, coded_list coded_ℕ)) };
+
+    ghost view = { λ t. map.from_entries (by_bytes t.ids.entries) };
+}
+
+impl Tracker {
+    /// Nothing is known.
+    pub fn new(alloc: Global) -> Tracker
+        ensures taught { (policy : PolicyValue) → Taught result policy [] }
+        ensures fits { (policy : PolicyValue) → Fits result policy }
+    {
+        Tracker::empty(alloc)
+    }
+
+    /// How far a name of either kind may be used: `None` for any other text.
+    pub fn level(&self, policy: &Policy, name: &str) -> Level
+        ensures kept { result ≡ kept_level policy.now self.now name.now }
+
+        // For all facts that were taught, it is the level by them.
+        ensures exact { (facts : List FactValue) → Taught self.now policy.now facts → result ≡ level_of policy.now facts name.now }
+    {
+        self.level_of(policy, name)
+    }
+
+    /// The numbers of the entries that cover a name, or a name that it owned, from 1, ascending and each once.
+    pub fn entries<'a>(&'a self, policy: &'a Policy, name: &'a str) -> Entries<'a>
+        ensures kept { result ≡ kept_numbers policy.entry.now self.entry.now name.entry.now }
+        ensures exact { (facts : List FactValue) → Taught self.entry.now policy.entry.now facts → result ≡ entries_of policy.entry.now facts name.entry.now }
+        ensures within { Fits self.entry.now policy.entry.now → AreNumbers (length policy.entry.now.entries) result }
+    {
+        policy.covers_no_unique_name();
+        self.entries_of(policy, name)
+    }
+
+    /// Learns a fact. One that is known already adds nothing, and one that gives no level keeps nothing. Where memory is
+    /// refused, nothing changes.
+    pub fn learn(&mut self, policy: &Policy, fact: Fact) -> Result<(), AllocError>
+        ensures learned { OnOk result (self.new ≡ learned policy.now self.old fact) }
+        ensures taught { OnOk result ((facts : List FactValue) → Taught self.old policy.now facts → Taught self.new policy.now (facts ++ fact ∷ [])) }
+        ensures fits { OnOk result (Fits self.old policy.now → Fits self.new policy.now) }
+        ensures err { OnErr result (self.new ≡ self.old) }
+    {
+        match fact {
+            Fact::Owned { name, id } => self.learn_owner(policy, name.as_str(), id.as_str()),
+            Fact::SelfId(id) => self.learn_self(policy, id.as_str()),
+            Fact::Met(id) => self.learn_met(policy, id.as_str()),
+        }
+    }
+
+    /// Learns that a unique name owns a name, or owned it.
+    pub fn learn_owner(&mut self, policy: &Policy, name: &str, id: &str) -> Result<(), AllocError>
+        ensures learned { OnOk result (self.new ≡ learned policy.now self.old (Owned name.now id.now)) }
+        ensures taught { OnOk result ((facts : List FactValue) → Taught self.old policy.now facts → Taught self.new policy.now (facts ++ Owned name.now id.now ∷ [])) }
+        ensures fits { OnOk result (Fits self.old policy.now → Fits self.new policy.now) }
+        ensures err { OnErr result (self.new ≡ self.old) }
+    {
+        self.own(policy, name, id)
+    }
+
+    /// Learns that a unique name is the client's own.
+    pub fn learn_self(&mut self, policy: &Policy, id: &str) -> Result<(), AllocError>
+        ensures learned { OnOk result (self.new ≡ learned policy.now self.old (SelfId id.now)) }
+        ensures taught { OnOk result ((facts : List FactValue) → Taught self.old policy.now facts → Taught self.new policy.now (facts ++ SelfId id.now ∷ [])) }
+        ensures fits { OnOk result (Fits self.old policy.now → Fits self.new policy.now) }
+        ensures err { OnErr result (self.new ≡ self.old) }
+    {
+        let _policy = policy;
+        self.raise(id, Level::Talk)
+    }
+
+    /// Learns that the client met a unique name.
+    pub fn learn_met(&mut self, policy: &Policy, id: &str) -> Result<(), AllocError>
+        ensures learned { OnOk result (self.new ≡ learned policy.now self.old (Met id.now)) }
+        ensures taught { OnOk result ((facts : List FactValue) → Taught self.old policy.now facts → Taught self.new policy.now (facts ++ Met id.now ∷ [])) }
+        ensures fits { OnOk result (Fits self.old policy.now → Fits self.new policy.now) }
+        ensures err { OnErr result (self.new ≡ self.old) }
+    {
+        let _policy = policy;
+        self.raise(id, Level::See)
+    }
+
+    fn empty(alloc: Global) -> Tracker
+        ensures { result ≡ map.empty }
+    {
+        Tracker {
+            ids: BTreeMap::new(alloc),
+            alloc,
+        }
+    }
+
+    // What is known of a unique name.
+    fn known(&self, id: &str) -> Option<&Known>
+        ensures { option_copied result ≡ map.get self.now id.now }
+    {
+        self.ids.get(id)
+    }
+
+    // The level of a name, by what is kept.
+    fn level_of(&self, policy: &Policy, name: &str) -> Level
+        ensures { result ≡ kept_level policy.now self.now name.now }
+    {
+        if is_well_known(name.as_bytes()) {
+            policy.level(name)
+        } else if is_unique(name.as_bytes()) {
+            level_in(self.known(name))
+        } else {
+            Level::None
+        }
+    }
+
+    // The entries of a name, by what is kept.
+    fn entries_of<'a>(&'a self, policy: &'a Policy, name: &'a str) -> Entries<'a>
+        ensures { result ≡ kept_numbers policy.entry.now self.entry.now name.entry.now }
+    {
+        let known = numbers_in(self.known(name));
+        if is_unique(name.as_bytes()) {
+            Entries::known(policy, name, known)
+        } else {
+            Entries::covering(policy, name, known)
+        }
+    }
+
+    // A unique name owns a name.
+    fn own(&mut self, policy: &Policy, name: &str, id: &str) -> Result<(), AllocError>
+        ensures ok { OnOk result (self.new ≡ learned policy.now self.old (Owned name.now id.now)) }
+        ensures err { OnErr result (self.new ≡ self.old) }
+    {
+        if !policy.level(name).is_at_least(Level::See) {
+            return Ok(());
+        }
+        let known = Known::owning(self.alloc, self.known(id), policy, name)?;
+        self.keep(id, known)
+    }
+
+    // A unique name has at least this level.
+    fn raise(&mut self, id: &str, level: Level) -> Result<(), AllocError>
+        ensures ok { OnOk result (self.new ≡ map.insert self.old id.now (raised_from level (map.get self.old id.now))) }
+        ensures err { OnErr result (self.new ≡ self.old) }
+    {
+        let known = self.known(id);
+        if has_level(known, level) {
+            return Ok(());
+        }
+        let raised = Known::raised(self.alloc, known, level)?;
+        self.keep(id, raised)
+    }
+
+    // Keeps what is known of a unique name.
+    fn keep(&mut self, id: &str, known: Known) -> Result<(), AllocError>
+        ensures ok { OnOk result (self.new ≡ map.insert self.old id.now known) }
+        ensures err { OnErr result (self.new ≡ self.old) }
+    {
+        let id = String::from_str(self.alloc, id)?;
+        self.ids.insert(id, known)?;
+        Ok(())
+    }
+}
