@@ -4,7 +4,7 @@
 //! suffix .*" (xdg-dbus-proxy(1), "Filtering").
 #![tactic(auto)]
 
-ghost use Rattle.std.specs.Prelude.{◌≡◌, None, Some, IfOk, IfErr, IsSome, option_map, codes};
+ghost use Rattle.std.specs.Prelude.{◌≡◌, ◌≤◌, None, Some, IfOk, IfErr, IsSome, option_map, codes, length};
 ghost use Rattle.std.specs.List.{list_all};
 ghost use Rattle.dbus_names.specs.Names.{are_joined, is_bus_byte as is_byte_of_name, is_bus_element};
 ghost use Rattle.name_patterns.specs.Cuts.{before_end, behind as behind_front, rest_covered};
@@ -98,9 +98,10 @@ impl Pattern {
         }
     }
 
-    /// The exact name, or the N of `N.*`: at most 255 bytes.
+    /// The exact name, or the N of `N.*`.
     pub fn name(&self) -> &str
-        ensures { result.now ≡ self.now.name }
+        ensures name { result.now ≡ self.now.name }
+        ensures short { length result.now ≤ LONGEST_NAME }
     {
         self.name.as_str()
     }

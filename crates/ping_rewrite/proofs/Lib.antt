@@ -1,0 +1,2 @@
+mod AnswerBytes
+mod CallBytes
