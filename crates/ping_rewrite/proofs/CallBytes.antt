@@ -1,5 +1,5 @@
--- The calls are the bytes that the code has for them, and so long.
-use Rattle.std.proofs.Common.{ℕ, ◌≡◌, ◌+◌, ◌++◌, [], ◌∷◌, List, length, refl, sym, ap, ap₂, ◌∙◌, arith, append_assoc, append-nil, length-append, if◌then◌else◌, Bool, true, false}
+-- The calls are the bytes that the code has for them.
+use Rattle.std.proofs.Common.{ℕ, ◌≡◌, ◌+◌, ◌++◌, [], ◌∷◌, List, length, refl, sym, ap, ap₂, ◌∙◌, arith, append_assoc, append-nil, length-append}
 use Rattle.dbus_values.specs.Values.{a_string}
 use Rattle.dbus_values.specs.declared.Order.TheVariants.{Little}
 use Rattle.dbus_header.specs.Message.{spell, with_serial, with_number, spelled_list}
@@ -42,13 +42,12 @@ add_match_bytes serial p =
     ∙ ap₂ (λ n behind. with_number Little 144 (length (match_text p)) (with_number Little 8 serial (with_number Little 4 n ADD_MATCH)) ++ behind) (body_length (match_text p)) (behind_length (match_text p))
 
 -- the same of the parts that the code puts: the front, the rule up to the name, and the name
-pub add_match_parts : {front rule before name behind : List ℕ} (serial : ℕ) (p : Pattern) → rule ≡ rule_before p.exact → name ≡ p.name →
-    front ≡ front_with serial (length rule + length name + 1) ADD_MATCH → before ≡ rule → behind ≡ name →
-    front ++ (before ++ (behind ++ 39 ∷ 0 ∷ [])) ≡ spell (with_serial serial (add_match p))
-add_match_parts serial p r n f b e =
+pub add_match_parts : {front rule name : List ℕ} (serial : ℕ) (p : Pattern) → rule ≡ rule_before p.exact → name ≡ p.name →
+    front ≡ front_with serial (length rule + length name + 1) ADD_MATCH → front ++ (rule ++ (name ++ 39 ∷ 0 ∷ [])) ≡ spell (with_serial serial (add_match p))
+add_match_parts serial p r n f =
     ap₂ (λ (front : List ℕ) (behind : List ℕ). front ++ behind)
     (f ∙ ap₂ (λ (rule : List ℕ) (name : List ℕ). front_with serial (length rule + length name + 1) ADD_MATCH) r n)
-    (ap₂ (λ (before : List ℕ) (behind : List ℕ). before ++ (behind ++ 39 ∷ 0 ∷ [])) (b ∙ r) (e ∙ n))
+    (ap₂ (λ (rule : List ℕ) (name : List ℕ). rule ++ (name ++ 39 ∷ 0 ∷ [])) r n)
     ∙ add_match_bytes serial p
 
 pub get_owner_bytes : (serial : ℕ) (name : List ℕ) → front_with serial (length name) GET_OWNER ++ (name ++ 0 ∷ []) ≡ spell (with_serial serial (get_owner name))
@@ -56,8 +55,8 @@ unfolding spell get_owner
 get_owner_bytes serial name =
     ap₂ (λ n behind. with_number Little 144 (length name) (with_number Little 8 serial (with_number Little 4 n GET_OWNER)) ++ behind) (body_length name) (behind_length name)
 
-pub get_owner_parts : {front behind : List ℕ} (serial : ℕ) (name : List ℕ) → front ≡ front_with serial (length name) GET_OWNER → behind ≡ name → front ++ (behind ++ 0 ∷ []) ≡ spell (with_serial serial (get_owner name))
-get_owner_parts serial name f n = ap₂ (λ (front : List ℕ) (behind : List ℕ). front ++ (behind ++ 0 ∷ [])) f n ∙ get_owner_bytes serial name
+pub get_owner_parts : {front : List ℕ} (serial : ℕ) (name : List ℕ) → front ≡ front_with serial (length name) GET_OWNER → front ++ (name ++ 0 ∷ []) ≡ spell (with_serial serial (get_owner name))
+get_owner_parts serial name f = ap (λ (front : List ℕ). front ++ (name ++ 0 ∷ [])) f ∙ get_owner_bytes serial name
 
 -- the lengths of a call's parts
 pub parts_length : {bytes : List ℕ} (front rule name end : List ℕ) → front ++ (rule ++ (name ++ end)) ≡ bytes → length front + length rule + length name + length end ≡ length bytes
@@ -69,21 +68,3 @@ get_owner_count serial name = parts_length (front_with serial (length name) GET_
 pub add_match_count : (serial : ℕ) (p : Pattern) → 148 + length (rule_before p.exact) + length p.name + 2 ≡ length (spell (with_serial serial (add_match p)))
 add_match_count serial p =
     parts_length (front_with serial (length (rule_before p.exact) + length p.name + 1) ADD_MATCH) (rule_before p.exact) p.name (39 ∷ 0 ∷ []) (add_match_bytes serial p)
-
--- ---- how long each is
-
-pub ping_length : (serial : ℕ) → length (spell (with_serial serial ping)) ≡ 120
-ping_length serial = sym (ap length (ping_bytes serial))
-
-pub list_names_length : (serial : ℕ) → length (spell (with_serial serial list_names)) ≡ 136
-list_names_length serial = sym (ap length (list_names_bytes serial))
-
-pub get_owner_length : (serial : ℕ) (name : List ℕ) → length (spell (with_serial serial (get_owner name))) ≡ 149 + length name
-get_owner_length serial name = omega (arith, get_owner_count serial name)
-
-pub add_match_length : (serial : ℕ) (p : Pattern) → length (spell (with_serial serial (add_match p))) ≡ (if p.exact then 259 else 268) + length p.name
-add_match_length serial p = sym (add_match_count serial p) ∙ by_form p.exact
-  where
-    by_form : (exact : Bool) → 148 + length (rule_before exact) + length p.name + 2 ≡ (if exact then 259 else 268) + length p.name
-    by_form true = omega arith
-    by_form false = omega arith

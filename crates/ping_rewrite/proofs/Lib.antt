@@ -1,2 +1,3 @@
 mod AnswerBytes
 mod CallBytes
+pub mod Lengths

@@ -61,10 +61,10 @@ const GET_OWNER: [u8; FRONT_LEN] = *b"\
     \0\0\0\0";
 
 /// What stands behind a text.
-const TEXT_END: &[u8] = b"\0";
+const TEXT_END: &str = "\0";
 
 /// What stands behind the name in a match rule, and behind the rule.
-const RULE_END: &[u8] = b"'\0";
+const RULE_END: &str = "'\0";
 
 /// A call of org.freedesktop.DBus.Peer.Ping (D-Bus Specification, "org.freedesktop.DBus.Peer").
 pub fn ping(serial: u32) -> [u8; 120]
@@ -103,7 +103,7 @@ pub fn add_match(calls: &mut BytesMut, serial: u32, pattern: &Pattern) -> Result
     let rule = rule_front(pattern.is_exact());
     let name = pattern.name();
     let front = call_front(&ADD_MATCH, serial, rule.len() + name.len() + 1);
-    put(calls, &front, rule.as_bytes(), name.as_bytes(), RULE_END)
+    put(calls, &front, rule, name, RULE_END)
 }
 
 /// How many bytes the call has that `get_owner` puts.
@@ -124,16 +124,16 @@ pub fn get_owner(calls: &mut BytesMut, serial: u32, name: &str) -> Result<(), Al
     ensures spare { UsesSpare result calls.old.spare calls.new.spare (length (spell (with_serial serial (owner_call name.now)))) }
 {
     let front = call_front(&GET_OWNER, serial, name.len());
-    put(calls, &front, b"", name.as_bytes(), TEXT_END)
+    put(calls, &front, "", name, TEXT_END)
 }
 
 /// Puts the parts of a call behind the calls, in one growth.
 fn put(
     calls: &mut BytesMut,
     front: &[u8],
-    rule: &[u8],
-    name: &[u8],
-    end: &[u8],
+    rule: &str,
+    name: &str,
+    end: &str,
 ) -> Result<(), AllocError>
     requires { length front.now + length rule.now + length name.now + length end.now < 2 ^ 64 }
     ensures ok { OnOk result (calls.new.items ≡ calls.old.items ++ (front.now ++ (rule.now ++ (name.now ++ end.now)))) }
@@ -142,9 +142,9 @@ fn put(
 {
     calls.reserve(front.len() + rule.len() + name.len() + end.len())?;
     calls.extend_reserved(front);
-    calls.extend_reserved(rule);
-    calls.extend_reserved(name);
-    calls.extend_reserved(end);
+    calls.extend_reserved(rule.as_bytes());
+    calls.extend_reserved(name.as_bytes());
+    calls.extend_reserved(end.as_bytes());
     Ok(())
 }
 

@@ -5,6 +5,8 @@
 
 mod answers;
 mod calls;
+mod laws;
 
 pub use answers::{AnswerInPlace, answer_in_place};
 pub use calls::{add_match, add_match_len, get_owner, get_owner_len, list_names, ping};
+pub use laws::{lengths_of_answers, lengths_of_calls};
