@@ -14,24 +14,21 @@ const LONGEST: usize = 142;
 
 const LITTLE_ACCESS_DENIED: [u8; 140] = *b"\
     l\x03\x01\x01\x1c\0\0\0\0\0\0\0\x5f\0\0\0\
-    \x04\x01s\0\x27\0\0\0org.freedesktop.DBus.Error.AccessDenied\0\
-    \x05\x01u\0\0\0\0\0\
+    \x04\x01s\0\x27\0\0\0org.freedesktop.DBus.Error.AccessDenied\0\x05\x01u\0\0\0\0\0\
     \x07\x01s\0\x14\0\0\0org.freedesktop.DBus\0\0\0\0\
     \x08\x01g\0\x01s\0\0\
     \x17\0\0\0access denied by policy\0";
 
 const LITTLE_NAME_HAS_NO_OWNER: [u8; 142] = *b"\
     l\x03\x01\x01\x16\0\0\0\0\0\0\0\x67\0\0\0\
-    \x04\x01s\0\x29\0\0\0org.freedesktop.DBus.Error.NameHasNoOwner\0\0\0\0\0\0\0\
-    \x05\x01u\0\0\0\0\0\
+    \x04\x01s\0\x29\0\0\0org.freedesktop.DBus.Error.NameHasNoOwner\0\0\0\0\0\0\0\x05\x01u\0\0\0\0\0\
     \x07\x01s\0\x14\0\0\0org.freedesktop.DBus\0\0\0\0\
     \x08\x01g\0\x01s\0\0\
     \x11\0\0\0name has no owner\0";
 
 const LITTLE_SERVICE_UNKNOWN: [u8; 140] = *b"\
     l\x03\x01\x01\x14\0\0\0\0\0\0\0\x67\0\0\0\
-    \x04\x01s\0\x29\0\0\0org.freedesktop.DBus.Error.ServiceUnknown\0\0\0\0\0\0\0\
-    \x05\x01u\0\0\0\0\0\
+    \x04\x01s\0\x29\0\0\0org.freedesktop.DBus.Error.ServiceUnknown\0\0\0\0\0\0\0\x05\x01u\0\0\0\0\0\
     \x07\x01s\0\x14\0\0\0org.freedesktop.DBus\0\0\0\0\
     \x08\x01g\0\x01s\0\0\
     \x0f\0\0\0service unknown\0";
@@ -45,24 +42,21 @@ const LITTLE_FALSE: [u8; 68] = *b"\
 
 const BIG_ACCESS_DENIED: [u8; 140] = *b"\
     B\x03\x01\x01\0\0\0\x1c\0\0\0\0\0\0\0\x5f\
-    \x04\x01s\0\0\0\0\x27org.freedesktop.DBus.Error.AccessDenied\0\
-    \x05\x01u\0\0\0\0\0\
+    \x04\x01s\0\0\0\0\x27org.freedesktop.DBus.Error.AccessDenied\0\x05\x01u\0\0\0\0\0\
     \x07\x01s\0\0\0\0\x14org.freedesktop.DBus\0\0\0\0\
     \x08\x01g\0\x01s\0\0\
     \0\0\0\x17access denied by policy\0";
 
 const BIG_NAME_HAS_NO_OWNER: [u8; 142] = *b"\
     B\x03\x01\x01\0\0\0\x16\0\0\0\0\0\0\0\x67\
-    \x04\x01s\0\0\0\0\x29org.freedesktop.DBus.Error.NameHasNoOwner\0\0\0\0\0\0\0\
-    \x05\x01u\0\0\0\0\0\
+    \x04\x01s\0\0\0\0\x29org.freedesktop.DBus.Error.NameHasNoOwner\0\0\0\0\0\0\0\x05\x01u\0\0\0\0\0\
     \x07\x01s\0\0\0\0\x14org.freedesktop.DBus\0\0\0\0\
     \x08\x01g\0\x01s\0\0\
     \0\0\0\x11name has no owner\0";
 
 const BIG_SERVICE_UNKNOWN: [u8; 140] = *b"\
     B\x03\x01\x01\0\0\0\x14\0\0\0\0\0\0\0\x67\
-    \x04\x01s\0\0\0\0\x29org.freedesktop.DBus.Error.ServiceUnknown\0\0\0\0\0\0\0\
-    \x05\x01u\0\0\0\0\0\
+    \x04\x01s\0\0\0\0\x29org.freedesktop.DBus.Error.ServiceUnknown\0\0\0\0\0\0\0\x05\x01u\0\0\0\0\0\
     \x07\x01s\0\0\0\0\x14org.freedesktop.DBus\0\0\0\0\
     \x08\x01g\0\x01s\0\0\
     \0\0\0\x0fservice unknown\0";

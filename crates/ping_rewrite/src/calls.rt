@@ -1,5 +1,5 @@
 //! The proxy's calls to the bus.
-ghost use Rattle.std.specs.Prelude.{◌≡◌, ◌<◌, ◌++◌, ◌+◌, ◌^◌, ℕ, IsTrue, OnErr, OnOk, length};
+ghost use Rattle.std.specs.Prelude.{◌≡◌, ◌≤◌, ◌<◌, ◌++◌, ◌+◌, ◌^◌, ℕ, IsTrue, OnErr, OnOk, length};
 ghost use Rattle.bytes.specs.Filled.{UsesSpare};
 ghost use Rattle.dbus_header.specs.Message.{spell, with_serial};
 ghost use Rattle.dbus_names.specs.Names.{is_well_known};
@@ -86,7 +86,8 @@ pub fn list_names(serial: u32) -> [u8; 136]
 
 /// How many bytes the call has that `add_match` puts.
 pub fn add_match_len(pattern: &Pattern) -> usize
-    ensures { (serial : ℕ) → result ≡ length (spell (with_serial serial (match_call pattern.now))) }
+    ensures len { (serial : ℕ) → result ≡ length (spell (with_serial serial (match_call pattern.now))) }
+    ensures short { result ≤ 523 }
 {
     FRONT_LEN + rule_front(pattern.is_exact()).len() + pattern.name().len() + RULE_END.len()
 }
@@ -108,7 +109,8 @@ pub fn add_match(calls: &mut BytesMut, serial: u32, pattern: &Pattern) -> Result
 
 /// How many bytes the call has that `get_owner` puts.
 pub fn get_owner_len(name: &str) -> usize
-    ensures { (serial : ℕ) → result ≡ length (spell (with_serial serial (owner_call name.now))) }
+    ensures len { (serial : ℕ) → result ≡ length (spell (with_serial serial (owner_call name.now))) }
+    ensures short { IsTrue (is_well_known name.now) → result ≤ 404 }
 {
     FRONT_LEN + name.len() + 1
 }
