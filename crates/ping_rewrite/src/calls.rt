@@ -15,14 +15,14 @@ use std::alloc::AllocError;
 /// How many bytes of a call with a text stand in front of the text.
 const FRONT_LEN: usize = 148;
 
-/// The places of the two lengths in them: of the body, and of the text. The body is the text's length, the text, and a
-/// NUL.
+/// The place of the body's length in them.
 const BODY_LEN_PLACE: usize = 4;
 
+/// The place of the text's length, with which the body begins.
 const TEXT_LEN_PLACE: usize = 144;
 
-/// How many bytes of the body the text isn't.
-const AROUND_TEXT: u32 = 5;
+/// How many bytes a body of a text has beside the text: its length, and the NUL behind it.
+const BESIDE_TEXT: u32 = 5;
 
 /// A call of Ping with serial 0.
 const PING: [u8; 120] = *b"\
@@ -40,7 +40,7 @@ const LIST_NAMES: [u8; 136] = *b"\
     \x03\x01s\0\x09\0\0\0ListNames\0\0\0\0\0\0\0\
     \x06\x01s\0\x14\0\0\0org.freedesktop.DBus\0\0\0\0";
 
-/// A call of AddMatch up to its text, with 0 for the two lengths of the text and for the serial.
+/// A call of AddMatch up to its text, with 0 for the lengths of its body and its text and for its serial.
 const ADD_MATCH: [u8; FRONT_LEN] = *b"\
     l\x01\0\x01\0\0\0\0\0\0\0\0\x7f\0\0\0\
     \x01\x01o\0\x15\0\0\0/org/freedesktop/DBus\0\0\0\
@@ -60,10 +60,10 @@ const GET_OWNER: [u8; FRONT_LEN] = *b"\
     \x08\x01g\0\x01s\0\0\
     \0\0\0\0";
 
-/// What stands behind a text.
+/// What stands behind a text in a body.
 const TEXT_END: &str = "\0";
 
-/// What stands behind the name in a match rule, and behind the rule.
+/// What stands behind the name in a match rule, and then behind the rule.
 const RULE_END: &str = "'\0";
 
 /// A call of org.freedesktop.DBus.Peer.Ping (D-Bus Specification, "org.freedesktop.DBus.Peer").
@@ -95,7 +95,7 @@ pub fn add_match_len(pattern: &Pattern) -> usize
 /// Puts a call of AddMatch behind the calls, which asks the bus for the signal NameOwnerChanged of the names that the
 /// pattern covers (D-Bus Specification, "org.freedesktop.DBus.AddMatch" and "Match Rules").
 ///
-/// It takes memory only where less than the call's length is spare.
+/// Where as many bytes are spare as the call has, memory isn't refused.
 pub fn add_match(calls: &mut BytesMut, serial: u32, pattern: &Pattern) -> Result<(), AllocError>
     ensures ok { OnOk result (calls.new.items ≡ calls.old.items ++ spell (with_serial serial (match_call pattern.now))) }
     ensures err { OnErr result (calls.new.items ≡ calls.old.items) }
@@ -112,13 +112,13 @@ pub fn get_owner_len(name: &str) -> usize
     ensures len { (serial : ℕ) → result ≡ length (spell (with_serial serial (owner_call name.now))) }
     ensures short { IsTrue (is_well_known name.now) → result ≤ 404 }
 {
-    FRONT_LEN + name.len() + 1
+    FRONT_LEN + name.len() + TEXT_END.len()
 }
 
 /// Puts a call of GetNameOwner behind the calls, which asks the bus who owns a well-known name (D-Bus Specification,
 /// "org.freedesktop.DBus.GetNameOwner").
 ///
-/// It takes memory only where less than the call's length is spare.
+/// Where as many bytes are spare as the call has, memory isn't refused.
 pub fn get_owner(calls: &mut BytesMut, serial: u32, name: &str) -> Result<(), AllocError>
     requires { IsTrue (is_well_known name.now) }
     ensures ok { OnOk result (calls.new.items ≡ calls.old.items ++ spell (with_serial serial (owner_call name.now))) }
@@ -152,17 +152,13 @@ fn put(
 
 /// The bytes of a call in front of its text.
 fn call_front(template: &[u8; FRONT_LEN], serial: u32, text_len: usize) -> [u8; FRONT_LEN]
-    requires { text_len + AROUND_TEXT < 2 ^ 32 }
+    requires { text_len + BESIDE_TEXT < 2 ^ 32 }
     ensures { result ≡ front_with serial text_len template.now }
 {
     let text_len = text_len as u32;
+    let body_len = text_len + BESIDE_TEXT;
     let mut front = *template;
-    write_u32(
-        Order::Little,
-        &mut front,
-        BODY_LEN_PLACE,
-        text_len + AROUND_TEXT,
-    );
+    write_u32(Order::Little, &mut front, BODY_LEN_PLACE, body_len);
     write_u32(Order::Little, &mut front, SERIAL_PLACE, serial);
     write_u32(Order::Little, &mut front, TEXT_LEN_PLACE, text_len);
     front
