@@ -84,7 +84,7 @@ pub fn list_names(serial: u32) -> [u8; 136]
     bytes
 }
 
-/// How many bytes the call has that `add_match` puts.
+/// How many bytes the call has that `add_match` puts: at most 268 beside the name.
 pub fn add_match_len(pattern: &Pattern) -> usize
     ensures len { (serial : ℕ) → result ≡ length (spell (with_serial serial (match_call pattern.now))) }
     ensures short { result ≤ 523 }
@@ -107,7 +107,7 @@ pub fn add_match(calls: &mut BytesMut, serial: u32, pattern: &Pattern) -> Result
     put(calls, &front, rule, name, RULE_END)
 }
 
-/// How many bytes the call has that `get_owner` puts.
+/// How many bytes the call has that `get_owner` puts: 149 beside the name.
 pub fn get_owner_len(name: &str) -> usize
     ensures len { (serial : ℕ) → result ≡ length (spell (with_serial serial (owner_call name.now))) }
     ensures short { IsTrue (is_well_known name.now) → result ≤ 404 }
