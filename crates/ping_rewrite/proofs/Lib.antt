@@ -1,0 +1,3 @@
+mod AnswerBytes
+mod CallBytes
+pub mod Lengths
