@@ -1,16 +1,12 @@
 -- A rule keeps the text that says it: so two texts say one rule only where they are equal byte for byte.
 use Rattle.std.proofs.Common.{◌≡◌, ℕ, Bool, true, false, cond, List, Option, Some, None, ap, sym, ◌∙◌}
 use Rattle.std.specs.List.{list_any, before_first, after_first}
+use Rattle.std.proofs.lemmas.Option.{same_Some}
+use Rattle.byte_lists.proofs.Options.{some}
 use Rattle.call_rules.specs.Rules.{Method, Place, Rule, is_at, method_of, place_of, rule_of, rule_of_parts}
 
-abbrev some : {A : Type 0} → A → Option A
-some x = Some x
-
-some_is : {A : Type 0} (x y : A) → some x ≡ some y → x ≡ y
-some_is x y e = cc
-
 parts_text : (text : List ℕ) (m : Option Method) (p : Option Place) (r : Rule) → rule_of_parts text m p ≡ Some r → r.text ≡ text
-parts_text text (Some m) (Some p) r e = ap (λ (q : Rule). q.text) (sym (some_is (record { text = text; interface = m.interface; member = m.member; path = p.path; below = p.below }) r e))
+parts_text text (Some m) (Some p) r e = ap (λ (q : Rule). q.text) (sym (same_Some (record { text = text; interface = m.interface; member = m.member; path = p.path; below = p.below }) r e))
 parts_text text (Some m) None r e = absurd cc
 parts_text text None (Some p) r e = absurd cc
 parts_text text None None r e = absurd cc

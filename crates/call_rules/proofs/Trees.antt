@@ -2,6 +2,7 @@
 use Rattle.std.proofs.Common.{◌≡◌, ℕ, Bool, true, false, ◌&&◌, ◌||◌, nat_eq, eqb, get_or, ◌<◌, ◌≤◌, arith, List, [], ◌∷◌, ◌++◌, length, drop, refl, ap, sym, ◌∙◌, inl, inr}
 use Rattle.std.specs.Prelude.{Some, bytes_eq}
 use Rattle.std.proofs.lemmas.Bool.{cases_eq, eq-eqb, ne_eqb}
+use Rattle.std.proofs.Math.Bool.{and-false, and-true}
 use Rattle.dbus_names.specs.Texts.{begins_with}
 use Rattle.call_rules.specs.Rules.{path_matches}
 
@@ -23,17 +24,9 @@ eqb_sym a b = elim (cases_eq a b) [
   | inr n ↦ ne_eqb a b n ∙ sym (ne_eqb b a (λ e. n (sym e)))
 ]
 
-and_false : (b : Bool) → (b && false) ≡ false
-and_false true = refl
-and_false false = refl
-
-and_true : (b : Bool) → (b && true) ≡ b
-and_true true = refl
-and_true false = refl
-
 step : (here whole front rest below : Bool) → (whole || (below && front)) ≡ rest → ((here && whole) || (below && (here && front))) ≡ (here && rest)
 step true whole front rest below e = e
-step false whole front rest below e = and_false below
+step false whole front rest below e = and-false below
 
 step-and : (here front rest : Bool) → (here && (front && rest)) ≡ ((here && front) && rest)
 step-and true front rest = refl
@@ -41,8 +34,8 @@ step-and false front rest = refl
 
 pub matches-goes_on : (path given : List ℕ) (below : Bool) → path_matches (Some path) below given ≡ (begins_with path given && goes_on below (drop (length path) given))
 matches-goes_on [] [] below = refl
-matches-goes_on [] (c ∷ given) below = ap (λ b. below && b) (and_true (eqb 47 c) ∙ eqb_sym 47 c)
-matches-goes_on (d ∷ path) [] below = and_false below
+matches-goes_on [] (c ∷ given) below = ap (λ b. below && b) (and-true (eqb 47 c) ∙ eqb_sym 47 c)
+matches-goes_on (d ∷ path) [] below = and-false below
 matches-goes_on (d ∷ path) (c ∷ given) below =
     ap (λ b. (b && bytes_eq given path) || (below && (eqb d c && begins_with (path ++ 47 ∷ []) given))) (eqb_sym c d)
     ∙ step (eqb d c) (bytes_eq given path) (begins_with (path ++ 47 ∷ []) given) (begins_with path given && goes_on below (drop (length path) given)) below (matches-goes_on path given below)

@@ -1,12 +1,14 @@
 -- What the head and the message in front tell of the bytes that are left.
-use Rattle.std.proofs.Common.{◌≡◌, ℕ, ◌+◌, ◌<◌, ◌≤◌, Bool, true, false, cond, List, [], ◌++◌, length, take, drop, Option, Some, None, Result, Ok, Err, refl, sym, ap, subst, ◌∙◌, append-nil, arith, inl, inr}
+use Rattle.std.proofs.Common.{◌≡◌, ℕ, ◌<◌, ◌≤◌, Bool, true, false, cond, List, [], ◌++◌, length, take, drop, Option, Some, None, Result, Ok, Err, refl, sym, ap, subst, ◌∙◌, append-nil, arith, inl, inr}
 use Rattle.std.specs.Prelude.{is_some, nat_lt, OnOk, OnErr}
 use Rattle.std.proofs.lemmas.List.{length-append, take-append-drop, length-take-le, drop_all}
-use Rattle.std.proofs.lemmas.Bool.{lt-ltb, le-ltb}
-use Rattle.dbus_values.proofs.ValueRead.{AreBytes, AreBytes-take}
+use Rattle.std.proofs.lemmas.Bool.{lt-ltb}
+use Rattle.byte_lists.proofs.Bytes.{AreBytes-take}
+use Rattle.byte_lists.specs.Bytes.{AreBytes}
+use Rattle.byte_lists.proofs.Options.{some}
 use Rattle.dbus_header.specs.Message.{Message, spell}
 use Rattle.dbus_header.specs.Malformed.{front, fault, fault_in, head_fault, whole_len, whole}
-use Rattle.dbus_header.proofs.StreamLaws.{front_parts, front-longer, same_head, whole_len_low}
+use Rattle.dbus_header.proofs.StreamLaws.{front_parts, front-longer, same_head, whole_len_low, up, fault_of_head}
 use Rattle.dbus_header.proofs.StreamSplits.{not_whole}
 use Rattle.dbus_header.proofs.FaultStays.{fault-longer}
 use Rattle.dbus_header.proofs.MessageRead.{front-is}
@@ -16,16 +18,7 @@ use Rattle.dbus_framing.specs.Knows.{Head, Knows}
 use Rattle.dbus_framing.specs.declared.state.State.{State}
 use Rattle.dbus_framing.specs.declared.state.State.TheVariants.{AwaitsHead, AwaitsMessage, Bad}
 
-abbrev some : {A : Type 0} → A → Option A
-some x = Some x
-
-none_some : {A : Type 0} (x : A) → None ≡ some x → ⊥
-none_some x e = absurd cc
-
 -- ---- the first bytes
-
-up : (a b c : ℕ) → a ≤ b → a ≤ b + c
-up a b c h = omega arith
 
 longer : (bytes x : List ℕ) → 16 ≤ length bytes → 16 ≤ length (bytes ++ x)
 longer bytes x h = rw (length-append bytes x) (up 16 (length bytes) (length x) h)
@@ -50,13 +43,6 @@ knows-pushed state (Err e) old piece new ok err k = subst (Knows state) (sym err
 pub bad-pushed : {T E : Type 0} (r : Result T E) (old piece new : List ℕ) → OnOk r (new ≡ old ++ piece) → OnErr r (new ≡ old) → (f : Malformed) → fault old ≡ Some f → fault new ≡ Some f
 bad-pushed r old piece new ok err f k = knows-pushed (Bad f) r old piece new ok err k
 
--- a fault of a head is one of the bytes
-head_fault-is : (bytes : List ℕ) (f : Malformed) → 16 ≤ length bytes → head_fault bytes ≡ Some f → fault bytes ≡ Some f
-unfolding fault
-head_fault-is bytes f l h =
-    ap (λ (b : Bool). cond b None (cond (is_some (head_fault bytes)) (head_fault bytes) (cond (nat_lt (length bytes) (whole_len bytes)) None (fault_in (whole (take (whole_len bytes) bytes)))))) (le-ltb (length bytes) 16 l)
-    ∙ ap (λ (o : Option Malformed). cond (is_some o) o (cond (nat_lt (length bytes) (whole_len bytes)) None (fault_in (whole (take (whole_len bytes) bytes))))) h
-
 -- what the first sixteen bytes say on their own
 module _ (left first16 : List ℕ) (enough : 16 ≤ length left) (is : first16 ≡ take 16 left) where
   sixteen : length first16 ≡ 16
@@ -72,7 +58,7 @@ module _ (left first16 : List ℕ) (enough : 16 ≤ length left) (is : first16 �
   head_known len good states = subst (λ (t : List ℕ). Head t len) parts (head-longer first16 (drop 16 left) len (record { stands = at_least; good = good; states = sym states }))
 
   pub head_bad : (f : Malformed) → head_fault first16 ≡ Some f → fault left ≡ Some f
-  head_bad f h = ap fault (sym parts) ∙ fault-longer first16 (drop 16 left) f (head_fault-is first16 f at_least h)
+  head_bad f h = ap fault (sym parts) ∙ fault-longer first16 (drop 16 left) f (fault_of_head first16 f at_least h)
 
 -- ---- no whole message
 

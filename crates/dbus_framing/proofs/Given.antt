@@ -1,29 +1,18 @@
 -- What was given, and what all that was pushed holds.
-use Rattle.std.proofs.Common.{◌≡◌, ℕ, suc, ◌<◌, List, [], ◌∷◌, ◌++◌, length, Option, Some, None, refl, sym, ap, ◌∙◌, append_assoc, append-nil, arith}
+use Rattle.std.proofs.Common.{◌≡◌, ℕ, List, [], ◌∷◌, ◌++◌, Some, None, refl, sym, ap, ◌∙◌, append_assoc, append-nil}
 use Rattle.std.specs.List.{flat_map, AllByRecursion}
 use Rattle.std.proofs.lemmas.Grind.{flat_map-append}
+use Rattle.std.proofs.lemmas.Option.{none-some, same_Some}
 use Rattle.dbus_header.specs.Message.{Message, Valid, spell}
 use Rattle.dbus_header.specs.Malformed.{front, fault}
-use Rattle.dbus_header.specs.Stream.{more, split_by, split, messages, rest, bad}
-use Rattle.dbus_header.proofs.StreamLaws.{front-shorter, front-longer, enough}
+use Rattle.dbus_header.specs.Stream.{split, messages, rest, bad}
+use Rattle.dbus_header.proofs.StreamLaws.{split-front}
 use Rattle.dbus_header.proofs.MessageAgain.{front-spell}
 use Rattle.dbus_header.proofs.FaultStays.{fault_front, split_none}
 use Rattle.dbus_header.specs.declared.Malformed.{Malformed}
 use Rattle.dbus_framing.specs.Framing.{Takes, Gives, Stands, Follows}
 use Rattle.dbus_framing.specs.declared.Next.{Next}
 use Rattle.dbus_framing.specs.declared.Next.TheVariants.{Whole, Rest, Bad}
-
-abbrev some : {A : Type 0} → A → Option A
-some x = Some x
-
--- a message in front is the first, and what follows has the others
-split-front : (s : List ℕ) (m : Message) (tail : List ℕ) → front s ≡ Some (m, tail) → split s ≡ (m ∷ messages tail, rest tail)
-unfolding split
-split-front s m tail e =
-    let less : length tail < length s = front-shorter s m tail e in
-    enough front front-shorter front-longer (length s) (suc (length s)) s (omega arith) (omega arith)
-    ∙ ap (λ (q : Option (Message × List ℕ)). more q s (split_by front (length s))) e
-    ∙ ap (λ (q : List Message × List ℕ). (m ∷ q.0, q.1)) (enough front front-shorter front-longer (length s) (length tail) tail (omega (arith, less)) (omega arith))
 
 split-given : (given : List Message) (left : List ℕ) → AllByRecursion Valid given → split (flat_map spell given ++ left) ≡ (given ++ messages left, rest left)
 split-given [] left each = refl
@@ -84,17 +73,11 @@ next-follows pushed given old (Bad f) new s g =
     let all = all-given pushed given old s (fault_front old f g.0) in
     (stays pushed given old new g.1 s, all.0, all.1 ∙ g.0)
 
-none_some : {A : Type 0} (x : A) → None ≡ some x → ⊥
-none_some x e = absurd cc
-
-same_some : {A : Type 0} (x y : A) → some x ≡ some y → x ≡ y
-same_some x y e = cc
-
 abbrev the_bad : Malformed → Next
 the_bad f = Bad f
 
 -- a fault in front is given again
 pub bad-again : (old : List ℕ) (f : Malformed) (next : Next) (new : List ℕ) → fault old ≡ Some f → Gives old next new → (next ≡ Bad f) × (fault new ≡ Some f)
-bad-again old f (Whole frame) new e g = absurd (none_some (g.0, new) (sym (fault_front old f e) ∙ g.1.in_front))
-bad-again old f Rest new e g = absurd (none_some f (sym g.2 ∙ e))
-bad-again old f (Bad h) new e g = (ap the_bad (same_some h f (sym g.0 ∙ e)), ap fault g.1 ∙ e)
+bad-again old f (Whole frame) new e g = absurd (none-some (g.0, new) (sym (fault_front old f e) ∙ g.1.in_front))
+bad-again old f Rest new e g = absurd (none-some f (sym g.2 ∙ e))
+bad-again old f (Bad h) new e g = (ap the_bad (same_Some h f (sym g.0 ∙ e)), ap fault g.1 ∙ e)

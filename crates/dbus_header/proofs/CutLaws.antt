@@ -1,11 +1,13 @@
 -- A stream's first message is read from the bytes that its first sixteen state.
-use Rattle.std.proofs.Common.{◌≡◌, ℕ, ◌≤◌, Bool, true, cond, List, [], ◌∷◌, length, take, drop, Option, Some, None, option_map, refl, sym, ap, ◌∙◌, arith}
+use Rattle.std.proofs.Common.{◌≡◌, ℕ, ◌≤◌, Bool, true, cond, List, [], length, take, drop, Option, Some, None, option_map, refl, sym, ap, ◌∙◌, arith}
 use Rattle.std.specs.Prelude.{not, nat_lt, is_none, is_some}
-use Rattle.std.proofs.lemmas.List.{take-append-drop, length-take-le, length-drop}
+use Rattle.std.proofs.lemmas.List.{take-append-drop, length-take-le, length-drop, nil_from_length}
 use Rattle.std.proofs.lemmas.Bool.{le-ltb, and_from}
+use Rattle.std.proofs.lemmas.Option.{same_Some}
+use Rattle.byte_lists.proofs.Bytes.{AreBytes-take}
+use Rattle.byte_lists.specs.Bytes.{AreBytes}
 use Rattle.dbus_names.specs.Names.{is_empty}
 use Rattle.dbus_values.specs.Reading.{◌>>=◌, when}
-use Rattle.dbus_values.proofs.ValueRead.{AreBytes, AreBytes-take}
 use Rattle.dbus_header.specs.Message.{Message}
 use Rattle.dbus_header.specs.Malformed.{head_fault, whole_len, whole, has_whole, fault, fault_in, front, message_in}
 use Rattle.dbus_header.specs.Contents.{Contents, contents_of, message_of}
@@ -72,7 +74,7 @@ message_in_whole : (t : List ℕ) → IsWhole t → message_of t ≡ message_in 
 unfolding message_of front
 message_in_whole t w =
     let exact = w.exact in
-    let all : drop (whole_len t) t ≡ [] = nothing (drop (whole_len t) t) (omega (arith, length-drop (whole_len t) t)) in
+    let all : drop (whole_len t) t ≡ [] = nil_from_length (drop (whole_len t) t) (omega (arith, length-drop (whole_len t) t)) in
     ap (λ (b : Bool). cond b (message_in (whole (take (whole_len t) t)) >>= behind (drop (whole_len t) t)) none >>= λ x. when (is_empty x.1) x.0) (has_whole_is t w.long w.head (omega arith))
     ∙ ap (λ (x : List ℕ). (message_in (whole x) >>= behind (drop (whole_len t) t)) >>= λ y. when (is_empty y.1) y.0) (take_all (whole_len t) t (sym exact))
     ∙ ap (λ (r : List ℕ). (message_in (whole t) >>= behind r) >>= λ y. when (is_empty y.1) y.0) all
@@ -80,10 +82,6 @@ message_in_whole t w =
   where
     none : Option (Message × List ℕ)
     none = None
-
-    nothing : (xs : List ℕ) → length xs ≤ 0 → xs ≡ []
-    nothing [] le = refl
-    nothing (x ∷ xs) le = absurd (omega arith)
 
     by : (o : Option Message) → ((o >>= behind []) >>= λ y. when (is_empty y.1) y.0) ≡ o
     by None = refl
@@ -116,9 +114,6 @@ pub record IsRead (bytes : List ℕ) (x : Contents) : Type 0 where
 pub is_read : (bytes : List ℕ) (x : Contents) → AreBytes bytes → option_map contents_of (message_of bytes) ≡ Some x → IsRead bytes x
 is_read bytes x are e = by (message_of bytes) refl e
   where
-    same : (a b : Contents) → ◌≡◌ {A = Option Contents} (Some a) (Some b) → a ≡ b
-    same a b e = cc
-
     by : (o : Option Message) → message_of bytes ≡ o → option_map contents_of o ≡ Some x → IsRead bytes x
     by None is e = absurd cc
-    by (Some m) is e = record { message = m; is = is; contents = same (contents_of m) x e; of_bytes = message_of-is bytes m are is }
+    by (Some m) is e = record { message = m; is = is; contents = same_Some (contents_of m) x e; of_bytes = message_of-is bytes m are is }

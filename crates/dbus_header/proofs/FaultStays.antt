@@ -1,19 +1,13 @@
 -- A stream's fault stays when more bytes come, and so do the messages before it.
-use Rattle.std.proofs.Common.{◌≡◌, ℕ, ◌+◌, ◌≤◌, Bool, true, false, cond, List, [], ◌∷◌, ◌++◌, length, take, Option, Some, None, Result, Ok, Err, refl, ap, ◌∙◌, append-nil, arith}
+use Rattle.std.proofs.Common.{◌≡◌, ℕ, ◌+◌, ◌≤◌, Bool, true, false, cond, List, [], ◌∷◌, ◌++◌, length, take, Option, Some, None, Result, Ok, Err, refl, ap, ◌∙◌, append-nil}
 use Rattle.std.specs.Prelude.{is_some, is_none, nat_lt}
 use Rattle.std.proofs.lemmas.List.{length-append, take-append-le}
 use Rattle.std.proofs.lemmas.Bool.{ltb-false, le-ltb}
 use Rattle.dbus_header.specs.Message.{Message}
 use Rattle.dbus_header.specs.Malformed.{front, fault, fault_in, head_fault, whole_len, whole, message_in}
 use Rattle.dbus_header.specs.Stream.{more, split_by, split, messages, rest, bad}
-use Rattle.dbus_header.proofs.StreamLaws.{front_parts, same_head, split-append}
+use Rattle.dbus_header.proofs.StreamLaws.{front_parts, same_head, split-append, up, fault_of_head}
 use Rattle.dbus_header.specs.declared.Malformed.{Malformed}
-
-abbrev some : {A : Type 0} → A → Option A
-some x = Some x
-
-none_some : {A : Type 0} (x : A) → None ≡ some x → ⊥
-none_some x e = absurd cc
 
 -- how a fault was found: in the first sixteen bytes, or in the whole message that these state
 data Found (bytes : List ℕ) (f : Malformed) : Type 0 where
@@ -41,17 +35,12 @@ found bytes f e = long (nat_lt (length bytes) 16) refl e
 
 told : (bytes : List ℕ) (f : Malformed) → Found bytes f → fault bytes ≡ Some f
 unfolding fault
-told bytes f (in_head h l) =
-    ap (λ (b : Bool). cond b None (cond (is_some (head_fault bytes)) (head_fault bytes) (cond (nat_lt (length bytes) (whole_len bytes)) None (fault_in (whole (take (whole_len bytes) bytes)))))) (le-ltb (length bytes) 16 l)
-    ∙ ap (λ (o : Option Malformed). cond (is_some o) o (cond (nat_lt (length bytes) (whole_len bytes)) None (fault_in (whole (take (whole_len bytes) bytes))))) h
+told bytes f (in_head h l) = fault_of_head bytes f l h
 told bytes f (in_whole h l s e) =
     ap (λ (b : Bool). cond b None (cond (is_some (head_fault bytes)) (head_fault bytes) (cond (nat_lt (length bytes) (whole_len bytes)) None (fault_in (whole (take (whole_len bytes) bytes)))))) (le-ltb (length bytes) 16 l)
     ∙ ap (λ (o : Option Malformed). cond (is_some o) o (cond (nat_lt (length bytes) (whole_len bytes)) None (fault_in (whole (take (whole_len bytes) bytes))))) h
     ∙ ap (λ (b : Bool). cond b None (fault_in (whole (take (whole_len bytes) bytes)))) (le-ltb (length bytes) (whole_len bytes) s)
     ∙ e
-
-up : (a b c : ℕ) → a ≤ b → a ≤ b + c
-up a b c h = omega arith
 
 -- the fault of bytes is that of any longer ones
 pub fault-longer : (bytes x : List ℕ) (f : Malformed) → fault bytes ≡ Some f → fault (bytes ++ x) ≡ Some f

@@ -4,6 +4,9 @@ use Rattle.std.specs.Prelude.{◌&&◌, ◌==◌, nat_lt, nat_le, is_none, unwra
 use Rattle.std.specs.Int.{Width, w8, w32}
 use Rattle.std.proofs.lemmas.List.{length-drop, drop-drop, get_or-drop, length-take-le}
 use Rattle.std.proofs.lemmas.Bool.{and_parts, and_from, le-leb, lt-leb, leb-true, lt-ltb, le-ltb, ltb-true, eq-eqb, eqb-true, ne_eqb, cases_lt}
+use Rattle.byte_lists.proofs.Bytes.{AreBytes-drop, AreBytes-take}
+use Rattle.byte_lists.specs.Bytes.{AreBytes}
+use Rattle.byte_lists.proofs.Options.{some}
 use Rattle.dbus_types.specs.Signature.{Complete, Basic, basic, number, byte, uint32, string, path, signature, variant, and, no_types, code, is_complete, is_signature, spelled_types, types_of as types_read, fault_of_types, signature_fault, signature_of}
 use Rattle.dbus_names.specs.Names.{is_path, is_interface, is_member, is_error_name, is_bus_name}
 use Rattle.dbus_types.proofs.SignatureRead.{signature_of-is}
@@ -15,9 +18,10 @@ use Rattle.dbus_values.specs.declared.Order.TheVariants.{Little, Big}
 use Rattle.dbus_types.specs.declared.BadSignature.{BadSignature}
 use Rattle.dbus_types.specs.declared.BadSignature.TheVariants.{TooLong, Form}
 use Rattle.dbus_values.proofs.ValueLaws.{signature_front}
-use Rattle.dbus_values.proofs.ValueRead.{AreBytes, AreBytes-drop, AreBytes-take, bind_case, when_is, some_is, signature-takes}
+use Rattle.dbus_values.proofs.ValueRead.{bind_case, when_is, signature-takes}
 use Rattle.dbus_values.proofs.ValueAgain.{one_complete}
-use Rattle.dbus_values.proofs.ValueIs.{within-is}
+use Rattle.dbus_values.proofs.ValueIs.{within-is, one_type_is}
+use Rattle.dbus_values.proofs.TextBytes.{if_text}
 use Rattle.dbus_header.specs.Message.{Field, is_field_of, text_passes, is_a_path, is_a_signature, number_passes, text_in, number_in, types_in}
 use Rattle.dbus_header.specs.Malformed.{field_of, field_at}
 use Rattle.dbus_header.specs.HeaderReading.{Part, some_text, some_number, some_signature, unread, number_at, type_code, is_text_of, ended_text, checked_text, text_part, is_number_of, number_part, checked_signature, signature_part, known_value, has_type_at, known_part, unread_to, coded_part, part_at}
@@ -32,9 +36,6 @@ lifted bytes (Some x) = Some (x.0, at_place bytes x.1)
 
 abbrev pub field : ℕ → Value → Field
 field c v = record { code = c; value = v }
-
-abbrev some : {A : Type 0} → A → Option A
-some x = Some x
 
 -- what a valid field is read as
 abbrev pub part_of : Field → Part
@@ -281,10 +282,6 @@ sound_at bytes o q are inside =
 
 -- ---- a known code
 
-one_type_is : (ts : List Complete) (t : Complete) → one_type ts ≡ Some t → ts ≡ t ∷ []
-one_type_is (t ∷ []) u e = ap (λ (x : Complete). x ∷ []) (some_is t u e)
-one_type_is _ u e = absurd cc
-
 -- a signature of one type is read from its three bytes, and nothing else is
 typed_as : (bytes : List ℕ) (o : Order) (c : ℕ) (b : Basic) (q : ℕ) → ((v : Value) → is_field_of c v ≡ true → type_of v ≡ basic b) → AreBytes bytes → q ≤ length bytes →
     variant_field (value_within 64 o) c (at_place bytes q) ≡ cond (has_type_at (code b) bytes q) (value_within 64 o (basic b) (at_place bytes (q + 3)) >>= field_with c) None
@@ -367,9 +364,6 @@ number_read bytes o inner c q rules part none are inside =
     by false = refl
 
 -- a text, which has its length in front
-abbrev if_text : List ℕ × At → Option (List ℕ × At)
-if_text x = when (is_text x.0) x
-
 abbrev length_then : ℕ × At → Option (List ℕ × At)
 length_then n = ended_by_nul n.0 n.1 >>= if_text
 

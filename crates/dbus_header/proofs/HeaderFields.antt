@@ -3,10 +3,13 @@ use Rattle.std.proofs.Common.{◌≡◌, ℕ, zero, suc, ◌+◌, ◌-◌, ◌<�
 use Rattle.std.specs.Prelude.{not, ◌&&◌, ◌||◌, ◌==◌, nat_lt, is_some}
 use Rattle.std.proofs.lemmas.List.{length-append, length-drop, drop-drop, drop_at}
 use Rattle.std.proofs.lemmas.Bool.{and_parts, and_from, eqb-true}
+use Rattle.byte_lists.proofs.Bytes.{AreBytes-drop}
+use Rattle.byte_lists.specs.Bytes.{AreBytes}
+use Rattle.byte_lists.proofs.Options.{some}
 use Rattle.dbus_values.specs.Values.{Value, padding, spelled}
 use Rattle.dbus_values.specs.Reading.{At, ◌>>=◌, when, and_then_all}
 use Rattle.dbus_values.specs.declared.Order.{Order}
-use Rattle.dbus_values.proofs.ValueRead.{AreBytes, AreBytes-drop, bind_case, when_is}
+use Rattle.dbus_values.proofs.ValueRead.{bind_case, when_is}
 use Rattle.dbus_values.proofs.ValueAgain.{spelled_pos}
 use Rattle.dbus_header.specs.Message.{Field, field_value, field_in, has_field, text_in, number_in, is_field_of, may_follow, number_place}
 use Rattle.dbus_header.specs.Malformed.{field_at, valid_field_at, fields_at}
@@ -15,9 +18,6 @@ use Rattle.dbus_header.specs.HeaderFields.{at_place, spelled_in, found_in, found
 use Rattle.dbus_header.proofs.MessageRead.{FieldSpelt, field_is}
 use Rattle.dbus_header.proofs.FieldReading.{part_of, seen, parts, sound_field_at, part_at-is}
 use Rattle.dbus_header.proofs.FoundParts.{all_follow, next_place, puts}
-
-abbrev some : {A : Type 0} → A → Option A
-some x = Some x
 
 -- ---- the fields in their order
 

@@ -5,6 +5,8 @@ use Rattle.std.specs.List.{list_all}
 use Rattle.std.specs.Int.{w8, w32}
 use Rattle.std.proofs.lemmas.List.{length-append, append-nil, take_at, drop_at, length-replicate}
 use Rattle.std.proofs.lemmas.Bool.{and_parts, le-ltb, lt-leb, leb-true, eq-eqb, ne_eqb, cases_Bool}
+use Rattle.std.proofs.lemmas.Option.{same_Some}
+use Rattle.byte_lists.proofs.Options.{some}
 use Rattle.dbus_types.specs.Signature.{Complete, basic, number, byte, variant, and, no_types, is_complete, is_signature, is_shallow, spelled_types}
 use Rattle.dbus_values.specs.Values.{Value, a_number, a_string, a_path, an_array, a_struct, an_entry, a_variant, a_signature, spelled_signature, type_of, padding, zeros, number_bytes, spelled, depth, is_value, is_within}
 use Rattle.dbus_values.specs.Reading.{At, ◌>>=◌, when, past, some_bytes, aligned, a_width, each_of, value_at, value_within, values_at, and_then_all, all_zero}
@@ -18,9 +20,6 @@ use Rattle.dbus_values.specs.declared.Order.{Order}
 use Rattle.dbus_values.specs.declared.Order.TheVariants.{Little, Big}
 use Rattle.dbus_header.specs.declared.Malformed.{Malformed}
 
-abbrev some : {A : Type 0} → A → Option A
-some x = Some x
-
 -- ---- values
 
 -- a value within the limits is read again
@@ -29,12 +28,9 @@ value_again v o p r d i c =
     plain (value_within 65 o) (type_of v) (at p (spelled o p v ++ r)) c
     ∙ again v 64 o p r (omega (arith, leb-true (depth v) 64 d)) i (element_type (type_of v) c)
 
-some_is : {A : Type 0} (x y : A) → some x ≡ some y → x ≡ y
-some_is x y e = cc
-
 pair_is : {A : Type 0} (x y : A) (a b : At) → some {A = A × At} (x, a) ≡ some {A = A × At} (y, b) → (x ≡ y) × (a ≡ b)
 pair_is {A} x y a b e =
-    let two : (x, a) ≡ (y, b) = some_is (x, a) (y, b) e in
+    let two : (x, a) ≡ (y, b) = same_Some (x, a) (y, b) e in
     (ap (λ (q : A × At). q.0) two, ap (λ (q : A × At). q.1) two)
 
 -- so no spelling of a value begins another of its type at its place, and each value has one
@@ -108,7 +104,7 @@ fields_end : (n : ℕ) (o : Order) (before : List Field) (p : ℕ) → fields_at
 fields_end zero o before p = refl
 fields_end (suc n) o before p = ap (λ (q : Option (Field × At)). and_then_all q (at p []) (λ f rest. fields_at o n (f ∷ before) rest)) (no_field_there o before p)
 
-abbrev spelled_from : Order → ℕ → List Field → List ℕ
+abbrev pub spelled_from : Order → ℕ → List Field → List ℕ
 spelled_from o p fields = spelled_list o p (map field_value fields)
 
 fields_again : (fields before : List Field) (n : ℕ) (o : Order) (p : ℕ) → are_valid_fields o p fields ≡ true → may_all_follow before fields ≡ true → length (spelled_from o p fields) ≤ n → fields_at o n before (at p (spelled_from o p fields)) ≡ (fields, at (p + length (spelled_from o p fields)) [])
@@ -318,4 +314,4 @@ pub spell_is : (m n : Message) (x y : List ℕ) → Valid m → Valid n → spel
 spell_is m n x y p q e = two_are (sym (front-spell m x p) ∙ ap front e ∙ front-spell n y q)
   where
     two_are : some {A = Message × List ℕ} (m, x) ≡ some {A = Message × List ℕ} (n, y) → (m ≡ n) × (x ≡ y)
-    two_are h = let t : (m, x) ≡ (n, y) = some_is (m, x) (n, y) h in (ap (λ (q : Message × List ℕ). q.0) t, ap (λ (q : Message × List ℕ). q.1) t)
+    two_are h = let t : (m, x) ≡ (n, y) = same_Some (m, x) (n, y) h in (ap (λ (q : Message × List ℕ). q.0) t, ap (λ (q : Message × List ℕ). q.1) t)

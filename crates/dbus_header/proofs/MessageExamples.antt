@@ -3,13 +3,14 @@ use Rattle.std.specs.Prelude.{◌≡◌, ℕ, true, false, List, [], ◌∷◌, 
 use Rattle.std.specs.Str.{is_utf8, chars}
 use Rattle.std.specs.Char.{encode_utf8}
 use Rattle.std.specs.List.{flat_map}
+use Rattle.byte_lists.specs.Hex.{hex}
 use Rattle.dbus_types.specs.Signature.{byte, boolean, uint64, basic, number, array, variant, string}
 use Rattle.dbus_values.specs.Values.{Value, a_number, a_string, a_path, a_signature, a_variant, an_array, no_values, spelled, is_within}
 use Rattle.dbus_values.specs.Reading.{values_at, value_at}
 use Rattle.dbus_header.specs.Message.{Message, spell, path, member, destination, reply_serial, with_serial, with_reply_serial, first_text, signature}
 use Rattle.dbus_header.specs.Malformed.{fault, front, head_fault, whole, malformed}
 use Rattle.dbus_header.specs.Stream.{split, messages}
-use Rattle.dbus_header.proofs.Notation.{hex, call, bus, text_field, reply_field}
+use Rattle.dbus_header.proofs.Notation.{call, bus, text_field, reply_field}
 use Rattle.dbus_values.specs.declared.Order.TheVariants.{Little, Big}
 use Rattle.dbus_header.specs.declared.MalformedKind.TheVariants.{Fields, Body, Length, ByteOrder, Serial}
 

@@ -5,28 +5,29 @@ use Rattle.std.specs.List.{list_all}
 use Rattle.std.specs.Int.{w32}
 use Rattle.std.proofs.lemmas.List.{append-nil, take-append-drop, length-take-le, length-drop, drop-drop}
 use Rattle.std.proofs.lemmas.Bool.{and_parts, and_from, not-false, ltb-false, le-leb, eqb-true, eqb-false}
+use Rattle.std.proofs.lemmas.Option.{same_Some}
+use Rattle.byte_lists.proofs.Bytes.{AreBytes-drop, AreBytes-take, two_pieces, empty_is, from_le_bytes-below}
+use Rattle.byte_lists.specs.Bytes.{AreBytes}
+use Rattle.byte_lists.proofs.Options.{some}
 use Rattle.dbus_names.specs.Names.{is_empty}
 use Rattle.dbus_types.specs.Signature.{byte, Complete, is_complete, spelled_types}
 use Rattle.dbus_values.specs.Values.{Value, a_number, a_variant, a_struct, no_values, value, type_of, padding, zeros, number_bytes, spelled, depth, is_value, is_within}
 use Rattle.dbus_values.specs.Reading.{At, ◌>>=◌, when, value_at, value_within, values_at, and_then_all, number_of}
 use Rattle.dbus_header.specs.Message.{order_byte, Field, Message, field_value, spelled_list, spelled_fields, body_place, spell, stated, are_valid, are_valid_fields, may_follow, may_all_follow, has_required, has_no_descriptors, Valid}
 use Rattle.dbus_header.specs.Malformed.{malformed, order_of, order_in, body_len, serial_in, fields_len, whole_len, head_fault, has_zeros, fields_of, values_in, whole_by, whole, message_in, front, field_type, field_at, field_of, valid_field_at, fields_at}
-use Rattle.dbus_values.proofs.ValueRead.{AreBytes, AreBytes-take, AreBytes-drop, Takes, takes_then, some_is, bind_case, when_is, back_32, all_zero-is}
+use Rattle.dbus_values.proofs.ValueRead.{Takes, takes_then, bind_case, when_is, back_32, all_zero-is, nothing_taken}
 use Rattle.dbus_values.proofs.ValueIs.{within-is}
 use Rattle.dbus_header.proofs.StreamLaws.{front_parts, same_head, whole_len_low}
-use Rattle.dbus_header.proofs.MessageAgain.{stated_complete, head}
+use Rattle.dbus_header.proofs.MessageAgain.{stated_complete, head, spelled_from}
 use Rattle.dbus_values.specs.declared.Order.{Order}
 use Rattle.dbus_values.specs.declared.Order.TheVariants.{Little, Big}
 use Rattle.dbus_header.specs.declared.Malformed.{Malformed}
 use Rattle.dbus_header.specs.declared.MalformedKind.TheVariants.{ByteOrder, MessageType, Version, Length, Serial}
 
-abbrev some : {A : Type 0} → A → Option A
-some x = Some x
-
 -- ---- fields
 
 field_of-is : (v : Value) (f : Field) → field_of v ≡ Some f → v ≡ field_value f
-field_of-is (a_struct (a_number byte c) (value (a_variant v) no_values)) f e = ap field_value (some_is (record { code = c; value = v }) f e)
+field_of-is (a_struct (a_number byte c) (value (a_variant v) no_values)) f e = ap field_value (same_Some (record { code = c; value = v }) f e)
 field_of-is _ f e = absurd cc
 
 abbrev pub FieldSpelt : Order → At → Field × At → Type 0
@@ -41,16 +42,10 @@ field_is o a x h e =
     let deep : depth (field_value f) < 66 = subst (λ (v : Value). depth v < 66) is s.deep in
     let sound : is_value o a.place (field_value f) ≡ true = subst (λ (v : Value). is_value o a.place v ≡ true) is s.sound in
     let takes : Takes a (spelled o a.place (field_value f)) y.1 = subst (λ (v : Value). Takes a (spelled o a.place v) y.1) is s.takes in
-    subst (FieldSpelt o a) (some_is (f, y.1) x e2) (le-leb (depth (a_variant f.value)) 64 (omega (arith, deep)), sound, takes)))
-
-abbrev spelled_from : Order → ℕ → List Field → List ℕ
-spelled_from o p fields = spelled_list o p (map field_value fields)
+    subst (FieldSpelt o a) (same_Some (f, y.1) x e2) (le-leb (depth (a_variant f.value)) 64 (omega (arith, deep)), sound, takes)))
 
 abbrev pub FieldsSpelt : Order → List Field → At → List Field × At → Type 0
 FieldsSpelt o before a x = (are_valid_fields o a.place x.0 ≡ true) × (may_all_follow before x.0 ≡ true) × Takes a (spelled_from o a.place x.0) x.1
-
-nothing_taken : (a : At) → AreBytes a.bytes → Takes a [] a
-nothing_taken a h = record { bytes = refl; place = omega arith; are = h }
 
 pub fields_are : (n : ℕ) (o : Order) (before : List Field) (a : At) → AreBytes a.bytes → FieldsSpelt o before a (fields_at o n before a)
 fields_are zero o before a h = (refl, refl, nothing_taken a h)
@@ -104,8 +99,8 @@ order_byte-is : (b : ℕ) (o : Order) → order_of b ≡ Some o → order_byte o
 order_byte-is b o e = go (b == 108) refl (b == 66) refl e
   where
     go : (x : Bool) → (b == 108) ≡ x → (y : Bool) → (b == 66) ≡ y → cond x (some Little) (cond y (some Big) None) ≡ Some o → order_byte o ≡ b
-    go true p y q e = ap order_byte (sym (some_is Little o e)) ∙ sym (eqb-true b 108 p)
-    go false p true q e = ap order_byte (sym (some_is Big o e)) ∙ sym (eqb-true b 66 q)
+    go true p y q e = ap order_byte (sym (same_Some Little o e)) ∙ sym (eqb-true b 108 p)
+    go false p true q e = ap order_byte (sym (same_Some Big o e)) ∙ sym (eqb-true b 66 q)
     go false p false q e = absurd cc
 
 order_in-is : (t : List ℕ) (o : Order) → order_of (get_or t 0 0) ≡ Some o → order_in t ≡ o
@@ -139,7 +134,7 @@ head_is _ o long are oe one = absurd (omega (arith, long))
 
 -- a number of four bytes
 pub below : (o : Order) (t : List ℕ) → AreBytes t → number_of o w32 t < 2 ^ 32
-below Little t h = omega (arith, h 0, h 1, h 2, h 3)
+below Little t h = from_le_bytes-below t h
 below Big t h = omega (arith, h 0, h 1, h 2, h 3)
 
 -- ---- what a head without a fault says
@@ -207,10 +202,6 @@ pub record Checked (t : List ℕ) (m : Message) : Type 0 where
   pub descriptors : has_no_descriptors (fields_of t).0 ≡ true
   pub is : built t (fields_of t).0 (values_in t (stated (fields_of t).0)).0 ≡ m
 
-empty_is : (xs : List ℕ) → is_empty xs ≡ true → xs ≡ []
-empty_is [] e = refl
-empty_is (x ∷ xs) e = absurd cc
-
 pub checked : (t : List ℕ) (m : Message) → whole t ≡ Ok m → Checked t m
 unfolding whole
 checked t m e = go (fields_of t) (values_in t (stated (fields_of t).0)) refl refl e
@@ -236,13 +227,6 @@ checked t m e = go (fields_of t) (values_in t (stated (fields_of t).0)) refl ref
         }
 
 -- a list in four parts
-pub two_pieces : {A : Type 0} (a b : ℕ) (t : List A) → take a t ++ take b (drop a t) ++ drop (a + b) t ≡ t
-two_pieces a b t =
-    append_assoc (take a t) (take b (drop a t)) (drop (a + b) t)
-    ∙ ap (λ (x : List _). take a t ++ (take b (drop a t) ++ x)) (sym (drop-drop b a t))
-    ∙ ap (λ (x : List _). take a t ++ x) (take-append-drop b (drop a t))
-    ∙ take-append-drop a t
-
 pub pieces : {A : Type 0} (a b c : ℕ) (t : List A) → take a t ++ take b (drop a t) ++ take c (drop (a + b) t) ++ drop (a + b + c) t ≡ t
 pieces a b c t =
     append_assoc (take a t ++ take b (drop a t)) (take c (drop (a + b) t)) (drop (a + b + c) t)
@@ -363,5 +347,5 @@ front-is s m r are e =
     (v.0, sym split ∙ ap (λ (x : List ℕ). x ++ drop (whole_len s) s) (sym v.1) ∙ ap (λ (x : List ℕ). spell m ++ x) f.rest)
   where
     is_read : (q : Result Message Malformed) → message_in q ≡ Some m → q ≡ Ok m
-    is_read (Ok n) h = ap ok (some_is n m h)
+    is_read (Ok n) h = ap ok (same_Some n m h)
     is_read (Err f) h = absurd cc

@@ -1,18 +1,9 @@
--- Bytes in hexadecimal, and messages as the worked examples write them.
-use Rattle.std.specs.Prelude.{ℕ, ◌+◌, ◌*◌, ◌==◌, List, [], ◌∷◌, ◌++◌, codes, Option, Some, None, filter, not, map}
-use Rattle.std.specs.Char.{digit_value}
+-- Messages as the worked examples write them.
+use Rattle.std.specs.Prelude.{ℕ, List, [], ◌∷◌, ◌++◌, codes, Option, Some, None, map}
 use Rattle.dbus_types.specs.Signature.{uint32, basic, string}
 use Rattle.dbus_values.specs.Values.{Value, a_number, a_string, a_path, a_signature, an_array, values_of, type_of}
 use Rattle.dbus_header.specs.Message.{Field, Message}
 use Rattle.dbus_values.specs.declared.Order.TheVariants.{Little}
-
-abbrev pub pairs : List ℕ → List ℕ
-pairs (a ∷ b ∷ digits) = (digit_value a * 16 + digit_value b) ∷ pairs digits
-pairs _ = []
-
--- the bytes that the digits spell, spaces aside
-abbrev pub hex : List ℕ → List ℕ
-hex digits = pairs (filter (λ c. not (c == 32)) digits)
 
 abbrev pub u32 : ℕ → Value
 u32 n = a_number uint32 n

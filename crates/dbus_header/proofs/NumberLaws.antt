@@ -3,10 +3,13 @@ use Rattle.std.proofs.Common.{◌≡◌, ℕ, ◌+◌, ◌≤◌, Bool, true, fa
 use Rattle.std.specs.Prelude.{◌==◌, is_some, is_none, unwrap_or, option_and_then, option_map}
 use Rattle.std.specs.Int.{w32}
 use Rattle.std.proofs.lemmas.List.{length-append, append-nil, length-drop, take_at, drop_at, drop-drop}
+use Rattle.std.proofs.lemmas.Option.{same_Some}
+use Rattle.byte_lists.proofs.Bytes.{empty_is}
+use Rattle.byte_lists.specs.Bytes.{AreBytes}
 use Rattle.dbus_values.specs.Values.{Value, number_bytes, padding, spelled}
 use Rattle.dbus_values.specs.declared.Order.{Order}
 use Rattle.dbus_values.specs.declared.Order.TheVariants.{Little, Big}
-use Rattle.dbus_values.proofs.ValueRead.{AreBytes, bind_case, when_is}
+use Rattle.dbus_values.proofs.ValueRead.{bind_case, when_is}
 use Rattle.dbus_names.specs.Names.{is_empty}
 use Rattle.dbus_values.specs.Reading.{when}
 use Rattle.dbus_header.specs.declared.Malformed.{Malformed}
@@ -92,10 +95,6 @@ message_of-is bytes m are e =
   where
     both : Message → List ℕ → Option (Message × List ℕ)
     both y r = Some (y, r)
-
-    empty_is : (xs : List ℕ) → is_empty xs ≡ true → xs ≡ []
-    empty_is [] e = refl
-    empty_is (x ∷ xs) e = absurd cc
 
 -- so they are as many as they state, and their first sixteen are in order
 pub is_whole : (bytes : List ℕ) → AreBytes bytes → IsSome (message_of bytes) → IsWhole bytes
@@ -197,13 +196,10 @@ reply_inside bytes q are e x place number at = go (message_of bytes) refl e
     go : (o : Option Message) → message_of bytes ≡ o → option_map contents_of o ≡ Some q → place + 4 ≤ length bytes
     go None is s = absurd cc
     go (Some m) is s =
-        let same : contents_of m ≡ q = contents_some (contents_of m) q s in
+        let same : contents_of m ≡ q = same_Some (contents_of m) q s in
         let f = message_of-is bytes m are is in
         let inside = (reply_patched 0 x place m f.valid (ap (λ (p : Contents). p.parts.reply_serial) same ∙ number) (ap (λ (p : Contents). p.reply_place) same ∙ at)).inside in
         omega (arith, inside, ap length f.bytes_are)
-      where
-        contents_some : (a b : Contents) → ◌≡◌ {A = Option Contents} (Some a) (Some b) → a ≡ b
-        contents_some a b e = cc
 
 -- a message with a reply serial is one
 pub has_message : (bytes : List ℕ) → IsSome (option_and_then reply_serial (message_of bytes)) → IsSome (message_of bytes)

@@ -4,20 +4,16 @@ use Rattle.std.specs.Prelude.{not, ◌||◌, ◌==◌, nat_lt, is_some, ◌⊎�
 use Rattle.std.specs.Int.{w8, w32}
 use Rattle.std.proofs.lemmas.List.{length-append, length-replicate, append-nil}
 use Rattle.std.proofs.lemmas.Bool.{and_parts, eqb-true, cases_Bool}
+use Rattle.std.proofs.lemmas.Option.{same_Some}
+use Rattle.byte_lists.proofs.Options.{some}
 use Rattle.dbus_types.specs.Signature.{byte, uint32}
 use Rattle.dbus_values.specs.Values.{Value, a_number, padding, zeros, number_bytes, spelled}
 use Rattle.dbus_header.specs.Message.{Message, Valid, spell, spelled_fields, body_place, reply_serial, with_reply_serial, Field, field_value, set_field, spelled_list, is_field_of, number_passes, may_follow, may_all_follow, has_field, field_in, number_in, number_place, reply_place}
 use Rattle.dbus_values.proofs.ValueLaws.{wide_32}
-use Rattle.dbus_header.proofs.MessageAgain.{head, head_len}
+use Rattle.dbus_header.proofs.MessageAgain.{head, head_len, spelled_from}
 use Rattle.dbus_values.specs.declared.Order.{Order}
 use Rattle.dbus_values.specs.declared.Order.TheVariants.{Little, Big}
 use Rattle.dbus_header.proofs.Places.{aligned_8, no_gap_4, no_gap_1}
-
-abbrev some : {A : Type 0} → A → Option A
-some x = Some x
-
-abbrev spelled_from : Order → ℕ → List Field → List ℕ
-spelled_from o p fields = spelled_list o p (map field_value fields)
 
 abbrev pub set_reply : ℕ → Field → Field
 set_reply n f = set_field 5 (a_number uint32 n) f
@@ -126,9 +122,6 @@ number_of_reply : (x : ℕ) → number_in (some (reply_field x).value) ≡ Some 
 unfolding reply_field
 number_of_reply x = refl
 
-some_is : (x y : ℕ) → some x ≡ some y → x ≡ y
-some_is x y e = cc
-
 -- the spelling of fields after a new reply serial
 pub fields_reply : (n : ℕ) (o : Order) (fields before : List Field) (p x : ℕ) → has_field 5 before ≡ false → may_all_follow before fields ≡ true → number_in (field_in 5 fields) ≡ Some x → OneNumber o x n p (number_place o p fields) (spelled_from o p fields) (spelled_from o p (map (set_reply n) fields))
 fields_reply n o [] before p x h m r = absurd cc
@@ -159,7 +152,7 @@ fields_reply n o (f ∷ fields) before p x h m r = go (cases_Bool (f.code == 5))
         let b = and_parts (is_field_of f.code f.value) (nat_lt 9 f.code || not (has_field f.code before)) a.0 in
         let is = is_reply f five b.0 in
         let number : number_in (some f.value) ≡ Some x = sym (ap (λ (c : Bool). number_in (cond c (some f.value) (field_in 5 fields))) e) ∙ r in
-        let x_is : is.0 ≡ x = some_is is.0 x (sym (number_of_reply is.0) ∙ ap (λ (g : Field). number_in (some g.value)) (sym is.1) ∙ number) in
+        let x_is : is.0 ≡ x = same_Some is.0 x (sym (number_of_reply is.0) ∙ ap (λ (g : Field). number_in (some g.value)) (sym is.1) ∙ number) in
         let f_is : f ≡ reply_field x = is.1 ∙ ap reply_field x_is in
         let had : has_field 5 (f ∷ before) ≡ true = ap (λ (c : Bool). is_some (cond c (some f.value) (field_in 5 before))) e in
         let others : map (set_reply n) fields ≡ fields = none_set n fields (f ∷ before) had a.1 in

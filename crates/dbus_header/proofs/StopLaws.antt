@@ -1,24 +1,20 @@
 -- Where reading stops, no further value or field stands: so a fault's place is where the last valid one ended.
 use Rattle.std.proofs.Common.{◌≡◌, ℕ, zero, suc, ◌+◌, ◌<◌, ◌≤◌, true, List, [], ◌∷◌, ◌++◌, length, drop, Option, Some, None, refl, sym, ap, subst, ◌∙◌, arith, inl, inr}
 use Rattle.std.specs.Prelude.{◌⊎◌}
-use Rattle.std.proofs.lemmas.List.{length-append}
+use Rattle.std.proofs.lemmas.List.{length-append, nil_from_length}
+use Rattle.std.proofs.lemmas.Option.{none-some}
+use Rattle.byte_lists.specs.Bytes.{AreBytes}
 use Rattle.dbus_types.specs.Signature.{Complete, is_complete}
 use Rattle.dbus_values.specs.Values.{Value, a_variant, type_of, spelled, is_value, is_within}
 use Rattle.dbus_values.specs.Reading.{At, when, value_at, values_at, and_then_all}
 use Rattle.dbus_header.specs.Message.{Field, field_value, may_follow}
 use Rattle.dbus_header.specs.Malformed.{field_at, valid_field_at, fields_at}
 use Rattle.dbus_values.proofs.ValueLaws.{then_is, when_true}
-use Rattle.dbus_values.proofs.ValueRead.{AreBytes, bind_case, when_is}
+use Rattle.dbus_values.proofs.ValueRead.{bind_case, when_is}
 use Rattle.dbus_values.proofs.ValueAgain.{spelled_pos}
 use Rattle.dbus_header.proofs.MessageAgain.{value_again, field_again, no_field_there}
 use Rattle.dbus_header.proofs.MessageRead.{FieldSpelt, field_is}
 use Rattle.dbus_values.specs.declared.Order.{Order}
-
-abbrev some : {A : Type 0} → A → Option A
-some x = Some x
-
-none_some : {A : Type 0} (x : A) → None ≡ some x → ⊥
-none_some x e = absurd cc
 
 -- ---- body values
 
@@ -38,7 +34,7 @@ values_stop (t ∷ ts) o a = go (values_stop ts o) (value_at o t a) refl
 pub no_value : (o : Order) (t : Complete) (b : At) → value_at o t b ≡ None → (v : Value) (more : List ℕ) → type_of v ≡ t → is_complete t ≡ true → is_within 64 v ≡ true → is_value o b.place v ≡ true → b.bytes ≡ spelled o b.place v ++ more → ⊥
 no_value o t b none v more type complete deep sound bytes =
     let again = value_again v o b.place more deep sound (ap is_complete type ∙ complete) in
-    none_some (v, _) (sym none ∙ ap (λ (u : Complete). value_at o u b) (sym type) ∙ ap (λ (x : List ℕ). value_at o (type_of v) (record { place = b.place; bytes = x })) bytes ∙ again)
+    none-some (v, _) (sym none ∙ ap (λ (u : Complete). value_at o u b) (sym type) ∙ ap (λ (x : List ℕ). value_at o (type_of v) (record { place = b.place; bytes = x })) bytes ∙ again)
 
 -- ---- fields
 
@@ -47,12 +43,8 @@ abbrev pub onto : List Field → List Field → List Field
 onto before [] = before
 onto before (f ∷ fields) = onto (f ∷ before) fields
 
-nothing_left : (bytes : List ℕ) → length bytes ≤ 0 → bytes ≡ []
-nothing_left [] h = refl
-nothing_left (x ∷ bytes) h = absurd (omega (arith, h))
-
 pub fields_stop : (n : ℕ) (o : Order) (before : List Field) (a : At) → AreBytes a.bytes → length a.bytes ≤ n → let x = fields_at o n before a in valid_field_at o (onto before x.0) x.1 ≡ None
-fields_stop zero o before a are short = ap (λ (b : List ℕ). valid_field_at o before (record { place = a.place; bytes = b })) (nothing_left a.bytes short) ∙ no_field_there o before a.place
+fields_stop zero o before a are short = ap (λ (b : List ℕ). valid_field_at o before (record { place = a.place; bytes = b })) (nil_from_length a.bytes (omega (arith, short))) ∙ no_field_there o before a.place
 fields_stop (suc n) o before a are short = go (λ f b. fields_stop n o (f ∷ before) b) (valid_field_at o before a) refl
   where
     go : ((f : Field) (b : At) → AreBytes b.bytes → length b.bytes ≤ n → let x = fields_at o n (f ∷ before) b in valid_field_at o (onto (f ∷ before) x.0) x.1 ≡ None) → (r : Option (Field × At)) → valid_field_at o before a ≡ r
@@ -73,4 +65,4 @@ no_field o before b none f more follows deep sound bytes =
     let place = b.place + length (spelled o b.place (field_value f)) in
     let end : At = record { place = place; bytes = more } in
     let read : valid_field_at o before (record { place = b.place; bytes = spelled o b.place (field_value f) ++ more }) ≡ Some (f, end) = then_is _ _ _ _ (field_again f o b.place more deep sound) (when_true (may_follow before f) (f, end) follows) in
-    none_some (f, end) (sym none ∙ ap (λ (x : List ℕ). valid_field_at o before (record { place = b.place; bytes = x })) bytes ∙ read)
+    none-some (f, end) (sym none ∙ ap (λ (x : List ℕ). valid_field_at o before (record { place = b.place; bytes = x })) bytes ∙ read)

@@ -2,11 +2,15 @@
 use Rattle.std.proofs.Common.{◌≡◌, ℕ, zero, suc, ◌+◌, ◌-◌, ◌<◌, ◌≤◌, Bool, true, false, cond, List, [], ◌∷◌, ◌++◌, length, take, drop, Option, Some, None, refl, sym, ap, ◌∙◌, arith}
 use Rattle.std.proofs.lemmas.List.{length-append, take-append-le, drop-append-le, length-drop}
 use Rattle.std.proofs.lemmas.Bool.{and_parts, and_from, not-true, ltb-false, le-ltb}
-use Rattle.std.specs.Prelude.{not, ◌&&◌, is_none, nat_lt}
+use Rattle.std.specs.Prelude.{not, ◌&&◌, is_none, nat_lt, is_some}
+use Rattle.std.proofs.lemmas.Option.{same_Some}
+use Rattle.byte_lists.proofs.Options.{some}
 use Rattle.dbus_values.specs.Reading.{◌>>=◌}
+use Rattle.dbus_values.proofs.ValueRead.{bound}
 use Rattle.dbus_header.specs.Message.{Message}
-use Rattle.dbus_header.specs.Malformed.{head_fault, whole_len, has_whole, whole, message_in, front}
+use Rattle.dbus_header.specs.Malformed.{head_fault, whole_len, has_whole, whole, message_in, front, fault, fault_in}
 use Rattle.dbus_header.specs.Stream.{more, split_by, split, messages, rest}
+use Rattle.dbus_header.specs.declared.Malformed.{Malformed}
 
 -- ---- streams of anything that is read from the front
 
@@ -65,9 +69,15 @@ where_true : {B : Type 0} (b : Bool) (x : Option B) (y : B) → cond b x None �
 where_true true x y e = (refl, e)
 where_true false x y e = absurd cc
 
-bound : {B C : Type 0} (o : Option B) (f : B → Option C) (y : C) → (o >>= f) ≡ Some y → (x : B) × (o ≡ Some x) × (f x ≡ Some y)
-bound None f y e = absurd cc
-bound (Some x) f y e = (x, refl, e)
+-- a fault of the first sixteen bytes is one of the bytes
+pub fault_of_head : (t : List ℕ) (f : Malformed) → 16 ≤ length t → head_fault t ≡ Some f → fault t ≡ Some f
+unfolding fault
+fault_of_head t f long e =
+    ap (λ (b : Bool). cond b None (cond (is_some (head_fault t)) (head_fault t) (cond (nat_lt (length t) (whole_len t)) none (fault_in (whole (take (whole_len t) t)))))) (le-ltb (length t) 16 long)
+    ∙ ap (λ (h : Option Malformed). cond (is_some h) h (cond (nat_lt (length t) (whole_len t)) none (fault_in (whole (take (whole_len t) t))))) e
+  where
+    none : Option Malformed
+    none = None
 
 -- a front that was read: the whole message stands, it is m, and the rest follows it
 pub record Fronts (s : List ℕ) (m : Message) (r : List ℕ) : Type 0 where
@@ -77,18 +87,12 @@ pub record Fronts (s : List ℕ) (m : Message) (r : List ℕ) : Type 0 where
   pub is : message_in (whole (take (whole_len s) s)) ≡ Some m
   pub rest : drop (whole_len s) s ≡ r
 
-abbrev some : {B : Type 0} → B → Option B
-some x = Some x
-
-some_is : {B : Type 0} (x y : B) → some x ≡ some y → x ≡ y
-some_is x y e = cc
-
 pub front_parts : (s : List ℕ) (m : Message) (r : List ℕ) → front s ≡ Some (m, r) → Fronts s m r
 unfolding front
 front_parts s m r e =
     let w = where_true (has_whole s) (message_in (whole (take (whole_len s) s)) >>= λ n. Some (n, drop (whole_len s) s)) (m, r) e in
     let b = bound (message_in (whole (take (whole_len s) s))) (λ n. Some (n, drop (whole_len s) s)) (m, r) w.1 in
-    let two : (b.0, drop (whole_len s) s) ≡ (m, r) = some_is (b.0, drop (whole_len s) s) (m, r) b.2 in
+    let two : (b.0, drop (whole_len s) s) ≡ (m, r) = same_Some (b.0, drop (whole_len s) s) (m, r) b.2 in
     let t = and_parts (not (nat_lt (length s) 16) && is_none (head_fault s)) (not (nat_lt (length s) (whole_len s))) w.0 in
     let u = and_parts (not (nat_lt (length s) 16)) (is_none (head_fault s)) t.0 in
     record {
@@ -124,6 +128,9 @@ front-shorter s m r e =
     below : (w n k : ℕ) → 16 ≤ w → w ≤ n → k ≡ n - w → k < n
     below w n k p q h = omega arith
 
+pub up : (a b c : ℕ) → a ≤ b → a ≤ b + c
+up a b c h = omega arith
+
 -- what was read is read again when more bytes follow
 pub front-longer : (s x : List ℕ) (m : Message) (r : List ℕ) → front s ≡ Some (m, r) → front (s ++ x) ≡ Some (m, r ++ x)
 front-longer s x m r e =
@@ -137,9 +144,15 @@ front-longer s x m r e =
       is = ap (λ (n : ℕ). message_in (whole (take n (s ++ x)))) same.1 ∙ ap (λ (t : List ℕ). message_in (whole t)) (take-append-le (whole_len s) s x f.stands) ∙ f.is;
       rest = ap (λ (n : ℕ). drop n (s ++ x)) same.1 ∙ drop-append-le (whole_len s) s x f.stands ∙ ap (λ (t : List ℕ). t ++ x) f.rest;
     })
-  where
-    up : (a b c : ℕ) → a ≤ b → a ≤ b + c
-    up a b c h = omega arith
+
+-- a message in front is the first, and what follows has the others
+pub split-front : (s : List ℕ) (m : Message) (tail : List ℕ) → front s ≡ Some (m, tail) → split s ≡ (m ∷ messages tail, rest tail)
+unfolding split
+split-front s m tail e =
+    let less : length tail < length s = front-shorter s m tail e in
+    enough front front-shorter front-longer (length s) (suc (length s)) s (omega arith) (omega arith)
+    ∙ ap (λ (q : Option (Message × List ℕ)). more q s (split_by front (length s))) e
+    ∙ ap (λ (q : List Message × List ℕ). (m ∷ q.0, q.1)) (enough front front-shorter front-longer (length s) (length tail) tail (omega (arith, less)) (omega arith))
 
 -- the messages of a longer stream are those of the shorter, and then those of its rest with what is new
 pub split-append : (s x : List ℕ) → split (s ++ x) ≡ (messages s ++ messages (rest s ++ x), rest (rest s ++ x))

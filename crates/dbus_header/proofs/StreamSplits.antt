@@ -3,21 +3,16 @@ use Rattle.std.proofs.Common.{◌≡◌, ℕ, zero, suc, ◌<◌, ◌≤◌, Boo
 use Rattle.std.specs.Prelude.{◌⊎◌, is_some, is_none, nat_lt}
 use Rattle.std.specs.List.{flat_map, AllByRecursion}
 use Rattle.std.proofs.lemmas.Bool.{cases_lt, le-ltb}
+use Rattle.std.proofs.lemmas.Option.{none-some}
+use Rattle.byte_lists.proofs.Bytes.{AreBytes-behind}
+use Rattle.byte_lists.specs.Bytes.{AreBytes}
 use Rattle.dbus_header.specs.Message.{Message, Valid, spell}
 use Rattle.dbus_header.specs.Malformed.{front, fault, fault_in, head_fault, whole_len, whole, message_in}
 use Rattle.dbus_header.specs.Stream.{Splits, more, split_by, split, messages, rest}
-use Rattle.dbus_values.proofs.ValueRead.{AreBytes}
 use Rattle.dbus_header.proofs.StreamLaws.{front_from_parts, front-shorter, front-longer, enough}
 use Rattle.dbus_header.proofs.MessageAgain.{front-spell}
 use Rattle.dbus_header.proofs.MessageRead.{front-is}
 use Rattle.dbus_header.specs.declared.Malformed.{Malformed}
-
-abbrev some : {A : Type 0} → A → Option A
-some x = Some x
-
-AreBytes-behind : (xs ys : List ℕ) → AreBytes (xs ++ ys) → AreBytes ys
-AreBytes-behind [] ys h = h
-AreBytes-behind (x ∷ xs) ys h = AreBytes-behind xs ys (λ i. h (suc i))
 
 -- one front after the other, what is read is spelled so, and nothing more can be read
 record Split (n : ℕ) (s : List ℕ) : Type 0 where
@@ -42,15 +37,12 @@ parts_are (suc n) s h p = go (parts_are n) (front s) refl
         let r = ih x.1 (AreBytes-behind (spell x.0) x.1 (subst AreBytes is.1 h)) (omega (arith, less, p)) in
         (is.1 ∙ ap (λ (t : List ℕ). spell x.0 ++ t) r.0 ∙ sym (append_assoc (spell x.0) (flat_map spell (split_by front n x.1).0) (split_by front n x.1).1), (is.0, r.1), r.2)
 
-none_some : {A : Type 0} (x : A) → None ≡ some x → ⊥
-none_some x e = absurd cc
-
 -- the stream is split so
 pub splits : (s : List ℕ) → AreBytes s → Splits s (messages s) (rest s)
 unfolding split
 splits s h =
     let p = parts_are (length s) s h (omega arith) in
-    record { parts = p.0; each = p.1; longest = λ m more valid e. none_some (m, more) (sym p.2 ∙ ap front e ∙ front-spell m more valid) }
+    record { parts = p.0; each = p.1; longest = λ m more valid e. none-some (m, more) (sym p.2 ∙ ap front e ∙ front-spell m more valid) }
 
 -- and no other way
 pub only_split : (ms : List Message) (s r : List ℕ) → AreBytes s → Splits s ms r → split s ≡ (ms, r)
@@ -80,8 +72,8 @@ unfolding fault
 not_whole s f g = go (cases_lt (length s) 16)
   where
     no_whole : (w : Result Message Malformed) → 16 ≤ length s → head_fault s ≡ None → whole_len s ≤ length s → whole (take (whole_len s) s) ≡ w → (length s < 16) ⊎ (length s < whole_len s)
-    no_whole (Ok m) long h stands w = absurd (none_some (m, drop (whole_len s) s) (sym f ∙ front_from_parts s m (drop (whole_len s) s) (record { long = long; sound = ap is_none h; stands = stands; is = ap message_in w; rest = refl })))
-    no_whole (Err e) long h stands w = absurd (none_some e (sym g ∙
+    no_whole (Ok m) long h stands w = absurd (none-some (m, drop (whole_len s) s) (sym f ∙ front_from_parts s m (drop (whole_len s) s) (record { long = long; sound = ap is_none h; stands = stands; is = ap message_in w; rest = refl })))
+    no_whole (Err e) long h stands w = absurd (none-some e (sym g ∙
         ap (λ (b : Bool). cond b None (cond (is_some (head_fault s)) (head_fault s) (cond (nat_lt (length s) (whole_len s)) None (fault_in (whole (take (whole_len s) s)))))) (le-ltb (length s) 16 long)
         ∙ ap (λ (x : Option Malformed). cond (is_some x) x (cond (nat_lt (length s) (whole_len s)) None (fault_in (whole (take (whole_len s) s))))) h
         ∙ ap (λ (b : Bool). cond b None (fault_in (whole (take (whole_len s) s)))) (le-ltb (length s) (whole_len s) stands)
@@ -89,7 +81,7 @@ not_whole s f g = go (cases_lt (length s) 16)
 
     no_head : (h : Option Malformed) → 16 ≤ length s → head_fault s ≡ h → (length s < 16) ⊎ (length s < whole_len s)
     no_head None long h = elim (cases_lt (length s) (whole_len s)) [ inl lt ↦ inr lt | inr le ↦ no_whole (whole (take (whole_len s) s)) long h le refl ]
-    no_head (Some e) long h = absurd (none_some e (sym g ∙
+    no_head (Some e) long h = absurd (none-some e (sym g ∙
         ap (λ (b : Bool). cond b None (cond (is_some (head_fault s)) (head_fault s) (cond (nat_lt (length s) (whole_len s)) None (fault_in (whole (take (whole_len s) s)))))) (le-ltb (length s) 16 long)
         ∙ ap (λ (x : Option Malformed). cond (is_some x) x (cond (nat_lt (length s) (whole_len s)) None (fault_in (whole (take (whole_len s) s))))) h))
 

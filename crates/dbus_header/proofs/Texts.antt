@@ -1,25 +1,15 @@
 -- The texts of header fields are texts as values are: UTF-8 without NUL.
-use Rattle.std.proofs.Common.{◌≡◌, ℕ, zero, suc, ◌<◌, ◌^◌, Bool, true, false, cond, List, [], ◌∷◌, length, refl, arith}
-use Rattle.std.specs.Prelude.{◌&&◌, ◌==◌, nat_lt}
+use Rattle.std.proofs.Common.{◌≡◌, ℕ, ◌<◌, ◌^◌, Bool, true, false, cond, List, length}
+use Rattle.std.specs.Prelude.{◌==◌}
 use Rattle.std.specs.List.{list_all}
-use Rattle.std.specs.Str.{is_utf8, IsAscii, IsUtf8}
-use Rattle.std.proofs.lemmas.Str.{IsUtf8-from_ascii, is_utf8-from_IsUtf8}
-use Rattle.std.proofs.lemmas.Bool.{and_parts, and_from, ltb-true, lt-ltb}
+use Rattle.std.specs.Str.{IsUtf8}
+use Rattle.std.proofs.lemmas.Str.{IsUtf8-from_ascii}
 use Rattle.dbus_names.specs.Names.{is_ascii_text_byte, is_path, is_interface, is_member, is_error_name, is_bus_name}
 use Rattle.dbus_names.proofs.NameBytes.{is_path-ascii, is_interface-ascii, is_member-ascii, is_error_name-ascii, is_bus_name-ascii}
+use Rattle.dbus_names.proofs.Texts.{is_ascii}
 use Rattle.dbus_values.specs.Values.{is_text}
+use Rattle.dbus_values.proofs.TextBytes.{ascii_is_text}
 use Rattle.dbus_header.specs.HeaderReading.{is_text_of}
-
-no_nul : (text : List ℕ) → list_all is_ascii_text_byte text ≡ true → list_all (nat_lt 0) text ≡ true
-no_nul [] e = refl
-no_nul (c ∷ text) e =
-    let h = and_parts (is_ascii_text_byte c) (list_all is_ascii_text_byte text) e in
-    and_from (nat_lt 0 c) _ (and_parts (nat_lt 0 c) (nat_lt c 128) h.0).0 (no_nul text h.1)
-
-is_ascii : (text : List ℕ) → list_all is_ascii_text_byte text ≡ true → IsAscii text
-is_ascii [] e i = omega arith
-is_ascii (c ∷ text) e zero = ltb-true c 128 (and_parts (nat_lt 0 c) (nat_lt c 128) (and_parts (is_ascii_text_byte c) (list_all is_ascii_text_byte text) e).0).1
-is_ascii (c ∷ text) e (suc i) = is_ascii text (and_parts (is_ascii_text_byte c) (list_all is_ascii_text_byte text) e).1 i
 
 module _ (c : ℕ) (text : List ℕ) where
   abbrev All : Type 0
@@ -57,7 +47,4 @@ pub utf8_of : (code : ℕ) (text : List ℕ) → is_text_of code text ≡ true �
 utf8_of code text e = IsUtf8-from_ascii text (is_ascii text (ascii-of code text e))
 
 pub is_text-of : (code : ℕ) (text : List ℕ) → is_text_of code text ≡ true → length text < 2 ^ 32 → is_text text ≡ true
-is_text-of code text e lt =
-    and_from (list_all (nat_lt 0) text && is_utf8 text) (nat_lt (length text) (2 ^ 32))
-    (and_from (list_all (nat_lt 0) text) (is_utf8 text) (no_nul text (ascii-of code text e)) (is_utf8-from_IsUtf8 text (utf8_of code text e)))
-    (lt-ltb (length text) (2 ^ 32) lt)
+is_text-of code text e short = ascii_is_text text short (ascii-of code text e)

@@ -5,6 +5,7 @@ use Rattle.std.specs.List.{list_all}
 use Rattle.std.specs.Int.{w32}
 use Rattle.std.proofs.lemmas.List.{length-append}
 use Rattle.std.proofs.lemmas.Bool.{and_parts, and_from, eqb-true, lt-ltb}
+use Rattle.byte_lists.proofs.Options.{some}
 use Rattle.dbus_types.specs.Signature.{uint32, spelled_types}
 use Rattle.dbus_values.specs.Values.{Value, a_number, a_variant, number_bytes, spelled, is_value, is_within}
 use Rattle.dbus_header.specs.Message.{Field, Message, Valid, spell, spelled_fields, body_place, field_value, with_serial, with_reply_serial, reply_serial, types_in, field_in, number_in, has_field, is_field_of, may_follow, may_all_follow, required, are_valid, are_valid_fields}
@@ -12,9 +13,6 @@ use Rattle.dbus_values.proofs.ValueLaws.{wide_32}
 use Rattle.dbus_header.proofs.ReplyLaws.{set_reply, reply_field, is_reply, reply_len, OneNumber, fields_reply, spell-with_reply_serial}
 use Rattle.dbus_values.specs.declared.Order.{Order}
 use Rattle.dbus_values.specs.declared.Order.TheVariants.{Little, Big}
-
-abbrev some : {A : Type 0} → A → Option A
-some x = Some x
 
 -- ---- a new serial
 

@@ -4,6 +4,8 @@ use Rattle.std.specs.Prelude.{not, ◌&&◌, ◌||◌, ◌==◌, nat_lt, is_none
 use Rattle.std.specs.List.{list_all}
 use Rattle.std.proofs.lemmas.List.{length-take-le, length-drop, length-append, drop-take}
 use Rattle.std.proofs.lemmas.Bool.{and_parts, le-ltb, eqb-true, eq-eqb, ne_eqb}
+use Rattle.byte_lists.proofs.Bytes.{AreBytes-drop, AreBytes-take}
+use Rattle.byte_lists.specs.Bytes.{AreBytes}
 use Rattle.dbus_names.specs.Names.{is_empty}
 use Rattle.dbus_types.specs.Signature.{Complete, is_complete, spelled_types}
 use Rattle.dbus_values.specs.Values.{Value}
@@ -11,7 +13,6 @@ use Rattle.dbus_values.specs.Reading.{At, ◌>>=◌, when, values_at}
 use Rattle.dbus_values.specs.Ends.{values_end}
 use Rattle.dbus_values.specs.declared.BadValue.{BadValue}
 use Rattle.dbus_values.specs.declared.Order.{Order}
-use Rattle.dbus_values.proofs.ValueRead.{AreBytes, AreBytes-take, AreBytes-drop}
 use Rattle.dbus_header.specs.Message.{Field, Message, spell, field_in, has_field, text_in, number_in, types_in, stated, signature, is_field_of, may_follow, may_all_follow, has_required, has_no_descriptors}
 use Rattle.dbus_header.specs.Malformed.{order_in, serial_in, fields_len, body_start, whole_len, head_fault, fields_of, fields_at, has_zeros, values_in, whole, fault, fault_in, front}
 use Rattle.dbus_header.specs.declared.Malformed.{Malformed}
@@ -313,15 +314,6 @@ pub no_fault_in : (t : List ℕ) (found : Found) → HasParts t found → fault_
 no_fault_in t found h = ap fault_in h.is
 
 -- ---- what decode answers
-
-pub fault_of_head : (t : List ℕ) (f : Malformed) → 16 ≤ length t → head_fault t ≡ Some f → fault t ≡ Some f
-unfolding fault
-fault_of_head t f long e =
-    ap (λ (b : Bool). cond b None (cond (is_some (head_fault t)) (head_fault t) (cond (nat_lt (length t) (whole_len t)) none (fault_in (whole (take (whole_len t) t)))))) (le-ltb (length t) 16 long)
-    ∙ ap (λ (h : Option Malformed). cond (is_some h) h (cond (nat_lt (length t) (whole_len t)) none (fault_in (whole (take (whole_len t) t))))) e
-  where
-    none : Option Malformed
-    none = None
 
 pub take_all : (n : ℕ) (t : List ℕ) → n ≡ length t → take n t ≡ t
 take_all n t e = ap (λ (k : ℕ). take k t) e ∙ all t

@@ -11,11 +11,11 @@ ghost use Rattle.dbus_header.specs.Seen.{fields_seen, parts_seen};
 ghost use Rattle.dbus_header.specs.Whole.{body_fault_at, stated_in, HasParts};
 
 use crate::fields::{Fields, read_fields};
-use crate::head::{HEAD_LEN, body_start, check_head, is_zero, order_in, padding, read_u32};
+use crate::head::{HEAD_LEN, body_start, check_head, order_in, read_u32};
 use crate::message::Message;
 use crate::{Malformed, MalformedKind};
 use dbus_types::Signature;
-use dbus_values::{Order, value_end};
+use dbus_values::{Order, is_zero, padding, value_end};
 
 /// Whether the fields stand that a message of this type needs (D-Bus Specification, "Message Format", "Header Fields").
 fn has_required(kind: u8, fields: &Fields<'_>) -> bool
@@ -72,7 +72,7 @@ fn is_header_end(bytes: &[u8], end: usize, fields_end: usize) -> bool
         return false;
     }
     let (_, rest) = bytes.split_at(fields_end);
-    let (gap, _) = rest.split_at(padding(fields_end));
+    let (gap, _) = rest.split_at(padding(8, fields_end));
     is_zero(gap)
 }
 

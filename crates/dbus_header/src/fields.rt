@@ -6,10 +6,10 @@ ghost use Rattle.dbus_header.specs.HeaderReading.{is_text_of as is_value_text, t
 ghost use Rattle.dbus_header.specs.HeaderFields.{FieldsRead};
 ghost use Rattle.dbus_header.specs.Seen.{part_seen, end_seen, fields_seen, parts_seen};
 
-use crate::head::{is_zero, padding, read_u32};
+use crate::head::read_u32;
 use dbus_names::{is_bus_name, is_error_name, is_interface, is_member, is_path};
 use dbus_types::Signature;
-use dbus_values::{Order, value_end};
+use dbus_values::{Order, is_zero, padding, value_end};
 use std::str;
 
 /// The codes of the header fields (D-Bus Specification, "Message Format", "Header Fields").
@@ -229,12 +229,12 @@ fn read_field(order: Order, bytes: &[u8], place: usize) -> Option<(HeaderField<'
     requires short { length bytes.now ≤ 2 ^ 28 }
     ensures { option_map end_seen result ≡ part_at order bytes.now place }
 {
-    let start = place + padding(place);
+    let start = place + padding(8, place);
     if start >= bytes.len() {
         return None;
     }
     let (_, rest) = bytes.split_at(place);
-    let (gap, _) = rest.split_at(padding(place));
+    let (gap, _) = rest.split_at(padding(8, place));
     if !is_zero(gap) {
         return None;
     }
@@ -290,7 +290,7 @@ impl<'a> Fields<'a> {
                 return false;
             }
             self.reply_serial = Some(number);
-            self.reply_serial_place = Some(place + padding(place) + 4);
+            self.reply_serial_place = Some(place + padding(8, place) + 4);
             return true;
         }
         if self.descriptors.is_some() {

@@ -1,14 +1,12 @@
 //! The first sixteen bytes of a message.
 ghost use Rattle.std.specs.Prelude.{◌≡◌, ◌≤◌, ◌<◌, ◌+◌, ◌^◌, IfOk, length, get_or};
-ghost use Rattle.dbus_values.specs.Values.{padding as padding_to};
-ghost use Rattle.dbus_values.specs.Reading.{all_zero};
 ghost use Rattle.dbus_header.specs.Message.{body_place};
 ghost use Rattle.dbus_header.specs.Malformed.{order_of as order_by, order_in as stated_order, head_fault, whole_len};
 ghost use Rattle.dbus_header.specs.Refusals.{refusal};
 ghost use Rattle.dbus_header.specs.HeaderReading.{number_at};
 
 use crate::{Malformed, MalformedKind};
-use dbus_values::Order;
+use dbus_values::{Order, padding};
 
 /// The bytes of a message before its header fields.
 pub(crate) const HEAD_LEN: usize = 16;
@@ -18,27 +16,6 @@ const FIELDS_LIMIT: u32 = 67_108_864;
 
 /// The most bytes that a message may have (D-Bus Specification, "Message Format").
 const MESSAGE_LIMIT: u64 = 134_217_728;
-
-/// How many bytes there are up to the next multiple of 8.
-pub(crate) fn padding(place: usize) -> usize
-    ensures { result ≡ padding_to 8 place }
-{
-    (8 - place % 8) % 8
-}
-
-/// Whether all bytes are 0, as padding has to be.
-pub(crate) fn is_zero(bytes: &[u8]) -> bool
-    ensures { result ≡ all_zero bytes.now }
-{
-    let mut rest = bytes;
-    while let [first, after @ ..] = rest {
-        if *first != 0 {
-            return false;
-        }
-        rest = after;
-    }
-    true
-}
 
 /// A number of four bytes.
 pub(crate) fn read_u32(order: Order, bytes: &[u8], at: usize) -> u32
@@ -79,7 +56,7 @@ pub(crate) fn body_start(fields_len: u32) -> u64
     ensures { result ≡ body_place fields_len }
 {
     let end = HEAD_LEN + fields_len as usize;
-    (end + padding(end)) as u64
+    (end + padding(8, end)) as u64
 }
 
 /// The length of the whole message, or what is wrong with its first sixteen bytes.

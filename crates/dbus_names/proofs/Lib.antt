@@ -3,3 +3,4 @@ pub mod NameKinds
 pub mod NamesExamples
 pub mod NamesFrom
 pub mod OnePass
+pub mod Texts

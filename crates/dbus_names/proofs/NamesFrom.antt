@@ -4,6 +4,7 @@ use Rattle.std.specs.Prelude.{Some, None, is_some}
 use Rattle.std.specs.List.{list_all}
 use Rattle.std.proofs.lemmas.Bool.{le-leb, eq-eqb}
 use Rattle.std.proofs.lemmas.List.{take_all}
+use Rattle.byte_lists.proofs.Bytes.{not_empty}
 use Rattle.dbus_names.specs.Names.{parts_at, is_empty, is_short, is_interface, is_member, is_well_known, is_unique, is_path, is_unique_element, is_path_element, are_two_joined}
 use Rattle.dbus_names.specs.Elements.{is_among, is_element_of, element_count, are_two_elements}
 use Rattle.dbus_names.proofs.NameKinds.{list_all_same, element-is, path_element-is, interface_elements, bus_elements, unique_elements}
@@ -49,10 +50,6 @@ unfolding element_count
 path_elements text =
     some_of (list_all (is_element_of 3 3) (parts_at 47 text)) (length (parts_at 47 text))
     ∙ list_all_same (is_element_of 3 3) is_path_element path_element-is (parts_at 47 text)
-
-not_empty : (text : List ℕ) → 1 ≤ length text → is_empty text ≡ false
-not_empty [] l = absurd (omega arith)
-not_empty (c ∷ text) l = refl
 
 pub path_from : (text : List ℕ) (c : ℕ) (others : List ℕ) → text ≡ c ∷ others → c ≡ 47 → 2 ≤ length text
     → is_some (element_count 3 3 47 others) ≡ is_path text

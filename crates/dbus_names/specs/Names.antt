@@ -1,17 +1,14 @@
 -- The grammars of names and object paths, each a test on the bytes of a text, and the name of the bus itself.
-use Rattle.std.specs.Prelude.{ℕ, Bool, true, false, ◌||◌, ◌&&◌, not, ◌==◌, nat_lt, nat_le, List, [], ◌∷◌, length, codes, bytes_eq}
+use Rattle.std.specs.Prelude.{ℕ, Bool, false, ◌||◌, ◌&&◌, not, ◌==◌, nat_lt, nat_le, List, [], ◌∷◌, length, codes, bytes_eq}
 use Rattle.std.specs.Char.{is_ascii_digit, is_ascii_alphanumeric}
 use Rattle.std.specs.List.{list_all, slice_split}
+pub use Rattle.byte_lists.specs.Bytes.{is_empty}
 
 -- ---- texts in parts
 
 -- the parts of a text between the places where a byte stands: one more than these places
 abbrev pub parts_at : ℕ → List ℕ → List (List ℕ)
 parts_at separator text = slice_split (λ c. c == separator) text
-
-abbrev pub is_empty : List ℕ → Bool
-is_empty [] = true
-is_empty (c ∷ text) = false
 
 -- ---- elements
 

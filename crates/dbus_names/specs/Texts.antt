@@ -1,5 +1,5 @@
 -- Texts, and their ends.
-use Rattle.std.specs.Prelude.{ℕ, ◌-◌, Bool, nat_eq, List, length, take}
+use Rattle.std.specs.Prelude.{ℕ, ◌-◌, Bool, nat_eq, List, length, take, drop, Option, Some, None, if◌then◌else◌}
 use Rattle.std.specs.List.{starts_with, ends_with}
 
 -- a text or a name: its bytes
@@ -8,6 +8,10 @@ Text = List ℕ
 
 abbrev pub begins_with : List ℕ → List ℕ → Bool
 begins_with front text = starts_with nat_eq text front
+
+-- the text behind a front that it has
+abbrev pub behind : List ℕ → List ℕ → Option (List ℕ)
+behind front text = if begins_with front text then Some (drop (length front) text) else None
 
 abbrev pub has_end : List ℕ → List ℕ → Bool
 has_end end text = ends_with nat_eq text end

@@ -5,6 +5,8 @@ use Rattle.std.specs.List.{list_all}
 use Rattle.std.proofs.lemmas.Bool.{cases_lt, agree_below_at, eqb-true}
 use Rattle.std.proofs.lemmas.Bool.Decides.{nat_tests}
 use Rattle.std.proofs.lemmas.List.{get_or_past}
+use Rattle.std.proofs.Math.Bool.{and-true}
+use Rattle.byte_lists.proofs.Options.{some}
 use Rattle.dbus_types.specs.Signature.{Basic as BasicOf, Complete, basic, variant, array, struct, entry, Completes, no_types, and, is_basic, is_complete, is_element_type, are_complete, arrays, arrays_of, structs, structs_of, is_shallow, Open, outside, in_struct, in_entry, put, put_array, put_struct, put_entry, put_code, members, basic_of, read_back, closed, types_of, fault_of_types}
 use Rattle.dbus_types.specs.declared.BadSignature.{BadSignature}
 use Rattle.dbus_types.specs.declared.BadSignature.TheVariants.{Depth, Form}
@@ -56,9 +58,6 @@ levels-put : (t : Complete) (o : Open) → levels (put t o) ≡ (with_type (shap
 levels-put t (outside ts) = refl
 levels-put t (in_struct ts o) = refl
 levels-put t (in_entry ts o) = refl
-
-abbrev some : {A : Type 0} → A → Option A
-some x = Some x
 
 -- ---- each step of the pass
 
@@ -171,10 +170,6 @@ scan_back-is (c ∷ bytes) = ap (option_and_then (step (code_of c))) (scan_back-
 
 -- ---- what the pass finds
 
-and_true : (b : Bool) → (b && true) ≡ b
-and_true true = refl
-and_true false = refl
-
 basic_kind : (t : Complete) → is_basic_type (shape_of t).kind ≡ is_basic t
 basic_kind (basic b) = refl
 basic_kind variant = refl
@@ -191,13 +186,13 @@ mutual
   element-is variant = refl
   element-is (array t) = element-is t
   element-is (struct t ts) = ap₂ (λ (a b : Bool). a && b) (complete-is t) (members-are ts)
-  element-is (entry k t) = ap₂ (λ (a b : Bool). a && b) (basic_kind k) (and_true (stands (shape_of t)) ∙ complete-is t)
+  element-is (entry k t) = ap₂ (λ (a b : Bool). a && b) (basic_kind k) (and-true (stands (shape_of t)) ∙ complete-is t)
 
   complete-is : (t : Complete) → stands (shape_of t) ≡ is_complete t
   complete-is (basic b) = refl
   complete-is variant = refl
-  complete-is (array t) = and_true (shape_of t).complete ∙ element-is t
-  complete-is (struct t ts) = and_true (shape_of (struct t ts)).complete ∙ ap₂ (λ (a b : Bool). a && b) (complete-is t) (members-are ts)
+  complete-is (array t) = and-true (shape_of t).complete ∙ element-is t
+  complete-is (struct t ts) = and-true (shape_of (struct t ts)).complete ∙ ap₂ (λ (a b : Bool). a && b) (complete-is t) (members-are ts)
   complete-is (entry k t) = grind (arith)
 
   members-are : (ts : Completes) → (all_types (members_level ts)).complete ≡ are_complete ts

@@ -4,11 +4,10 @@ use Rattle.std.specs.Prelude.{option_map, option_and_then, ◌==◌, nat_lt, is_
 use Rattle.std.specs.List.{list_all}
 use Rattle.std.proofs.lemmas.List.{append-nil}
 use Rattle.std.proofs.lemmas.Bool.{eqb-true, and_from, ltb-false, le-leb}
+use Rattle.std.proofs.lemmas.Option.{same_Some}
+use Rattle.byte_lists.proofs.Options.{some}
 use Rattle.dbus_types.specs.Signature.{byte, boolean, int16, uint16, int32, uint32, int64, uint64, double, handle, Basic, number, string, path, signature, Complete, basic, variant, array, struct, entry, code, spelled_type, spelled_members, spelled_types, Open, outside, in_struct, in_entry, put, put_array, put_struct, put_entry, put_code, basic_of, members, read_back, closed, types_of, is_signature, is_complete, is_shallow, signature_of, fault_of_types}
 use Rattle.dbus_types.specs.declared.BadSignature.TheVariants.{TooLong, Depth, Form}
-
-abbrev some : {A : Type 0} → A → Option A
-some x = Some x
 
 abbrev spelled_open : Open → List ℕ
 spelled_open (outside ts) = spelled_types ts
@@ -20,15 +19,12 @@ spelled_open-put t (outside ts) = refl
 spelled_open-put t (in_struct ts o) = append_assoc (spelled_type t) (spelled_types ts) (41 ∷ spelled_open o)
 spelled_open-put t (in_entry ts o) = append_assoc (spelled_type t) (spelled_types ts) (125 ∷ spelled_open o)
 
-some_is : {A : Type 0} (x y : A) → some x ≡ some y → x ≡ y
-some_is x y e = cc
-
 -- what stands after one more byte
 abbrev Puts : ℕ → Open → Option Open → Type 0
 Puts c o found = (q : Open) → found ≡ Some q → spelled_open q ≡ c ∷ spelled_open o
 
 at_once : (c : ℕ) (o p : Open) → spelled_open p ≡ c ∷ spelled_open o → Puts c o (Some p)
-at_once c o p h q e = ap spelled_open (sym (some_is p q e)) ∙ h
+at_once c o p h q e = ap spelled_open (sym (same_Some p q e)) ∙ h
 
 never : (c : ℕ) (o : Open) → Puts c o None
 never c o q e = absurd cc
@@ -80,7 +76,7 @@ coded : (c n : ℕ) (a : Basic) (rest : Option Basic) → code a ≡ n → Codes
 coded c n a rest h no_ b e = go (c == n) refl e
   where
     go : (d : Bool) → (c == n) ≡ d → cond d (some a) rest ≡ Some b → code b ≡ c
-    go true t e = ap code (sym (some_is a b e)) ∙ h ∙ sym (eqb-true c n t)
+    go true t e = ap code (sym (same_Some a b e)) ∙ h ∙ sym (eqb-true c n t)
     go false t e = no_ b e
 
 basic_code : (c : ℕ) → Codes c (basic_of c)
@@ -94,7 +90,7 @@ puts_basic c o q e = go (basic_of c) refl e
   where
     go : (f : Option Basic) → basic_of c ≡ f → option_map (λ b. put (basic b) o) f ≡ Some q → spelled_open q ≡ c ∷ spelled_open o
     go None h e = absurd cc
-    go (Some b) h e = ap spelled_open (sym (some_is (put (basic b) o) q e)) ∙ spelled_open-put (basic b) o ∙ ap (λ (m : ℕ). m ∷ spelled_open o) (basic_code c b h)
+    go (Some b) h e = ap spelled_open (sym (same_Some (put (basic b) o) q e)) ∙ spelled_open-put (basic b) o ∙ ap (λ (m : ℕ). m ∷ spelled_open o) (basic_code c b h)
 
 puts : (c : ℕ) (o : Open) → Puts c o (put_code c o)
 puts c o =
@@ -107,7 +103,7 @@ puts c o =
     (puts_basic c o))))))
 
 read_back-spelled : (bytes : List ℕ) (o : Open) → read_back bytes ≡ Some o → spelled_open o ≡ bytes
-read_back-spelled [] o e = ap spelled_open (sym (some_is (outside []) o e))
+read_back-spelled [] o e = ap spelled_open (sym (same_Some (outside []) o e))
 read_back-spelled (c ∷ bytes) o e = go (read_back-spelled bytes) (read_back bytes) refl e
   where
     go : ((p : Open) → read_back bytes ≡ Some p → spelled_open p ≡ bytes) → (r : Option Open) → read_back bytes ≡ r → option_and_then (put_code c) r ≡ Some o → spelled_open o ≡ c ∷ bytes
@@ -120,12 +116,12 @@ spelled_types-types_of bytes ts e = go (read_back bytes) refl e
   where
     go : (r : Option Open) → read_back bytes ≡ r → option_and_then closed r ≡ Some ts → spelled_types ts ≡ bytes
     go None h e = absurd cc
-    go (Some (outside us)) h e = ap spelled_types (sym (some_is us ts e)) ∙ read_back-spelled bytes (outside us) h
+    go (Some (outside us)) h e = ap spelled_types (sym (same_Some us ts e)) ∙ read_back-spelled bytes (outside us) h
     go (Some (in_struct us o)) h e = absurd cc
     go (Some (in_entry us o)) h e = absurd cc
 
 limits : (us ts : List Complete) (a b : Bool) → list_all is_complete us ≡ a → list_all is_shallow us ≡ b → cond (is_none (cond (not a) (some Form) (cond b None (some Depth)))) (some us) None ≡ Some ts → (us ≡ ts) × (list_all is_complete us ≡ true) × (list_all is_shallow us ≡ true)
-limits us ts true true p q e = (some_is us ts e, p, q)
+limits us ts true true p q e = (same_Some us ts e, p, q)
 limits us ts true false p q e = absurd cc
 limits us ts false b p q e = absurd cc
 

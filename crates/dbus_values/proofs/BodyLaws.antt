@@ -2,6 +2,9 @@
 use Rattle.std.proofs.Common.{◌≡◌, ℕ, zero, suc, ◌+◌, ◌<◌, ◌≤◌, ◌%◌, ◌^◌, cond, Bool, true, false, List, [], ◌∷◌, ◌++◌, length, take, drop, Option, Some, None, refl, sym, ap, subst, ◌∙◌, arith}
 use Rattle.std.specs.Prelude.{nat_le, IsSome}
 use Rattle.std.specs.Int.{w32}
+use Rattle.std.proofs.lemmas.Option.{same_Some}
+use Rattle.byte_lists.specs.Bytes.{AreBytes}
+use Rattle.byte_lists.proofs.Options.{some}
 use Rattle.dbus_names.specs.Names.{is_empty}
 use Rattle.std.proofs.lemmas.Bool.{and_parts, leb-true}
 use Rattle.std.proofs.lemmas.List.{length-drop}
@@ -12,15 +15,12 @@ use Rattle.dbus_values.specs.Values.{Value, a_number, a_string, a_path, a_signat
 use Rattle.dbus_values.specs.Reading.{At, ◌>>=◌, when, past, some_bytes, all_zero, aligned, number_of, a_width, ended_by_nul, text_at, to_the_end, value_at, values_at, and_then_all}
 use Rattle.dbus_values.specs.Walk.{front_code}
 use Rattle.dbus_values.specs.Bodies.{IsBody, first_text_of, three_of, three_at, strings, list_in, texts_at, texts_in, texts_or_none, elements_in}
-use Rattle.dbus_values.proofs.ValueRead.{AreBytes, some_is, bind_case, when_is, some_bytes-takes, aligned-takes, width-takes, read_32}
+use Rattle.dbus_values.proofs.ValueRead.{bind_case, when_is, some_bytes-takes, aligned-takes, width-takes, read_32}
 use Rattle.dbus_values.proofs.ValueLaws.{then_is}
 use Rattle.dbus_values.proofs.ValueIs.{within-is}
 use Rattle.dbus_values.proofs.WalkLaws.{all_complete}
 use Rattle.dbus_values.proofs.Shifts.{shift, shifted, shifted_at, text-shift, texts-shift, elements-shift}
 use Rattle.dbus_values.specs.declared.Order.{Order}
-
-abbrev some : {A : Type 0} → A → Option A
-some x = Some x
 
 abbrev pub from_start : List ℕ → At
 from_start body = record { place = 0; bytes = body }
@@ -183,10 +183,10 @@ strings_read o (suc fuel) a vs e = go (is_empty a.bytes) (text_at o a) (λ b ws.
 
     go : (b : Bool) (x : Option (List ℕ × At)) → ((c : At) (ws : Values) → to_the_end (element o) fuel c ≡ Some ws → texts_at o fuel c ≡ Some (strings ws))
         → cond b (Some no_values) ((x >>= string_of) >>= valued) ≡ Some vs → cond b (Some []) (x >>= told) ≡ Some (strings vs)
-    go true x ih e = ap (λ (ws : Values). some (strings ws)) (some_is no_values vs e)
+    go true x ih e = ap (λ (ws : Values). some (strings ws)) (same_Some no_values vs e)
     go false None ih e = absurd cc
     go false (Some x) ih e = bind_case (to_the_end (element o) fuel x.1) (λ xs. some (value (a_string x.0) xs)) vs e (λ xs exs e1.
-        ap (λ (t : Option (List (List ℕ))). t >>= λ texts. some (x.0 ∷ texts)) (ih x.1 xs exs) ∙ ap (λ (ws : Values). some (strings ws)) (some_is (value (a_string x.0) xs) vs e1))
+        ap (λ (t : Option (List (List ℕ))). t >>= λ texts. some (x.0 ∷ texts)) (ih x.1 xs exs) ∙ ap (λ (ws : Values). some (strings ws)) (same_Some (value (a_string x.0) xs) vs e1))
 
 -- the texts of an array's elements
 pub record Listed (o : Order) (a : At) (values : List Value) : Type 0 where
@@ -236,7 +236,7 @@ list_in_body o body p types values are b =
     go : (f : Listed o (from p body) values) → (x : Option At) → shifted_at p x ≡ Some f.elements → elements_in o (from_start body) ≡ x → Listed o (from_start body) values
     go f None e i = absurd cc
     go f (Some c) e i =
-        let same : shift p c ≡ f.elements = some_is (shift p c) f.elements e in
+        let same : shift p c ≡ f.elements = same_Some (shift p c) f.elements e in
         let texts : texts_in o c ≡ texts_in o f.elements = sym (texts-shift o p (suc (length c.bytes)) c b.start) ∙ ap (texts_in o) same in
         record { elements = c; there = i; texts = texts ∙ f.texts; all = subst IsSome (sym texts) f.all }
 
@@ -254,7 +254,7 @@ aligned_len a b e = bind_case (some_bytes (padding 4 a.place) a) (λ x. when (al
 
 number_len : (o : Order) (a : At) (n : ℕ × At) → a_width o w32 a ≡ Some n → length n.1.bytes + 4 ≡ length a.bytes
 number_len o a n e = bind_case (some_bytes 4 a) (λ x. some {A = ℕ × At} (number_of o w32 x.0, x.1)) n e (λ x ex e1.
-    subst (λ (m : ℕ × At). length m.1.bytes + 4 ≡ length a.bytes) (some_is (number_of o w32 x.0, x.1) n e1) (taken_len 4 a x ex))
+    subst (λ (m : ℕ × At). length m.1.bytes + 4 ≡ length a.bytes) (same_Some (number_of o w32 x.0, x.1) n e1) (taken_len 4 a x ex))
 
 nul_len : (n : ℕ) (a : At) (x : List ℕ × At) → ended_by_nul n a ≡ Some x → length x.1.bytes ≤ length a.bytes
 nul_len n a x e = bind_case (some_bytes n a) (λ y. some_bytes 1 y.1 >>= λ z. when (all_zero z.0) (y.0, z.1)) x e (λ y ey e1.
@@ -321,7 +321,7 @@ pub is_listed : (o : Order) (body : List ℕ) (values : List Value) → Listed o
 is_listed o body values l = subst IsSome (sym l.there) refl
 
 same_elements : (o : Order) (body : List ℕ) (values : List Value) (l : Listed o (from_start body) values) (a : At) → Some a ≡ elements_in o (from_start body) → l.elements ≡ a
-same_elements o body values l a e = some_is l.elements a (sym l.there ∙ sym e)
+same_elements o body values l a e = same_Some l.elements a (sym l.there ∙ sym e)
 
 pub listed_all : (o : Order) (body : List ℕ) (values : List Value) → Listed o (from_start body) values → (a : At) → Some a ≡ elements_in o (from_start body) → IsSome (texts_in o a)
 listed_all o body values l a e = subst (λ (b : At). IsSome (texts_in o b)) (same_elements o body values l a e) l.all
@@ -337,5 +337,5 @@ listed_texts o body values l a e =
 pub text_passed : (o : Order) (a : At) (x : List ℕ × At) → is_empty a.bytes ≡ false → IsSome (texts_in o a) → Some x ≡ text_at o a → IsSome (texts_in o x.1) × (texts_or_none (texts_in o x.1) ≡ drop 1 (texts_or_none (texts_in o a)))
 text_passed o a x left all e =
     let n = next_text o a left all in
-    let same : n.text ≡ x = some_is n.text x (sym n.there ∙ sym e) in
+    let same : n.text ≡ x = same_Some n.text x (sym n.there ∙ sym e) in
     subst (λ (y : List ℕ × At). IsSome (texts_in o y.1) × (texts_or_none (texts_in o y.1) ≡ drop 1 (texts_or_none (texts_in o a)))) same (n.others, sym (ap (drop 1) n.first))

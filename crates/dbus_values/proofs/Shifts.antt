@@ -7,6 +7,7 @@ use Rattle.dbus_values.specs.Values.{padding, is_text}
 use Rattle.dbus_values.specs.Reading.{At, ◌>>=◌, when, some_bytes, all_zero, aligned, number_of, a_width, ended_by_nul, text_at}
 use Rattle.dbus_values.specs.Bodies.{texts_at, elements_in}
 use Rattle.dbus_values.specs.declared.Order.{Order}
+use Rattle.dbus_values.proofs.TextBytes.{if_text}
 
 abbrev pub shift : ℕ → At → At
 shift p a = record { place = p + a.place; bytes = a.bytes }
@@ -83,9 +84,6 @@ nul-shift p n a = ap (λ (x : Option (List ℕ × At)). x >>= ended) (some_bytes
     go (Some x) = ap (λ (y : Option (List ℕ × At)). y >>= if_nul x.0) (some_bytes-shift p 1 x.1) ∙ nul x.0 (some_bytes 1 x.1)
 
 -- ---- texts
-
-abbrev if_text : List ℕ × At → Option (List ℕ × At)
-if_text x = when (is_text x.0) x
 
 pub text-shift : (o : Order) (p : ℕ) (a : At) → p % 8 ≡ 0 → text_at o (shift p a) ≡ shifted p (text_at o a)
 text-shift o p a e = ap (λ (s : Option At). s >>= λ b. a_width o w32 b >>= λ n. ended_by_nul n.0 n.1 >>= if_text) (aligned-shift p a e) ∙ start (aligned 4 a)

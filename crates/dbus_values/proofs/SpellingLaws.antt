@@ -1,11 +1,11 @@
 -- Spelling and reading are each other's opposite, by the limits of messages.
 use Rattle.std.proofs.Common.{◌≡◌, ℕ, ◌+◌, true, List, ◌++◌, length, Option, Some, None, sym, ap, ◌∙◌, arith}
 use Rattle.std.proofs.lemmas.Bool.{leb-true, le-leb}
+use Rattle.byte_lists.specs.Bytes.{AreBytes}
 use Rattle.dbus_types.specs.Signature.{Complete, is_complete}
 use Rattle.dbus_values.specs.Values.{Value, type_of, spelled, is_value, is_within, depth}
 use Rattle.dbus_values.specs.Reading.{At, value_at, value_within}
 use Rattle.dbus_values.specs.Ends.{IsSpelled, NoneSpelled}
-use Rattle.dbus_values.proofs.ValueRead.{AreBytes}
 use Rattle.dbus_values.proofs.ValueIs.{within-is}
 use Rattle.dbus_values.proofs.ValueAgain.{plain, again, element_type}
 use Rattle.dbus_values.specs.declared.Order.{Order}

@@ -1,29 +1,19 @@
 -- Texts by their bytes: ASCII other than NUL is one, and so is a path.
-use Rattle.std.proofs.Common.{◌≡◌, ℕ, zero, suc, ◌<◌, ◌^◌, Bool, true, false, List, [], ◌∷◌, length, Option, Some, None, refl, sym, ap, subst, ◌∙◌, arith, rules}
+use Rattle.std.proofs.Common.{◌≡◌, ℕ, ◌<◌, ◌^◌, Bool, true, false, List, length, Option, Some, None, refl, sym, ap, subst, ◌∙◌, rules}
 use Rattle.std.specs.Prelude.{◌&&◌, nat_lt, IsSome}
 use Rattle.std.specs.List.{list_all}
 use Rattle.std.specs.Int.{w32}
-use Rattle.std.specs.Str.{is_utf8, IsAscii, IsUtf8}
+use Rattle.std.specs.Str.{is_utf8, IsUtf8}
 use Rattle.std.proofs.lemmas.Str.{IsUtf8-from_ascii, is_utf8-from_IsUtf8, IsUtf8-from_is_utf8}
-use Rattle.std.proofs.lemmas.Bool.{and_parts, and_from, ltb-true, lt-ltb}
+use Rattle.std.proofs.lemmas.Bool.{and_parts, and_from, lt-ltb}
 use Rattle.dbus_names.specs.Names.{is_ascii_text_byte, is_path}
 use Rattle.dbus_names.proofs.NameBytes.{is_path-ascii}
+use Rattle.dbus_names.proofs.Texts.{no_nul, is_ascii}
 use Rattle.dbus_values.specs.Values.{is_text}
 use Rattle.dbus_values.specs.Reading.{At, ◌>>=◌, when, aligned, a_width, ended_by_nul, text_at}
 use Rattle.dbus_values.specs.Counted.{counted_at}
 use Rattle.dbus_values.specs.Walk.{walk_path}
 use Rattle.dbus_values.specs.declared.Order.{Order}
-
-no_nul : (text : List ℕ) → list_all is_ascii_text_byte text ≡ true → list_all (nat_lt 0) text ≡ true
-no_nul [] e = refl
-no_nul (c ∷ text) e =
-    let h = and_parts (is_ascii_text_byte c) (list_all is_ascii_text_byte text) e in
-    and_from (nat_lt 0 c) _ (and_parts (nat_lt 0 c) (nat_lt c 128) h.0).0 (no_nul text h.1)
-
-is_ascii : (text : List ℕ) → list_all is_ascii_text_byte text ≡ true → IsAscii text
-is_ascii [] e i = omega arith
-is_ascii (c ∷ text) e zero = ltb-true c 128 (and_parts (nat_lt 0 c) (nat_lt c 128) (and_parts (is_ascii_text_byte c) (list_all is_ascii_text_byte text) e).0).1
-is_ascii (c ∷ text) e (suc i) = is_ascii text (and_parts (is_ascii_text_byte c) (list_all is_ascii_text_byte text) e).1 i
 
 pub ascii_is_text : (text : List ℕ) → length text < 2 ^ 32 → list_all is_ascii_text_byte text ≡ true → is_text text ≡ true
 ascii_is_text text short e =
@@ -51,7 +41,7 @@ utf8_false text n = go (is_utf8 text) refl
 
 -- ---- a string's bytes, and what they have to be
 
-abbrev if_text : List ℕ × At → Option (List ℕ × At)
+abbrev pub if_text : List ℕ × At → Option (List ℕ × At)
 if_text x = when (is_text x.0) x
 
 text_at-counted : (o : Order) (at : At) → text_at o at ≡ (counted_at o at >>= if_text)

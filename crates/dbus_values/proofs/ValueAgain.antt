@@ -5,16 +5,15 @@ use Rattle.std.specs.List.{list_all}
 use Rattle.std.specs.Int.{w32, byte_len}
 use Rattle.std.proofs.lemmas.List.{length-append, length-replicate, append-nil}
 use Rattle.std.proofs.lemmas.Bool.{and_parts, ltb-true, le-leb, leb-true}
+use Rattle.byte_lists.proofs.Bytes.{bytes_eq-true, not_empty}
+use Rattle.byte_lists.proofs.Options.{some}
 use Rattle.dbus_names.specs.Names.{is_path, is_empty}
 use Rattle.dbus_types.specs.Signature.{Number, byte, boolean, int16, uint16, int32, uint32, int64, uint64, double, handle, number, string, path, signature, Complete, basic, variant, array, struct, entry, spelled_type, spelled_types, is_signature, is_complete, is_element_type, are_complete, is_basic, is_shallow}
 use Rattle.dbus_values.specs.Values.{Value, a_number, a_string, a_path, a_signature, a_variant, an_array, a_struct, an_entry, Values, no_values, value, type_of, types_of, width, alignment, padding, zeros, number_bytes, counted, spelled, spelled_all, spelled_signature, elements_place, depth, depths, is_text, limit, has_type, have_type, is_value, are_values}
 use Rattle.dbus_values.specs.Reading.{At, ◌>>=◌, to_the_end, each_of, element_at, value_by, value_within}
 use Rattle.dbus_types.proofs.SignatureLaws.{spelled_types_is}
-use Rattle.dbus_values.proofs.ValueLaws.{at, wide, wide_32, some_bytes_front, aligned_front, width_front, then_is, when_true, ends_at, text_front, signature_front, bytes_eq-true}
+use Rattle.dbus_values.proofs.ValueLaws.{at, wide, wide_32, some_bytes_front, aligned_front, width_front, then_is, when_true, ends_at, text_front, signature_front}
 use Rattle.dbus_values.specs.declared.Order.{Order}
-
-abbrev some : {A : Type 0} → A → Option A
-some x = Some x
 
 -- ---- small facts
 
@@ -196,10 +195,6 @@ elements_step t v vs k fuel o p ih =
     let there : is_empty (first ++ more) ≡ false = not_empty (first ++ more) (omega (arith, length-append first more, spelled_pos v o p)) in
     ap (λ (b : Bool). cond b (some no_values) (element_at (value_within k o) t (at p (first ++ more)) >>= λ x. to_the_end (element_at (value_within k o) t) fuel x.1 >>= λ xs. some (value x.0 xs))) there
     ∙ then_is _ _ _ _ ih.0 (then_is _ _ _ _ ih.1 refl)
-  where
-    not_empty : (xs : List ℕ) → 0 < length xs → is_empty xs ≡ false
-    not_empty [] h = absurd (omega (arith, h))
-    not_empty (x ∷ xs) h = refl
 
 pub one_complete : (t : Complete) → is_signature (t ∷ []) ≡ true → is_complete t ≡ true
 one_complete t s =

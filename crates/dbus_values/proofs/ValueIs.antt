@@ -1,14 +1,17 @@
 -- Each value that is read is of the type, is within the limits, and is spelled by what was taken.
 use Rattle.std.proofs.Common.{◌≡◌, ℕ, zero, suc, ◌+◌, ◌^◌, ◌<◌, ◌≤◌, Bool, true, false, cond, List, [], ◌∷◌, ◌++◌, length, Option, Some, refl, sym, ap, subst, ◌∙◌, append_assoc, arith}
-use Rattle.std.specs.Prelude.{◌&&◌, ◌==◌, nat_lt, nat_le, bytes_eq}
+use Rattle.std.specs.Prelude.{◌&&◌, nat_lt, nat_le, bytes_eq}
 use Rattle.std.specs.Int.{w32, byte_len}
 use Rattle.std.proofs.lemmas.List.{length-replicate}
-use Rattle.std.proofs.lemmas.Bool.{and_parts, and_from, le-leb, leb-true, eq-eqb}
+use Rattle.std.proofs.lemmas.Bool.{and_parts, and_from, le-leb, leb-true}
+use Rattle.std.proofs.lemmas.Option.{same_Some}
+use Rattle.byte_lists.proofs.Bytes.{bytes_eq-refl, empty_is}
+use Rattle.byte_lists.specs.Bytes.{AreBytes}
 use Rattle.dbus_names.specs.Names.{is_path, is_empty}
 use Rattle.dbus_types.specs.Signature.{Number, number, string, path, signature, Complete, basic, variant, array, struct, entry, Completes, no_types, and, spelled_type, is_signature, is_complete, is_element_type, are_complete, is_basic}
 use Rattle.dbus_values.specs.Values.{Value, a_number, a_string, a_path, a_signature, a_variant, an_array, a_struct, an_entry, Values, no_values, value, type_of, types_of, width, alignment, padding, zeros, number_bytes, spelled, spelled_all, spelled_signature, elements_place, depth, depths, limit, has_type, have_type, is_value, are_values}
 use Rattle.dbus_values.specs.Reading.{At, ◌>>=◌, when, some_bytes, aligned, a_width, text_at, signature_at, to_the_end, each_of, one_type, element_at, value_by, value_within}
-use Rattle.dbus_values.proofs.ValueRead.{AreBytes, Takes, takes_then, takes_as, some_is, bind_case, when_is, some_bytes-takes, aligned-takes, read_32, read_width, width-takes, text-takes, signature-takes}
+use Rattle.dbus_values.proofs.ValueRead.{Takes, takes_then, takes_as, bind_case, when_is, some_bytes-takes, aligned-takes, read_32, read_width, width-takes, text-takes, signature-takes, nothing_taken}
 use Rattle.dbus_values.proofs.ValueLaws.{wide_32}
 use Rattle.dbus_values.proofs.ValueAgain.{basic_complete, one_complete}
 use Rattle.dbus_values.specs.declared.Order.{Order}
@@ -23,6 +26,14 @@ pub record Spelt (o : Order) (k : ℕ) (t : Complete) (a : At) (x : Value × At)
 -- a reader that reads so
 abbrev pub Reads : Order → ℕ → (Complete → At → Option (Value × At)) → Type 0
 Reads o k inner = (t : Complete) (a : At) (x : Value × At) → is_complete t ≡ true → AreBytes a.bytes → inner t a ≡ Some x → Spelt o k t a x
+
+pub one_type_is : (ts : List Complete) (t : Complete) → one_type ts ≡ Some t → ts ≡ t ∷ []
+one_type_is [] t e = absurd cc
+one_type_is (u ∷ []) t e = ap (λ (w : Complete). w ∷ []) (same_Some u t e)
+one_type_is (u ∷ w ∷ ts) t e = absurd cc
+
+place_is : (p n q : ℕ) (zs : List ℕ) → q ≡ p + length zs → length zs ≡ n → q ≡ p + n
+place_is p n q zs e f = omega arith
 
 module _ (o : Order) (k : ℕ) (inner : Complete → At → Option (Value × At)) (reads : Reads o k inner) where
   number_is : (n : Number) (a : At) (x : Value × At) → AreBytes a.bytes → value_by o inner (basic (number n)) a ≡ Some x → Spelt o (suc k) (basic (number n)) a x
@@ -39,7 +50,7 @@ module _ (o : Order) (k : ℕ) (inner : Complete → At → Option (Value × At)
   string_is a x h e =
       bind_case (text_at o a) (λ y. Some (a_string y.0, y.1)) x e (λ y ey e1.
       let t = text-takes o a y h ey in
-      subst (λ (z : Value × At). Spelt o (suc k) (basic string) a z) (some_is (a_string y.0, y.1) x e1)
+      subst (λ (z : Value × At). Spelt o (suc k) (basic string) a z) (same_Some (a_string y.0, y.1) x e1)
       (record { type = refl; deep = omega arith; sound = t.1; takes = t.0 }))
 
   path_is : (a : At) (x : Value × At) → AreBytes a.bytes → value_by o inner (basic path) a ≡ Some x → Spelt o (suc k) (basic path) a x
@@ -54,13 +65,8 @@ module _ (o : Order) (k : ℕ) (inner : Complete → At → Option (Value × At)
   signature_is a x h e =
       bind_case (signature_at a) (λ y. Some (a_signature y.0, y.1)) x e (λ y ey e1.
       let t = signature-takes a y h ey in
-      subst (λ (z : Value × At). Spelt o (suc k) (basic signature) a z) (some_is (a_signature y.0, y.1) x e1)
+      subst (λ (z : Value × At). Spelt o (suc k) (basic signature) a z) (same_Some (a_signature y.0, y.1) x e1)
       (record { type = refl; deep = omega arith; sound = t.1; takes = t.0 }))
-
-  one_is : (ts : List Complete) (t : Complete) → one_type ts ≡ Some t → ts ≡ t ∷ []
-  one_is [] t e = absurd cc
-  one_is (u ∷ []) t e = ap (λ (w : Complete). w ∷ []) (some_is u t e)
-  one_is (u ∷ w ∷ ts) t e = absurd cc
 
   variant_joined : (a : At) (b : At) (y : Value × At) → Takes a (spelled_signature (type_of y.0 ∷ [])) b → is_signature (type_of y.0 ∷ []) ≡ true → Spelt o k (type_of y.0) b y → Spelt o (suc k) variant a (a_variant y.0, y.1)
   variant_joined a b y head ok s =
@@ -74,20 +80,17 @@ module _ (o : Order) (k : ℕ) (inner : Complete → At → Option (Value × At)
       bind_case (one_type ts.0) (λ t. inner t ts.1 >>= λ y. Some (a_variant y.0, y.1)) x e1 (λ t et e2.
       bind_case (inner t ts.1) (λ y. Some (a_variant y.0, y.1)) x e2 (λ y ey e3.
       let head = signature-takes a ts h ets in
-      let one = one_is ts.0 t et in
+      let one = one_type_is ts.0 t et in
       let complete : is_complete t ≡ true = one_complete t (ap is_signature (sym one) ∙ head.1) in
       let s = reads t ts.1 y complete head.0.are ey in
       let same : ts.0 ≡ type_of y.0 ∷ [] = one ∙ ap (λ (w : Complete). w ∷ []) (sym s.type) in
-      subst (λ (z : Value × At). Spelt o (suc k) variant a z) (some_is (a_variant y.0, y.1) x e3)
+      subst (λ (z : Value × At). Spelt o (suc k) variant a z) (same_Some (a_variant y.0, y.1) x e3)
       (variant_joined a ts.1 y (takes_as a ts.1 _ _ (ap spelled_signature same) head.0) (ap is_signature (sym same) ∙ head.1) (record { type = refl; deep = s.deep; sound = s.sound; takes = s.takes })))))
 
   -- ---- members one after the other
 
   abbrev EachSpelt : Completes → At → Values × At → Type 0
   EachSpelt ts a x = (types_of x.0 ≡ ts) × (depths x.0 < k) × (are_values o a.place x.0 ≡ true) × Takes a (spelled_all o a.place x.0) x.1
-
-  nothing_taken : (a : At) → AreBytes a.bytes → Takes a [] a
-  nothing_taken a h = record { bytes = refl; place = omega arith; are = h }
 
   both_joined : (a b c : At) (v : Value) (vs : Values) → is_value o a.place v ≡ true → Takes a (spelled o a.place v) b → are_values o b.place vs ≡ true → Takes b (spelled_all o b.place vs) c
       → (are_values o a.place (value v vs) ≡ true) × Takes a (spelled_all o a.place (value v vs)) c
@@ -98,7 +101,7 @@ module _ (o : Order) (k : ℕ) (inner : Complete → At → Option (Value × At)
       (and_from _ _ i sound, takes_then a b c (spelled o a.place v) (spelled_all o next vs) p more)
 
   each_is : (ts : Completes) (a : At) (x : Values × At) → 0 < k → are_complete ts ≡ true → AreBytes a.bytes → each_of inner ts a ≡ Some x → EachSpelt ts a x
-  each_is no_types a x pos c h e = subst (EachSpelt no_types a) (some_is (no_values, a) x e) (refl, pos, refl, nothing_taken a h)
+  each_is no_types a x pos c h e = subst (EachSpelt no_types a) (same_Some (no_values, a) x e) (refl, pos, refl, nothing_taken a h)
   each_is (and t ts) a x pos c h e = go (each_is ts)
     where
       go : ((b : At) (y : Values × At) → 0 < k → are_complete ts ≡ true → AreBytes b.bytes → each_of inner ts b ≡ Some y → EachSpelt ts b y) → EachSpelt (and t ts) a x
@@ -111,7 +114,7 @@ module _ (o : Order) (k : ℕ) (inner : Complete → At → Option (Value × At)
           let j = both_joined a y.1 ys.1 y.0 ys.0 s.sound s.takes r.2 r.3 in
           let types : types_of (value y.0 ys.0) ≡ and t ts = ap (λ (w : Complete). and w (types_of ys.0)) s.type ∙ ap (and t) r.0 in
           let deep : depths (value y.0 ys.0) < k = omega (arith, s.deep, r.1) in
-          subst (EachSpelt (and t ts) a) (some_is (value y.0 ys.0, ys.1) x e2) (types, deep, j.0, j.1)))
+          subst (EachSpelt (and t ts) a) (same_Some (value y.0 ys.0, ys.1) x e2) (types, deep, j.0, j.1)))
 
   struct_is : (t : Complete) (ts : Completes) (a : At) (x : Value × At) → is_complete (struct t ts) ≡ true → AreBytes a.bytes → value_by o inner (struct t ts) a ≡ Some x → Spelt o (suc k) (struct t ts) a x
   struct_is t ts a x c h e =
@@ -122,12 +125,9 @@ module _ (o : Order) (k : ℕ) (inner : Complete → At → Option (Value × At)
       let pad = aligned-takes 8 a s h es in
       let first = reads t s y u.0 pad.are ey in
       let others = each_is ts y.1 ys (omega (arith, first.deep)) u.1 first.takes.are eys in
-      subst (λ (z : Value × At). Spelt o (suc k) (struct t ts) a z) (some_is (a_struct y.0 ys.0, ys.1) x e3)
+      subst (λ (z : Value × At). Spelt o (suc k) (struct t ts) a z) (same_Some (a_struct y.0 ys.0, ys.1) x e3)
       (struct_joined t ts a s y ys pad first others))))
     where
-      place_is : (p n q : ℕ) (zs : List ℕ) → q ≡ p + length zs → length zs ≡ n → q ≡ p + n
-      place_is p n q zs e f = omega arith
-
       struct_joined : (t : Complete) (ts : Completes) (a s : At) (y : Value × At) (ys : Values × At) → Takes a (zeros 8 a.place) s → Spelt o k t s y → EachSpelt ts y.1 ys → Spelt o (suc k) (struct t ts) a (a_struct y.0 ys.0, ys.1)
       struct_joined t ts a s y ys pad first others =
           let j = both_joined s y.1 ys.1 y.0 ys.0 first.sound first.takes others.2 others.3 in
@@ -159,11 +159,8 @@ module _ (o : Order) (k : ℕ) (inner : Complete → At → Option (Value × At)
       let pad = aligned-takes 8 a s h es in
       let first = reads t s y (basic_complete t cs.0) pad.are ey in
       let second = reads u y.1 z cs.1 first.takes.are ez in
-      subst (λ (w : Value × At). Spelt o k (entry t u) a w) (some_is (an_entry y.0 z.0, z.1) x e3) (joined s y z pad first second))))
+      subst (λ (w : Value × At). Spelt o k (entry t u) a w) (same_Some (an_entry y.0 z.0, z.1) x e3) (joined s y z pad first second))))
     where
-      place_is : (p n q : ℕ) (zs : List ℕ) → q ≡ p + length zs → length zs ≡ n → q ≡ p + n
-      place_is p n q zs e f = omega arith
-
       joined : (s : At) (y z : Value × At) → Takes a (zeros 8 a.place) s → Spelt o k t s y → Spelt o k u y.1 z → Spelt o k (entry t u) a (an_entry y.0 z.0, z.1)
       joined s y z pad first second =
           let at_start : s.place ≡ a.place + padding 8 a.place = place_is a.place (padding 8 a.place) s.place (zeros 8 a.place) pad.place (length-replicate (padding 8 a.place) 0) in
@@ -190,16 +187,8 @@ module _ (o : Order) (k : ℕ) (inner : Complete → At → Option (Value × At)
   abbrev AllSpelt : Complete → At → Values → Type 0
   AllSpelt t a vs = (have_type t vs ≡ true) × (array_depth t vs < suc k) × (are_values o a.place vs ≡ true) × (a.bytes ≡ spelled_all o a.place vs)
 
-  bytes_eq-refl : (xs : List ℕ) → bytes_eq xs xs ≡ true
-  bytes_eq-refl [] = refl
-  bytes_eq-refl (x ∷ xs) = and_from (x == x) (bytes_eq xs xs) (eq-eqb x x refl) (bytes_eq-refl xs)
-
   has_type-is : (t : Complete) (v : Value) → type_of v ≡ t → has_type t v ≡ true
   has_type-is t v e = ap (λ (u : Complete). bytes_eq (spelled_type t) (spelled_type u)) e ∙ bytes_eq-refl (spelled_type t)
-
-  empty_is : (xs : List ℕ) → is_empty xs ≡ true → xs ≡ []
-  empty_is [] e = refl
-  empty_is (x ∷ xs) e = absurd cc
 
   deeper : (t : Complete) (v : Value) (vs : Values) → depth v < k → array_depth t vs < suc k → array_depth t (value v vs) < suc k
   deeper t v no_values p q = omega (arith, p)
@@ -210,7 +199,7 @@ module _ (o : Order) (k : ℕ) (inner : Complete → At → Option (Value × At)
   all_is (suc fuel) t a vs c h e = go (all_is fuel t) (is_empty a.bytes) refl e
     where
       go : ((b : At) (ws : Values) → is_element_type t ≡ true → AreBytes b.bytes → to_the_end (element_at inner t) fuel b ≡ Some ws → AllSpelt t b ws) → (d : Bool) → is_empty a.bytes ≡ d → cond d (Some no_values) (element_at inner t a >>= λ x. to_the_end (element_at inner t) fuel x.1 >>= λ xs. Some (value x.0 xs)) ≡ Some vs → AllSpelt t a vs
-      go ih true d e = subst (AllSpelt t a) (some_is no_values vs e) (refl, omega arith, refl, empty_is a.bytes d)
+      go ih true d e = subst (AllSpelt t a) (same_Some no_values vs e) (refl, omega arith, refl, empty_is a.bytes d)
       go ih false d e =
           bind_case (element_at inner t a) (λ x. to_the_end (element_at inner t) fuel x.1 >>= λ xs. Some (value x.0 xs)) vs e (λ x ex e1.
           bind_case (to_the_end (element_at inner t) fuel x.1) (λ xs. Some (value x.0 xs)) vs e1 (λ xs exs e2.
@@ -219,7 +208,7 @@ module _ (o : Order) (k : ℕ) (inner : Complete → At → Option (Value × At)
           let next = a.place + length (spelled o a.place x.0) in
           let sound : are_values o next xs ≡ true = subst (λ (p : ℕ). are_values o p xs ≡ true) s.takes.place r.2 in
           let bytes : x.1.bytes ≡ spelled_all o next xs = subst (λ (p : ℕ). x.1.bytes ≡ spelled_all o p xs) s.takes.place r.3 in
-          subst (AllSpelt t a) (some_is (value x.0 xs) vs e2) (and_from _ _ (has_type-is t x.0 s.type) r.0, deeper t x.0 xs s.deep r.1, and_from _ _ s.sound sound, s.takes.bytes ∙ ap (λ (z : List ℕ). spelled o a.place x.0 ++ z) bytes)))
+          subst (AllSpelt t a) (same_Some (value x.0 xs) vs e2) (and_from _ _ (has_type-is t x.0 s.type) r.0, deeper t x.0 xs s.deep r.1, and_from _ _ s.sound sound, s.takes.bytes ∙ ap (λ (z : List ℕ). spelled o a.place x.0 ++ z) bytes)))
 
   array_joined : (t : Complete) (a s f : At) (n : ℕ × At) (b : List ℕ × At) (vs : Values) → Takes a (zeros 4 a.place) s → Takes s (number_bytes o w32 n.0) n.1 → Takes n.1 (zeros (alignment t) n.1.place) f → Takes f b.0 b.1 → length b.0 ≡ n.0 → AllSpelt t (record { place = f.place; bytes = b.0 }) vs → n.0 ≤ 2 ^ 26 → is_element_type t ≡ true → Spelt o (suc k) (array t) a (an_array t vs, b.1)
   array_joined t a s f n b vs pad num gap body len all short c =

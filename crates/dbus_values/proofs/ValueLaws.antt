@@ -1,12 +1,13 @@
 -- A value that is spelled is read again, whatever follows: so a value has one reading, and no spelling begins another of its type.
 use Rattle.std.proofs.Common.{◌≡◌, ℕ, zero, suc, ◌+◌, ◌^◌, ◌<◌, Bool, true, false, cond, List, [], ◌∷◌, ◌++◌, length, take, replicate, Option, Some, None, refl, ap, ◌∙◌, append_assoc, arith}
-use Rattle.std.specs.Prelude.{not, ◌&&◌, ◌==◌, nat_lt, nat_le, bytes_eq, is_none}
+use Rattle.std.specs.Prelude.{not, ◌&&◌, nat_lt, nat_le, is_none}
 use Rattle.std.specs.Str.{is_utf8}
 use Rattle.std.specs.List.{list_all}
 use Rattle.std.specs.Int.{Width, w8, w16, w32, w64, byte_len}
 use Rattle.std.proofs.lemmas.List.{length-append, length-replicate, take_at, drop_at}
-use Rattle.std.proofs.lemmas.Bool.{and_parts, ltb-true, le-leb, leb-true, le-ltb, eqb-true}
+use Rattle.std.proofs.lemmas.Bool.{and_parts, ltb-true, le-leb, leb-true, le-ltb}
 use Rattle.std.proofs.lemmas.Nat.{from_le_bytes-to_le_bytes_2, from_be_bytes-to_be_bytes_2, from_le_bytes-to_le_bytes_4, from_be_bytes-to_be_bytes_4, from_le_bytes-to_le_bytes_8, from_be_bytes-to_be_bytes_8}
+use Rattle.byte_lists.proofs.Options.{some}
 use Rattle.dbus_types.specs.Signature.{Number, byte, boolean, int16, uint16, int32, uint32, int64, uint64, double, handle, Complete, spelled_types, is_signature, is_complete, is_shallow, types_of, fault_of_types, signature_fault, signature_of}
 use Rattle.dbus_types.proofs.SignatureLaws.{types_of-spelled_types}
 use Rattle.dbus_values.specs.Values.{width, padding, zeros, number_bytes, counted, is_text, spelled_signature}
@@ -18,9 +19,6 @@ use Rattle.dbus_values.specs.declared.Order.TheVariants.{Little, Big}
 
 abbrev pub at : ℕ → List ℕ → At
 at p bytes = record { place = p; bytes = bytes }
-
-abbrev some : {A : Type 0} → A → Option A
-some x = Some x
 
 -- ---- bytes
 
@@ -158,14 +156,6 @@ text_front o p text r ok =
     ∙ ends_at text (p + padding 4 p + 4 + length text + 1) (p + text_len o p text) r (omega (arith, text_len_is o p text)))))
 
 -- ---- signatures
-
-pub bytes_eq-true : (a b : List ℕ) → bytes_eq a b ≡ true → a ≡ b
-bytes_eq-true [] [] e = refl
-bytes_eq-true [] (y ∷ b) e = absurd cc
-bytes_eq-true (x ∷ a) [] e = absurd cc
-bytes_eq-true (x ∷ a) (y ∷ b) e =
-    let t = and_parts (x == y) (bytes_eq a b) e in
-    ap (λ (n : ℕ). n ∷ a) (eqb-true x y t.0) ∙ ap (λ (xs : List ℕ). y ∷ xs) (bytes_eq-true a b t.1)
 
 pub signature_of-spelled : (ts : List Complete) → is_signature ts ≡ true → signature_of (spelled_types ts) ≡ Some ts
 signature_of-spelled ts ok =

@@ -1,10 +1,13 @@
 -- What is read as a value is spelled so, each byte of it, and is within the limits.
-use Rattle.std.proofs.Common.{◌≡◌, ℕ, ◌+◌, ◌%◌, ◌<◌, ◌≤◌, Bool, true, false, List, [], ◌∷◌, ◌++◌, length, take, drop, get_or, replicate, Option, Some, None, refl, sym, ap, subst, ◌∙◌, append_assoc, arith, inl, inr}
+use Rattle.std.proofs.Common.{◌≡◌, ℕ, ◌+◌, ◌%◌, ◌≤◌, Bool, true, false, List, [], ◌∷◌, ◌++◌, length, take, replicate, Option, Some, None, refl, sym, ap, subst, ◌∙◌, append_assoc, arith}
 use Rattle.std.specs.Prelude.{◌==◌, nat_le}
 use Rattle.std.specs.Int.{Width, w8, w16, w32, w64, byte_len}
-use Rattle.std.proofs.lemmas.List.{length-append, length-take, length-take-le, take-append-drop, get_or-drop, get_or-take, get_or_past}
-use Rattle.std.proofs.lemmas.Bool.{and_parts, leb-true, eqb-true, cases_lt}
+use Rattle.std.proofs.lemmas.List.{length-append, length-take-le, take-append-drop}
+use Rattle.std.proofs.lemmas.Bool.{and_parts, leb-true, eqb-true}
 use Rattle.std.proofs.lemmas.Nat.{le_bytes_2, be_bytes_2, le_bytes_4, be_bytes_4, le_bytes_8, be_bytes_8}
+use Rattle.std.proofs.lemmas.Option.{same_Some}
+use Rattle.byte_lists.proofs.Bytes.{AreBytes-drop, AreBytes-take}
+use Rattle.byte_lists.specs.Bytes.{AreBytes}
 use Rattle.dbus_types.specs.Signature.{Number, byte, boolean, int16, uint16, int32, uint32, int64, uint64, double, handle, Complete, spelled_types, is_signature, signature_of}
 use Rattle.dbus_values.specs.Values.{width, padding, zeros, number_bytes, counted, is_text, spelled_signature}
 use Rattle.dbus_values.specs.Reading.{At, ◌>>=◌, when, past, some_bytes, all_zero, aligned, number_of, a_width, ended_by_nul, text_at, signature_at}
@@ -12,27 +15,14 @@ use Rattle.dbus_types.proofs.SignatureRead.{signature_of-is}
 use Rattle.dbus_values.specs.declared.Order.{Order}
 use Rattle.dbus_values.specs.declared.Order.TheVariants.{Little, Big}
 
-abbrev some : {A : Type 0} → A → Option A
-some x = Some x
-
--- each is a byte
-abbrev pub AreBytes : List ℕ → Type 0
-AreBytes bytes = (i : ℕ) → get_or bytes i 0 < 256
-
-pub AreBytes-drop : (n : ℕ) (bytes : List ℕ) → AreBytes bytes → AreBytes (drop n bytes)
-AreBytes-drop n bytes h i = rw get_or-drop (h (n + i))
-
-pub AreBytes-take : (n : ℕ) (bytes : List ℕ) → AreBytes bytes → AreBytes (take n bytes)
-AreBytes-take n bytes h i = elim (cases_lt i n) [
-  | inl lt ↦ rw (get_or-take n bytes i 0 lt) (h i)
-  | inr le ↦ rw (get_or_past (take n bytes) i 0 (omega (arith, length-take n bytes))) (omega arith)
-]
-
 -- from a to b stand these bytes
 pub record Takes (a : At) (text : List ℕ) (b : At) : Type 0 where
   pub bytes : a.bytes ≡ text ++ b.bytes
   pub place : b.place ≡ a.place + length text
   pub are : AreBytes b.bytes
+
+pub nothing_taken : (a : At) → AreBytes a.bytes → Takes a [] a
+nothing_taken a h = record { bytes = refl; place = omega arith; are = h }
 
 pub takes_then : (a b c : At) (x y : List ℕ) → Takes a x b → Takes b y c → Takes a (x ++ y) c
 takes_then a b c x y p q = record {
@@ -46,15 +36,12 @@ takes_as a b x y e p = subst (λ (t : List ℕ). Takes a t b) e p
 
 -- ---- steps of a reading
 
-pub some_is : {A : Type 0} (x y : A) → some x ≡ some y → x ≡ y
-some_is x y e = cc
-
 pub bound : {A B : Type 0} (o : Option A) (f : A → Option B) (y : B) → (o >>= f) ≡ Some y → (x : A) × (o ≡ Some x) × (f x ≡ Some y)
 bound None f y e = absurd cc
 bound (Some x) f y e = (x, refl, e)
 
 pub when_is : {A : Type 0} (b : Bool) (x y : A) → when b x ≡ Some y → (b ≡ true) × (x ≡ y)
-when_is true x y e = (refl, some_is x y e)
+when_is true x y e = (refl, same_Some x y e)
 when_is false x y e = absurd cc
 
 -- ---- bytes
@@ -136,7 +123,7 @@ width-takes o w a x h are e =
     let s = bound (some_bytes (byte_len w) a) (λ y. Some (number_of o w y.0, y.1)) x e in
     let t = some_bytes-takes (byte_len w) a s.0 are s.1 in
     let all : Takes a (number_bytes o w (number_of o w s.0.0)) s.0.1 = takes_as a s.0.1 s.0.0 _ (sym (h.back o s.0.0 t.1 t.2)) t.0 in
-    subst (λ (y : ℕ × At). Takes a (number_bytes o w y.0) y.1) (some_is (number_of o w s.0.0, s.0.1) x s.2) all
+    subst (λ (y : ℕ × At). Takes a (number_bytes o w y.0) y.1) (same_Some (number_of o w s.0.0, s.0.1) x s.2) all
 
 -- ---- texts
 
@@ -195,4 +182,4 @@ signature-takes a x h e =
     let first = width-takes Little w8 a n read_8 h en in
     let text = nul-takes n.0 n.1 y first.are ey in
     let is = signature_of-is y.0 ts et in
-    subst (SignatureTaken a) (some_is (ts, y.1) x e3) (signature-joined a n y ts first text.0 text.1 is.0 is.1))))
+    subst (SignatureTaken a) (same_Some (ts, y.1) x e3) (signature-joined a n y ts first text.0 text.1 is.0 is.1))))

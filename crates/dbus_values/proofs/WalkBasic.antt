@@ -3,6 +3,8 @@ use Rattle.std.proofs.Common.{◌≡◌, ℕ, ◌<◌, ◌^◌, Bool, true, fals
 use Rattle.std.specs.Prelude.{nat_lt, get_or, is_none}
 use Rattle.std.specs.Int.{w8, w16, w32, w64, byte_len}
 use Rattle.std.proofs.lemmas.Bool.{lt-ltb}
+use Rattle.byte_lists.specs.Bytes.{AreBytes}
+use Rattle.byte_lists.proofs.Options.{some}
 use Rattle.dbus_names.specs.Names.{is_path}
 use Rattle.dbus_types.specs.Signature.{Number, byte, boolean, int16, uint16, int32, uint32, int64, uint64, double, handle, number, string, path, signature, Complete, basic, spelled_types, types_of, fault_of_types, signature_fault, signature_of}
 use Rattle.dbus_types.specs.declared.BadSignature.TheVariants.{TooLong}
@@ -10,12 +12,9 @@ use Rattle.dbus_types.proofs.SignatureRead.{spelled_types-types_of}
 use Rattle.dbus_values.specs.Values.{Value, a_number, a_string, a_path, a_signature, width, limit}
 use Rattle.dbus_values.specs.Reading.{At, ◌>>=◌, when, some_bytes, aligned, number_of, a_width, ended_by_nul, text_at, signature_at, value_by}
 use Rattle.dbus_values.specs.Walk.{walk_number, walk_boolean, walk_text, walk_path, walk_signature, read_signature, with_types}
-use Rattle.dbus_values.proofs.ValueRead.{AreBytes, some_bytes-takes, aligned-takes}
+use Rattle.dbus_values.proofs.ValueRead.{some_bytes-takes, aligned-takes}
 use Rattle.dbus_values.specs.declared.Order.{Order}
 use Rattle.dbus_values.specs.declared.Order.TheVariants.{Little, Big}
-
-abbrev some : {A : Type 0} → A → Option A
-some x = Some x
 
 -- the types that follow, and where a value ended that was read
 abbrev pub ends : List ℕ → Option (Value × At) → Option (List ℕ × At)

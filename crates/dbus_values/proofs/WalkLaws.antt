@@ -5,6 +5,10 @@ use Rattle.std.specs.Int.{w32, byte_len}
 use Rattle.std.specs.List.{list_all}
 use Rattle.std.proofs.lemmas.List.{length-append, length-drop, length-replicate}
 use Rattle.std.proofs.lemmas.Bool.{and_parts, lt-ltb, le-leb, eq-eqb, ne_eqb, leb-true, leb-false, eqb-true, eqb-false}
+use Rattle.std.proofs.lemmas.Option.{same_Some}
+use Rattle.byte_lists.proofs.Bytes.{AreBytes-drop, empty_len, not_empty, not_empty_len}
+use Rattle.byte_lists.specs.Bytes.{AreBytes}
+use Rattle.byte_lists.proofs.Options.{some}
 use Rattle.dbus_names.specs.Names.{is_empty}
 use Rattle.dbus_types.specs.Signature.{Number, byte, boolean, int16, uint16, int32, uint32, int64, uint64, double, handle, number, string, path, signature, Complete, basic, variant, array, struct, entry, Completes, no_types, and, spelled_type, spelled_members, spelled_types, is_complete, is_element_type, are_complete, is_basic, is_signature, is_shallow, signature_fault, fault_of_types}
 use Rattle.dbus_types.specs.declared.BadSignature.TheVariants.{TooLong, Form, Depth}
@@ -15,15 +19,12 @@ use Rattle.dbus_values.specs.Values.{Value, a_variant, an_array, a_struct, an_en
 use Rattle.dbus_values.specs.Reading.{At, ◌>>=◌, when, some_bytes, all_zero, aligned, a_width, signature_at, to_the_end, each_of, one_type, element_at, value_by, value_within, value_at, values_at, and_then_all}
 use Rattle.dbus_values.specs.Ends.{end_of, values_end}
 use Rattle.dbus_values.specs.Walk.{Walk, alignment_by, front_code, behind_entry, walk_entry, walk_element, has_more, walk_to_end, numbers_fill, elements_fill, walk_array, walk_members, walk_struct, walk_variant, with_types, walk_by, walk_within, walk_types, walked, end_at}
-use Rattle.dbus_values.proofs.ValueRead.{AreBytes, AreBytes-drop, some_bytes-takes, aligned-takes, width-takes, signature-takes, read_32, some_is}
+use Rattle.dbus_values.proofs.ValueRead.{some_bytes-takes, aligned-takes, width-takes, signature-takes, read_32}
 use Rattle.dbus_values.proofs.ValueIs.{elem_is, within-is}
 use Rattle.dbus_values.proofs.ValueAgain.{basic_complete}
 use Rattle.dbus_values.proofs.WalkBasic.{ends, ended, with_ended, IsFree, number_ended, boolean_ended, text_ended, path_ended, signature_ended, respelled, signature_respelled}
 use Rattle.dbus_values.specs.declared.Order.{Order}
 use Rattle.dbus_values.specs.declared.BadValue.{BadValue}
-
-abbrev some : {A : Type 0} → A → Option A
-some x = Some x
 
 -- ---- the codes in front
 
@@ -194,14 +195,6 @@ numbers_to_end : (o : Order) (j : ℕ) (n : Number) → IsFree n → (fuel : ℕ
 numbers_to_end o j n free zero a l h p = absurd (omega (arith, l))
 numbers_to_end o j n free (suc fuel) a l h p = go (is_empty a.bytes) refl (numbers_to_end o j n free fuel)
   where
-    empty_len : (xs : List ℕ) → is_empty xs ≡ true → length xs ≡ 0
-    empty_len [] e = refl
-    empty_len (x ∷ xs) e = absurd cc
-
-    some_len : (xs : List ℕ) → is_empty xs ≡ false → 0 < length xs
-    some_len [] e = absurd cc
-    some_len (x ∷ xs) e = omega arith
-
     valued : (v : Value) (xs : Option Values) → is_some (xs >>= λ ys. Some (value v ys)) ≡ is_some xs
     valued v None = refl
     valued v (Some xs) = refl
@@ -218,7 +211,7 @@ numbers_to_end o j n free (suc fuel) a l h p = go (is_empty a.bytes) refl (numbe
     item true t pos (Some x) e ih =
         let w = byte_len (width n) in
         let next : At = record { place = a.place + w; bytes = drop w a.bytes } in
-        let is : x.1 ≡ next = some_is x.1 next e in
+        let is : x.1 ≡ next = same_Some x.1 next e in
         let long : w ≤ length a.bytes = leb-true w (length a.bytes) t in
         valued x.0 (to_the_end (within_item (suc j) o n) fuel x.1)
         ∙ ap (λ (b : At). is_some (to_the_end (within_item (suc j) o n) fuel b)) is
@@ -234,7 +227,7 @@ numbers_to_end o j n free (suc fuel) a l h p = go (is_empty a.bytes) refl (numbe
         ∙ sym (eq-eqb (length a.bytes % byte_len (width n)) 0 (ap (λ (m : ℕ). m % byte_len (width n)) (empty_len a.bytes e) ∙ (fills n).none))
     go false e ih =
         ap (λ (b : Bool). is_some (cond b (Some no_values) (within_item (suc j) o n a >>= others))) e
-        ∙ item (nat_le (byte_len (width n)) (length a.bytes)) refl (some_len a.bytes e) (within_item (suc j) o n a) (number_stands o j n free a h p) ih
+        ∙ item (nat_le (byte_len (width n)) (length a.bytes)) refl (not_empty_len a.bytes e) (within_item (suc j) o n a) (number_stands o j n free a h p) ih
 
 numbers_filled : (o : Order) (k : ℕ) (n : Number) → IsFree n → (a : At) → AreBytes a.bytes → padding (byte_len (width n)) a.place ≡ 0
     → numbers_fill k (byte_len (width n)) a.bytes ≡ is_some (to_the_end (within_item k o n) (suc (length a.bytes)) a)
@@ -248,10 +241,6 @@ numbers_filled o (suc j) n free a h p =
     ∙ either (is_empty a.bytes) refl
     ∙ sym (numbers_to_end o j n free (suc (length a.bytes)) a (omega arith) h p)
   where
-    empty_len : (xs : List ℕ) → is_empty xs ≡ true → length xs ≡ 0
-    empty_len [] e = refl
-    empty_len (x ∷ xs) e = absurd cc
-
     either : (b : Bool) → is_empty a.bytes ≡ b → (b || (length a.bytes % byte_len (width n) == 0)) ≡ (length a.bytes % byte_len (width n) == 0)
     either true e = sym (eq-eqb (length a.bytes % byte_len (width n)) 0 (ap (λ (m : ℕ). m % byte_len (width n)) (empty_len a.bytes e) ∙ (fills n).none))
     either false e = refl
@@ -422,12 +411,8 @@ module _ (o : Order) (k : ℕ) (walks : Walks k o) where
       alone (Some y) = refl
   one_of (t ∷ u ∷ ts) b s h = ap (λ (x : Option (List ℕ × At)). x >>= if_alone) (walks t (spelled_types (u ∷ ts)) b (first_complete t (u ∷ ts) s) h) ∙ more (inner t b)
     where
-      not_nothing : (xs : List ℕ) → 0 < length xs → is_empty xs ≡ false
-      not_nothing [] h = absurd (omega (arith, h))
-      not_nothing (x ∷ xs) h = refl
-
       left : is_empty (spelled_types (u ∷ ts)) ≡ false
-      left = not_nothing (spelled_types (u ∷ ts)) (omega (arith, length-append (spelled_type u) (spelled_types ts), type_len u))
+      left = not_empty (spelled_types (u ∷ ts)) (omega (arith, length-append (spelled_type u) (spelled_types ts), type_len u))
 
       more : (y : Option (Value × At)) → (ends (spelled_types (u ∷ ts)) y >>= if_alone) ≡ None
       more None = refl
@@ -551,10 +536,6 @@ value_walked (suc k) o t rest a c h = value_walks o k (value_walked k o) t rest 
 
 -- ---- values one after the other
 
-not_nothing : (xs : List ℕ) → 0 < length xs → is_empty xs ≡ false
-not_nothing [] h = absurd (omega (arith, h))
-not_nothing (x ∷ xs) h = refl
-
 same_sucs : (a b : ℕ) → (suc a == suc b) ≡ (a == b)
 same_sucs a b = go (a == b) refl
   where
@@ -574,7 +555,7 @@ types_walked o (t ∷ ts) (suc fuel) a c f h = go (types_walked o ts fuel)
     u = and_parts (is_complete t) (list_all is_complete ts) c
 
     there : is_empty (spelled_type t ++ spelled_types ts) ≡ false
-    there = not_nothing (spelled_type t ++ spelled_types ts) (omega (arith, type_len t, length-append (spelled_type t) (spelled_types ts)))
+    there = not_empty (spelled_type t ++ spelled_types ts) (omega (arith, type_len t, length-append (spelled_type t) (spelled_types ts)))
 
     step : ((b : At) → list_all is_complete ts ≡ true → length (spelled_types ts) < fuel → AreBytes b.bytes → end_at (walk_types (walk_within 65 o) fuel (spelled_types ts) b) ≡ end_of ts (values_at o ts b)) → (x : Option (Value × At)) → value_at o t a ≡ x
         → end_at (walked (ends (spelled_types ts) x) (spelled_type t ++ spelled_types ts, a) (walk_types (walk_within 65 o) fuel)) ≡ end_of (t ∷ ts) (and_then_all x a (λ v rest. values_at o ts rest))

@@ -12,6 +12,7 @@ mod texts;
 mod values;
 
 pub use laws::{read_values_are_spelled, spelled_values_are_read, unread_values_are_not_spelled};
+pub use steps::{is_zero, padding};
 pub use texts::{Texts, first_text, text_list, texts3};
 pub use values::value_end;
 

@@ -9,9 +9,10 @@ ghost use Rattle.dbus_values.specs.Alignments.{IsAlignment};
 use crate::Order;
 use crate::cursor::Cursor;
 
-/// How many bytes there are up to the next multiple of an alignment.
+/// How many bytes of padding stand at a place, up to the next multiple of an alignment (D-Bus Specification, "Type System",
+/// "Marshaling": a value begins at a multiple of its type's alignment, counted from the start of the message).
 #[inline]
-fn padding(alignment: usize, place: usize) -> usize
+pub fn padding(alignment: usize, place: usize) -> usize
     requires { IsAlignment alignment }
     ensures { result ≡ padding_to alignment place }
 {
@@ -23,9 +24,9 @@ fn padding(alignment: usize, place: usize) -> usize
     }
 }
 
-/// Whether all bytes are 0, as padding has to be.
+/// Whether all bytes are 0, as those of padding have to be (D-Bus Specification, "Type System", "Marshaling"). No bytes are.
 #[inline]
-fn is_zero(bytes: &[u8]) -> bool
+pub fn is_zero(bytes: &[u8]) -> bool
     ensures { result ≡ all_zero bytes.now }
 {
     let mut rest = bytes;

@@ -1,24 +1,24 @@
 -- What is cut from the ends of a text, and what a pattern covers by it.
-use Rattle.std.proofs.Common.{◌≡◌, ◌≢◌, ℕ, ◌+◌, ◌-◌, Bool, true, false, not, ◌&&◌, ◌||◌, nat_eq, List, [], ◌∷◌, ◌++◌, length, take, drop, Option, Some, None, if◌then◌else◌, option_map, MatchOption, Bor, refl, ap, sym, ◌∙◌, arith, length-append}
+use Rattle.std.proofs.Common.{◌≡◌, ℕ, ◌+◌, ◌-◌, Bool, true, false, not, ◌&&◌, ◌||◌, nat_eq, List, [], ◌∷◌, ◌++◌, length, take, drop, Option, Some, None, if◌then◌else◌, option_map, MatchOption, Bor, refl, ap, sym, ◌∙◌, arith, length-append}
 use Rattle.std.specs.Str.{bytes_eq}
 use Rattle.std.specs.Str.Pattern.{FindsTextSuffix}
 use Rattle.std.proofs.lemmas.Cmp.{nat_eq_equiv}
 use Rattle.std.proofs.lemmas.List.{take_at, drop_at, take-append-drop}
-use Rattle.std.proofs.lemmas.Slice.Eq.{bytes_eq-Decides}
-use Rattle.dbus_names.specs.Texts.{begins_with, has_end, without_last}
-use Rattle.name_patterns.specs.Cuts.{behind, before_end, rest_covered}
+use Rattle.byte_lists.proofs.Bytes.{bytes_eq-true, bytes_eq-refl}
+use Rattle.dbus_names.specs.Texts.{begins_with, has_end, without_last, behind}
+use Rattle.name_patterns.specs.Cuts.{before_end, rest_covered}
 
 -- ---- the end of a text
 
 pub ends : (end text : List ℕ) → has_end end text ≡ true → without_last (length end) text ++ end ≡ text
 ends end text e =
-    ap (λ (t : List ℕ). take (length text - length end) text ++ t) ((bytes_eq-Decides end (drop (length text - length end) text)).0 e)
+    ap (λ (t : List ℕ). take (length text - length end) text ++ t) (bytes_eq-true end (drop (length text - length end) text) e)
     ∙ take-append-drop (length text - length end) text
 
 pub at_end : (front end : List ℕ) → (has_end end (front ++ end) ≡ true) × (without_last (length end) (front ++ end) ≡ front)
 at_end front end =
     let len : length (front ++ end) - length end ≡ length front = omega (arith, length-append front end) in (
-      ap (λ (n : ℕ). bytes_eq end (drop n (front ++ end))) len ∙ ap (bytes_eq end) (drop_at front end (length front) refl) ∙ (bytes_eq-Decides end end).1 refl,
+      ap (λ (n : ℕ). bytes_eq end (drop n (front ++ end))) len ∙ ap (bytes_eq end) (drop_at front end (length front) refl) ∙ bytes_eq-refl end,
       ap (λ (n : ℕ). take n (front ++ end)) len ∙ take_at front end (length front) refl,
     )
 
@@ -35,30 +35,6 @@ before_end_is end text (Some x) is =
     let whole : text ≡ x.now ++ end = is.1.1 ∙ ap (λ (t : List ℕ). t ++ end) (sym is.2) in
     let both = at_end x.now end in
     sym (ap (before_end end) whole ∙ ap (λ b. if b then Some (without_last (length end) (x.now ++ end)) else None) both.0 ∙ ap Some both.1)
-
--- ---- the front of a text
-
-begins : (front text : List ℕ) → begins_with front text ≡ true → front ++ drop (length front) text ≡ text
-begins front text e =
-    ap (λ (t : List ℕ). t ++ drop (length front) text) ((bytes_eq-Decides front (take (length front) text)).0 e)
-    ∙ take-append-drop (length front) text
-
-at_front : (front rest : List ℕ) → (begins_with front (front ++ rest) ≡ true) × (drop (length front) (front ++ rest) ≡ rest)
-at_front front rest = (
-  ap (bytes_eq front) (take_at front rest (length front) refl) ∙ (bytes_eq-Decides front front).1 refl,
-  drop_at front rest (length front) refl,
-)
-
-pub behind_is : (front text : List ℕ) (r : Option (Bor (List ℕ))) → MatchOption r ((rest : List ℕ) → text ≢ front ++ rest) (λ x. text ≡ front ++ x.now)
-    → option_map (λ x. x.now) r ≡ behind front text
-behind_is front text None apart = sym (go (begins_with front text) refl)
-  where
-    go : (b : Bool) → begins_with front text ≡ b → (if b then Some (drop (length front) text) else None) ≡ None
-    go true h = absurd (apart _ (sym (begins front text h)))
-    go false h = refl
-behind_is front text (Some x) is =
-    let both = at_front front x.now in
-    sym (ap (behind front) is ∙ ap (λ b. if b then Some (drop (length front) (front ++ x.now)) else None) both.0 ∙ ap Some both.1)
 
 -- ---- what a pattern covers
 

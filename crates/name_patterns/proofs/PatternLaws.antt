@@ -1,14 +1,13 @@
 -- A pattern and the text that gives it.
-use Rattle.std.proofs.Common.{◌≡◌, ℕ, Bool, true, false, not, ◌&&◌, nat_eq, nat_le, List, [], ◌∷◌, ◌++◌, length, codes, Option, Some, None, if◌then◌else◌, refl, ap, sym, ◌∙◌}
+use Rattle.std.proofs.Common.{◌≡◌, ℕ, Bool, true, false, ◌&&◌, nat_eq, nat_le, List, [], ◌∷◌, ◌++◌, length, codes, Option, Some, None, if◌then◌else◌, refl, ap, sym, ◌∙◌}
 use Rattle.std.specs.List.{list_all, onto_first}
-use Rattle.std.proofs.lemmas.Bool.{and_from, and_parts}
-use Rattle.dbus_names.specs.Names.{are_joined, begins_with_digit, is_bus_byte, is_bus_element, is_empty, is_short, is_well_known, parts_at}
+use Rattle.std.proofs.lemmas.Bool.{and_parts}
+use Rattle.std.proofs.lemmas.Option.{same_Some}
+use Rattle.dbus_names.specs.Names.{are_joined, is_bus_byte, is_bus_element, is_short, is_well_known, parts_at}
 use Rattle.dbus_names.specs.Texts.{has_end, without_last}
+use Rattle.dbus_names.proofs.Texts.{elements-bytes}
 use Rattle.name_patterns.specs.Patterns.{Pattern, is_pattern, is_subtree_name, pattern_of, pattern_text}
 use Rattle.name_patterns.proofs.PatternCuts.{at_end, ends}
-
-same : (p q : Pattern) → Some p ≡ Some q → p ≡ q
-same p q e = cc
 
 -- what the tests on a text give
 abbrev by_tests : List ℕ → Bool → Bool → Bool → Option Pattern
@@ -22,9 +21,9 @@ pub pattern_of-is : (text : List ℕ) (p : Pattern) → pattern_of text ≡ Some
 pattern_of-is text p e = go (has_end (codes ".*") text) (is_subtree_name (without_last 2 text)) (is_well_known text) refl e
   where
     go : (starred below known : Bool) → has_end (codes ".*") text ≡ starred → by_tests text starred below known ≡ Some p → pattern_text p ≡ text
-    go true true known h e = ap pattern_text (sym (same (record { name = without_last 2 text; exact = false }) p e)) ∙ ends (codes ".*") text h
+    go true true known h e = ap pattern_text (sym (same_Some (record { name = without_last 2 text; exact = false }) p e)) ∙ ends (codes ".*") text h
     go true false known h e = absurd cc
-    go false below true h e = ap pattern_text (sym (same (record { name = text; exact = true }) p e))
+    go false below true h e = ap pattern_text (sym (same_Some (record { name = text; exact = true }) p e))
     go false below false h e = absurd cc
 
 -- what is read is a pattern
@@ -32,19 +31,12 @@ pub is_pattern-of : (text : List ℕ) (p : Pattern) → pattern_of text ≡ Some
 is_pattern-of text p e = go (has_end (codes ".*") text) (is_subtree_name (without_last 2 text)) (is_well_known text) refl refl e
   where
     go : (starred below known : Bool) → is_subtree_name (without_last 2 text) ≡ below → is_well_known text ≡ known → by_tests text starred below known ≡ Some p → is_pattern p ≡ true
-    go true true known h k e = ap is_pattern (sym (same (record { name = without_last 2 text; exact = false }) p e)) ∙ h
+    go true true known h k e = ap is_pattern (sym (same_Some (record { name = without_last 2 text; exact = false }) p e)) ∙ h
     go true false known h k e = absurd cc
-    go false below true h k e = ap is_pattern (sym (same (record { name = text; exact = true }) p e)) ∙ k
+    go false below true h k e = ap is_pattern (sym (same_Some (record { name = text; exact = true }) p e)) ∙ k
     go false below false h k e = absurd cc
 
 -- ---- no name ends in .*
-
-elements-bytes : (parts : List (List ℕ)) → list_all is_bus_element parts ≡ true → list_all (list_all is_bus_byte) parts ≡ true
-elements-bytes [] e = refl
-elements-bytes (part ∷ parts) e =
-    let both = and_parts (is_bus_element part) (list_all is_bus_element parts) e in
-    and_from (list_all is_bus_byte part) (list_all (list_all is_bus_byte) parts)
-    (and_parts (not (is_empty part) && not (begins_with_digit part)) (list_all is_bus_byte part) both.0).1 (elements-bytes parts both.1)
 
 star-parts : (front : List ℕ) → list_all (list_all is_bus_byte) (parts_at 46 (front ++ codes ".*")) ≡ false
 star-parts [] = refl

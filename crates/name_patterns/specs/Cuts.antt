@@ -1,10 +1,6 @@
--- What stands behind the front of a text, and what before its end.
-use Rattle.std.specs.Prelude.{ℕ, ◌==◌, Bool, true, false, not, ◌&&◌, List, [], ◌∷◌, length, drop, Option, Some, None, if◌then◌else◌}
-use Rattle.dbus_names.specs.Texts.{begins_with, has_end, without_last}
-
--- the text behind a front that it has
-abbrev pub behind : List ℕ → List ℕ → Option (List ℕ)
-behind front text = if begins_with front text then Some (drop (length front) text) else None
+-- What stands before the end of a text, and what a pattern covers by what stands behind its name.
+use Rattle.std.specs.Prelude.{ℕ, ◌==◌, Bool, true, false, not, ◌&&◌, List, [], ◌∷◌, length, Option, Some, None, if◌then◌else◌}
+use Rattle.dbus_names.specs.Texts.{has_end, without_last}
 
 -- the text before an end that it has
 abbrev pub before_end : List ℕ → List ℕ → Option (List ℕ)

@@ -7,7 +7,8 @@
 ghost use Rattle.std.specs.Prelude.{◌≡◌, ◌≤◌, true, None, Some, IfOk, IfErr, IsSome, option_map, codes, length};
 ghost use Rattle.std.specs.List.{list_all};
 ghost use Rattle.dbus_names.specs.Names.{are_joined, is_bus_byte as is_byte_of_name, is_bus_element};
-ghost use Rattle.name_patterns.specs.Cuts.{before_end, behind as behind_front, rest_covered};
+ghost use Rattle.dbus_names.specs.Texts.{behind as behind_front};
+ghost use Rattle.name_patterns.specs.Cuts.{before_end, rest_covered};
 ghost use Rattle.name_patterns.specs.Patterns.{covers as pattern_covers, is_pattern, is_subtree_name as is_name_of_subtree, pattern_of};
 ghost use Rattle.name_patterns.specs.declared.BadPattern.TheVariants.{Form, Memory};
 

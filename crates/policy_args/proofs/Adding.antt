@@ -12,9 +12,6 @@ use Rattle.policy_args.specs.declared.entry.Entry.{Entry}
 use Rattle.policy_args.specs.Policy.{Policy, policy_of, entry_word, is_given, with_entry}
 use Rattle.policy_args.specs.Steps.{with_one_more}
 
-map-last : {A B : Type 0} (f : A → B) (xs : List A) (y : A) → map f (xs ++ y ∷ []) ≡ map f xs ++ f y ∷ []
-map-last f xs y = map-append f xs (y ∷ [])
-
 list_any-map : {A B : Type 0} (test : B → Bool) (f : A → B) (xs : List A) → list_any test (map f xs) ≡ list_any (λ x. test (f x)) xs
 list_any-map test f [] = refl
 list_any-map test f (x ∷ xs) = ap (λ b. test (f x) || b) (list_any-map test f xs)
@@ -79,9 +76,9 @@ module _ {Z : Type 0} (keys : List (String Z)) (entries : List Entry) (policy : 
   words-added new-keys new k absent spelled inserted pushed =
       let not-there : list_any (string_eq k) keys ≡ false = ap (λ n. list_any (λ k. bytes_eq n (string_bytes k)) keys) spelled ∙ absent in
       let last : new-keys ≡ keys ++ k ∷ [] = inserted ∙ ap (λ b. if b then keys else keys ++ k ∷ []) not-there in
-      ap (map (λ k. string_bytes k)) last ∙ map-last (λ k. string_bytes k) keys k
+      ap (map (λ k. string_bytes k)) last ∙ map-append (λ k. string_bytes k) keys (k ∷ [])
       ∙ ap (λ n. map (λ k. string_bytes k) keys ++ n ∷ []) (spelled ∙ sym named) ∙ ap (λ ws. ws ++ entry_word e ∷ []) words
-      ∙ sym (map-last entry_word entries e) ∙ ap (map entry_word) (sym pushed)
+      ∙ sym (map-append entry_word entries (e ∷ [])) ∙ ap (map entry_word) (sym pushed)
 
   pub few-entries : (new : List Entry) → length entries < 65535 → new ≡ entries ++ e ∷ [] → length new ≤ 65535
   few-entries new room pushed = subst (λ es. length es ≤ 65535) (sym pushed) (omega (arith, one_longer))

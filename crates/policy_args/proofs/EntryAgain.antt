@@ -4,7 +4,8 @@ use Rattle.std.specs.Prelude.{codes, not, ◌==◌, ◌||◌, ◌&&◌, ◌⊎�
 use Rattle.std.specs.List.{list_all, list_any, onto_first, before_first, after_first, position_or_len}
 use Rattle.std.proofs.lemmas.List.{take_at}
 use Rattle.std.proofs.lemmas.Bool.{and_parts, and_from, eqb-true}
-use Rattle.dbus_names.specs.Names.{are_joined, begins_with_digit, is_bus_byte, is_bus_element, is_empty, is_short, is_well_known, parts_at}
+use Rattle.dbus_names.specs.Names.{are_joined, is_bus_byte, is_bus_element, is_short, is_well_known, parts_at}
+use Rattle.dbus_names.proofs.Texts.{elements-bytes}
 use Rattle.name_patterns.specs.Patterns.{Pattern, is_pattern, is_subtree_name, pattern_of, pattern_text}
 use Rattle.name_patterns.proofs.PatternLaws.{pattern_of-text}
 use Rattle.call_rules.specs.Rules.{Rule, rule_of}
@@ -37,13 +38,6 @@ element_other : (text : List ℕ) → list_all is_bus_byte text ≡ true → lis
 element_other [] e = refl
 element_other (c ∷ text) e = let a = and_parts (is_bus_byte c) (list_all is_bus_byte text) e in and_from (is_other c) (list_all is_other text) (bus_byte c a.0) (element_other text a.1)
 
-elements_bytes : (parts : List (List ℕ)) → list_all is_bus_element parts ≡ true → list_all (list_all is_bus_byte) parts ≡ true
-elements_bytes [] e = refl
-elements_bytes (part ∷ parts) e =
-    let a = and_parts (is_bus_element part) (list_all is_bus_element parts) e in
-    and_from (list_all is_bus_byte part) (list_all (list_all is_bus_byte) parts)
-    (and_parts (not (is_empty part) && not (begins_with_digit part)) (list_all is_bus_byte part) a.0).1 (elements_bytes parts a.1)
-
 parts_other : (text : List ℕ) → list_all (list_all is_bus_byte) (parts_at 46 text) ≡ true → list_all is_other text ≡ true
 parts_other [] e = refl
 parts_other (c ∷ text) e = go (c == 46) refl (parts_other text) e
@@ -61,7 +55,7 @@ parts_other (c ∷ text) e = go (c == 46) refl (parts_other text) e
     go false h ih e = let a = first (parts_at 46 text) e in and_from (is_other c) (list_all is_other text) (bus_byte c a.0) (ih a.1)
 
 joined_other : (text : List ℕ) → are_joined is_bus_element text ≡ true → list_all is_other text ≡ true
-joined_other text e = parts_other text (elements_bytes (parts_at 46 text) e)
+joined_other text e = parts_other text (elements-bytes (parts_at 46 text) e)
 
 both_other : (xs ys : List ℕ) → list_all is_other xs ≡ true → list_all is_other ys ≡ true → list_all is_other (xs ++ ys) ≡ true
 both_other [] ys h k = k

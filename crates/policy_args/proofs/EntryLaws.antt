@@ -3,6 +3,8 @@ use Rattle.std.proofs.Common.{◌≡◌, ℕ, suc, ◌+◌, Bool, true, false, c
 use Rattle.std.specs.Prelude.{codes, not, ◌==◌, ◌||◌}
 use Rattle.std.specs.List.{list_any, before_first, after_first, position_or_len}
 use Rattle.std.proofs.lemmas.Bool.{eqb-true}
+use Rattle.dbus_names.specs.Texts.{behind}
+use Rattle.dbus_names.proofs.Texts.{behind_is}
 use Rattle.name_patterns.specs.Patterns.{Pattern, pattern_of, pattern_text}
 use Rattle.name_patterns.proofs.PatternLaws.{pattern_of-is}
 use Rattle.call_rules.specs.Rules.{Rule, rule_of}
@@ -13,8 +15,7 @@ use Rattle.policy_args.specs.declared.entry.Grant.{Grant}
 use Rattle.policy_args.specs.declared.entry.Grant.TheVariants.{See as to_see, Talk as to_talk, Own as to_own, Call as to_call, Broadcast as to_broadcast}
 use Rattle.policy_args.specs.declared.entry.Entry.{Entry}
 use Rattle.policy_args.specs.Policy.{entry_word}
-use Rattle.policy_args.specs.Words.{◌>>=◌, or_kind, behind, name_entry, is_equals, rule_entry, where_front, entry_of}
-use Rattle.policy_args.proofs.Fronts.{behind_is}
+use Rattle.policy_args.specs.Words.{◌>>=◌, or_kind, name_entry, is_equals, rule_entry, where_front, entry_of}
 
 abbrev ok : {A : Type 0} → A → Result A WordKind
 ok x = Ok x
@@ -44,21 +45,18 @@ result_bind : {A B P : Type 0} (r : Result A WordKind) (f : A → Result B WordK
 result_bind (Ok x) f y e k = k x refl e
 result_bind (Err d) f y e k = absurd cc
 
+ok_is : {A : Type 0} (x y : A) → ok x ≡ ok y → x ≡ y
+ok_is x y e = cc
+
 or_kind_is : {A : Type 0} (kind : WordKind) (o : Option A) (x : A) → or_kind kind o ≡ Ok x → o ≡ Some x
 or_kind_is kind None x e = absurd cc
 or_kind_is kind (Some y) x e = ap (λ z. Some z) (ok_is y x e)
-  where
-    ok_is : {A : Type 0} (x y : A) → ok x ≡ ok y → x ≡ y
-    ok_is x y e = cc
-
-entry_is : (x y : Entry) → ok x ≡ ok y → x ≡ y
-entry_is x y e = cc
 
 -- NAME alone
 name_entry_is : (grant : Grant) (front : List ℕ) (h : (p : Pattern) → entry_word (record { pattern = p; grant = grant }) ≡ front ++ pattern_text p) (name : List ℕ) (e : Entry) → name_entry grant name ≡ Ok e → entry_word e ≡ front ++ name
 name_entry_is grant front h name e r =
     result_bind (or_kind BadName (pattern_of name)) (λ p. Ok (record { pattern = p; grant = grant })) e r (λ p ep e1.
-    ap entry_word (sym (entry_is (record { pattern = p; grant = grant }) e e1)) ∙ h p ∙ ap (λ (t : List ℕ). front ++ t) (pattern_of-is name p (or_kind_is BadName (pattern_of name) p ep)))
+    ap entry_word (sym (ok_is (record { pattern = p; grant = grant }) e e1)) ∙ h p ∙ ap (λ (t : List ℕ). front ++ t) (pattern_of-is name p (or_kind_is BadName (pattern_of name) p ep)))
 
 -- NAME=RULE
 rule_entry_is : (grant : Rule → Grant) (front : List ℕ) (h : (p : Pattern) (r : Rule) → entry_word (record { pattern = p; grant = grant r }) ≡ front ++ (pattern_text p ++ 61 ∷ r.text)) (text : List ℕ) (e : Entry) → rule_entry grant text ≡ Ok e → entry_word e ≡ front ++ text
@@ -67,7 +65,7 @@ rule_entry_is grant front h text e k =
     result_bind (or_kind BadRule (cond (list_any is_equals text) (rule_of (after_first is_equals text)) None)) (λ r. Ok (record { pattern = p; grant = grant r })) e k1 (λ r er k2.
     let name : pattern_text p ≡ before_first is_equals text = pattern_of-is (before_first is_equals text) p (or_kind_is BadName (pattern_of (before_first is_equals text)) p ep) in
     let rule = found (list_any is_equals text) refl r (or_kind_is BadRule (cond (list_any is_equals text) (rule_of (after_first is_equals text)) None) r er) in
-    ap entry_word (sym (entry_is (record { pattern = p; grant = grant r }) e k2)) ∙ h p r
+    ap entry_word (sym (ok_is (record { pattern = p; grant = grant r }) e k2)) ∙ h p r
     ∙ ap (λ (t : List ℕ). front ++ (t ++ 61 ∷ r.text)) name ∙ ap (λ (t : List ℕ). front ++ (before_first is_equals text ++ 61 ∷ t)) rule.1
     ∙ ap (λ (t : List ℕ). front ++ t) (cut_at_equals text rule.0)))
   where

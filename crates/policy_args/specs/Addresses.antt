@@ -5,7 +5,7 @@ use Rattle.std.specs.Str.{is_utf8}
 use Rattle.std.specs.List.{list_all}
 use Rattle.std.specs.Option.{option_or}
 use Rattle.dbus_names.specs.Names.{is_empty, parts_at}
-use Rattle.policy_args.specs.Words.{behind}
+use Rattle.dbus_names.specs.Texts.{behind}
 
 -- ---- %XX
 

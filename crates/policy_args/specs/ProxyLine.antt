@@ -3,9 +3,9 @@ use Rattle.std.specs.Prelude.{ℕ, ◌+◌, ◌-◌, ◌*◌, Bool, false, not, 
 use Rattle.std.specs.Char.{is_ascii_digit}
 use Rattle.std.specs.List.{list_all}
 use Rattle.dbus_names.specs.Names.{is_empty}
-use Rattle.dbus_names.specs.Texts.{begins_with}
+use Rattle.dbus_names.specs.Texts.{begins_with, behind}
 use Rattle.policy_args.specs.Addresses.{bus_path}
-use Rattle.policy_args.specs.Words.{◌>>=◌, or_kind, each_word, behind, PolicyOptions, no_options, with_option}
+use Rattle.policy_args.specs.Words.{◌>>=◌, or_kind, each_word, PolicyOptions, no_options, with_option}
 use Rattle.policy_args.specs.declared.WordKind.{WordKind}
 use Rattle.policy_args.specs.declared.WordKind.TheVariants.{BadAddress, NoPath, OptionBeforeAddress, BadNumber, TooMany}
 use Rattle.policy_args.specs.declared.BadWord.{BadWord}

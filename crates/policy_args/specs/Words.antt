@@ -3,7 +3,7 @@ use Rattle.std.specs.Prelude.{ℕ, ◌+◌, Bool, true, false, ◌==◌, nat_lt,
 use Rattle.std.specs.List.{list_any, before_first, after_first}
 use Rattle.std.specs.Str.{is_utf8}
 use Rattle.dbus_names.specs.Names.{parts_at}
-use Rattle.dbus_names.specs.Texts.{begins_with}
+pub use Rattle.dbus_names.specs.Texts.{behind}
 use Rattle.name_patterns.specs.Patterns.{pattern_of}
 use Rattle.call_rules.specs.Rules.{Rule, rule_of}
 use Rattle.policy_args.specs.Policy.{with_entry, Policy, policy_of}
@@ -42,10 +42,6 @@ pub record PolicyOptions : Type 0 where
 
 abbrev pub no_options : PolicyOptions
 no_options = record { filter = false; policy = policy_of [] }
-
--- what follows the front of a word
-abbrev pub behind : List ℕ → List ℕ → Option (List ℕ)
-behind front w = if begins_with front w then Some (drop (length front) w) else None
 
 -- NAME
 abbrev pub name_entry : Grant → List ℕ → Result Entry WordKind

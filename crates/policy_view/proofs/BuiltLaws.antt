@@ -2,7 +2,7 @@
 use Rattle.std.proofs.Common.{◌≡◌, ℕ, Bool, true, false, cond, List, [], length, Option, Some, None, refl, ap, ◌∙◌, arith}
 use Rattle.std.specs.Prelude.{not, ◌&&◌, ◌||◌, ◌==◌, nat_lt, codes, if◌then◌else◌}
 use Rattle.std.specs.Str.{bytes_eq}
-use Rattle.std.proofs.lemmas.Bool.{and_parts, eqb-true, eq-eqb, ne_eqb}
+use Rattle.std.proofs.lemmas.Bool.{and_parts, eqb-true, eq-eqb, ne_eqb, not-true}
 use Rattle.std.proofs.lemmas.Bool.Decides.{nat_tests}
 use Rattle.dbus_names.proofs.NameBytes.{well_known_is_not_unique}
 use Rattle.dbus_header.specs.Message.{Message, destination, interface, member, reply_serial}
@@ -39,15 +39,11 @@ service_call m e =
     let h = and_parts (m.kind == 1) (is_service (destination m)) e in
     by (destination m) refl (eqb-true m.kind 1 h.0) h.1
   where
-    absent : (b : Bool) → not b ≡ true → b ≡ false
-    absent true e = absurd cc
-    absent false e = refl
-
     by : (o : Option Text) → destination m ≡ o → m.kind ≡ 1 → is_service o ≡ true → IsServiceCall m
     by None is one e = absurd cc
     by (Some name) is one e =
         let k = and_parts (is_well_known name) (not (is_bus name)) e in
-        record { call = one; name = name; to = is; well_known = k.0; other = absent (is_bus name) k.1 }
+        record { call = one; name = name; to = is; well_known = k.0; other = not-true (is_bus name) k.1 }
 
 call_kind : (m : Message) → m.kind ≡ 1 → kind_of m ≡ Call
 unfolding kind_of

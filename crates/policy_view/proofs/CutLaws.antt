@@ -20,7 +20,7 @@ use Rattle.policy_view.proofs.Streams.{grows, stays, stream_more, bus_stream, cl
 
 -- ---- items one after the other
 
-all_append : (policy : Policy) (items : History) (xs ys : List Item) → followed_by_all policy items (xs ++ ys) ≡ followed_by_all policy (followed_by_all policy items xs) ys
+pub all_append : (policy : Policy) (items : History) (xs ys : List Item) → followed_by_all policy items (xs ++ ys) ≡ followed_by_all policy (followed_by_all policy items xs) ys
 unfolding followed_by_all
 all_append policy items [] ys = refl
 all_append policy items (x ∷ xs) ys = all_append policy (followed_by policy items x) xs ys
@@ -62,7 +62,7 @@ end_stays policy items xs ys zs end =
 
 -- ---- a piece in two
 
-new_last : {A : Type 0} (xs ys : List A) → new_in xs (xs ++ ys) ≡ ys
+pub new_last : {A : Type 0} (xs ys : List A) → new_in xs (xs ++ ys) ≡ ys
 new_last [] ys = refl
 new_last (x ∷ xs) ys = new_last xs ys
 

@@ -3,6 +3,8 @@ use Rattle.std.proofs.Common.{ℕ, zero, suc, ◌≡◌, ◌-◌, Bool, true, fa
 use Rattle.std.specs.Prelude.{◌⊎◌, nat_lt}
 use Rattle.std.specs.List.{list_any}
 use Rattle.std.proofs.lemmas.List.{map-append}
+use Rattle.std.proofs.lemmas.Option.{none-some, same_Some}
+use Rattle.byte_lists.proofs.Options.{some}
 use Rattle.dbus_header.specs.Message.{Message}
 use Rattle.dbus_header.specs.Malformed.{fault as message_fault}
 use Rattle.dbus_header.specs.Stream.{split, messages, rest, bad}
@@ -57,9 +59,6 @@ unfolding stream
 client_stream events piece = refl
 
 -- ---- a side's lines, and what follows them
-
-abbrev some : {A : Type 0} → A → Option A
-some x = Some x
 
 abbrev found_of : Side → List (List ℕ) → Option (List ℕ) → List Item
 found_of side ls c = map (Line side) ls ++ map (Msg side) (messages_in c)
@@ -288,15 +287,15 @@ record Quieted (ls now : List (List ℕ)) (c then_c : Option (List ℕ)) (line_n
   found_is : found_of Bus now then_c ≡ found_of Bus ls c
   fault_is : first_fault line_now (fault_in then_c) ≡ None
 
+no_line_fault : (o : Option LineFault) (later : Option Fault) → first_fault (fault_of_line o) later ≡ None → o ≡ None
+no_line_fault None later e = refl
+no_line_fault (Some f) later e = absurd cc
+
 -- the bus's stream S, where the client's goes on from C to C ++ y
 bus_apart : (C y S : List ℕ) → first_fault (fault_of_line (bus_fault (asked C) (has_begun C) S)) (fault_in (behind_bus (asked C) (has_begun C) S)) ≡ None →
     Quieted (bus_lines (asked C) S) (bus_lines (asked (C ++ y)) S) (behind_bus (asked C) (has_begun C) S) (behind_bus (asked (C ++ y)) (has_begun (C ++ y)) S) (fault_of_line (bus_fault (asked (C ++ y)) (has_begun (C ++ y)) S))
 bus_apart C y S e = go (has_begun C) refl
   where
-    no_line_fault : (o : Option LineFault) (later : Option Fault) → first_fault (fault_of_line o) later ≡ None → o ≡ None
-    no_line_fault None later e = refl
-    no_line_fault (Some f) later e = absurd cc
-
     now : (b : Bool) → has_begun (C ++ y) ≡ b → bus_fault (asked C) false S ≡ None →
         Quieted (bus_lines (asked C) S) (bus_lines (asked (C ++ y)) S) (behind_bus (asked C) false S) (behind_bus (asked (C ++ y)) b S) (fault_of_line (bus_fault (asked (C ++ y)) b S))
     now b h n =
@@ -374,29 +373,23 @@ pub record More (now : List (List ℕ)) (ls : List (List ℕ)) (then_c : Option 
   pub content_is : then_c ≡ Some (b ++ y)
   pub lines_is : now ≡ ls
 
-some_is : {A : Type 0} (x y : A) → some x ≡ some y → x ≡ y
-some_is x y e = cc
-
-no_some : {A : Type 0} (x : A) → None ≡ some x → ⊥
-no_some x e = absurd cc
-
 client_more : (auth : Bool) (S y b : List ℕ) → cond auth (behind_begin S) (Some S) ≡ Some b → More (cond auth (client_lines (S ++ y)) []) (cond auth (client_lines S) []) (cond auth (behind_begin (S ++ y)) (Some (S ++ y))) b y
-client_more false S y b e = record { content_is = ap (λ (t : List ℕ). some (t ++ y)) (some_is S b e); lines_is = refl }
+client_more false S y b e = record { content_is = ap (λ (t : List ℕ). some (t ++ y)) (same_Some S b e); lines_is = refl }
 client_more true S y b e = go (has_begun S) refl e
   where
     go : (d : Bool) → has_begun S ≡ d → cond d (some (after_begin S)) None ≡ some b → More (client_lines (S ++ y)) (client_lines S) (behind_begin (S ++ y)) b y
-    go false h e = absurd (no_some b e)
+    go false h e = absurd (none-some b e)
     go true h e = record {
-      content_is = ap (λ (d : Bool). cond d (some (after_begin (S ++ y))) None) (has_begun-stays S y h) ∙ ap some (after_begin-append S y h ∙ ap (λ (t : List ℕ). t ++ y) (some_is (after_begin S) b e));
+      content_is = ap (λ (d : Bool). cond d (some (after_begin (S ++ y))) None) (has_begun-stays S y h) ∙ ap some (after_begin-append S y h ∙ ap (λ (t : List ℕ). t ++ y) (same_Some (after_begin S) b e));
       lines_is = client_lines-stay S y h;
     }
 
 bus_more : (auth : Bool) (n : ℕ) (begun : Bool) (S y b : List ℕ) → cond auth (behind_bus n begun S) (Some S) ≡ Some b → (auth ≡ true → length (cond auth (bus_lines n S) []) ≡ n)
     → More (cond auth (bus_lines n (S ++ y)) []) (cond auth (bus_lines n S) []) (cond auth (behind_bus n begun (S ++ y)) (Some (S ++ y))) b y
-bus_more false n begun S y b e all = record { content_is = ap (λ (t : List ℕ). some (t ++ y)) (some_is S b e); lines_is = refl }
-bus_more true n false S y b e all = absurd (no_some b e)
+bus_more false n begun S y b e all = record { content_is = ap (λ (t : List ℕ). some (t ++ y)) (same_Some S b e); lines_is = refl }
+bus_more true n false S y b e all = absurd (none-some b e)
 bus_more true n true S y b e all = record {
-  content_is = ap some (after_lines-append n S y (all refl) ∙ ap (λ (t : List ℕ). t ++ y) (some_is (after_lines n S) b e));
+  content_is = ap some (after_lines-append n S y (all refl) ∙ ap (λ (t : List ℕ). t ++ y) (same_Some (after_lines n S) b e));
   lines_is = bus_lines-stay n S y (all refl);
 }
 
@@ -429,10 +422,6 @@ record KeptBy (auth : Bool) (C C' S : List ℕ) : Type 0 where
   content_is : (b : List ℕ) → cond auth (behind_bus (asked C) (has_begun C) S) (Some S) ≡ Some b → cond auth (behind_bus (asked C') (has_begun C') S) (Some S) ≡ Some b
   asked_is : (b : List ℕ) → auth ≡ true → cond auth (behind_bus (asked C) (has_begun C) S) (Some S) ≡ Some b → asked C' ≡ asked C
 
-no_line_fault : (o : Option LineFault) (later : Option Fault) → first_fault (fault_of_line o) later ≡ None → o ≡ None
-no_line_fault None later e = refl
-no_line_fault (Some f) later e = absurd cc
-
 kept_by : (auth : Bool) (C y S : List ℕ) → first_fault (cond auth (fault_of_line (bus_fault (asked C) (has_begun C) S)) None) (fault_in (cond auth (behind_bus (asked C) (has_begun C) S) (Some S))) ≡ None → KeptBy auth C (C ++ y) S
 kept_by false C y S e = record { lines_is = refl; quiet = λ q. q; content_is = λ b q. q; asked_is = λ b a q. absurd cc }
 kept_by true C y S e = go (has_begun C) refl
@@ -454,8 +443,8 @@ kept_by true C y S e = go (has_begun C) refl
         record {
           lines_is = q.lines;
           quiet = λ k. nothing_behind (has_begun (C ++ y)) q.behind;
-          content_is = λ b k. absurd (no_some b (sym none ∙ k));
-          asked_is = λ b a k. absurd (no_some b (sym none ∙ k));
+          content_is = λ b k. absurd (none-some b (sym none ∙ k));
+          asked_is = λ b a k. absurd (none-some b (sym none ∙ k));
         }
       where
         nothing_behind : (b : Bool) → after_lines (asked (C ++ y)) S ≡ [] → messages_in (behind_bus (asked (C ++ y)) b S) ≡ []

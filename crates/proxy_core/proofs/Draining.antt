@@ -344,10 +344,6 @@ runs_by (Some x) p b e f = flip b e ∙ ap is_none f
 pub stepped_as : (expected : SessionView × Bool) (old new : SessionView) (a b : Bool) → a ≡ b → Stepped expected old new b → Stepped expected old new a
 stepped_as expected old new a b e s = subst (λ (c : Bool). Stepped expected old new c) (sym e) s
 
-pub not_so : (b : Bool) → not b ≡ true → b ≡ false
-not_so true e = sym e
-not_so false e = refl
-
 -- ---- bytes that come
 
 pushed_bus : (side : Side) (s : StreamView) (view : SessionView) → (with_stream side s view).bus_side ≡ view.bus_side

@@ -3,8 +3,10 @@ use Rattle.std.proofs.Common.{ℕ, zero, suc, ◌≡◌, ◌+◌, ◌-◌, ◌*�
 use Rattle.std.specs.Prelude.{◌==◌, ◌||◌, not, is_none}
 use Rattle.std.proofs.lemmas.Bool.{eqb-true, eq-eqb, ne_eqb}
 use Rattle.std.proofs.lemmas.Bool.Decides.{nat_tests}
+use Rattle.std.proofs.Math.Bool.{or-true}
+use Rattle.byte_lists.proofs.Bytes.{AreBytes-behind}
+use Rattle.byte_lists.specs.Bytes.{AreBytes}
 use Rattle.dbus_names.specs.Names.{is_empty}
-use Rattle.dbus_values.proofs.ValueRead.{AreBytes}
 use Rattle.dbus_header.specs.Message.{Message, Valid, spell}
 use Rattle.dbus_header.specs.Malformed.{front, fault as message_fault}
 use Rattle.dbus_header.specs.Contents.{contents_of}
@@ -26,6 +28,7 @@ use Rattle.policy_view.specs.declared.Mode.{Mode}
 use Rattle.policy_view.specs.declared.End.{End}
 use Rattle.policy_view.specs.declared.Side.{Side}
 use Rattle.policy_view.specs.declared.Side.TheVariants.{Client, Bus}
+use Rattle.policy_view.proofs.CutLaws.{new_last}
 use Rattle.proxy_core.specs.Streams.{StreamView, Phase, InLines, InMessages, is_in_lines}
 use Rattle.proxy_core.specs.Sessions.{SessionView, Taken, Holds, stream_of, lines_in, StandsAt}
 use Rattle.proxy_core.specs.Messages.{ended_by, with_message}
@@ -110,26 +113,11 @@ bus_line_holds policy view items taken l s runs h =
       knows = λ e. let k = h.knows e in record { count = k.count; fits = k.fits; each = k.each; built = k.built; facts = k.facts };
     })
 
--- ---- bytes
-
-pub bytes_joined : (xs ys : List ℕ) → AreBytes xs → AreBytes ys → AreBytes (xs ++ ys)
-bytes_joined [] ys h k i = k i
-bytes_joined (x ∷ xs) ys h k zero = h zero
-bytes_joined (x ∷ xs) ys h k (suc i) = bytes_joined xs ys (λ j. h (suc j)) k i
-
-pub bytes_behind : (xs ys : List ℕ) → AreBytes (xs ++ ys) → AreBytes ys
-bytes_behind [] ys h = h
-bytes_behind (x ∷ xs) ys h = bytes_behind xs ys (λ i. h (suc i))
-
 -- ---- new items
 
 new_none : {A : Type 0} (xs : List A) → new_in xs xs ≡ []
 new_none [] = refl
 new_none (x ∷ xs) = new_none xs
-
-new_last : {A : Type 0} (xs ys : List A) → new_in xs (xs ++ ys) ≡ ys
-new_last [] ys = refl
-new_last (x ∷ xs) ys = new_last xs ys
 
 -- ---- one after the other
 
@@ -226,14 +214,6 @@ Others policy taken mode side events n = (view : SessionView) (items : History) 
 
 -- ---- the client's lines
 
-or_true : (b : Bool) → (b || true) ≡ true
-or_true true = refl
-or_true false = refl
-
-or_false : (b : Bool) → (b || false) ≡ b
-or_false true = refl
-or_false false = refl
-
 asks_by : (place : ℕ) (l : List ℕ) (b : Bool) → is_begin l ≡ b → asks place l ≡ cond (place == 0 || b) 0 1
 asks_by place l b e = ap (λ (x : Bool). cond (place == 0 || x) 0 1) e
 
@@ -244,7 +224,7 @@ asks_other : (place : ℕ) (l : List ℕ) → is_begin l ≡ false → 0 < place
 asks_other place l e pos = asks_by place l false e ∙ ap (λ (x : Bool). cond (x || false) 0 1) (ne_eqb place 0 (λ z. omega (arith, z, pos)))
 
 asks_begin : (place : ℕ) (l : List ℕ) → is_begin l ≡ true → asks place l ≡ 0
-asks_begin place l e = asks_by place l true e ∙ ap (λ (x : Bool). cond x 0 1) (or_true (place == 0))
+asks_begin place l e = asks_by place l true e ∙ ap (λ (x : Bool). cond x 0 1) (or-true (place == 0))
 
 module _ (policy : Policy) (taken : Taken) (mode : Mode) (events : List Event) (n : ℕ) (view : SessionView) (place : ℕ) (items : History) (given : List Item) (runs : view.ended ≡ None) (at : view.client.phase ≡ InLines place None)
     (g : GoesInLines mode Client events view.client place None given) (h : Holds policy view items taken) (are : AreBytes view.client.left) (short : length view.client.left + 1 < suc n) (others : Others policy taken mode Client events n) where
@@ -258,7 +238,7 @@ module _ (policy : Policy) (taken : Taken) (mode : Mode) (events : List Event) (
       rest_short = let e : length view.client.left ≡ length l + length (behind place view.client.left l).left = ap length c.parts ∙ length-append l (behind place view.client.left l).left in let s = c.some in omega (arith, e, s)
 
       rest_bytes : AreBytes (behind place view.client.left l).left
-      rest_bytes = bytes_behind l (behind place view.client.left l).left (subst AreBytes c.parts are)
+      rest_bytes = AreBytes-behind l (behind place view.client.left l).left (subst AreBytes c.parts are)
 
       by : (b : Bool) → is_begin l ≡ b → ClientLast (drained policy Client n (with_client_line place l view))
       by false e =
@@ -310,7 +290,7 @@ module _ (policy : Policy) (taken : Taken) (mode : Mode) (events : List Event) (
       let some = c.some in
       item_last policy taken mode Bus events items given (Line Bus l) (drained policy Bus n v) (begins mode Bus events (InLines (place + length l) None) s (given ++ Line Bus l ∷ []) goes)
       (others v (followed_by policy items (Line Bus l)) (given ++ Line Bus l ∷ []) (omega (arith, parts, some, short)) runs goes (bus_line_holds policy view items taken l s runs h)
-      (bytes_behind l (behind place view.bus.left l).left (subst AreBytes c.parts are)) knows)
+      (AreBytes-behind l (behind place view.bus.left l).left (subst AreBytes c.parts are)) knows)
 
   bus_lines_last : 0 < all_asked - length g.given → (ls : List (List ℕ)) (o : Option LineFault) → (bus_ahead (sound_at place view.bus.left)).lines ≡ ls → (bus_ahead (sound_at place view.bus.left)).fault ≡ o
       → BusLast (more_if (with_lines Bus place ls o view) (drained policy Bus n))
@@ -348,6 +328,14 @@ module _ (policy : Policy) (taken : Taken) (mode : Mode) (events : List Event) (
 
 -- ---- messages
 
+pub same_stream : (s : Side) (x : StreamView) (v : SessionView) → stream_of s (with_stream s x v) ≡ x
+same_stream Client x v = refl
+same_stream Bus x v = refl
+
+pub stream_runs : (s : Side) (x : StreamView) (v : SessionView) → (with_stream s x v).ended ≡ v.ended
+stream_runs Client x v = refl
+stream_runs Bus x v = refl
+
 module _ (policy : Policy) (taken : Taken) (steps : Steps policy taken) (mode : Mode) (side : Side) (events : List Event) (n : ℕ) (view : SessionView) (items : History) (given : List Item) (runs : view.ended ≡ None) (at : (stream_of side view).phase ≡ InMessages)
     (g : GoesInMessages mode side events (stream_of side view) given) (h : Holds policy view items taken) (are : AreBytes (stream_of side view).left) (short : length (stream_of side view).left < suc n) (knows : KnowsOther mode side events view) (lines_sound : line_fault mode side events ≡ None)
     (others : Others policy taken mode side events n) where
@@ -356,14 +344,6 @@ module _ (policy : Policy) (taken : Taken) (steps : Steps policy taken) (mode : 
 
   abbrev left_now : List ℕ
   left_now = (stream_of side view).left
-
-  same_stream : (s : Side) (x : StreamView) (v : SessionView) → stream_of s (with_stream s x v) ≡ x
-  same_stream Client x v = refl
-  same_stream Bus x v = refl
-
-  stream_runs : (s : Side) (x : StreamView) (v : SessionView) → (with_stream s x v).ended ≡ v.ended
-  stream_runs Client x v = refl
-  stream_runs Bus x v = refl
 
   kept_stream : (s : Side) (k : ℕ) (old new : SessionView) → IsKept k old new → stream_of s new ≡ stream_of s old
   kept_stream Client k old new x = x.client
@@ -387,7 +367,7 @@ module _ (policy : Policy) (taken : Taken) (steps : Steps policy taken) (mode : 
       let same : stream_of side (behind_message m left) ≡ s = kept_stream side (9 * length (spell m)) (with_stream side s view) (behind_message m left) kept ∙ same_stream side s view in
       let begin = begins mode side events InMessages s (given ++ Msg side m ∷ []) goes in
       let less = front-shorter left_now m left e in
-      by o ended s goes held kept same begin less (bytes_behind (spell m) left (subst AreBytes is.1 are))
+      by o ended s goes held kept same begin less (AreBytes-behind (spell m) left (subst AreBytes is.1 are))
     where
       by : (o : Option End) → (behind_message m left).ended ≡ o → (s : StreamView) → GoesInMessages mode side events (record (stream_of side view) { left = left }) (given ++ Msg side m ∷ []) → Holds policy (behind_message m left) (followed_by policy items (Msg side m)) taken
           → IsKept (9 * length (spell m)) (with_left side left view) (behind_message m left) → stream_of side (behind_message m left) ≡ record (stream_of side view) { left = left } → Begins (given ++ Msg side m ∷ []) (found mode side events) → length left < length left_now → AreBytes left

@@ -1,8 +1,9 @@
 -- A frame that spells a valid message is read as it.
 use Rattle.std.proofs.Common.{ℕ, ◌≡◌, List, [], Option, Some, None, refl, sym, ap, subst, ◌∙◌, append-nil}
 use Rattle.std.specs.Prelude.{IsSome, option_map, Result, Ok, Err, IfOk}
+use Rattle.std.proofs.lemmas.Option.{same_Some}
+use Rattle.byte_lists.specs.Bytes.{AreBytes}
 use Rattle.dbus_values.specs.Reading.{◌>>=◌, when}
-use Rattle.dbus_values.proofs.ValueRead.{AreBytes}
 use Rattle.dbus_names.specs.Names.{is_empty}
 use Rattle.dbus_header.specs.Message.{Message, Valid, spell}
 use Rattle.dbus_header.specs.Malformed.{front}
@@ -11,12 +12,6 @@ use Rattle.dbus_header.proofs.MessageAgain.{front-spell}
 use Rattle.dbus_header.proofs.NumberLaws.{is_whole, accepted}
 use Rattle.dbus_header.proofs.WholeMessage.{IsWhole}
 use Rattle.dbus_header.specs.Malformed.{fault}
-
-abbrev some : {A : Type 0} → A → Option A
-some x = Some x
-
-some_is : {A : Type 0} (x y : A) → some x ≡ some y → x ≡ y
-some_is x y e = cc
 
 pub spelled_message : (bytes : List ℕ) (m : Message) → Valid m → bytes ≡ spell m → message_of bytes ≡ Some m
 unfolding message_of
@@ -37,7 +32,7 @@ pub frame_sound : (bytes : List ℕ) → AreBytes bytes → HasMessage bytes →
 frame_sound bytes are h = accepted bytes are (has_message bytes h)
 
 pub contents_read : (bytes : List ℕ) (q : Contents) (m : Message) → option_map contents_of (message_of bytes) ≡ Some q → Valid m → bytes ≡ spell m → q ≡ contents_of m
-contents_read bytes q m e valid is = sym (some_is (contents_of m) q (sym (ap (option_map contents_of) (spelled_message bytes m valid is)) ∙ e))
+contents_read bytes q m e valid is = sym (same_Some (contents_of m) q (sym (ap (option_map contents_of) (spelled_message bytes m valid is)) ∙ e))
 
 pub no_fault : {A : Type 0} (f : A) (o : Option A) → Some f ≡ o → o ≡ None → ⊥
 no_fault f o e n = let h : Some f ≡ None = e ∙ n in absurd cc

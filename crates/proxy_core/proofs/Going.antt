@@ -4,11 +4,13 @@ use Rattle.std.specs.Prelude.{◌||◌, nat_lt}
 use Rattle.std.specs.List.{list_any}
 use Rattle.std.proofs.lemmas.List.{map-append}
 use Rattle.std.proofs.lemmas.Bool.Decides.{nat_tests}
+use Rattle.byte_lists.proofs.Options.{some}
 use Rattle.dbus_header.specs.Message.{Message}
 use Rattle.dbus_header.specs.Malformed.{front, fault as message_fault}
-use Rattle.dbus_header.specs.Stream.{split, split_by, messages, rest, bad}
-use Rattle.dbus_header.proofs.StreamLaws.{enough, front-shorter, front-longer}
-use Rattle.sasl_watch.specs.Lines.{Cut, through, is_begin, client_lines, client_cut, has_begun, after_begin, asked, client_fault, bus_cut, bus_lines, after_lines, bus_fault}
+use Rattle.dbus_header.specs.Stream.{split, messages, rest}
+use Rattle.dbus_header.proofs.StreamLaws.{split-front}
+use Rattle.dbus_header.proofs.FaultStays.{split_none}
+use Rattle.sasl_watch.specs.Lines.{Cut, through, is_begin, client_lines, has_begun, after_begin, asked, client_fault, bus_lines, after_lines, bus_fault}
 use Rattle.sasl_watch.specs.Watching.{client_ahead, bus_ahead}
 use Rattle.sasl_watch.specs.Following.{ClientFollows, BusFollows, BusEnds, BusWaits}
 use Rattle.sasl_watch.specs.declared.LineFault.{LineFault}
@@ -24,25 +26,6 @@ use Rattle.policy_view.specs.declared.Side.TheVariants.{Client, Bus}
 use Rattle.proxy_core.specs.Streams.{StreamView, Phase, InLines, InMessages}
 use Rattle.proxy_core.specs.Sessions.{FollowsLines, lines_in, AllGiven, StandsAt}
 use Rattle.proxy_core.proofs.LineCuts.{sound_at, behind, ClientGoes, client_waits, client_fails, BusGoes, bus_waits, bus_waits_for_begin, bus_ends, bus_fails, bus_early}
-
--- ---- messages in front of bytes
-
--- as many steps as there are bytes are enough
-split_enough : (n : ℕ) (s : List ℕ) → length s ≤ n → split s ≡ split_by front n s
-unfolding split
-split_enough n s h = enough front front-shorter front-longer (length s) n s (omega arith) h
-
-pub split_some : (s : List ℕ) (m : Message) (r : List ℕ) → front s ≡ Some (m, r) → split s ≡ (m ∷ messages r, rest r)
-split_some s m r e =
-    let less = front-shorter s m r e in
-    split_enough (suc (length s)) s (omega arith)
-    ∙ ap (λ (o : Option (Message × List ℕ)). Rattle.dbus_header.specs.Stream.more o s (split_by front (length s))) e
-    ∙ ap (λ (x : List Message × List ℕ). (m ∷ x.0, x.1)) (sym (split_enough (length s) r (omega (arith, less))))
-
-pub split_none : (s : List ℕ) → front s ≡ None → split s ≡ ([], s)
-split_none s e =
-    split_enough (suc (length s)) s (omega arith)
-    ∙ ap (λ (o : Option (Message × List ℕ)). Rattle.dbus_header.specs.Stream.more o s (split_by front (length s))) e
 
 -- ---- where a stream is
 
@@ -169,7 +152,7 @@ module _ (mode : Mode) (side : Side) (events : List Event) (s : StreamView) (ite
     bytes = g.bytes;
     content_is = g.content_is;
     given = g.given ++ m ∷ [];
-    split_is = g.split_is ∙ ap (λ (x : List Message × List ℕ). (g.given ++ x.0, x.1)) (split_some s.left m left e) ∙ ap (λ (x : List Message). (x, rest left)) (sym (append_assoc g.given (m ∷ []) (messages left)));
+    split_is = g.split_is ∙ ap (λ (x : List Message × List ℕ). (g.given ++ x.0, x.1)) (split-front s.left m left e) ∙ ap (λ (x : List Message). (x, rest left)) (sym (append_assoc g.given (m ∷ []) (messages left)));
     all = g.all;
     counts = g.counts;
     items_are = ap (λ (x : List Item). x ++ Msg side m ∷ []) g.items_are
@@ -178,9 +161,6 @@ module _ (mode : Mode) (side : Side) (events : List Event) (s : StreamView) (ite
   }
 
 -- ---- the client's lines
-
-abbrev some : {A : Type 0} → A → Option A
-some x = Some x
 
 module _ (mode : Mode) (events : List Event) (s : StreamView) (place : ℕ) (items : List Item) (g : GoesInLines mode Client events s place None items) where
   abbrev C : List ℕ
@@ -272,6 +252,11 @@ module _ (mode : Mode) (events : List Event) (s : StreamView) (place : ℕ) (ite
 
 -- ---- the bus's lines
 
+none_behind : (b : Bool) → messages_in (cond b (some []) None) ≡ []
+unfolding split
+none_behind true = refl
+none_behind false = refl
+
 module _ (mode : Mode) (events : List Event) (s : StreamView) (place : ℕ) (items : List Item) (g : GoesInLines mode Bus events s place None items) where
   abbrev n : ℕ
   n = asked (stream Client events)
@@ -324,14 +309,10 @@ module _ (mode : Mode) (events : List Event) (s : StreamView) (place : ℕ) (ite
           subst (λ (ls : List (List ℕ)). BusFollows B ls (sound_at place s.left)) (sym is) g.follows,
           ap (λ (x : Bool). messages_in (cond x (cond begun (some (after_lines n B)) None) (some B))) g.auth
               ∙ ap (λ (t : List ℕ). messages_in (cond begun (some t) None)) w.none_left
-              ∙ by begun,
+              ∙ none_behind begun,
         ),
         g.counts.0 ∙ sym (ap length is),
       )
-    where
-      by : (b : Bool) → messages_in (cond b (some []) None) ≡ []
-      by true = refl
-      by false = refl
 
   -- the next line of the bus
   pub bus_line_goes : (l : List ℕ) → BusGoes B g.given n place s.left l
@@ -380,11 +361,7 @@ module _ (mode : Mode) (events : List Event) (s : StreamView) (place : ℕ) (ite
   fewer_left same pos =
       let h : length (bus_lines n B) ≡ length g.given = ap length same in
       let fewer : nat_lt (length (bus_lines n B)) n ≡ true = grind (arith, nat_tests, h, pos) in
-      ap (λ (t : List ℕ). messages_in (cond begun (some t) None)) (fewer_then_none n B fewer) ∙ by begun
-    where
-      by : (b : Bool) → messages_in (cond b (some []) None) ≡ []
-      by true = refl
-      by false = refl
+      ap (λ (t : List ℕ). messages_in (cond begun (some t) None)) (fewer_then_none n B fewer) ∙ none_behind begun
 
   pub bus_stops : 0 < n - length g.given → (bus_ahead (sound_at place s.left)).lines ≡ [] → (o : Option LineFault) → (bus_ahead (sound_at place s.left)).fault ≡ o → Stops mode Bus events items (fault_of_line o)
   bus_stops pos l None e = waits_stop (bus_waits B g.given n begun place s.left g.counts.1 g.follows pos l e)

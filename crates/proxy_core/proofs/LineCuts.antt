@@ -2,6 +2,7 @@
 use Rattle.std.proofs.Common.{ℕ, zero, suc, ◌≡◌, ◌+◌, ◌-◌, ◌≤◌, ◌<◌, Bool, true, false, cond, List, [], ◌∷◌, ◌++◌, length, drop, Option, Some, None, refl, ap, ap₂, ◌∙◌, sym, subst, arith, append_assoc, inl, inr}
 use Rattle.std.specs.Prelude.{◌==◌}
 use Rattle.std.proofs.lemmas.Bool.{eqb-true}
+use Rattle.std.proofs.lemmas.List.{drop_at}
 use Rattle.sasl_watch.specs.Lines.{Cut, with_line, after_byte, at_byte, byte_fault, cut_from, is_begin, agrees, line_fault}
 use Rattle.sasl_watch.specs.Watching.{Watch, Takes, client_ahead, bus_ahead}
 use Rattle.sasl_watch.specs.Following.{ClientFollows, ClientEnds, ClientWaits, ClientFails, BusFollows, BusEnds, BusWaits, BusFails}
@@ -9,9 +10,8 @@ use Rattle.sasl_watch.specs.declared.LineFault.{LineFault}
 use Rattle.sasl_watch.specs.declared.LineKind.{LineKind}
 use Rattle.sasl_watch.specs.declared.LineKind.TheVariants.{NoNul, EarlyBus}
 use Rattle.sasl_watch.specs.declared.NextLine.TheVariants.{Nul, Line, Begin, Done, Rest, Bad}
-use Rattle.sasl_watch.proofs.Givens.{client_ahead-lines}
+use Rattle.sasl_watch.proofs.Givens.{client_ahead-lines, same_head}
 use Rattle.sasl_watch.proofs.Followed.{client-next, bus-next}
-use Rattle.proxy_core.proofs.LineSteps.{drop_front}
 
 -- ---- the whole line in front of a cut
 
@@ -23,9 +23,6 @@ record FirstLine (refused : List ℕ → Bool) (place : ℕ) (line s l : List �
   is : l ≡ line ++ first
   cut : cut_from refused place line s ≡ with_line l (cut_from refused (place + length first) [] rest)
 
-first_is : (a b : List ℕ) (x y : List (List ℕ)) → a ∷ x ≡ b ∷ y → a ≡ b
-first_is a b x y e = cc
-
 take_line : (refused : List ℕ → Bool) (place : ℕ) (line s l : List ℕ) (ls : List (List ℕ)) → (cut_from refused place line s).lines ≡ l ∷ ls → FirstLine refused place line s l
 take_line refused place line [] l ls e = absurd cc
 take_line refused place line (b ∷ s) l ls e = by (byte_fault refused line b) refl e (λ h. take_line refused (place + 1) (line ++ b ∷ []) s l ls h)
@@ -36,7 +33,7 @@ take_line refused place line (b ∷ s) l ls e = by (byte_fault refused line b) r
     by_end : (d : Bool) → (b == 10) ≡ d → byte_fault refused line b ≡ None → (after_byte d (line ++ b ∷ []) (λ next. cut_from refused (place + 1) next s)).lines ≡ l ∷ ls
         → ((cut_from refused (place + 1) (line ++ b ∷ []) s).lines ≡ l ∷ ls → FirstLine refused (place + 1) (line ++ b ∷ []) s l) → FirstLine refused place line (b ∷ s) l
     by_end true k h e ih =
-        let same : line ++ b ∷ [] ≡ l = first_is (line ++ b ∷ []) l _ ls e in
+        let same : line ++ b ∷ [] ≡ l = same_head (line ++ b ∷ []) l _ ls e in
         record {
           first = b ∷ [];
           rest = s;
@@ -78,7 +75,7 @@ sound_at place left = record { place = place; left = left; bad = None }
 taken_of : (ahead : Watch → Cut) (refused : List ℕ → Bool) (place : ℕ) (left l : List ℕ) → (ahead (sound_at place left) ≡ cut_from refused place [] left) → ((rest : List ℕ) → cut_from refused (place + length l) [] rest ≡ ahead (sound_at (place + length l) rest))
     → FirstLine refused place [] left l → (0 < length l) × Takes ahead (sound_at place left) l (behind place left l)
 taken_of ahead refused place left l here there f =
-    let dropped : drop (length l) left ≡ f.rest = ap (drop (length l)) (f.parts ∙ ap (λ (t : List ℕ). t ++ f.rest) (sym f.is)) ∙ drop_front l f.rest in
+    let dropped : drop (length l) left ≡ f.rest = ap (drop (length l)) (f.parts ∙ ap (λ (t : List ℕ). t ++ f.rest) (sym f.is)) ∙ drop_at l f.rest (length l) refl in
     let long : length f.first ≡ length l = ap length (sym f.is) in
     let some = f.some in (
       omega (arith, some, long),
@@ -104,7 +101,7 @@ client_taken zero (b ∷ s) l ls e = by (b == 0) refl e
     by : (d : Bool) → (b == 0) ≡ d → (cond d (with_line (b ∷ []) (cut_from (λ line. false) 1 [] s)) (record { lines = []; fault = line_fault NoNul 0 })).lines ≡ l ∷ ls → ClientTaken 0 (b ∷ s) l
     by false k e = absurd cc
     by true k e =
-        let same : b ∷ [] ≡ l = first_is (b ∷ []) l _ ls e in
+        let same : b ∷ [] ≡ l = same_head (b ∷ []) l _ ls e in
         subst (λ (x : List ℕ). ClientTaken 0 (b ∷ s) x) same (record {
           some = omega arith;
           takes = record { sound = refl; parts = refl; is = refl; cut = ap (λ (d : Bool). cond d (with_line (b ∷ []) (cut_from (λ line. false) 1 [] s)) (record { lines = []; fault = line_fault NoNul 0 })) k };

@@ -2,9 +2,10 @@
 use Rattle.std.proofs.Common.{ℕ, zero, suc, ◌≡◌, ◌+◌, ◌≤◌, Bool, true, false, cond, List, [], ◌∷◌, ◌++◌, length, take, drop, Option, Some, None, refl, ap, ◌∙◌, sym, subst, arith, length-append, inl, inr}
 use Rattle.std.specs.Prelude.{◌⊎◌, ◌==◌, ◌||◌, not, codes, bytes_eq, take_while}
 use Rattle.std.specs.List.{prefix_len}
-use Rattle.dbus_values.proofs.ValueLaws.{bytes_eq-true}
+use Rattle.std.proofs.lemmas.List.{drop_at}
+use Rattle.byte_lists.proofs.Bytes.{bytes_eq-true}
 use Rattle.dbus_names.specs.Names.{is_empty}
-use Rattle.sasl_watch.specs.Lines.{Cut, word, has_word, is_begin, for_bus}
+use Rattle.sasl_watch.specs.Lines.{word, for_bus}
 use Rattle.sasl_watch.specs.Lines as lines
 use Rattle.sasl_watch.specs.Watching.{Watch, client_ahead, bus_ahead, ClientGives, BusGives}
 use Rattle.sasl_watch.specs.declared.LineFault.{LineFault}
@@ -94,15 +95,11 @@ line_runs side place (Some f) policy view runs e = absurd cc
 
 -- ---- the stream behind a line
 
-pub drop_front : (xs ys : List ℕ) → drop (length xs) (xs ++ ys) ≡ ys
-drop_front [] ys = refl
-drop_front (x ∷ xs) ys = drop_front xs ys
-
 pub stream_behind : (s : StreamView) (place n : ℕ) (l : List ℕ) (w : Watch) → s.left ≡ l ++ w.left → w ≡ record { place = place + length l; left = w.left; bad = None } →
     record { came = s.came; phase = InLines w.place w.bad; left = w.left; lines = s.lines + n } ≡ behind_line place l n s
 stream_behind s place n l w parts is =
     ap (λ (v : Watch). record { came = s.came; phase = InLines v.place v.bad; left = w.left; lines = s.lines + n }) is
-    ∙ ap (λ (left : List ℕ). record { came = s.came; phase = InLines (place + length l) None; left = left; lines = s.lines + n }) (sym (ap (drop (length l)) parts ∙ drop_front l w.left))
+    ∙ ap (λ (left : List ℕ). record { came = s.came; phase = InLines (place + length l) None; left = left; lines = s.lines + n }) (sym (ap (drop (length l)) parts ∙ drop_at l w.left (length l) refl))
 
 -- ---- what was done with a line
 

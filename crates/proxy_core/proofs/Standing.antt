@@ -6,8 +6,9 @@ use Rattle.std.specs.List.{list_any}
 use Rattle.std.specs.Ordering.{nat_cmp}
 use Rattle.std.proofs.lemmas.Bool.Decides.{nat_tests}
 use Rattle.std.proofs.lemmas.List.{length-take, take-append-drop}
+use Rattle.byte_lists.proofs.Bytes.{AreBytes-take, AreBytes-append, empty_is}
+use Rattle.byte_lists.specs.Bytes.{AreBytes}
 use Rattle.dbus_names.specs.Names.{is_empty}
-use Rattle.dbus_values.proofs.ValueRead.{AreBytes, AreBytes-take}
 use Rattle.dbus_header.specs.Message.{Message, spell}
 use Rattle.dbus_header.specs.Malformed.{fault as message_fault}
 use Rattle.dbus_header.specs.Contents.{contents_of}
@@ -35,6 +36,7 @@ use Rattle.policy_view.specs.declared.Side.TheVariants.{Client, Bus}
 use Rattle.policy_view.proofs.Growth.{only_grows}
 use Rattle.policy_view.proofs.PastLaws.{ended_is_final}
 use Rattle.policy_view.proofs.Streams.{stream_more, bus_stream, client_stream, apart, lines_by, content_by, found_by, fault_by, client_by, content_more, BusKept, bus_kept}
+use Rattle.policy_view.proofs.CutLaws.{all_append}
 use Rattle.proxy_core.specs.Streams.{StreamView, Phase, InLines, InMessages, is_in_lines, new_stream, pushed, watch_at}
 use Rattle.proxy_core.specs.Sessions.{SessionView, Taken, Holds, Follows, FollowsStream, FollowsLines, StandsAt, AllGiven, lines_in, StandsFor, IsFront, at_start, nothing, stream_of, is_memory, expected_by}
 use Rattle.proxy_core.specs.Messages.{ended_by}
@@ -44,7 +46,7 @@ use Rattle.proxy_core.proofs.Draining.{spell_long}
 use Rattle.proxy_core.proofs.CallSteps.{call_holds}
 use Rattle.proxy_core.proofs.AnswerSteps.{answer_holds}
 use Rattle.proxy_core.proofs.Going.{Counts, Goes, GoesAt}
-use Rattle.proxy_core.proofs.Driven.{Steps, Final, KnowsClient, KnowsOther, phase_weight, weight, none_last, drained_last, end_followed, end_ignored, stream_holds, bytes_joined}
+use Rattle.proxy_core.proofs.Driven.{Steps, Final, KnowsClient, KnowsOther, phase_weight, weight, none_last, drained_last, end_followed, end_ignored, stream_holds, same_stream, stream_runs}
 use Rattle.dbus_header.specs.Malformed.{front}
 
 -- ---- the start
@@ -357,15 +359,6 @@ piece_goes mode side events piece bytes s f is = by s.phase f.stands
 
 -- ---- a piece
 
-all_append : (policy : Policy) (items : History) (xs ys : List Item) → followed_by_all policy items (xs ++ ys) ≡ followed_by_all policy (followed_by_all policy items xs) ys
-unfolding followed_by_all
-all_append policy items [] ys = refl
-all_append policy items (x ∷ xs) ys = all_append policy (followed_by policy items x) xs ys
-
-empty_is : (xs : List ℕ) → is_empty xs ≡ true → xs ≡ []
-empty_is [] e = refl
-empty_is (x ∷ xs) e = absurd cc
-
 both_streams : (side : Side) (events : List Event) (piece : List ℕ) → taken_of side events piece ≡ [] → (stream Client (Bytes side piece ∷ events) ≡ stream Client events) × (stream Bus (Bytes side piece ∷ events) ≡ stream Bus events)
 both_streams Client events piece e = (stream_more Client events piece ∙ ap (λ (t : List ℕ). stream Client events ++ t) e ∙ append-nil (stream Client events), bus_stream events piece)
 both_streams Bus events piece e = (client_stream events piece, stream_more Bus events piece ∙ ap (λ (t : List ℕ). stream Bus events ++ t) e ∙ append-nil (stream Bus events))
@@ -525,14 +518,6 @@ module _ (policy : Policy) (view : SessionView) (events : List Event) (taken : T
   abbrev pushed_view : SessionView
   pushed_view = with_stream side (pushed (take (room_of side view) piece) (stream_of side view)) view
 
-  is_stream : (s : Side) (x : StreamView) (v : SessionView) → stream_of s (with_stream s x v) ≡ x
-  is_stream Client x v = refl
-  is_stream Bus x v = refl
-
-  is_running : (s : Side) (x : StreamView) (v : SessionView) → (with_stream s x v).ended ≡ v.ended
-  is_running Client x v = refl
-  is_running Bus x v = refl
-
   knows_still : (s : Side) (x : StreamView) → KnowsOther view.mode s (Bytes side piece ∷ events) view → KnowsOther view.mode s (Bytes side piece ∷ events) (with_stream s x view)
   knows_still Client x k = tt
   knows_still Bus x k = k
@@ -543,15 +528,15 @@ module _ (policy : Policy) (view : SessionView) (events : List Event) (taken : T
 
   more_bytes : is_built_piece view.mode (take (room_of side view) piece) ≡ true → IsPieced (closed_if over side (drained policy side most pushed_view))
   more_bytes e =
-      let same = is_stream side behind_left view in
+      let same = same_stream side behind_left view in
       let l = light (stream_of side view).phase in
       built e (drained policy side most pushed_view)
       (drained_last policy taken steps view.mode (Bytes side piece ∷ events) side most pushed_view (history policy view.mode events) (found view.mode side events)
       (subst (λ (x : StreamView). weight x < most) (sym same) (omega (arith, l)))
-      (is_running side behind_left view ∙ runs)
+      (stream_runs side behind_left view ∙ runs)
       (subst (λ (x : StreamView). Goes view.mode side (Bytes side piece ∷ events) x (found view.mode side events)) (sym same) (piece_goes view.mode side events piece (take (room_of side view) piece) (stream_of side view) own taken_is))
       (stream_holds policy view (history policy view.mode events) taken side behind_left holds)
-      (subst (λ (x : StreamView). AreBytes x.left) (sym same) (bytes_joined (stream_of side view).left (take (room_of side view) piece) own.bytes (AreBytes-take (room_of side view) piece are)))
+      (subst (λ (x : StreamView). AreBytes x.left) (sym same) (AreBytes-append (stream_of side view).left (take (room_of side view) piece) own.bytes (AreBytes-take (room_of side view) piece are)))
       (knows_still side behind_left (knows_other view.mode side events piece view refl follows)))
 
   by_empty : (none ready : Bool) → is_empty (take (room_of side view) piece) ≡ none → view.mode.filter ≡ ready

@@ -1,13 +1,10 @@
 -- Whatever the ending, out got a front of the answer's output.
-use Rattle.std.proofs.Common.{◌≡◌, ◌∙◌, ℕ, List, Option, sym}
+use Rattle.std.proofs.Common.{ℕ, List, Option}
 use Rattle.link_traits.specs.Told.{Part}
-use Rattle.link_traits.proofs.Parts.{added-none, part_all}
+use Rattle.link_traits.proofs.Parts.{part_all, part_none}
 use Rattle.proxy_main.specs.Words.{Command}
 use Rattle.proxy_main.specs.Answers.{answer_to, IsSettled, out_of}
 use Rattle.proxy_main.specs.Endings.{Ends, Done, Refuses, NoFile, SinkFails, NoMemory}
-
-part_none : (old new : Option (List ℕ)) (bytes : List ℕ) → new ≡ old → Part old new bytes
-part_none old new bytes same = record { count = 0; got = same ∙ sym (added-none old) }
 
 pub out_front : (told : List ℕ → Option (List ℕ)) (command : Option Command) (f o e : Type 0) (out new_out err new_err : Option (List ℕ)) (code : ℕ) →
     Ends told command f o e out new_out err new_err code → IsSettled (answer_to told command) → Part out new_out (out_of (answer_to told command))

@@ -1,7 +1,7 @@
 -- A file that is told was read, or is above its limit; and what it means for a run where it stops that.
 use Rattle.std.proofs.Common.{◌≡◌, ◌<◌, ℕ, List, [], Option, Some, None, Result, Ok, Err, IfSome, refl, ap, sym, ◌∙◌, length, cond, nat_lt, arith, subst, Bool, true, false, bytes_eq}
-use Rattle.std.proofs.lemmas.Slice.Eq.{bytes_eq-Decides}
 use Rattle.std.proofs.lemmas.Bool.Decides.{nat_tests}
+use Rattle.byte_lists.proofs.Bytes.{bytes_eq-refl}
 use Rattle.link_traits.specs.Told.{Given}
 use Rattle.policy_args.specs.declared.BadWord.{BadWord}
 use Rattle.policy_args.specs.Words.{PolicyOptions}
@@ -64,9 +64,6 @@ read_ok (Some bytes) check x go is = λ settled. ap (λ y. then_go y go) is
 
 agrees-then : (a b c : Answer) → Agrees a b → Agrees b c → Agrees a c
 agrees-then a b c f g = λ settled. f settled ∙ g (subst IsSettled (f settled) settled)
-
-bytes_eq-refl : (xs : List ℕ) → bytes_eq xs xs ≡ true
-bytes_eq-refl xs = (bytes_eq-Decides xs xs).1 refl
 
 without-path : (path : List ℕ) (told : List ℕ → Option (List ℕ)) → without path told path ≡ None
 without-path path told = ap (λ b. cond b None (told path)) (bytes_eq-refl path)

@@ -1,4 +1,3 @@
-pub mod ByteLists
 pub mod Fronts
 pub mod RecordingLaws
 pub mod RecordingRead

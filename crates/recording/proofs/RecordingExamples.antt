@@ -1,19 +1,11 @@
 -- Worked examples of recordings.
-use Rattle.std.specs.Prelude.{◌≡◌, ℕ, ◌+◌, ◌*◌, ◌==◌, true, false, not, List, [], ◌∷◌, codes, filter, refl, map, Result, Ok, Err}
-use Rattle.std.specs.Char.{digit_value}
+use Rattle.std.specs.Prelude.{◌≡◌, ℕ, true, false, [], ◌∷◌, codes, refl, map, Result, Ok, Err}
+use Rattle.byte_lists.specs.Hex.{hex}
 use Rattle.recording.specs.declared.Side.TheVariants.{Client, Bus}
 use Rattle.recording.specs.declared.RecordingKind.{RecordingKind}
 use Rattle.recording.specs.declared.RecordingKind.TheVariants.{BadMagic, BadVersion, BadKind, Cut, BadAuth, BadLength}
 use Rattle.recording.specs.declared.BadRecording.{BadRecording}
 use Rattle.recording.specs.Recording.{record_len, events_at, head_of, recording_of, Recording, Bytes, Finished, spelled_recording}
-
-abbrev pairs : List ℕ → List ℕ
-pairs (a ∷ b ∷ digits) = (digit_value a * 16 + digit_value b) ∷ pairs digits
-pairs _ = []
-
--- the bytes that the digits spell, spaces aside
-abbrev hex : List ℕ → List ℕ
-hex digits = pairs (filter (λ c. not (c == 32)) digits)
 
 abbrev bad : RecordingKind → ℕ → Result Recording BadRecording
 bad kind at = Err (record { kind = kind; at = at })

@@ -4,15 +4,16 @@ use Rattle.std.specs.Prelude.{not, ◌&&◌, ◌==◌, nat_lt, bytes_eq}
 use Rattle.std.specs.List.{flat_map, AllByRecursion}
 use Rattle.std.specs.Int.{w32, to_le_bytes}
 use Rattle.std.proofs.lemmas.List.{length-take-le, length-drop}
-use Rattle.std.proofs.lemmas.Bool.{ltb-false, eqb-true, lt-ltb}
+use Rattle.std.proofs.lemmas.Bool.{ltb-false, eqb-true, lt-ltb, not-false}
 use Rattle.std.proofs.lemmas.Bool.Decides.{nat_tests}
 use Rattle.std.proofs.lemmas.Nat.{le_bytes_4}
+use Rattle.byte_lists.proofs.Bytes.{bytes_eq-true, AreBytes-take, AreBytes-drop, two_pieces, from_le_bytes-below}
+use Rattle.byte_lists.specs.Bytes.{AreBytes}
 use Rattle.recording.specs.declared.RecordingKind.TheVariants.{BadMagic, BadVersion, Cut, BadAuth, TooLong}
 use Rattle.recording.specs.declared.TheConstants.{RECORDING_LIMIT}
 use Rattle.recording.specs.Recording.{Event, Recording, spelled_record, spelled_event, magic, auth_byte, spelled_recording, ◌>>=◌, event_of, record_len, events_at, head_of, recording_of}
 use Rattle.recording.specs.Seen.{Fits}
 use Rattle.recording.proofs.Fronts.{ok, ok_is, passed, bind, front_is}
-use Rattle.recording.proofs.ByteLists.{bytes_eq-true, AreBytes, AreBytes-take, AreBytes-drop, below, two_pieces}
 use Rattle.recording.proofs.RecordingLaws.{recording_again}
 
 -- ---- one record
@@ -26,12 +27,8 @@ spelled_by : (kind : ℕ) (bytes : List ℕ) → kind ≤ 3 → (nat_lt 1 kind &
 spelled_by kind bytes low none short = go (kind == 0) (kind == 1) (kind == 2) refl refl refl
   where
     empty : nat_lt 1 kind ≡ true → bytes ≡ []
-    empty h = of_len bytes (test (length bytes == 0) (sym (ap (λ (b : Bool). b && not (length bytes == 0)) h) ∙ none))
+    empty h = of_len bytes (not-false (length bytes == 0) (sym (ap (λ (b : Bool). b && not (length bytes == 0)) h) ∙ none))
       where
-        test : (b : Bool) → not b ≡ false → b ≡ true
-        test true e = refl
-        test false e = absurd cc
-
         of_len : (xs : List ℕ) → (length xs == 0) ≡ true → xs ≡ []
         of_len [] e = refl
         of_len (x ∷ xs) e = absurd (omega (arith, eqb-true (length (x ∷ xs)) 0 e))
@@ -74,7 +71,7 @@ events_are (suc n) place (kind ∷ bytes) events are h e =
     let four : length (take 4 bytes) ≡ 4 = length-take-le 4 bytes (omega (arith, f.head)) in
     let own_len : length own ≡ len = length-take-le len (drop 4 bytes) (omega (arith, f.all, length-drop 4 bytes)) in
     let number : to_le_bytes w32 len ≡ take 4 bytes = le_bytes_4 (take 4 bytes) len four (AreBytes-take 4 bytes are_behind) f.len_is in
-    let small : len < 2 ^ 32 = subst (λ (k : ℕ). k < 2 ^ 32) (sym f.len_is) (below (take 4 bytes) (AreBytes-take 4 bytes are_behind)) in
+    let small : len < 2 ^ 32 = subst (λ (k : ℕ). k < 2 ^ 32) (sym f.len_is) (from_le_bytes-below (take 4 bytes) (AreBytes-take 4 bytes are_behind)) in
     let event = spelled_by kind own f.kind (ap (λ (k : ℕ). nat_lt 1 kind && not (k == 0)) own_len ∙ f.none) (omega (arith, own_len, small)) in
     let others = events_are n (place + 5 + len) rest es (AreBytes-drop (4 + len) bytes are_behind) (omega (arith, h, length-drop (4 + len) bytes)) ee in
     read_as (event_of kind own ∷ es) events (kind ∷ bytes) e2 (
@@ -98,21 +95,14 @@ head_is bytes auth e =
     let d = passed (not (get_or bytes 4 0 == 1)) BadVersion 4 _ auth c.1 in
     let f = passed (nat_lt (length bytes) 6) Cut (length bytes) _ auth d.1 in
     let g = passed (nat_lt 1 (get_or bytes 5 0)) BadAuth 5 _ auth f.1 in
-    let front : take 4 bytes ≡ magic = bytes_eq-true (take 4 bytes) magic (not_not (bytes_eq (take 4 bytes) magic) b.0) in
-    let version : get_or bytes 4 0 ≡ 1 = eqb-true (get_or bytes 4 0) 1 (not_not (get_or bytes 4 0 == 1) d.0) in
-    let is : auth_byte auth ≡ get_or bytes 5 0 = ap auth_byte (sym (bool_is (get_or bytes 5 0 == 1) auth g.1)) ∙ worth (get_or bytes 5 0) (ltb-false 1 (get_or bytes 5 0) g.0) in
+    let front : take 4 bytes ≡ magic = bytes_eq-true (take 4 bytes) magic (not-false (bytes_eq (take 4 bytes) magic) b.0) in
+    let version : get_or bytes 4 0 ≡ 1 = eqb-true (get_or bytes 4 0) 1 (not-false (get_or bytes 4 0 == 1) d.0) in
+    let is : auth_byte auth ≡ get_or bytes 5 0 = ap auth_byte (sym (ok_is (get_or bytes 5 0 == 1) auth g.1)) ∙ worth (get_or bytes 5 0) (ltb-false 1 (get_or bytes 5 0) g.0) in
     parted bytes (ltb-false (length bytes) 6 f.0)
     ∙ ap (λ (t : List ℕ). t ++ get_or bytes 4 0 ∷ get_or bytes 5 0 ∷ drop 6 bytes) front
     ∙ ap (λ (v : ℕ). magic ++ v ∷ get_or bytes 5 0 ∷ drop 6 bytes) version
     ∙ ap (λ (x : ℕ). magic ++ 1 ∷ x ∷ drop 6 bytes) (sym is)
   where
-    not_not : (b : Bool) → not b ≡ false → b ≡ true
-    not_not true e = refl
-    not_not false e = absurd cc
-
-    bool_is : (x y : Bool) → ok x ≡ ok y → x ≡ y
-    bool_is x y e = cc
-
     worth : (x : ℕ) → x ≤ 1 → auth_byte (x == 1) ≡ x
     worth zero h = refl
     worth (suc zero) h = refl

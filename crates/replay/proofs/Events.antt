@@ -1,24 +1,20 @@
 -- The events so far, the newest first, and how many bytes they have.
-use Rattle.std.proofs.Common.{◌≡◌, ◌<◌, ◌+◌, ℕ, List, [], ◌∷◌, ◌++◌, refl, ap, sym, ◌∙◌, length, take, map, reverse, get_or}
-use Rattle.std.proofs.lemmas.List.{take_more, reverse-append}
+use Rattle.std.proofs.Common.{◌≡◌, ◌<◌, ◌+◌, ℕ, List, [], ◌∷◌, ◌++◌, ap, sym, ◌∙◌, length, take, map, reverse, get_or}
+use Rattle.std.proofs.lemmas.List.{take_more, reverse-append, map-append}
 use Rattle.std.proofs.lemmas.List.Sums.{sum_by_push}
 use Rattle.recording.specs.declared.Event.{Event as Declared}
 use Rattle.recording.specs.Recording.{Event as Recorded}
 use Rattle.recording.specs.Seen.{seen, size, size_of}
 use Rattle.replay.specs.Output.{event_of, events_of}
 
-map-last : {A B : Type 0} (f : A → B) (xs : List A) (x : A) → map f (xs ++ x ∷ []) ≡ map f xs ++ f x ∷ []
-map-last f [] x = refl
-map-last f (y ∷ xs) x = ap (λ t. f y ∷ t) (map-last f xs x)
-
 events-last : (es : List Recorded) (e : Recorded) → events_of (es ++ e ∷ []) ≡ event_of e ∷ events_of es
-events-last es e = ap reverse (map-last event_of es e) ∙ reverse-append (map event_of es) (event_of e ∷ [])
+events-last es e = ap reverse (map-append event_of es (e ∷ [])) ∙ reverse-append (map event_of es) (event_of e ∷ [])
 
 size-last : (es : List Recorded) (e : Recorded) → size (es ++ e ∷ []) ≡ size es + size_of e
 size-last es e = sum_by_push size_of es e
 
 so-far : (es : List Declared) (i : ℕ) (e : Declared) → i < length es → e ≡ get_or es i e → map seen (take (i + 1) es) ≡ map seen (take i es) ++ seen e ∷ []
-so-far es i e lt is = ap (map seen) (take_more es i e lt ∙ ap (λ x. take i es ++ x ∷ []) (sym is)) ∙ map-last seen (take i es) e
+so-far es i e lt is = ap (map seen) (take_more es i e lt ∙ ap (λ x. take i es ++ x ∷ []) (sym is)) ∙ map-append seen (take i es) (e ∷ [])
 
 pub next-event : (es : List Declared) (i : ℕ) (e : Declared) → i < length es → e ≡ get_or es i e → events_of (map seen (take (i + 1) es)) ≡ event_of (seen e) ∷ events_of (map seen (take i es))
 next-event es i e lt is = ap events_of (so-far es i e lt is) ∙ events-last (map seen (take i es)) (seen e)

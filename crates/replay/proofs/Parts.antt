@@ -1,7 +1,7 @@
 -- A sink gets bytes one after the other.
 use Rattle.std.proofs.Common.{◌≡◌, ◌+◌, ℕ, zero, suc, List, [], ◌∷◌, ◌++◌, Option, refl, ap, sym, ◌∙◌, length, take, arith, subst}
 use Rattle.link_traits.specs.Told.{added, Part}
-use Rattle.link_traits.proofs.Parts.{added-twice, added-none, part_all}
+use Rattle.link_traits.proofs.Parts.{added-twice, part_all}
 
 -- a front of the first is a front of both
 take-first : (n : ℕ) (xs ys : List ℕ) → (k : ℕ) × (take k (xs ++ ys) ≡ take n xs)
@@ -15,9 +15,6 @@ take-second n [] ys = let e : 0 + n ≡ n = omega arith in ap (λ k. take k ys) 
 take-second n (x ∷ xs) ys =
     let e : suc (length xs) + n ≡ suc (length xs + n) = omega arith in
     ap (λ k. take k (x ∷ xs ++ ys)) e ∙ ap (λ t. x ∷ t) (take-second n xs ys)
-
-pub part_none : (o n : Option (List ℕ)) (a : List ℕ) → n ≡ o → Part o n a
-part_none o n a e = record { count = 0; got = e ∙ sym (added-none o) }
 
 pub part_first : (o n : Option (List ℕ)) (a b : List ℕ) → Part o n a → Part o n (a ++ b)
 part_first o n a b p = let r = take-first p.count a b in record { count = r.0; got = p.got ∙ ap (λ t. added t o) (sym r.1) }

@@ -1,5 +1,6 @@
 -- What waits for a side, as it is written piece by piece.
-use Rattle.std.proofs.Common.{◌≡◌, ◌≤◌, ◌<◌, ◌+◌, ℕ, Bool, List, [], ◌∷◌, ◌++◌, refl, ap, sym, ◌∙◌, append_assoc, length, drop, arith}
+use Rattle.std.proofs.Common.{◌≡◌, ◌≤◌, ◌<◌, ◌+◌, ℕ, Bool, List, ◌++◌, refl, ap, sym, ◌∙◌, append_assoc, length, drop, arith}
+use Rattle.std.proofs.lemmas.List.{drop_at}
 use Rattle.policy_view.specs.declared.Side.{Side}
 use Rattle.policy_view.specs.declared.Side.TheVariants.{Client, Bus}
 use Rattle.policy_view.specs.Past.{History}
@@ -12,10 +13,6 @@ use Rattle.policy_view.specs.declared.Mode.{Mode}
 use Rattle.recording.specs.Recording.{Recording}
 use Rattle.replay.specs.Output.{record_where_any, end_record, output_of_recording, events_of}
 use Rattle.replay.specs.Waiting.{with_waiting, output_of}
-
-drop-front : (a b : List ℕ) → drop (length a) (a ++ b) ≡ b
-drop-front [] b = refl
-drop-front (x ∷ a) b = drop-front a b
 
 waits-with : (side : Side) (bytes : List ℕ) (v : SessionView) → waits_for side (with_waiting side bytes v) ≡ bytes
 waits-with Client bytes v = refl
@@ -33,7 +30,7 @@ pub record Went (side : Side) (start new : SessionView) (written : List ℕ) : T
 pub side-step : (side : Side) (start old new : SessionView) (written next rest : List ℕ) → waits_for side start ≡ written ++ waits_for side old → old ≡ with_waiting side (waits_for side old) start →
     next ++ rest ≡ waits_for side old → new ≡ with_waiting side (drop (length next) (waits_for side old)) old → Went side start new (written ++ next)
 side-step side start old new written next rest split same front took =
-    let left : waits_for side new ≡ rest = ap (waits_for side) took ∙ waits-with side _ old ∙ ap (drop (length next)) (sym front) ∙ drop-front next rest in
+    let left : waits_for side new ≡ rest = ap (waits_for side) took ∙ waits-with side _ old ∙ ap (drop (length next)) (sym front) ∙ drop_at next rest (length next) refl in
     record {
       split = split ∙ ap (λ t. written ++ t) (sym front) ∙ sym (append_assoc written next rest) ∙ ap (λ t. (written ++ next) ++ t) (sym left);
       same = took ∙ ap (λ v. with_waiting side (drop (length next) (waits_for side old)) v) same ∙ with-with side _ _ start

@@ -1,8 +1,7 @@
 -- What a replay writes: a record of the bytes for the bus, one of those for the client, and one of the session's End.
 use Rattle.std.specs.Prelude.{ℕ, ◌==◌, if◌then◌else◌, Bool, List, [], ◌∷◌, ◌++◌, length, map, reverse, Option, Some, None}
 use Rattle.std.specs.Int.{w32, w64, to_le_bytes}
-use Rattle.dbus_header.specs.declared.MalformedKind.{MalformedKind}
-use Rattle.dbus_header.specs.declared.MalformedKind.TheVariants.{ByteOrder, MessageType, Version, Length, Serial, Fields, Required, Body, Descriptors}
+use Rattle.dbus_header.specs.Malformed.{kind_number}
 use Rattle.sasl_watch.specs.Lines.{line_number}
 use Rattle.policy_args.specs.Policy.{Policy}
 use Rattle.policy_view.specs.declared.Side.{Side}
@@ -47,22 +46,11 @@ record_where_any kind bytes = if length bytes == 0 then [] else record_of kind b
 
 -- ---- the record of an End
 
-abbrev pub malformed_number : MalformedKind → ℕ
-malformed_number ByteOrder = 1
-malformed_number MessageType = 2
-malformed_number Version = 3
-malformed_number Length = 4
-malformed_number Serial = 5
-malformed_number Fields = 6
-malformed_number Required = 7
-malformed_number Body = 8
-malformed_number Descriptors = 9
-
 -- a byte for the form of the fault, which is 0 for a line's and 1 for a message's, a byte for its kind, and its place in
 -- eight bytes
 abbrev pub fault_bytes : Fault → List ℕ
 fault_bytes (Line f) = 0 ∷ line_number f.kind ∷ to_le_bytes w64 f.at
-fault_bytes (Message m) = 1 ∷ malformed_number m.kind ∷ to_le_bytes w64 m.at
+fault_bytes (Message m) = 1 ∷ kind_number m.kind ∷ to_le_bytes w64 m.at
 
 -- the End's number, and what is wrong with a malformed stream
 abbrev pub end_bytes : End → List ℕ

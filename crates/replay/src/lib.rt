@@ -56,7 +56,7 @@ impl From<AllocError> for ReplayFault {
 
 /// Plays a recording under the policy of the options, and writes what its session gives out. The
 /// output is written once all events were played, so memory grows with the bytes of the recording.
-#[tactic(auto, using(crate::proofs::Parts::part_none))]
+#[tactic(auto, using(link_traits::proofs::Parts::part_none))]
 pub fn replay<O: Sink>(
     alloc: Global,
     options: &Options,

@@ -2,9 +2,10 @@
 ghost use Rattle.std.specs.Prelude.{◌≡◌, ◌≤◌, ◌<◌, ◌^◌, ◌∷◌, ◌++◌, [], length, drop, OnOk, OnErr};
 ghost use Rattle.std.specs.Int.{w64, to_le_bytes};
 ghost use Rattle.link_traits.specs.Told.{added, Rose, Part};
+ghost use Rattle.dbus_header.specs.Malformed.{kind_number};
 ghost use Rattle.sasl_watch.specs.Lines.{line_number};
 ghost use Rattle.proxy_core.specs.Sessions.{IsFront, waits_for};
-ghost use Rattle.replay.specs.Output.{header, record_of, record_where_any, malformed_number, fault_bytes, end_bytes, end_record};
+ghost use Rattle.replay.specs.Output.{header, record_of, record_where_any, fault_bytes, end_bytes, end_record};
 ghost use Rattle.replay.specs.Waiting.{with_waiting, kind_of, output_of};
 
 use dbus_header::MalformedKind;
@@ -105,7 +106,7 @@ fn write_record<O: Sink>(session: &mut Session, side: Side, out: &mut O) -> Resu
 }
 
 /// Writes the record of what waits for a side, where something does.
-#[tactic(auto, using(crate::proofs::Parts::part_none))]
+#[tactic(auto, using(link_traits::proofs::Parts::part_none))]
 fn write_side<O: Sink>(session: &mut Session, side: Side, out: &mut O) -> Result<(), SinkFault>
     requires { length (waits_for side session.old) < 2 ^ 32 }
     ensures ok { OnOk result (O.told out.new ≡ added (record_where_any (kind_of side) (waits_for side session.old)) (O.told out.old)) }
@@ -122,7 +123,7 @@ fn write_side<O: Sink>(session: &mut Session, side: Side, out: &mut O) -> Result
 
 /// The number of a kind of malformed message.
 fn malformed_kind(kind: MalformedKind) -> u8
-    ensures { result ≡ malformed_number kind }
+    ensures { result ≡ kind_number kind }
 {
     match kind {
         MalformedKind::ByteOrder => 1,
@@ -205,7 +206,7 @@ fn write_malformed<O: Sink>(number: u8, fault: Fault, out: &mut O) -> Result<(),
 }
 
 /// Writes the record of the End, where the session ended.
-#[tactic(auto, using(crate::proofs::Parts::part_none))]
+#[tactic(auto, using(link_traits::proofs::Parts::part_none))]
 fn write_end<O: Sink>(ended: Option<End>, out: &mut O) -> Result<(), SinkFault>
     ensures ok { OnOk result (O.told out.new ≡ added (end_record ended) (O.told out.old)) }
     ensures part { Part (O.told out.old) (O.told out.new) (end_record ended) }

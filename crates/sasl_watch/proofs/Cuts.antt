@@ -5,14 +5,12 @@ use lib.Pointwise.{pointwise}
 use Rattle.std.proofs.lemmas.List.{length-append, length-take-le, take-append-drop, get_or-take, drop_at, drop_all, take_more, drop_more}
 use Rattle.std.proofs.lemmas.Bool.{eq-eqb}
 use Rattle.std.proofs.lemmas.Bool.Decides.{nat_tests}
+use Rattle.byte_lists.proofs.Options.{some}
 use Rattle.sasl_watch.specs.declared.LineKind.{LineKind}
 use Rattle.sasl_watch.specs.declared.LineKind.TheVariants.{LineTooLong, BadByte, Agreed}
 use Rattle.sasl_watch.specs.declared.front.Front.TheVariants.{Partial}
 use Rattle.sasl_watch.specs.Lines.{Cut, with_line, after_byte, at_byte, cut_from, byte_fault, is_behind_cr}
 use Rattle.sasl_watch.specs.Fronts.{is_plain, PlainFront, faulty, IsWhole, IsFaulty, IsFront}
-
-abbrev some : {A : Type 0} → A → Option A
-some x = Some x
 
 -- ---- one byte, by its tests
 

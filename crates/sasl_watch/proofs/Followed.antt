@@ -6,6 +6,8 @@ use Rattle.std.proofs.lemmas.List.{length-append, take_all, drop_at}
 use Rattle.std.proofs.lemmas.List.Folds.{list_any-append}
 use Rattle.std.proofs.lemmas.Grind.{flat_map-append}
 use Rattle.std.proofs.lemmas.Bool.{lt-ltb, le-ltb}
+use Rattle.std.proofs.lemmas.Option.{none-some, same_Some}
+use Rattle.byte_lists.proofs.Options.{some}
 use Rattle.sasl_watch.specs.declared.LineKind.TheVariants.{NoNul, EarlyBus}
 use Rattle.sasl_watch.specs.declared.LineFault.{LineFault}
 use Rattle.sasl_watch.specs.declared.NextLine.{NextLine}
@@ -16,17 +18,8 @@ use Rattle.sasl_watch.specs.Following.{behind, only_fault, ClientFollows, Client
 use Rattle.sasl_watch.proofs.LinesGrow.{cut-stays, client_cut-stays, if_all_is, fewer_then_none, no_bus_fault, early}
 use Rattle.sasl_watch.proofs.Givens.{cut-given, client-given}
 
-abbrev some : {A : Type 0} → A → Option A
-some x = Some x
-
-none_some : {A : Type 0} (x : A) → None ≡ some x → ⊥
-none_some x e = absurd cc
-
 not_told : (o : Option LineFault) (f : LineFault) → o ≡ None → o ≡ Some f → ⊥
-not_told o f a b = none_some f (sym a ∙ b)
-
-same_some : (f g : LineFault) → some f ≡ some g → f ≡ g
-same_some f g e = cc
+not_told o f a b = none-some f (sym a ∙ b)
 
 abbrev no_fault : Option LineFault
 no_fault = None
@@ -73,7 +66,7 @@ through-given test (line ∷ given) more h = go (test line) refl h (through-give
 -- ---- the client
 
 pub client-starts : ClientFollows [] [] at_start
-client-starts = record { parts = refl; place = refl; unbegun = refl; cut = refl; told = λ f e. absurd (none_some f e) }
+client-starts = record { parts = refl; place = refl; unbegun = refl; cut = refl; told = λ f e. absurd (none-some f e) }
 
 ahead-stays : (w : Watch) (x : List ℕ) (f : LineFault) → client_ahead w ≡ only_fault f → client_ahead (record w { left = w.left ++ x }) ≡ only_fault f
 ahead-stays w x f e = go (w.place == 0) e
@@ -155,7 +148,7 @@ module _ (pushed : List ℕ) (given : List (List ℕ)) (old : Watch) (s : Client
         place = s.place;
         unbegun = s.unbegun;
         cut = s.cut;
-        told = λ g e. t.cut ∙ ap only_fault (same_some f g e);
+        told = λ g e. t.cut ∙ ap only_fault (same_Some f g e);
       } in
       client-fails f new t.cut (subst (ClientFollows pushed given) (sym t.is) told) (ap (λ (w : Watch). w.bad) t.is)
 
@@ -208,7 +201,7 @@ client-next pushed given old Done new s g = absurd g
 -- ---- the bus
 
 pub bus-starts : BusFollows [] [] at_start
-bus-starts = record { parts = refl; place = refl; cut = refl; told = λ f e. absurd (none_some f e) }
+bus-starts = record { parts = refl; place = refl; cut = refl; told = λ f e. absurd (none-some f e) }
 
 told-stays : (w : Watch) (x : List ℕ) (f : LineFault) → IsTold w f → IsTold (record w { left = w.left ++ x }) f
 told-stays w x f (inl e) = inl (cut-stays agrees w.left x w.place [] f (ap (λ (c : Cut). c.fault) e) ∙ e)
@@ -335,7 +328,7 @@ module _ (pushed : List ℕ) (given : List (List ℕ)) (old : Watch) (s : BusFol
       told = ap (λ (w : Watch). w.bad) t.1 ∙ t.0;
       fault = λ e. absurd (not_told old.bad f e t.0);
       lines = λ e. absurd (not_told old.bad f e t.0);
-      again = λ g e. same_some g f (sym e ∙ t.0);
+      again = λ g e. same_Some g f (sym e ∙ t.0);
     }
 
     bus-keeps : (f : LineFault) → IsTold old f → BusFollows pushed given (record old { bad = Some f })
@@ -343,7 +336,7 @@ module _ (pushed : List ℕ) (given : List (List ℕ)) (old : Watch) (s : BusFol
       parts = s.parts;
       place = s.place;
       cut = s.cut;
-      told = λ g e. subst (IsTold old) (same_some f g e) t;
+      told = λ g e. subst (IsTold old) (same_Some f g e) t;
     }
 
     bus-tells : (f : LineFault) (new : Watch) → 0 < n - length given → Tells bus_ahead old f new → BusFails pushed given n begun old f new
@@ -388,7 +381,7 @@ client-again old f Nul new e g = absurd (not_told old.bad f g.1.sound e)
 client-again old f (Line line) new e g = absurd (not_told old.bad f g.2.sound e)
 client-again old f (Begin line) new e g = absurd (not_told old.bad f g.2.sound e)
 client-again old f Rest new e g = absurd (not_told old.bad f g.sound e)
-client-again old f (Bad h) new e (inl t) = (ap the_bad (same_some h f (sym t.0 ∙ e)), t.1)
+client-again old f (Bad h) new e (inl t) = (ap the_bad (same_Some h f (sym t.0 ∙ e)), t.1)
 client-again old f (Bad h) new e (inr t) = absurd (not_told old.bad f t.sound e)
 client-again old f Done new e g = absurd g
 
@@ -397,7 +390,7 @@ bus-again unanswered begun old f (Line line) new e g = absurd (not_told old.bad 
 bus-again unanswered begun old f Done new e g = absurd (not_told old.bad f g.sound e)
 bus-again unanswered begun old f Rest new e (inl w) = absurd (not_told old.bad f w.1.sound e)
 bus-again unanswered begun old f Rest new e (inr w) = absurd (not_told old.bad f w.sound e)
-bus-again unanswered begun old f (Bad h) new e (inl t) = (ap the_bad (same_some h f (sym t.0 ∙ e)), t.1)
+bus-again unanswered begun old f (Bad h) new e (inl t) = (ap the_bad (same_Some h f (sym t.0 ∙ e)), t.1)
 bus-again unanswered begun old f (Bad h) new e (inr (inl t)) = absurd (not_told old.bad f t.1.sound e)
 bus-again unanswered begun old f (Bad h) new e (inr (inr t)) = absurd (not_told old.bad f t.sound e)
 bus-again unanswered begun old f Nul new e g = absurd g

@@ -10,7 +10,7 @@ use Rattle.sasl_watch.specs.Lines.{Cut, with_line, after_byte, at_byte, cut_from
 use Rattle.sasl_watch.specs.Watching.{client_ahead}
 use Rattle.sasl_watch.specs.Following.{behind}
 
-same_head : (a b : List ℕ) (x y : List (List ℕ)) → a ∷ x ≡ b ∷ y → a ≡ b
+pub same_head : (a b : List ℕ) (x y : List (List ℕ)) → a ∷ x ≡ b ∷ y → a ≡ b
 same_head a b x y e = cc
 
 pub same_tail : (a b : List ℕ) (x y : List (List ℕ)) → a ∷ x ≡ b ∷ y → x ≡ y

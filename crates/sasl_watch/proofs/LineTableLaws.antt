@@ -6,15 +6,15 @@ use Rattle.std.specs.List.{list_any}
 use Rattle.std.proofs.lemmas.List.{length-append, drop_at, drop-drop}
 use Rattle.std.proofs.lemmas.Bool.{eqb-true, lt-ltb, le-ltb, ltb-true, ltb-false}
 use Rattle.std.proofs.lemmas.List.Folds.{list_any-append}
+use Rattle.std.proofs.lemmas.Option.{same_Some}
+use Rattle.std.proofs.Math.Bool.{and-false}
+use Rattle.byte_lists.proofs.Options.{some}
 use Rattle.sasl_watch.specs.Lines.{line_fault, Cut, with_line, after_byte, at_byte, cut_from, byte_fault, joined, through, is_begin, agrees, is_behind_cr, client_fault, bus_cut, bus_lines, bus_fault}
 use Rattle.sasl_watch.specs.declared.LineKind.{LineKind}
 use Rattle.sasl_watch.specs.declared.LineKind.TheVariants.{NoNul, LineTooLong, BadByte, EarlyBus, Agreed}
 use Rattle.sasl_watch.specs.declared.LineFault.{LineFault}
 use Rattle.sasl_watch.specs.LineTable.{ended_from, open_from, ended_lines, open_line, is_ending, is_too_long, is_bad_byte, is_agreed, Row, client_table, in_bus_line, bus_table, kind_by, unless_found, first_from, first_in, IsFirst}
 use Rattle.sasl_watch.proofs.LinesGrow.{if_all_is, all_or_fewer, early}
-
-abbrev some : {A : Type 0} → A → Option A
-some x = Some x
 
 -- ---- one byte more
 
@@ -198,15 +198,11 @@ bus_fault-table n begun s = go (nat_lt (length (bus_lines n s)) n) refl ∙ sym 
 
 -- ---- the client
 
-and_false : (x : Bool) → (x && false) ≡ false
-and_false true = refl
-and_false false = refl
-
 client_byte : (before line : List ℕ) (lines : List (List ℕ)) (b : ℕ) → At before line lines → list_any is_begin lines ≡ false → kind_by client_table (0 ∷ before) b ≡ byte_fault (λ l. false) line b
 client_byte before line lines b a h =
     ap (λ (w : Bool). by_rows (not w && is_too_long (open_line before) b) (not w && is_bad_byte (open_line before) b) false) (ap (list_any is_begin) a.lines_are ∙ h)
     ∙ ap (λ (l : List ℕ). by_rows (is_too_long l b) (is_bad_byte l b) false) a.line_is
-    ∙ ap (by_rows (is_too_long line b) (is_bad_byte line b)) (sym (and_false (is_ending line b)))
+    ∙ ap (by_rows (is_too_long line b) (is_bad_byte line b)) (sym (and-false (is_ending line b)))
     ∙ byte_rows (λ l. false) line b
 
 -- behind BEGIN nothing is a fault
@@ -290,16 +286,13 @@ first_behind : (rows : List Row) (s pre : List ℕ) (f : LineFault) → first_fr
 first_behind rows [] pre f e = absurd cc
 first_behind rows (b ∷ s) pre f e = go (kind_by rows pre b) refl e (first_behind rows s (pre ++ b ∷ []) f)
   where
-    fault_is : (x y : LineFault) → some x ≡ some y → x ≡ y
-    fault_is x y e = cc
-
     no_bytes : (p q : List ℕ) (c : ℕ) → [] ≡ p ++ c ∷ q → ⊥
     no_bytes [] q c e = absurd cc
     no_bytes (d ∷ p) q c e = absurd cc
 
     go : (k : Option LineKind) → kind_by rows pre b ≡ k → unless_found k (length pre) (first_from rows (pre ++ b ∷ []) s) ≡ Some f → (first_from rows (pre ++ b ∷ []) s ≡ Some f → FirstBehind rows (pre ++ b ∷ []) s f) → FirstBehind rows pre (b ∷ s) f
     go (Some kind) h e ih =
-        let is : made kind ≡ f = fault_is (made kind) f e in
+        let is : made kind ≡ f = same_Some (made kind) f e in
         record {
           before = [];
           byte = b;

@@ -2,16 +2,13 @@
 use Rattle.std.proofs.Common.{◌≡◌, ℕ, zero, suc, ◌+◌, ◌-◌, ◌≤◌, ◌<◌, Bool, true, false, cond, List, [], ◌∷◌, ◌++◌, length, take, drop, Option, Some, None, refl, sym, ap, ◌∙◌, append_assoc, append-nil, arith}
 use Rattle.std.specs.Prelude.{not, ◌&&◌, ◌||◌, ◌==◌, nat_lt}
 use Rattle.std.specs.List.{list_any}
-use Rattle.std.proofs.lemmas.List.{length-append, length-take, length-drop, drop-append-le, append_cancel_left, take_all}
+use Rattle.std.proofs.lemmas.List.{length-append, length-take, length-drop, drop-append-le, append_cancel_left, take_all, nil_from_length}
 use Rattle.std.proofs.lemmas.Bool.{eq-eqb, eqb-true, ltb-true, ltb-false, lt-ltb, le-ltb}
 use Rattle.sasl_watch.specs.Lines.{Cut, with_line, after_byte, at_byte, cut_from, byte_fault, joined, through, is_begin, agrees, client_cut, client_lines, has_begun, after_begin, asked, client_fault, bus_cut, bus_lines, after_lines, bus_fault, line_fault}
 use Rattle.sasl_watch.specs.declared.LineKind.{LineKind}
 use Rattle.sasl_watch.specs.declared.LineKind.TheVariants.{NoNul, EarlyBus}
 use Rattle.sasl_watch.specs.declared.LineFault.{LineFault}
 use Rattle.sasl_watch.proofs.LinesLaws.{Begins, cut-append, client_cut-append, client_lines-append}
-
-abbrev some : {A : Type 0} → A → Option A
-some x = Some x
 
 abbrev no_fault : Option LineFault
 no_fault = None
@@ -343,7 +340,7 @@ bus_quiet n m s le e = go (nat_lt (length (bus_lines n s)) n) refl e
     all h false k e =
         let len : length (bus_lines n s) ≡ n = all_or_fewer n s h in
         let front = taken-fronts n s in
-        let none : front.0 ≡ [] = empty front.0 (omega (arith, ltb-false 0 (length (after_lines n s)) k, ap length (if_all_is n s len), ap length front.1, length-append (joined (bus_lines n s)) front.0, length-drop (length (joined (bus_lines n s))) s)) in
+        let none : front.0 ≡ [] = nil_from_length front.0 (omega (arith, ltb-false 0 (length (after_lines n s)) k, ap length (if_all_is n s len), ap length front.1, length-append (joined (bus_lines n s)) front.0, length-drop (length (joined (bus_lines n s))) s)) in
         let whole = cut_whole agrees n s 0 [] len (sym (append-nil (joined (bus_lines n s))) ∙ ap (λ (t : List ℕ). joined (bus_lines n s) ++ t) (sym none) ∙ sym front.1) in
         let len_all : length lines ≡ n = ap length whole.0 ∙ len in
         let same : bus_lines m s ≡ bus_lines n s = take_all m lines (omega (arith, len_all, le)) ∙ whole.0 in
@@ -353,13 +350,9 @@ bus_quiet n m s le e = go (nat_lt (length (bus_lines n s)) n) refl e
           fault = λ begun. quiet begun (nat_lt (length (bus_lines m s)) m) whole.1 (end (length (bus_lines m s) == m) same);
         }
       where
-        empty : (t : List ℕ) → length t ≤ 0 → t ≡ []
-        empty [] h = refl
-        empty (c ∷ t) h = absurd (omega (arith, h))
-
         end : (b : Bool) → bus_lines m s ≡ bus_lines n s → cond b (drop (length (joined (bus_lines m s))) s) [] ≡ []
         end false same = refl
-        end true same = ap (λ (ls : List (List ℕ)). drop (length (joined ls)) s) same ∙ sym (if_all_is n s (all_or_fewer n s h)) ∙ empty (after_lines n s) (ltb-false 0 (length (after_lines n s)) k)
+        end true same = ap (λ (ls : List (List ℕ)). drop (length (joined ls)) s) same ∙ sym (if_all_is n s (all_or_fewer n s h)) ∙ nil_from_length (after_lines n s) (omega (arith, ltb-false 0 (length (after_lines n s)) k))
 
         quiet : (begun b : Bool) → (bus_cut s).fault ≡ None → after_lines m s ≡ [] → cond b (bus_cut s).fault (early begun m s) ≡ None
         quiet begun true e behind = e

@@ -1,19 +1,15 @@
 -- The faults of the authentication phase as a table: for each kind, the bytes that are at fault. The first faulty byte
 -- of a stream decides, and for one byte the first row.
-use Rattle.std.specs.Prelude.{◌≡◌, ℕ, Bool, true, false, not, ◌&&◌, ◌||◌, ◌==◌, nat_lt, List, [], ◌∷◌, ◌++◌, length, drop, Option, Some, None, if◌then◌else◌}
+use Rattle.std.specs.Prelude.{◌≡◌, ℕ, Bool, not, ◌&&◌, ◌||◌, ◌==◌, nat_lt, List, [], ◌∷◌, ◌++◌, length, drop, Option, Some, None, if◌then◌else◌}
 use Rattle.std.specs.Int.{is_in_range}
 use Rattle.std.specs.List.{list_any}
+use Rattle.byte_lists.specs.Bytes.{is_empty}
 use Rattle.sasl_watch.specs.declared.LineKind.{LineKind}
 use Rattle.sasl_watch.specs.declared.LineKind.TheVariants.{NoNul, LineTooLong, BadByte, EarlyBus, Agreed}
 use Rattle.sasl_watch.specs.declared.LineFault.{LineFault}
 use Rattle.sasl_watch.specs.Lines.{line_fault, is_begin, agrees, is_behind_cr}
 
 -- ---- where a byte stands
-
--- no byte came before
-abbrev pub is_empty : List ℕ → Bool
-is_empty [] = true
-is_empty (c ∷ bytes) = false
 
 -- the lines that these bytes end, each with its LF, where those of a first line came before
 abbrev pub ended_from : List ℕ → List ℕ → List (List ℕ)

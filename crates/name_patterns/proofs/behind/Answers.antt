@@ -1,9 +1,9 @@
 use Rattle.std.proofs.lemmas.Bool.Decides.{Decides-eqb}
 use Rattle.std.proofs.lemmas.Slice.Eq.{strip_prefix_is}
-use Rattle.name_patterns.proofs.PatternCuts.{behind_is}
+use Rattle.dbus_names.proofs.Texts.{behind_stripped}
 use Rattle.name_patterns.proofs.behind.Goals as goal
 
 pub returns : goal.returns
 returns c =
-    behind_is c.args.front.now c.args.text.now c.strip_prefix.result
+    behind_stripped c.args.front.now c.args.text.now c.strip_prefix.result
     (strip_prefix_is Decides-eqb c.args.text.now c.args.front.now c.strip_prefix.result c.strip_prefix.ensures.cases)

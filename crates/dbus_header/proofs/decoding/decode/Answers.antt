@@ -6,8 +6,9 @@ use Rattle.dbus_header.specs.Refusals.{refusal}
 use Rattle.dbus_header.specs.Seen.{fields_seen}
 use Rattle.dbus_values.specs.declared.Order.{Order}
 use Rattle.dbus_header.proofs.NumberLaws.{reply_inside}
-use Rattle.dbus_header.proofs.WholeMessage.{IsWhole, fault_of_head, fault_of_whole, contents_as}
+use Rattle.dbus_header.proofs.WholeMessage.{IsWhole, fault_of_whole, contents_as}
 use Rattle.dbus_header.proofs.decoding.decode.Goals as goal
+use Rattle.dbus_header.proofs.StreamLaws.{fault_of_head}
 
 pub returns-in_err-check_head-clause-refusal : goal.returns-in_err-check_head-clause-refusal
 returns-in_err-check_head-clause-refusal c = search (rules, fault_of_head c.args.bytes.now c.in_err-check_head.field-0.0 c.requires.long (sym c.check_head.ensures.refusal ∙ ap refusal c.in_err-check_head.was))

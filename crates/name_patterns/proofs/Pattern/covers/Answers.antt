@@ -1,5 +1,6 @@
 use Rattle.std.proofs.Common.{ap, ap₂, sym, ◌∙◌, option_map, string_bytes}
-use Rattle.name_patterns.specs.Cuts.{behind, rest_covered}
+use Rattle.dbus_names.specs.Texts.{behind}
+use Rattle.name_patterns.specs.Cuts.{rest_covered}
 use Rattle.name_patterns.specs.Patterns.{Pattern, covers}
 use Rattle.name_patterns.proofs.PatternCuts.{covered}
 use Rattle.name_patterns.proofs.Pattern.covers.Goals as goal

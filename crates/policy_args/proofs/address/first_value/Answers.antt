@@ -1,6 +1,6 @@
 use Rattle.std.proofs.Common.{codes}
+use Rattle.dbus_names.specs.Texts.{behind}
 use Rattle.policy_args.specs.Addresses.{path_among}
-use Rattle.policy_args.specs.Words.{behind}
 use Rattle.policy_args.proofs.Scanning.{found-first, next-part, less-left}
 use Rattle.policy_args.proofs.address.first_value.Goals as goal
 

@@ -1,8 +1,8 @@
 use Rattle.std.proofs.Common.{◌≡◌, codes}
+use Rattle.dbus_names.specs.Texts.{behind}
 use Rattle.policy_args.specs.Addresses.{first_some, path_among}
 use Rattle.policy_args.specs.Seen.{part_seen}
 use Rattle.policy_args.specs.Steps.{bytes_left, parts_left}
-use Rattle.policy_args.specs.Words.{behind}
 use Rattle.policy_args.proofs.address.first_value.Given as goal
 
 abbrev pub invariant-loop-rest : goal.invariant-loop-rest

@@ -1,4 +1,4 @@
-use Rattle.recording.proofs.ByteLists.{AreBytes-from_All}
+use Rattle.byte_lists.proofs.Bytes.{AreBytes-from_All}
 use Rattle.recording.proofs.RecordingRead.{recording-is}
 use Rattle.recording.proofs.laws.read_is_spelled.Goals as goal
 

@@ -1,0 +1,2 @@
+//! Lists of bytes: the words that the definitions of other crates share, and the lemmas that their proofs do.
+#![tactic(auto)]
