@@ -5,3 +5,5 @@
 mod own_messages;
 #[cfg(test)]
 mod serials;
+#[cfg(test)]
+mod unique_names;

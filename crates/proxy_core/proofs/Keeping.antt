@@ -7,7 +7,10 @@ use Rattle.std.specs.FinMap.{get}
 use Rattle.dbus_values.specs.Values.{number_bytes}
 use Rattle.dbus_values.proofs.ValueLaws.{wide_32}
 use Rattle.dbus_values.specs.declared.Order.{Order}
-use Rattle.dbus_header.specs.Message.{with_number}
+use Rattle.dbus_header.specs.Message.{spell, with_number}
+use Rattle.dbus_header.specs.declared.Instead.{Instead}
+use Rattle.dbus_header.specs.declared.Instead.TheVariants.{AccessDenied, NameHasNoOwner, ServiceUnknown, False}
+use Rattle.policy_view.specs.Own.{answer_in_place}
 use Rattle.dbus_header.specs.Contents.{Contents}
 use Rattle.policy_args.specs.Policy.{Policy}
 use Rattle.policy_view.specs.History.{most_sent}
@@ -22,7 +25,7 @@ use Rattle.policy_view.specs.declared.Verdict.{Verdict}
 use Rattle.policy_view.specs.declared.Verdict.TheVariants.{Pass, Ping, Drop}
 use Rattle.proxy_core.specs.declared.ledger.Expected.{Expected}
 use Rattle.proxy_core.specs.declared.ledger.Expected.TheVariants as expects
-use Rattle.proxy_core.proofs.OwnBytes.{ping_length, error_length}
+use Rattle.ping_rewrite.proofs.Lengths.{answer_lengths, ping_lengths}
 
 -- ---- fronts
 
@@ -67,6 +70,12 @@ number_length o place n bytes =
     let behind_place = length-drop {A = ℕ} place bytes in
     omega (arith, taken, four, one, two, behind, behind_place)
 
+answer_short : (order : Order) (reply serial : ℕ) (what : Instead) → length (spell (answer_in_place order reply serial what)) ≤ 144
+answer_short order reply serial AccessDenied = let h = (answer_lengths order reply serial AccessDenied).all_is in omega (arith, h)
+answer_short order reply serial NameHasNoOwner = let h = (answer_lengths order reply serial NameHasNoOwner).all_is in omega (arith, h)
+answer_short order reply serial ServiceUnknown = let h = (answer_lengths order reply serial ServiceUnknown).all_is in omega (arith, h)
+answer_short order reply serial False = let h = (answer_lengths order reply serial False).all_is in omega (arith, h)
+
 module _ (policy : Policy) (x : Contents) (bytes : List ℕ) (long : 16 ≤ length bytes) where
   sent_kept : (out : List ℕ) (e : Option Expected) (view : SessionView) → length out ≤ 9 * length bytes → IsKept (9 * length bytes) view (with_sent (out, e) view)
   sent_kept out e view h =
@@ -80,7 +89,7 @@ module _ (policy : Policy) (x : Contents) (bytes : List ℕ) (long : 16 ≤ leng
   verdict_kept Pass view =
       spent_kept (passed x bytes (view.sent + 1)).0 (passed x bytes (view.sent + 1)).1 view (let h = number_length x.order 8 (view.sent + 1) bytes in omega (arith, h, long))
   verdict_kept (Ping what reason) view =
-      spent_kept (pinged x what (view.sent + 1)).0 (pinged x what (view.sent + 1)).1 view (let h = ping_length (view.sent + 1) in omega (arith, h, long))
+      spent_kept (pinged x what (view.sent + 1)).0 (pinged x what (view.sent + 1)).1 view (let h = (ping_lengths (view.sent + 1)).all_is in omega (arith, h, long))
   verdict_kept (Drop reason) view = itself (9 * length bytes) view
 
   call_kept : (view : SessionView) → IsKept (9 * length bytes) view (with_call policy x bytes view)
@@ -90,7 +99,7 @@ module _ (policy : Policy) (x : Contents) (bytes : List ℕ) (long : 16 ≤ leng
   incoming_length : (place : ℕ) (o : Option Expected) → length (incoming x bytes place o) ≤ 9 * length bytes
   incoming_length place None = omega arith
   incoming_length place (Some (expects.Call serial)) = let h = number_length x.order place serial bytes in omega (arith, h, long)
-  incoming_length place (Some (expects.Ping serial order what)) = let h = error_length order serial x.serial what in omega (arith, h, long)
+  incoming_length place (Some (expects.Ping serial order what)) = let h = answer_short order serial x.serial what in omega (arith, h, long)
 
   reply_kept : (r place : Option ℕ) (view : SessionView) → IsKept (9 * length bytes) view (with_reply x bytes r place view)
   reply_kept None place view = itself (9 * length bytes) view

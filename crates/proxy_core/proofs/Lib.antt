@@ -4,7 +4,6 @@ pub mod Going
 pub mod LineCuts
 pub mod LineSteps
 pub mod Maps
-pub mod OwnBytes
 pub mod LedgerLaws
 pub mod Knowing
 pub mod Placing

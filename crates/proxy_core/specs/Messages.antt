@@ -36,12 +36,19 @@ abbrev pub expecting : FinMap nat_cmp Expected → ℕ → Option Expected → F
 expecting expected n None = expected
 expecting expected n (Some e) = insert expected n e
 
-abbrev pub with_sent : List ℕ × Option Expected → SessionView → SessionView
-with_sent sent view = record view {
+-- one more serial is given
+abbrev pub counted : SessionView → SessionView
+counted view = record view { sent = view.sent + 1 }
+
+-- with the serial that was given last
+abbrev pub with_queued : List ℕ × Option Expected → SessionView → SessionView
+with_queued sent view = record view {
   bus_side = view.bus_side ++ sent.0;
-  sent = view.sent + 1;
-  expected = expecting view.expected (view.sent + 1) sent.1;
+  expected = expecting view.expected view.sent sent.1;
 }
+
+abbrev pub with_sent : List ℕ × Option Expected → SessionView → SessionView
+with_sent sent view = with_queued sent (counted view)
 
 -- sent, where a serial is left
 abbrev pub sent_or_spent : List ℕ × Option Expected → SessionView → SessionView

@@ -3,8 +3,8 @@
 
 mod bus_stream;
 mod client_stream;
+pub mod laws;
 mod ledger;
-mod own;
 mod queue;
 mod session;
 #[cfg(test)]

@@ -4,7 +4,6 @@ ghost use Rattle.std.specs.Int.{w32};
 ghost use Rattle.dbus_values.specs.Values.{number_bytes};
 ghost use Rattle.dbus_header.specs.Message.{with_number};
 
-use crate::own::Template;
 use bytes::BytesMut;
 use dbus_values::Order;
 use std::alloc::{AllocError, Global};
@@ -76,26 +75,6 @@ impl Queue {
         self.bytes.extend_reserved(front);
         self.bytes.extend_reserved(&cells(order, number));
         self.bytes.extend_reserved(rest);
-        Ok(())
-    }
-
-    /// Puts an answer behind the others, with its serial and its REPLY_SERIAL.
-    pub(crate) fn push_answer(
-        &mut self,
-        order: Order,
-        template: &Template,
-        reply: u32,
-        serial: u32,
-    ) -> Result<(), AllocError>
-        ensures ok { OnOk result (self.new ≡ self.old ++ template.now.front.now ++ number_bytes order w32 serial ++ template.now.middle.now ++ number_bytes order w32 reply ++ template.now.rest.now) }
-        ensures err { OnErr result (self.new ≡ self.old) }
-    {
-        self.bytes.reserve(template.front.len() + template.middle.len() + template.rest.len() + 8)?;
-        self.bytes.extend_reserved(template.front);
-        self.bytes.extend_reserved(&cells(order, serial));
-        self.bytes.extend_reserved(template.middle);
-        self.bytes.extend_reserved(&cells(order, reply));
-        self.bytes.extend_reserved(template.rest);
         Ok(())
     }
 

@@ -23,6 +23,7 @@ use dbus_framing::Next;
 use dbus_header::{Message, decode};
 use policy_args::Policy;
 use policy_view::{End, Fault, Mode, Side};
+use serial_map::Serials;
 use std::alloc::{AllocError, Global};
 use std::marker::Model;
 
@@ -38,7 +39,7 @@ pub struct Session {
     ended: Option<End>,
     client: ClientStream,
     bus: BusStream,
-    sent: u32,
+    serials: Serials,
     ledger: Ledger,
     alloc: Global,
 }
@@ -54,7 +55,7 @@ impl Model for Session {
 
     ghost coded = { Prim.hlevel (codes, map.code {X = Expected} {R = nat_cmp} coded_ℕ (Prim.hlevel codes)) };
 
-    ghost view = { λ s. record { mode = s.mode; bus_side = s.to_bus; client_side = s.to_client; ended = s.ended; client = s.client; bus = s.bus; sent = s.sent; expected = s.ledger } };
+    ghost view = { λ s. record { mode = s.mode; bus_side = s.to_bus; client_side = s.to_client; ended = s.ended; client = s.client; bus = s.bus; sent = s.serials; expected = s.ledger } };
 }
 
 /// The end of a side's stream as an End.
@@ -114,7 +115,7 @@ impl Session {
             ended: None,
             client: ClientStream::new(alloc, mode.auth),
             bus: BusStream::new(alloc, mode.auth),
-            sent: 0,
+            serials: Serials::new(),
             ledger: Ledger::new(alloc),
             alloc,
         })
@@ -213,6 +214,13 @@ impl Session {
         ensures { result ≡ self.now.ended }
     {
         self.ended
+    }
+
+    /// Serials are given from there on.
+    pub(crate) fn set_serials(&mut self, serials: Serials)
+        ensures { self.new ≡ record self.old { sent = serials } }
+    {
+        self.serials = serials;
     }
 
     /// The session ended.

@@ -1,36 +1,33 @@
 //! What a session does with a message: each of the client is judged and sent, each answer of the bus is matched and shown.
 ghost use Rattle.std.specs.Prelude.{◌≡◌, ◌≤◌, ◌<◌, ◌+◌, ◌++◌, Some, None, OnOk, OnErr, length};
 ghost use Rattle.policy_view.specs.History.{most_sent};
-ghost use Rattle.proxy_core.specs.Messages.{passed, pinged, expecting, with_sent, sent_or_spent, with_call, incoming, with_reply, with_bus_message, with_message, KeepsSides};
+ghost use Rattle.proxy_core.specs.Messages.{passed, pinged, expecting, with_queued, sent_or_spent, with_call, incoming, with_reply, with_bus_message, with_message, KeepsSides};
 ghost use Rattle.dbus_header.specs.Read.{message_seen};
 ghost use Rattle.proxy_core.specs.Steps.{TookMessage};
 
 use super::Session;
 use crate::ledger::Expected;
-use crate::own::{answer_in, ping};
 use dbus_header::{Instead, Message, SERIAL_PLACE};
+use ping_rewrite::{answer_in_place, ping};
 use policy_args::Policy;
 use policy_view::{End, Side, Verdict};
 use std::alloc::AllocError;
 use verdicts::{is_judged, judge};
 
 impl Session {
-    /// The call goes to the bus, and where it wants an answer, that is expected.
-    fn pass(&mut self, message: &Message<'_>) -> Result<(), AllocError>
-        requires { self.old.sent < most_sent }
-        ensures ok { OnOk result (self.new ≡ with_sent (passed (message_seen message.now) message.now.bytes.now (self.old.sent + 1)) self.old) }
+    /// The call goes to the bus with the serial that was given last, and where it expects a reply, that is expected.
+    fn pass(&mut self, message: &Message<'_>, serial: u32) -> Result<(), AllocError>
+        requires { serial ≡ self.old.sent }
+        ensures ok { OnOk result (self.new ≡ with_queued (passed (message_seen message.now) message.now.bytes.now serial) self.old) }
         ensures err { OnErr result (KeepsSides self.old self.new) }
     {
-        let serial = self.sent + 1;
-        self.expect_answer(message, serial)?;
+        self.expect_reply(message, serial)?;
         self.to_bus
-            .push_with_number(message.order, message.bytes, SERIAL_PLACE, serial)?;
-        self.sent = serial;
-        Ok(())
+            .push_with_number(message.order, message.bytes, SERIAL_PLACE, serial)
     }
 
-    /// The answer to a call that passed is expected, where it wants one.
-    fn expect_answer(&mut self, message: &Message<'_>, serial: u32) -> Result<(), AllocError>
+    /// The reply to a call that passed is expected, where it expects one.
+    fn expect_reply(&mut self, message: &Message<'_>, serial: u32) -> Result<(), AllocError>
         ensures ok { OnOk result (self.new ≡ record self.old { expected = expecting self.old.expected serial (passed (message_seen message.now) message.now.bytes.now serial).1 }) }
         ensures err { OnErr result (self.new ≡ self.old) }
     {
@@ -40,22 +37,20 @@ impl Session {
         Ok(())
     }
 
-    /// A ping goes to the bus in the call's place, and the client is to be answered when its answer comes.
-    fn ping(&mut self, message: &Message<'_>, what: Instead) -> Result<(), AllocError>
-        requires { self.old.sent < most_sent }
-        ensures ok { OnOk result (self.new ≡ with_sent (pinged (message_seen message.now) what (self.old.sent + 1)) self.old) }
+    /// A ping goes to the bus in the call's place with the serial that was given last, and the client is to be answered
+    /// when its answer comes.
+    fn ping(&mut self, message: &Message<'_>, what: Instead, serial: u32) -> Result<(), AllocError>
+        requires { serial ≡ self.old.sent }
+        ensures ok { OnOk result (self.new ≡ with_queued (pinged (message_seen message.now) what serial) self.old) }
         ensures err { OnErr result (KeepsSides self.old self.new) }
     {
-        let serial = self.sent + 1;
         let expected = Expected::Ping {
             serial: message.serial,
             order: message.order,
             what,
         };
         self.ledger.expect(serial, expected)?;
-        self.to_bus.push(&ping(serial))?;
-        self.sent = serial;
-        Ok(())
+        self.to_bus.push(&ping(serial))
     }
 
     /// The call is sent, where a serial is left.
@@ -63,10 +58,10 @@ impl Session {
         requires { self.old.ended ≡ None }
         ensures { TookMessage (sent_or_spent (passed (message_seen message.now) message.now.bytes.now (self.old.sent + 1)) self.old) self.old self.new }
     {
-        if self.sent == u32::MAX {
+        let Ok(serial) = self.serials.next() else {
             return self.end_with(End::SerialsSpent);
-        }
-        if self.pass(message).is_err() {
+        };
+        if self.pass(message, serial).is_err() {
             self.end_with(End::Memory);
         }
     }
@@ -76,10 +71,10 @@ impl Session {
         requires { self.old.ended ≡ None }
         ensures { TookMessage (sent_or_spent (pinged (message_seen message.now) what (self.old.sent + 1)) self.old) self.old self.new }
     {
-        if self.sent == u32::MAX {
+        let Ok(serial) = self.serials.next() else {
             return self.end_with(End::SerialsSpent);
-        }
-        if self.ping(message, what).is_err() {
+        };
+        if self.ping(message, what, serial).is_err() {
             self.end_with(End::Memory);
         }
     }
@@ -119,9 +114,12 @@ impl Session {
                 serial,
                 order,
                 what,
-            } => self
-                .to_client
-                .push_answer(order, &answer_in(order, what), serial, message.serial),
+            } => self.to_client.push(answer_in_place(
+                order,
+                serial,
+                message.serial,
+                what,
+            ).as_slice()),
         }
     }
 

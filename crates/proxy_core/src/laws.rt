@@ -1,0 +1,25 @@
+//! Sessions that no events make, for tests.
+ghost use Rattle.std.specs.Prelude.{◌≡◌, IfOk, IsTrue, false};
+ghost use Rattle.proxy_core.specs.Sessions.{at_start};
+
+use crate::Session;
+use policy_args::Policy;
+use policy_view::Mode;
+use serial_map::Serials;
+use std::alloc::{AllocError, Global};
+
+/// A session of which the first so many serials count as given, to which nothing came and from which nothing is expected.
+pub fn session_at(
+    alloc: Global,
+    policy: &Policy,
+    mode: Mode,
+    given: u32,
+) -> Result<Session, AllocError>
+    requires messages { mode.auth ≡ false }
+    requires filter { IsTrue mode.filter }
+    ensures { IfOk result (λ s. s ≡ record (at_start mode) { sent = given }) }
+{
+    let mut session = Session::new(alloc, policy, mode)?;
+    session.set_serials(Serials::after(given));
+    Ok(session)
+}
