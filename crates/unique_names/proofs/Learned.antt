@@ -20,7 +20,7 @@ use Rattle.policy_args.specs.declared.Level.TheVariants.{None as Hidden, See, Ta
 use Rattle.policy_args.specs.declared.entry.Entry.{Entry}
 use Rattle.policy_args.specs.declared.fact.Fact.{Fact}
 use Rattle.policy_args.specs.declared.fact.Fact.TheVariants.{Owned, SelfId, Met}
-use Rattle.policy_args.proofs.Fronts.{bytes_eq-same, bytes_eq-true}
+use Rattle.byte_lists.proofs.Bytes.{bytes_eq-refl, bytes_eq-true}
 use Rattle.unique_names.specs.Known.{Known}
 use Rattle.unique_names.specs.Merged.{merged_from}
 use Rattle.unique_names.specs.Taught.{AreNumbers, Fits, Ids, Taught, has_at_least, kept_level, kept_numbers, known_level, known_numbers, known_of, learned, owned_numbers, owning, raised}
@@ -176,7 +176,7 @@ hidden-if true l e = absurd cc
 hidden-if false l e = refl
 
 if-same : (policy : Policy) (id : Text) (l : Level) → (if bytes_eq id id then l else Hidden) ≡ l
-if-same policy id l = ap (λ b. if b then l else Hidden) (bytes_eq-same id)
+if-same policy id l = ap (λ b. if b then l else Hidden) (bytes_eq-refl id)
 
 pub learned-taught : (ids : Ids) (policy : Policy) (facts : List Fact) (fact : Fact) → Taught ids policy facts → Taught (learned policy ids fact) policy (facts ++ fact ∷ [])
 learned-taught ids policy facts (SelfId id) taught =
@@ -200,7 +200,7 @@ learned-taught ids policy facts (Owned name id) taught = by (at_least See (level
     numbers =
         numbers-last policy facts (Owned name id) id
         ∙ same-numbers _ (λ e. covers e.pattern name || list_any (covers_name_of e id) facts) 1 policy.entries
-        (always-agree _ _ (λ e. ap (λ b. (b && covers e.pattern name) || list_any (covers_name_of e id) facts) (bytes_eq-same id)) policy.entries)
+        (always-agree _ _ (λ e. ap (λ b. (b && covers e.pattern name) || list_any (covers_name_of e id) facts) (bytes_eq-refl id)) policy.entries)
         ∙ sym (merged-numbers name (λ e. list_any (covers_name_of e id) facts) 1 policy.entries)
         ∙ ap (merged_from name 1 policy.entries) (sym (numbers-of ids policy facts id taught))
 
