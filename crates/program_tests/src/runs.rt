@@ -1,16 +1,14 @@
 //! Whole runs over files and sinks in memory.
-mod messages;
-
-use crate::{DiskFiles, POLICY_LIMIT, StdSink, run};
-use link_traits::{FileFault, Files, MemFile, MemFiles, MemSink, Sink};
-use messages::Message::{
+use crate::messages::Message::{
     AccessDenied, BareCall, Call, OtherPing, OtherServiceUnknown, Ping, Return, ServiceUnknown,
     Signal,
 };
-use messages::{
+use crate::messages::{
     BIG_CALL, Message, NAME_HAS_NO_OWNER, SENDER_FIRST, message_bytes, output, put, record,
     recording,
 };
+use link_traits::{FileFault, Files, MemFile, MemFiles, MemSink, Sink};
+use proxy_main::{DiskFiles, POLICY_LIMIT, StdSink, run};
 use recording::RECORDING_LIMIT;
 use std::alloc::{AllocError, Global};
 use std::fs;
