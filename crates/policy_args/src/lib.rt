@@ -82,6 +82,3 @@ pub struct BadWord {
     /// What is wrong with it.
     pub kind: WordKind,
 }
-
-#[cfg(test)]
-mod tests;

@@ -1,4 +1,5 @@
-use super::*;
+//! Which texts are call rules, and which calls they match.
+use call_rules::{BadRule, Rule};
 use std::test::Fail;
 
 fn has_parts(

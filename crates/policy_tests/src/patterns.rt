@@ -1,4 +1,6 @@
-use super::*;
+//! Which texts are patterns of bus names, and which names they cover.
+use name_patterns::{BadPattern, Pattern};
+use std::alloc::{AllocError, Global};
 use std::test::Fail;
 
 /// A name of two elements that has so many bytes, from 2 on, and an end behind it.

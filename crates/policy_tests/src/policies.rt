@@ -1,6 +1,10 @@
-use super::*;
-use crate::WordKind::{
+//! What policy files and proxy lines say, and the first bad word of others.
+use policy_args::WordKind::{
     BadAddress, BadName, BadNumber, BadRule, NoPath, OptionBeforeAddress, TooMany, UnknownOption,
+};
+use policy_args::{
+    Grant, Level, LineRefusal, Options, Policy, ProxyLine, WordKind, read_line, read_options,
+    words_of,
 };
 use std::alloc::{AllocError, Global};
 use std::test::Fail;
