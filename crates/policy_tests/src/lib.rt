@@ -6,4 +6,6 @@ mod patterns;
 #[cfg(test)]
 mod policies;
 #[cfg(test)]
+mod rows;
+#[cfg(test)]
 mod rules;

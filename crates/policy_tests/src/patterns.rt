@@ -1,9 +1,106 @@
 //! Which texts are patterns of bus names, and which names they cover.
+use crate::rows::{assert_rows, assert_told};
 use name_patterns::{BadPattern, Pattern};
 use std::alloc::{AllocError, Global};
-use std::test::Fail;
 
-/// A name of two elements that has so many bytes, from 2 on, and an end behind it.
+/// Texts, and the name of the pattern and whether it is exact, or why it is refused.
+const PATTERNS: &str = "\
+org.foo => org.foo true
+org.a.T => org.a.T true
+-.a-b_9 => -.a-b_9 true
+org.* => org false
+org.a.* => org.a false
+-.* => - false
+org => Form
+* => Form
+ => Form
+.* => Form
+:1.5 => Form
+:1.* => Form
+org.a* => Form
+org* => Form
+org..* => Form
+org.a..* => Form
+.org.* => Form
+org.7a.* => Form
+7.* => Form
+org.*.a => Form
+org.*.* => Form
+org.\u{e9}.* => Form
+org.a.*\0 => Form
+";
+
+/// How many bytes a text has before its end, and how many the name of the pattern.
+const LENGTHS: &str = "\
+255 => 255
+256 => Form
+253 .* => 253
+254 .* => 254
+255 .* => 255
+256 .* => Form
+";
+
+/// Patterns and names, and whether the patterns cover them.
+const NAMES: &str = "\
+org.foo org.foo => true
+org.foo.* org.foo => true
+org.foo org.foo.bar => false
+org.foo.* org.foo.bar => true
+org.foo org.foo.bar.baz => false
+org.foo.* org.foo.bar.baz => true
+org.foo org.foo. => false
+org.foo.* org.foo. => true
+org.foo org.foobar => false
+org.foo.* org.foobar => false
+org.foo org.foo-bar => false
+org.foo.* org.foo-bar => false
+org.foo org.fo => false
+org.foo.* org.fo => false
+org.foo org => false
+org.foo.* org => false
+org.foo org.bar => false
+org.foo.* org.bar => false
+org.foo com.org.foo => false
+org.foo.* com.org.foo => false
+org.foo :1.5 => false
+org.foo.* :1.5 => false
+org.foo  => false
+org.foo.*  => false
+";
+
+fn told_pattern(alloc: Global, text: &str) -> Result<String, AllocError> {
+    match Pattern::read(alloc, text) {
+        Ok(pattern) => format!(in alloc; "{} {}", pattern.name(), pattern.is_exact()),
+        Err(refusal) => told_refusal(alloc, refusal),
+    }
+}
+
+fn told_refusal(alloc: Global, refusal: BadPattern) -> Result<String, AllocError> {
+    match refusal {
+        BadPattern::Form => String::from_str(alloc, "Form"),
+        BadPattern::Memory => Err(AllocError),
+    }
+}
+
+fn told_cover(alloc: Global, row: &str) -> Result<String, AllocError> {
+    let (text, name) = row.split_once(' ').unwrap_or((row, ""));
+    match Pattern::read(alloc, text) {
+        Ok(pattern) => format!(in alloc; "{}", pattern.covers(name)),
+        Err(refusal) => told_refusal(alloc, refusal),
+    }
+}
+
+/// How many bytes the name of the pattern has that a name of two elements is, which has so many bytes, from 2 on, and an
+/// end behind it.
+fn told_length(alloc: Global, row: &str) -> Result<String, AllocError> {
+    let (len, end) = row.split_once(' ').unwrap_or((row, ""));
+    let text = long(alloc, len.parse().unwrap_or(0), end)?;
+    match Pattern::read(alloc, &text) {
+        Ok(pattern) => format!(in alloc; "{}", pattern.name().len()),
+        Err(refusal) => told_refusal(alloc, refusal),
+    }
+}
+
 fn long(alloc: Global, len: usize, end: &str) -> Result<String, AllocError> {
     let mut text = String::from_str(alloc, "a.")?;
     for _ in 2..len {
@@ -14,100 +111,23 @@ fn long(alloc: Global, len: usize, end: &str) -> Result<String, AllocError> {
 }
 
 #[test]
-fn texts_are_read_as_patterns_or_refused(rt: HostRuntime) -> Result<(), Fail> {
-    for (text, expected) in [
-        ("org.foo", Some(("org.foo", true))),
-        ("org.a.T", Some(("org.a.T", true))),
-        ("-.a-b_9", Some(("-.a-b_9", true))),
-        ("org.*", Some(("org", false))),
-        ("org.a.*", Some(("org.a", false))),
-        ("-.*", Some(("-", false))),
-        ("org", None),
-        ("*", None),
-        ("", None),
-        (".*", None),
-        (":1.5", None),
-        (":1.*", None),
-        ("org.a*", None),
-        ("org*", None),
-        ("org..*", None),
-        ("org.a..*", None),
-        (".org.*", None),
-        ("org.7a.*", None),
-        ("7.*", None),
-        ("org.*.a", None),
-        ("org.*.*", None),
-        ("org.\u{e9}.*", None),
-        ("org.a.*\0", None),
-    ] {
-        let found = Pattern::read(rt.alloc(), text);
-        match &found {
-            Ok(pattern) => {
-                let seen = Some((pattern.name(), pattern.is_exact()));
-                assert_eq!(rt; seen, expected, "{text}");
-            }
-            Err(BadPattern::Form) => assert_eq!(rt; None, expected, "{text}"),
-            Err(BadPattern::Memory) => return Err(AllocError.into()),
-        }
-    }
-    Ok(())
+fn texts_are_read_as_patterns_or_refused(rt: HostRuntime) {
+    assert_rows(&rt, rt.alloc(), PATTERNS, &told_pattern);
 }
 
 #[test]
-fn names_have_at_most_255_bytes(rt: HostRuntime) -> Result<(), Fail> {
-    for (len, end, expected) in [
-        (255, "", true),
-        (256, "", false),
-        (253, ".*", true),
-        (254, ".*", true),
-        (255, ".*", true),
-        (256, ".*", false),
-    ] {
-        let text = long(rt.alloc(), len, end)?;
-        match Pattern::read(rt.alloc(), text.as_str()) {
-            Ok(pattern) => {
-                assert!(rt; expected, "{len}{end}");
-                assert_eq!(rt; pattern.name().len(), len, "{len}{end}");
-            }
-            Err(BadPattern::Form) => assert!(rt; !expected, "{len}{end}"),
-            Err(BadPattern::Memory) => return Err(AllocError.into()),
-        }
-    }
-    Ok(())
+fn names_have_at_most_255_bytes(rt: HostRuntime) {
+    assert_rows(&rt, rt.alloc(), LENGTHS, &told_length);
 }
 
 #[test]
-fn patterns_cover_names(rt: HostRuntime) -> Result<(), Fail> {
-    let exact = Pattern::read(rt.alloc(), "org.foo").map_err(|_| AllocError)?;
-    let below = Pattern::read(rt.alloc(), "org.foo.*").map_err(|_| AllocError)?;
-    for (name, by_exact, by_below) in [
-        ("org.foo", true, true),
-        ("org.foo.bar", false, true),
-        ("org.foo.bar.baz", false, true),
-        ("org.foo.", false, true),
-        ("org.foobar", false, false),
-        ("org.foo-bar", false, false),
-        ("org.fo", false, false),
-        ("org", false, false),
-        ("org.bar", false, false),
-        ("com.org.foo", false, false),
-        (":1.5", false, false),
-        ("", false, false),
-    ] {
-        assert_eq!(rt; exact.covers(name), by_exact, "{name}");
-        assert_eq!(rt; below.covers(name), by_below, "{name}");
-    }
-    Ok(())
+fn patterns_cover_names(rt: HostRuntime) {
+    assert_rows(&rt, rt.alloc(), NAMES, &told_cover);
 }
 
 #[test]
-fn refusals_are_told(rt: HostRuntime) -> Result<(), Fail> {
-    for (refusal, expected) in [
-        (BadPattern::Form, "the text is no pattern of bus names"),
-        (BadPattern::Memory, "out of memory"),
-    ] {
-        let told = format!(in rt.alloc(); "{refusal}")?;
-        assert_eq!(rt; told.as_str(), expected);
-    }
-    Ok(())
+fn refusals_are_told(rt: HostRuntime) {
+    let told = format!(in rt.alloc(); "{}; {}", BadPattern::Form, BadPattern::Memory);
+    let expected = "the text is no pattern of bus names; out of memory";
+    assert_told(&rt, "", told, expected);
 }
