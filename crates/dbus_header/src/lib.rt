@@ -6,8 +6,6 @@ mod fields;
 mod head;
 mod message;
 mod numbers;
-#[cfg(test)]
-mod tests;
 
 ghost use Rattle.std.specs.Prelude.{◌≡◌, ℕ, ◌++◌, ◌<◌, List, Some, slice_index};
 ghost use Rattle.dbus_header.specs.Message.{Message as MessageTree, Valid, spell};
