@@ -1,7 +1,7 @@
 //! The words and the files of runs that end without a session, each with its status and its line.
-use crate::messages::plain;
 use crate::rows::{assert_rows, assert_told};
 use crate::runs::{Ended, file, replay, run_over};
+use crate::texts::plain;
 use link_traits::MemFile;
 use proxy_main::POLICY_LIMIT;
 use recording::RECORDING_LIMIT;

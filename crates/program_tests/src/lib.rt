@@ -1,10 +1,8 @@
-//! Tests of whole runs of the program, over files and sinks in memory, and of its disk files and standard output.
+//! Tests of the program's words, files and output, over files and sinks in memory, and of its disk files and standard output.
 #![tactic(auto)]
 
 #[cfg(test)]
 mod files;
-#[cfg(test)]
-mod messages;
 #[cfg(test)]
 mod outside;
 #[cfg(test)]
@@ -12,4 +10,4 @@ mod rows;
 #[cfg(test)]
 mod runs;
 #[cfg(test)]
-mod sessions;
+mod texts;
