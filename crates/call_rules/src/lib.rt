@@ -6,8 +6,6 @@
 
 mod parts;
 mod rule;
-#[cfg(test)]
-mod tests;
 
 pub use rule::Rule;
 use std::alloc::AllocError;

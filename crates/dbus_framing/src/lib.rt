@@ -4,8 +4,6 @@
 mod framer;
 mod laws;
 mod state;
-#[cfg(test)]
-mod tests;
 
 use bytes::Bytes;
 use dbus_header::Malformed;

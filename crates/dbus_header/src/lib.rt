@@ -7,8 +7,6 @@ mod head;
 mod kinds;
 mod message;
 mod numbers;
-#[cfg(test)]
-mod tests;
 
 ghost use Rattle.std.specs.Prelude.{◌≡◌, ℕ, ◌++◌, ◌<◌, List, Some, slice_index};
 ghost use Rattle.dbus_header.specs.Message.{Message as MessageTree, Valid, spell};

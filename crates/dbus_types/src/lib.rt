@@ -33,6 +33,3 @@ pub fn spelled_types_are_read()
 pub fn read_types_are_spelled()
     ensures { (bytes : List ℕ) (types : List Complete) → signature_of bytes ≡ Some types → (spelled_types types ≡ bytes) × IsTrue (is_signature types) }
 {}
-
-#[cfg(test)]
-mod tests;

@@ -9,4 +9,3 @@ pub mod WalkLaws
 pub mod Shifts
 pub mod BodyLaws
 pub mod SpellingLaws
-pub mod BodyExamples

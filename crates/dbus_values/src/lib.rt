@@ -6,8 +6,6 @@ mod containers;
 mod cursor;
 mod laws;
 mod steps;
-#[cfg(test)]
-mod tests;
 mod texts;
 mod values;
 

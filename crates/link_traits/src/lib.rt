@@ -7,8 +7,6 @@
 
 pub mod memory;
 pub mod outside;
-#[cfg(test)]
-mod tests;
 
 pub use memory::{MemFile, MemFiles, MemSink};
 pub use outside::{FileFault, Files, Sink, SinkFault, read_whole, write_all};

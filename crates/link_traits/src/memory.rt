@@ -1,6 +1,7 @@
 //! Files and a sink in memory, which tell all that they hold.
-ghost use Rattle.std.specs.Prelude.{◌≡◌, ◌≤◌, ◌+◌, ℕ, List, [], Some, IfOk, vec_len, vec_capacity, option_map};
-ghost use Rattle.link_traits.specs.Memory.{told_of};
+ghost use Rattle.std.specs.Prelude.{◌≡◌, ◌≤◌, ◌<◌, ◌+◌, ◌-◌, ◌++◌, ◌↔◌, ℕ, List, [], Some, OnOk, OnErr, IfOk, IfSome, IsErr, IsErrOf, is_ok, length, take, min, vec_len, vec_capacity, option_map, if◌then◌else◌};
+ghost use Rattle.link_traits.specs.Memory.{file_of, told_of, read_of, Reads, one_more, faults_after};
+ghost use Rattle.link_traits.specs.Told.{added, Rose, Given};
 
 use crate::outside::{FileFault, Files, Sink, SinkFault};
 use std::alloc::{AllocError, Global};
@@ -37,7 +38,7 @@ impl MemFiles {
 
 /// The first file with this path.
 fn find<'a>(files: &'a [MemFile], path: &str) -> Option<&'a MemFile>
-    ensures { option_map (λ f. f.now.bytes.items) result ≡ told_of files.now path.now }
+    ensures { option_map (λ f. f.now) result ≡ file_of files.now path.now }
 {
     let mut rest = files;
     while let [file, after @ ..] = rest {
@@ -54,7 +55,21 @@ impl Files for MemFiles {
 
     ghost faults = { λ m. m.faults };
 
-    fn read(&mut self, path: &str, limit: usize, into: &mut Vec<u8>) -> Result<(), FileFault> {
+    /// It fails where no file has the path, and where the first that has it fails; else it is refused as too long where the
+    /// file has more bytes than the limit.
+    fn read(&mut self, path: &str, limit: usize, into: &mut Vec<u8>) -> Result<(), FileFault>
+        ensures reads { Reads (read_of limit (file_of self.old.files.items path.now)) result into.old.items into.new.items }
+        ensures faults { self.new.faults ≡ faults_after (read_of limit (file_of self.old.files.items path.now)) self.old.faults }
+        ensures files { self.new.files.items ≡ self.old.files.items }
+
+        // What the trait says.
+        ensures given { OnOk result (Given limit (told_of self.old.files.items path.now) into.old.items into.new.items) }
+        ensures too_long { IsErrOf result FileFault.TooLong → IfSome (told_of self.old.files.items path.now) (λ bytes. limit < length bytes) }
+        ensures cause { IsErrOf result FileFault.Failed → Rose self.old.faults self.new.faults }
+        ensures err { OnErr result (into.new.items ≡ into.old.items) }
+        ensures count { self.old.faults ≤ self.new.faults }
+        ensures kept { (p : List ℕ) → told_of self.new.files.items p ≡ told_of self.old.files.items p }
+    {
         match find(&self.files, path) {
             Some(file) if !file.fails => {
                 if file.bytes.len() > limit {
@@ -105,7 +120,22 @@ impl Sink for MemSink {
 
     ghost faults = { λ m. m.faults };
 
-    fn write(&mut self, piece: &[u8]) -> Result<usize, SinkFault> {
+    /// It fails where the piece has bytes and no room is left, and else takes as many bytes as there is room for.
+    fn write(&mut self, piece: &[u8]) -> Result<usize, SinkFault>
+        ensures fails { IsErr result ↔ ((0 < length piece.now) × (self.old.room ≡ 0)) }
+        ensures answer { IfOk result (λ n. n ≡ min (length piece.now) self.old.room) }
+        ensures bytes { self.new.bytes.items ≡ self.old.bytes.items ++ take self.old.room piece.now }
+        ensures room { self.new.room ≡ self.old.room - length piece.now }
+        ensures faults { self.new.faults ≡ (if is_ok result then self.old.faults else one_more self.old.faults) }
+
+        // What the trait says.
+        ensures took { IfOk result (λ n. Some self.new.bytes.items ≡ added (take n piece.now) (Some self.old.bytes.items)) }
+        ensures within { IfOk result (λ n. n ≤ length piece.now) }
+        ensures progress { IfOk result (λ n. 0 < length piece.now → 0 < n) }
+        ensures cause { OnErr result (Rose self.old.faults self.new.faults) }
+        ensures err { OnErr result (Some self.new.bytes.items ≡ Some self.old.bytes.items) }
+        ensures count { self.old.faults ≤ self.new.faults }
+    {
         let n = piece.len().min(self.room);
         if n == 0 && !piece.is_empty() {
             self.faults = self.faults.saturating_add(1);

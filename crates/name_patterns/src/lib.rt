@@ -17,9 +17,6 @@ use std::alloc::{AllocError, Global};
 use std::marker::Model;
 use thiserror::Error;
 
-#[cfg(test)]
-mod tests;
-
 /// The most bytes that a name may have (D-Bus Specification, "Message Protocol", "Valid Names").
 const LONGEST_NAME: usize = 255;
 

@@ -99,6 +99,3 @@ pub struct BadWord {
     /// What is wrong with it.
     pub kind: WordKind,
 }
-
-#[cfg(test)]
-mod tests;

@@ -11,8 +11,6 @@ mod lines;
 mod program;
 mod std_sink;
 mod stops;
-#[cfg(test)]
-mod tests;
 mod words;
 mod work;
 

@@ -1,0 +1,11 @@
+//! Tests of messages: what is read of one, what is wrong with others, and the messages of streams.
+#![tactic(auto)]
+
+#[cfg(test)]
+mod framing;
+#[cfg(test)]
+mod headers;
+#[cfg(test)]
+mod messages;
+#[cfg(test)]
+mod rows;

@@ -1,0 +1,135 @@
+//! Messages that tables name, changed as they say, and other bytes.
+ghost use Rattle.std.specs.Prelude.{◌≡◌, ◌≤◌, ◌<◌, None, IsTrue, length};
+ghost use Rattle.dbus_header.specs.Malformed.{head_fault, whole_len};
+
+use dbus_header::length as message_length;
+use std::alloc::{AllocError, Global};
+
+/// A call to org.a.T, with serial 7.
+const CALL: &[u8] =
+    b"l\x01\x00\x01\x00\x00\x00\x00\x07\x00\x00\x00@\x00\x00\x00\x01\x01o\x00\x02\x00\x00\x00/p\x00\x00\x00\x00\x00\x00\x02\x01s\x00\x07\x00\x00\x00org.a.I\x00\x03\x01s\x00\x01\x00\x00\x00A\x00\x00\x00\x00\x00\x00\x00\x06\x01s\x00\x07\x00\x00\x00org.a.T\x00";
+
+/// A return to :1.40 with serial 60, the answer to serial 2.
+const RETURN: &[u8] =
+    b"l\x02\x01\x01\x00\x00\x00\x00<\x00\x00\x00%\x00\x00\x00\x05\x01u\x00\x02\x00\x00\x00\x06\x01s\x00\x05\x00\x00\x00:1.40\x00\x00\x00\x07\x01s\x00\x04\x00\x00\x00:1.7\x00\x00\x00\x00";
+
+/// A call to a.b in big order, with serial 0x01020304.
+const BIG_CALL: &[u8] =
+    b"B\x01\x00\x01\x00\x00\x00\x00\x01\x02\x03\x04\x00\x00\x00,\x01\x01o\x00\x00\x00\x00\x01/\x00\x00\x00\x00\x00\x00\x00\x03\x01s\x00\x00\x00\x00\x01M\x00\x00\x00\x00\x00\x00\x00\x06\x01s\x00\x00\x00\x00\x03a.b\x00\x00\x00\x00\x00";
+
+/// A return with the boolean true, the answer to serial 2.
+const BOOLEAN: &[u8] =
+    b"l\x02\x01\x01\x04\x00\x00\x00\x09\x00\x00\x00\x0f\x00\x00\x00\x05\x01u\x00\x02\x00\x00\x00\x08\x01g\x00\x01b\x00\x00\x01\x00\x00\x00";
+
+/// The same in big order.
+const BIG_BOOLEAN: &[u8] =
+    b"B\x02\x01\x01\x00\x00\x00\x04\x00\x00\x00\x09\x00\x00\x00\x0f\x05\x01u\x00\x00\x00\x00\x02\x08\x01g\x00\x01b\x00\x00\x00\x00\x00\x01";
+
+/// A return with no body that says that it has no descriptors.
+const DESCRIPTORS: &[u8] =
+    b"l\x02\x01\x01\x00\x00\x00\x00\x09\x00\x00\x00\x10\x00\x00\x00\x05\x01u\x00\x02\x00\x00\x00\x09\x01u\x00\x00\x00\x00\x00";
+
+/// The same in big order.
+const BIG_DESCRIPTORS: &[u8] =
+    b"B\x02\x01\x01\x00\x00\x00\x00\x00\x00\x00\x09\x00\x00\x00\x10\x05\x01u\x00\x00\x00\x00\x02\x09\x01u\x00\x00\x00\x00\x00";
+
+/// A return with an empty array of 64-bit numbers, which stands at place 64 with its padding.
+const EMPTY_ARRAY: &[u8] =
+    b"l\x02\x01\x01\x08\x00\x00\x00\x09\x00\x00\x00\x2d\x00\x00\x00\x05\x01u\x00\x02\x00\x00\x00\x08\x01g\x00\x02at\x00\x06\x01s\x00\x05\x00\x00\x00:1.40\x00\x00\x00\x07\x01s\x00\x04\x00\x00\x00:1.7\x00\x00\x00\x00\x00\x00\x00\x00\x00\x00\x00\x00";
+
+/// A head of protocol version 2.
+const NEWER: &[u8] = b"l\x01\x00\x02\x00\x00\x00\x00\x07\x00\x00\x00\x00\x00\x00\x00";
+
+/// A head whose serial is 0.
+const UNNUMBERED: &[u8] = b"l\x02\x00\x01\x00\x00\x00\x00\x00\x00\x00\x00\x00\x00\x00\x00";
+
+/// A return whose body has a byte, with no SIGNATURE.
+const STRAY: &[u8] =
+    b"l\x02\x01\x01\x01\x00\x00\x00<\x00\x00\x00\x08\x00\x00\x00\x05\x01u\x00\x02\x00\x00\x00\x00";
+
+/// The message of a name.
+pub fn bytes_of(name: &str) -> &'static [u8] {
+    match name {
+        "call" => CALL,
+        "return" => RETURN,
+        "big_call" => BIG_CALL,
+        "boolean" => BOOLEAN,
+        "big_boolean" => BIG_BOOLEAN,
+        "descriptors" => DESCRIPTORS,
+        "big_descriptors" => BIG_DESCRIPTORS,
+        "empty_array" => EMPTY_ARRAY,
+        "newer" => NEWER,
+        "unnumbered" => UNNUMBERED,
+        "stray" => STRAY,
+        _ => b"",
+    }
+}
+
+/// The message of a name, changed as what follows says, which spaces part: `PLACE=BYTE` puts a byte at a place, a number or
+/// a letter, and `cut=LENGTH` leaves so many bytes.
+pub fn changed(alloc: Global, row: &str) -> Result<Vec<u8>, AllocError> {
+    let (name, changes) = row.split_once(' ').unwrap_or((row, ""));
+    let mut bytes = Vec::from_slice(alloc, bytes_of(name))?;
+    for change in changes.split(' ') {
+        match change.split_once('=') {
+            Some(("cut", len)) => bytes.truncate(len.parse().unwrap_or(0)),
+            Some((place, byte)) => put(&mut bytes, place, byte),
+            None => (),
+        }
+    }
+    Ok(bytes)
+}
+
+fn put(bytes: &mut [u8], place: &str, byte: &str) {
+    if let Some(old) = bytes.get_mut(place.parse().unwrap_or(usize::MAX)) {
+        *old = match byte.as_bytes() {
+            [letter] if !letter.is_ascii_digit() => *letter,
+            _ => byte.parse().unwrap_or(0),
+        };
+    }
+}
+
+/// The bytes of a text, in which `~` is a zero and `%` stands before two hexadecimal digits of a byte.
+pub fn plain(alloc: Global, text: &str) -> Result<Vec<u8>, AllocError> {
+    let mut bytes = Vec::new(alloc);
+    let (first, rest) = text.split_once('%').unwrap_or((text, ""));
+    add_plain(&mut bytes, first.as_bytes())?;
+    for part in rest.split('%') {
+        if let [high, low, behind @ ..] = part.as_bytes() {
+            bytes.push(digit(*high) * 16 + digit(*low))?;
+            add_plain(&mut bytes, behind)?;
+        }
+    }
+    Ok(bytes)
+}
+
+fn digit(byte: u8) -> u8
+    ensures { result < 16 }
+{
+    match byte {
+        b'0'..=b'9' => byte - b'0',
+        b'A'..=b'F' => byte - b'A' + 10,
+        _ => 0,
+    }
+}
+
+fn add_plain(into: &mut Vec<u8>, bytes: &[u8]) -> Result<(), AllocError> {
+    for byte in bytes {
+        into.push(if *byte == b'~' { 0 } else { *byte })?;
+    }
+    Ok(())
+}
+
+/// Whether the bytes are as many as they state, where they state it.
+pub fn is_whole(bytes: &[u8]) -> bool
+    ensures long { IsTrue result → 16 ≤ length bytes.now }
+    ensures whole { IsTrue result → head_fault bytes.now ≡ None → length bytes.now ≡ whole_len bytes.now }
+{
+    match bytes.first_chunk::<16>() {
+        None => false,
+        Some(head) => match message_length(head) {
+            Ok(len) => len as usize == bytes.len(),
+            Err(_) => false,
+        },
+    }
+}

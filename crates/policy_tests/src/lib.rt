@@ -1,0 +1,11 @@
+//! Tests of what a policy is read from: patterns of names, call rules, and the words of policy files and proxy lines.
+#![tactic(auto)]
+
+#[cfg(test)]
+mod patterns;
+#[cfg(test)]
+mod policies;
+#[cfg(test)]
+mod rows;
+#[cfg(test)]
+mod rules;

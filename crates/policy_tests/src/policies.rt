@@ -1,0 +1,382 @@
+//! What policy files and proxy lines say, and the first bad word of others.
+use crate::rows::{assert_rows, assert_told};
+use policy_args::{
+    Block, Entry, Grant, Level, LineRefusal, Options, Policy, ProxyLine, read_line, read_options,
+    words_of,
+};
+use std::alloc::{AllocError, Global};
+
+/// Words of a policy file, and whether messages are filtered and how many entries there are, or the first bad word.
+const OPTIONS: &str = "\
+--filter => true 0
+ => false 0
+--filter --filter => true 0
+--see=org.a.S => false 1
+--see=org.a.* => false 1
+--talk=org.a.T => false 1
+--talk=org.a.* => false 1
+--talk=org.* => false 1
+--own=org.o.O => false 1
+--own=org.o.* => false 1
+--call=org.c.C=* => false 1
+--call=org.c.C= => false 1
+--call=org.c.*=org.c.I.M@/p/* => false 1
+--broadcast=org.b.B= => false 1
+--broadcast=org.b.*=@/p => false 1
+--filter --talk=org.a.T --talk=org.a.T => true 1
+--talk=org.b.T --talk=org.a.T --filter --talk=org.b.T => true 2
+--call=org.a.C= --call=org.a.C=* => false 2
+--see=org.a.T --talk=org.a.T --see=org.a.T => false 2
+--call=org.a.C=* --broadcast=org.a.C=* --call=org.a.C=* => false 2
+--talk=org.a.T --talk=org.a.T.* --talk=org.a.t => false 3
+--see=org => BadName 0
+--talk=org => BadName 0
+--talk=* => BadName 0
+--talk= => BadName 0
+--talk=:1.5 => BadName 0
+--talk=org.a.T= => BadName 0
+--own=org.7a => BadName 0
+--call=org => BadName 0
+--call=org=x => BadName 0
+--call=org=* => BadName 0
+--call= => BadName 0
+--broadcast==* => BadName 0
+--call=org.a.C => BadRule 0
+--call=org.a.C=Foo => BadRule 0
+--call=org.a.C==* => BadRule 0
+--call=org.a.C=*@p => BadRule 0
+--broadcast=org.a.B => BadRule 0
+--broadcast=org.a.B=Foo => BadRule 0
+--filter= => UnknownOption 0
+--Filter => UnknownOption 0
+--log => UnknownOption 0
+--sloppy-names => UnknownOption 0
+--property=org.a.P=org.a.I.P => UnknownOption 0
+--sessions=1 => UnknownOption 0
+--talk => UnknownOption 0
+talk=org.a.T => UnknownOption 0
+org.a.T => UnknownOption 0
+ --talk=org.a.T => UnknownOption 0
+--filter  => UnknownOption 1
+--talk=org.a.T --talk=org => BadName 1
+--filter --see=org.a.S --call=org.a.C => BadRule 2
+--filter --talk=org.a.T --colour --talk=org => UnknownOption 2
+";
+
+/// A name and the words of a policy file, and the name's level.
+const LEVELS: &str = "\
+org.a.T --see=org.a.* --talk=org.a.T --own=org.o.O --call=org.c.C=* => Talk
+org.a.B --see=org.a.* --talk=org.a.T --own=org.o.O --call=org.c.C=* => See
+org.a.T.U --see=org.a.* --talk=org.a.T --own=org.o.O --call=org.c.C=* => See
+org.a --see=org.a.* --talk=org.a.T --own=org.o.O --call=org.c.C=* => See
+org.o.O --see=org.a.* --talk=org.a.T --own=org.o.O --call=org.c.C=* => Own
+org.o.O.P --see=org.a.* --talk=org.a.T --own=org.o.O --call=org.c.C=* => None
+org.c.C --see=org.a.* --talk=org.a.T --own=org.o.O --call=org.c.C=* => See
+org.h.X --see=org.a.* --talk=org.a.T --own=org.o.O --call=org.c.C=* => None
+:1.5 --see=org.a.* --talk=org.a.T --own=org.o.O --call=org.c.C=* => None
+ --see=org.a.* --talk=org.a.T --own=org.o.O --call=org.c.C=* => None
+org.freedesktop.DBus --see=org.a.* --talk=org.a.T --own=org.o.O --call=org.c.C=* => Talk
+org.freedesktop.DBus  => Talk
+org.freedesktop.DBus.Local  => None
+org.freedesktop.DBus --see=org.freedesktop.DBus => Talk
+org.freedesktop.DBus --own=org.freedesktop.* => Own
+org.a.T --own=org.a.T --see=org.a.T => Own
+org.a.T --see=org.a.T --own=org.a.T --talk=org.a.T => Own
+org.b.B --talk=org.b.* --call=org.b.B=* => Talk
+org.b.B --broadcast=org.b.B=* => See
+";
+
+/// Words of a policy file, and the name, whether that is exact, the word, the rule and the level of each entry.
+const ENTRIES: &str = "\
+--filter => 
+--see=org.a.* --talk=org.a.T --see=org.a.* --own=org.o.O => org.a false see  See|org.a.T true talk  Talk|org.o.O true own  Own|
+--call=org.c.C=* --talk=org.a.T --broadcast=org.b.*=org.b.I.S@/p => org.c.C true call * See|org.a.T true talk  Talk|org.b false broadcast org.b.I.S@/p See|
+";
+
+/// How many words of different names, and one word more, and whether messages are filtered and how many entries there are.
+const MANY_WORDS: &str = "\
+65535 --filter => true 65535
+65535 --talk=a.b7 => false 65535
+65534 --see=a.b7 => false 65535
+65535 --see=a.b7 => TooMany 65535
+";
+
+/// The words of how many blocks, and one word more, and how many blocks there are.
+const MANY_BLOCKS: &str = "\
+65535 --filter => 65535
+65535 unix:path=/a => TooMany 131070
+";
+
+/// Words of a proxy line, and the sessions that are served, and of each block the address, the path, whether messages are
+/// filtered, how many entries there are and the level of org.a.T, or the first bad word.
+const LINES: &str = "\
+unix:path=/run/user/1000/bus,guid=00 /tmp/p --filter --talk=org.a.T --talk=org.a.T --see=org.a.* => 4294967295, /run/user/1000/bus /tmp/p true 2 Talk
+unix:path=/a /p => 4294967295, /a /p false 0 None
+unix:path=a p => 4294967295, a p false 0 None
+unix:path=/a -p => 4294967295, /a -p false 0 None
+unix:path=/a unix:path=/b => 4294967295, /a unix:path=/b false 0 None
+unix:path=/a,path=/b /p => 4294967295, /a /p false 0 None
+unix:path=/a;unix:path=/b /p => 4294967295, /a /p false 0 None
+unix:abstract=/x;unix:path=/a%20b /p => 4294967295, /a b /p false 0 None
+tcp:host=h;unix:guid=1,path=/q /p => 4294967295, /q /p false 0 None
+tcp:path=/a;unix:path=/b /p => 4294967295, /b /p false 0 None
+unix:path=/a%e2%82%ac /p => 4294967295, /a€ /p false 0 None
+unix:path=/%E2%82%ACa /p => 4294967295, /€a /p false 0 None
+unix:path=/a%2C%3b%3D%25 /p => 4294967295, /a,;=% /p false 0 None
+unix:path=/a /p --sessions=1 => 1, /a /p false 0 None
+unix:path=/a /p --sessions=1000000 => 1000000, /a /p false 0 None
+unix:path=/a /p --sessions=9 --filter --sessions=10 => 10, /a /p true 0 None
+unix:path=/a /p --filter --talk=org.a.T --sessions=2 unix:path=/b /q unix:path=/c /r --see=org.a.T --own=org.a.T --sessions=3 => 3, /a /p true 1 Talk, /b /q false 0 None, /c /r false 2 Own
+ => BadAddress 0
+ /p => BadAddress 0
+--filter => OptionBeforeAddress 0
+--sessions=1 => OptionBeforeAddress 0
+--colour unix:path=/a /p => OptionBeforeAddress 0
+unix:path=/a => NoPath 1
+unix:path=/a --log => NoPath 1
+unix:path=/a --sessions=0 => NoPath 1
+unix:path=/a  => NoPath 1
+/a /p => BadAddress 0
+unix: /p => BadAddress 0
+UNIX:path=/a /p => BadAddress 0
+tcp:path=/a /p => BadAddress 0
+unix:abstract=/a /p => BadAddress 0
+unix:xpath=/a /p => BadAddress 0
+unix:path= /p => BadAddress 0
+unix:path=;unix:path=/b /p => BadAddress 0
+unix:path=/a% /p => BadAddress 0
+unix:path=/a%2 /p => BadAddress 0
+unix:path=/a%2g /p => BadAddress 0
+unix:path=/a%2%20 /p => BadAddress 0
+unix:path=/a%00 /p => BadAddress 0
+unix:path=/a%ff /p => BadAddress 0
+unix:path=/a%ff;unix:path=/b /p => BadAddress 0
+unix:path=/a /p unix:path= => BadAddress 2
+unix:path=/a /p org.a.T => BadAddress 2
+unix:path=/a /p  => BadAddress 2
+unix:path=/a /p unix:path=/b => NoPath 3
+unix:path=/a /p unix:path=/b --filter => NoPath 3
+unix:path=/a /p --filter unix:path=/b => NoPath 4
+unix:path=/a /p unix:path=/b /q --talk=org => BadName 4
+unix:path=/a /p --filter --talk=org.a.T --log => UnknownOption 4
+unix:path=/a /p --talk=org => BadName 2
+unix:path=/a /p --call=org=Foo => BadName 2
+unix:path=/a /p --call=org.a.C=Foo => BadRule 2
+unix:path=/a /p --call=org.a.C => BadRule 2
+unix:path=/a /p --colour => UnknownOption 2
+unix:path=/a /p --sessions => UnknownOption 2
+unix:path=/a /p -- => UnknownOption 2
+unix:path=/a /p --sessions= => BadNumber 2
+unix:path=/a /p --sessions=0 => BadNumber 2
+unix:path=/a /p --sessions=01 => BadNumber 2
+unix:path=/a /p --sessions=+1 => BadNumber 2
+unix:path=/a /p --sessions=1x => BadNumber 2
+unix:path=/a /p --sessions=1000001 => BadNumber 2
+unix:path=/a /p --sessions=99999999999 => BadNumber 2
+";
+
+/// The words of a row, which spaces part. A row without a byte has no words.
+fn split(alloc: Global, row: &str) -> Result<Vec<String>, AllocError> {
+    let mut words = Vec::new(alloc);
+    if row.is_empty() {
+        return Ok(words);
+    }
+    for word in row.split(' ') {
+        words.push(String::from_str(alloc, word)?)?;
+    }
+    Ok(words)
+}
+
+fn told_refusal(alloc: Global, refusal: LineRefusal) -> Result<String, AllocError> {
+    match refusal {
+        LineRefusal::Bad(word) => format!(in alloc; "{:?} {}", word.kind, word.index),
+        LineRefusal::Memory => Err(AllocError),
+    }
+}
+
+fn told_options(alloc: Global, row: &str) -> Result<String, AllocError> {
+    let words = split(alloc, row)?;
+    told_read(alloc, read_options(alloc, &words))
+}
+
+fn told_read(alloc: Global, read: Result<Options, LineRefusal>) -> Result<String, AllocError> {
+    match read {
+        Ok(options) => format!(in alloc; "{} {}", options.filter, options.policy.len()),
+        Err(refusal) => told_refusal(alloc, refusal),
+    }
+}
+
+fn told_line(alloc: Global, row: &str) -> Result<String, AllocError> {
+    let words = split(alloc, row)?;
+    match read_line(alloc, &words) {
+        Ok(line) => told_blocks(alloc, &line),
+        Err(refusal) => told_refusal(alloc, refusal),
+    }
+}
+
+fn told_blocks(alloc: Global, line: &ProxyLine) -> Result<String, AllocError> {
+    let mut told = format!(in alloc; "{}", line.sessions)?;
+    for block in &line.blocks {
+        let text = told_block(alloc, block)?;
+        told.push_str(&text)?;
+    }
+    Ok(told)
+}
+
+fn told_block(alloc: Global, block: &Block) -> Result<String, AllocError> {
+    let Options { filter, policy } = &block.options;
+    let level = policy.level("org.a.T");
+    format!(in alloc;
+        ", {} {} {filter} {} {level:?}",
+        block.address,
+        block.path,
+        policy.len()
+    )
+}
+
+fn told_entries(alloc: Global, row: &str) -> Result<String, AllocError> {
+    let words = split(alloc, row)?;
+    match read_options(alloc, &words) {
+        Ok(options) => each_entry(alloc, &options.policy),
+        Err(refusal) => told_refusal(alloc, refusal),
+    }
+}
+
+fn each_entry(alloc: Global, policy: &Policy) -> Result<String, AllocError> {
+    let mut told = String::new(alloc);
+    for number in 1..=policy.len() {
+        let text = told_entry(alloc, policy.entry(number))?;
+        told.push_str(&text)?;
+    }
+    Ok(told)
+}
+
+fn told_entry(alloc: Global, entry: &Entry) -> Result<String, AllocError> {
+    let (word, rule) = told_grant(&entry.grant);
+    let (name, exact) = (entry.pattern.name(), entry.pattern.is_exact());
+    format!(in alloc; "{name} {exact} {word} {rule} {:?}|", entry.grant.level())
+}
+
+/// What a word names beside its name.
+fn told_grant(grant: &Grant) -> (&str, &str) {
+    match grant {
+        Grant::See => ("see", ""),
+        Grant::Talk => ("talk", ""),
+        Grant::Own => ("own", ""),
+        Grant::Call(rule) => ("call", rule.text()),
+        Grant::Broadcast(rule) => ("broadcast", rule.text()),
+    }
+}
+
+fn told_level(alloc: Global, row: &str) -> Result<String, AllocError> {
+    let (name, words) = row.split_once(' ').unwrap_or((row, ""));
+    let words = split(alloc, words)?;
+    match read_options(alloc, &words) {
+        Ok(options) => format!(in alloc; "{:?}", options.policy.level(name)),
+        Err(refusal) => told_refusal(alloc, refusal),
+    }
+}
+
+/// What so many words of names ask for, with one word more.
+fn told_with_many(alloc: Global, row: &str) -> Result<String, AllocError> {
+    let (count, word) = row.split_once(' ').unwrap_or((row, ""));
+    let mut words = Vec::new(alloc);
+    for number in 0..count.parse().unwrap_or(0_u32) {
+        words.push(format!(in alloc; "--talk=a.b{number}")?)?;
+    }
+    words.push(String::from_str(alloc, word)?)?;
+    told_read(alloc, read_options(alloc, &words))
+}
+
+/// How many blocks a line has that has the words of so many, and one word more where it is not empty.
+fn told_with_blocks(alloc: Global, row: &str) -> Result<String, AllocError> {
+    let (count, word) = row.split_once(' ').unwrap_or((row, ""));
+    let mut words = Vec::new(alloc);
+    for _ in 0..count.parse().unwrap_or(0_u32) {
+        words.push(String::from_str(alloc, "unix:path=/a")?)?;
+        words.push(String::from_str(alloc, "/p")?)?;
+    }
+    words.push(String::from_str(alloc, word)?)?;
+    match read_line(alloc, &words) {
+        Ok(line) => format!(in alloc; "{}", line.blocks.len()),
+        Err(refusal) => told_refusal(alloc, refusal),
+    }
+}
+
+/// The words of a policy file, each with a `|` behind it.
+fn told_words(alloc: Global, file: &[u8]) -> Result<String, AllocError> {
+    match words_of(alloc, file) {
+        Ok(words) => marked(alloc, &words),
+        Err(refusal) => told_refusal(alloc, refusal),
+    }
+}
+
+fn marked(alloc: Global, words: &[String]) -> Result<String, AllocError> {
+    let mut told = String::new(alloc);
+    for word in words {
+        told.push_str(word)?;
+        told.push('|')?;
+    }
+    Ok(told)
+}
+
+#[test]
+fn words_give_options_or_the_first_bad_word(rt: HostRuntime) {
+    assert_rows(&rt, rt.alloc(), OPTIONS, &told_options);
+}
+
+#[test]
+fn words_give_a_line_or_the_first_bad_word(rt: HostRuntime) {
+    assert_rows(&rt, rt.alloc(), LINES, &told_line);
+}
+
+#[test]
+fn entries_stand_in_the_order_of_their_first_words(rt: HostRuntime) {
+    assert_rows(&rt, rt.alloc(), ENTRIES, &told_entries);
+    let none = Policy::new(rt.alloc());
+    assert!(rt; none.is_empty());
+}
+
+#[test]
+fn a_name_has_the_greatest_level_that_is_given(rt: HostRuntime) {
+    assert_rows(&rt, rt.alloc(), LEVELS, &told_level);
+}
+
+#[test]
+fn the_greater_of_two_levels_is_told(rt: HostRuntime) {
+    let levels = [Level::None, Level::See, Level::Talk, Level::Own];
+    for (low, level) in levels.iter().enumerate() {
+        for (high, other) in levels.iter().enumerate() {
+            let greater = if low < high { other } else { level };
+            assert_eq!(rt; level.max_with(*other), *greater);
+        }
+    }
+}
+
+#[test]
+fn policies_and_lines_have_at_most_65535_entries_and_blocks(rt: HostRuntime) {
+    assert_rows(&rt, rt.alloc(), MANY_WORDS, &told_with_many);
+    assert_rows(&rt, rt.alloc(), MANY_BLOCKS, &told_with_blocks);
+}
+
+#[test]
+fn words_end_at_nul(rt: HostRuntime) {
+    let rows: [(&[u8], &str); 13] = [
+        (b"--filter\0\0caf\xc3\xa9", "--filter||caf\u{e9}|"),
+        (b"", ""),
+        (b"\0", "|"),
+        (b"\0\0", "||"),
+        (b"a", "a|"),
+        (b"a\0", "a|"),
+        (b"a\0b", "a|b|"),
+        (b"a\0b\0", "a|b|"),
+        (b"a b\nc", "a b\nc|"),
+        (b"\xff", "UnknownOption 0"),
+        (b"a\0b\xff\0c\0", "UnknownOption 1"),
+        (b"\0\0\xc3\0", "UnknownOption 2"),
+        (b"\xc3\0\xa9", "UnknownOption 0"),
+    ];
+    for (file, expected) in rows {
+        assert_told(&rt, expected, told_words(rt.alloc(), file), expected);
+    }
+}

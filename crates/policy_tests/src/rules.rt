@@ -1,0 +1,120 @@
+//! Which texts are call rules, and which calls they match.
+use crate::rows::assert_rows;
+use call_rules::{BadRule, Rule};
+use std::alloc::{AllocError, Global};
+
+/// Texts, and the interface, the member and the path of the rule, a `-` for none, whether it is of all paths below, and
+/// its text; or why it is refused.
+const RULES: &str = "\
+* => - - - false *
+ => - - - false 
+@/* => - - - false @/*
+@/p => - - /p false @/p
+*@/ => - - / false *@/
+a.I.M => a.I M - false a.I.M
+a.I.M@/p => a.I M /p false a.I.M@/p
+a.I.M@/p/* => a.I M /p true a.I.M@/p/*
+a.I.* => a.I - - false a.I.*
+a.I.*@/p => a.I - /p false a.I.*@/p
+a.I.*@/p/q/* => a.I - /p/q true a.I.*@/p/q/*
+org.a.I => org.a I - false org.a.I
+Foo => Form
+a.M => Form
+org.a.I. => Form
+org.a.I.M* => Form
+org..I.M => Form
+.* => Form
+@ => Form
+*@ => Form
+org.a.I.M@ => Form
+org.a.I.M@p => Form
+org.a.I.M@/p@q => Form
+@/p/ => Form
+@/p//* => Form
+@//* => Form
+@* => Form
+org.a.\u{e9}.M => Form
+";
+
+/// Rules with the path, the interface, a `-` for none, and the member of calls, and whether they match.
+const CALLS: &str = "\
+* /p - M => true
+ / org.a.I N => true
+org.a.I.M /p org.a.I M => true
+org.a.I.M / org.a.I M => true
+org.a.I.M /p - M => false
+org.a.I.M /p org.a.I N => false
+org.a.I.M /p org.a.J M => false
+org.a.I.* /p org.a.I M => true
+org.a.I.* /p org.a.I N => true
+org.a.I.* /p - M => false
+org.a.I.* /p org.a.I.J M => false
+@/p/* /p - M => true
+@/p/* /p/q - M => true
+@/p/* /p/q/r org.a.I N => true
+@/p/* /pq - M => false
+@/p/* / - M => false
+@/p /p - M => true
+@/p /p/q - M => false
+@/p / - M => false
+@/* /p/q - M => true
+@/* / - M => true
+@/ / - M => true
+@/ /p - M => false
+org.a.I.M@/p /p org.a.I M => true
+org.a.I.M@/p /q org.a.I M => false
+org.a.I.M@/p /p org.a.I N => false
+";
+
+fn told_rule(alloc: Global, text: &str) -> Result<String, AllocError> {
+    match Rule::read(alloc, text) {
+        Ok(rule) => told_parts(alloc, &rule),
+        Err(refusal) => told_refusal(alloc, refusal),
+    }
+}
+
+fn told_parts(alloc: Global, rule: &Rule) -> Result<String, AllocError> {
+    let interface = rule.interface().unwrap_or("-");
+    let member = rule.member().unwrap_or("-");
+    let path = rule.path().unwrap_or("-");
+    format!(in alloc;
+        "{interface} {member} {path} {} {}",
+        rule.is_below(),
+        rule.text()
+    )
+}
+
+fn told_refusal(alloc: Global, refusal: BadRule) -> Result<String, AllocError> {
+    match refusal {
+        BadRule::Form => String::from_str(alloc, "Form"),
+        BadRule::Memory => Err(AllocError),
+    }
+}
+
+fn told_match(alloc: Global, row: &str) -> Result<String, AllocError> {
+    let (text, call) = row.split_once(' ').unwrap_or((row, ""));
+    match Rule::read(alloc, text) {
+        Ok(rule) => format!(in alloc; "{}", is_matched(&rule, call)),
+        Err(refusal) => told_refusal(alloc, refusal),
+    }
+}
+
+/// Whether a rule matches the call of a path, an interface and a member.
+fn is_matched(rule: &Rule, call: &str) -> bool {
+    let (path, method) = call.split_once(' ').unwrap_or((call, ""));
+    match method.split_once(' ') {
+        Some(("-", member)) => rule.matches(path, None, member),
+        Some((interface, member)) => rule.matches(path, Some(interface), member),
+        None => false,
+    }
+}
+
+#[test]
+fn texts_say_rules_or_none(rt: HostRuntime) {
+    assert_rows(&rt, rt.alloc(), RULES, &told_rule);
+}
+
+#[test]
+fn rules_match_calls(rt: HostRuntime) {
+    assert_rows(&rt, rt.alloc(), CALLS, &told_match);
+}

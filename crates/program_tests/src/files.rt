@@ -1,0 +1,104 @@
+//! The words and the files of runs that end without a session, each with its status and its line.
+use crate::rows::{assert_rows, assert_told};
+use crate::runs::{Ended, file, replay, run_over};
+use crate::texts::plain;
+use link_traits::MemFile;
+use proxy_main::POLICY_LIMIT;
+use recording::RECORDING_LIMIT;
+use std::alloc::{AllocError, Global};
+use std::str;
+
+/// Words, and the status, how many bytes are written, and the line.
+const WORDS: &str = "\
+replay policy recording => 0 0 
+ => 1 0 error: usage
+play policy recording => 1 0 error: usage
+replay => 1 0 error: usage
+replay policy => 1 0 error: usage
+replay policy recording more => 1 0 error: usage
+replay --policy recording => 1 0 error: usage
+replay policy - => 1 0 error: usage
+--help => 1 0 error: usage
+replay missing recording => 4 0 error: file missing
+replay policy missing => 4 0 error: file missing
+replay neither nor => 4 0 error: file neither
+";
+
+/// A policy file and a recording, and the status, how many bytes are written, and the line.
+const FILES: &str = "\
+--filter~--colour~ DBPR%01~ => 2 0 error: policy word 1: UnknownOption
+--talk=org DBPR%01~ => 2 0 error: policy word 0: BadName
+--filter~--talk=org.a.T~--call=org.a.C=Foo~ DBPR%01~ => 2 0 error: policy word 2: BadRule
+--filter~--sessions=1 DBPR%01~ => 2 0 error: policy word 1: UnknownOption
+--filter~%FF DBPR%01~ => 2 0 error: policy word 1: UnknownOption
+--colour DBP => 2 0 error: policy word 0: UnknownOption
+--filter DBP => 3 0 error: recording: Cut at 3
+--filter DBPR%09~ => 3 0 error: recording: BadVersion at 4
+--filter DBPR%01~%07 => 3 0 error: recording: BadKind at 6
+--filter DBPr%01~ => 3 0 error: recording: BadMagic at 0
+--filter DBPR%01%02 => 3 0 error: recording: BadAuth at 5
+--filter DBPR%01~%02%01~~~ => 3 0 error: recording: BadLength at 7
+--filter DBPR%01~%03%01~~ => 3 0 error: recording: Cut at 10
+--filter DBPR%01~%01%01~~~a%04 => 3 0 error: recording: BadKind at 12
+";
+
+fn told_words(alloc: Global, words: &str) -> Result<String, AllocError> {
+    let ended = run_over(alloc, words, good_files(alloc)?, 100)?;
+    told(alloc, &ended)
+}
+
+fn good_files(alloc: Global) -> Result<Vec<MemFile>, AllocError> {
+    let mut files = Vec::new(alloc);
+    files.push(file(alloc, "policy", b"--filter")?)?;
+    files.push(file(alloc, "recording", b"DBPR\x01\0")?)?;
+    Ok(files)
+}
+
+fn told_files(alloc: Global, files: &str) -> Result<String, AllocError> {
+    let (policy, recording) = files.split_once(' ').unwrap_or((files, ""));
+    let (policy, recording) = (plain(alloc, policy)?, plain(alloc, recording)?);
+    told_replay(alloc, &policy, &recording)
+}
+
+fn told_replay(alloc: Global, policy: &[u8], recording: &[u8]) -> Result<String, AllocError> {
+    let ended = replay(alloc, policy, recording, 100)?;
+    told(alloc, &ended)
+}
+
+fn told(alloc: Global, ended: &Ended) -> Result<String, AllocError> {
+    let line = line_of(str::from_utf8(&ended.err.bytes).unwrap_or("no text"));
+    format!(in alloc; "{} {} {line}", ended.code, ended.out.bytes.len())
+}
+
+/// A line without its end; none is empty.
+fn line_of(text: &str) -> &str {
+    if text.is_empty() {
+        return text;
+    }
+    text.strip_suffix("\n").unwrap_or("no end of a line")
+}
+
+#[test]
+fn words_of_another_form_are_usage(rt: HostRuntime) {
+    assert_rows(&rt, rt.alloc(), WORDS, &told_words);
+}
+
+#[test]
+fn bad_files_have_a_status_and_a_line(rt: HostRuntime) {
+    assert_rows(&rt, rt.alloc(), FILES, &told_files);
+}
+
+/// A replay of as many zeros for a policy, and of as many for a recording.
+fn told_zeros(alloc: Global, policy: usize, recording: usize) -> Result<String, AllocError> {
+    let policy = vec![in alloc; 0; policy]?;
+    let recording = vec![in alloc; 0; recording]?;
+    told_replay(alloc, &policy, &recording)
+}
+
+#[test]
+fn files_above_their_limits_are_too_long(rt: HostRuntime) {
+    let told = told_zeros(rt.alloc(), POLICY_LIMIT + 1, 0);
+    assert_told(&rt, "", told, "2 0 error: policy file too long");
+    let told = told_zeros(rt.alloc(), 0, RECORDING_LIMIT + 1);
+    assert_told(&rt, "", told, "3 0 error: recording: TooLong at 67108864");
+}

@@ -1,0 +1,13 @@
+//! Tests of the program's words, files and output, over files and sinks in memory, and of its disk files and standard output.
+#![tactic(auto)]
+
+#[cfg(test)]
+mod files;
+#[cfg(test)]
+mod outside;
+#[cfg(test)]
+mod rows;
+#[cfg(test)]
+mod runs;
+#[cfg(test)]
+mod texts;

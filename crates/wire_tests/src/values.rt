@@ -1,0 +1,138 @@
+//! Where values end, and the texts of bodies.
+use crate::rows::{assert_rows, assert_told};
+use crate::texts::plain;
+use dbus_types::Signature;
+use dbus_values::{BadValue, Order, first_text, text_list, texts3, value_end};
+use std::alloc::{AllocError, Global};
+
+/// A byte order, a signature and bytes, and where its values end, or where the last valid one ended.
+const ENDS: &str = "\
+little   => 0
+big   => 0
+little y %FF => 1
+big y %FF => 1
+little b %01~~~ => 4
+big b ~~~%01 => 4
+little b %02~~~ => at 0
+big b ~~~%02 => at 0
+little yq %05~%01%02 => 4
+big yq %05~%01%02 => 4
+little yq %05%01%01%02 => at 1
+big yq %05%01%01%02 => at 1
+little yx %05~~~~~~~abcdefgh => 16
+big yx %05~~~~~~~abcdefgh => 16
+little s %02~~~ab~ => 7
+big s ~~~%02ab~ => 7
+little s %02~~~ab%01 => at 0
+big s ~~~%02ab%01 => at 0
+little s %02~~~a~~ => at 0
+big s ~~~%02a~~ => at 0
+little s %02~~~%C3%A9~ => 7
+big s ~~~%02%C3%A9~ => 7
+little s %02~~~%C0%80~ => at 0
+big s ~~~%02%C0%80~ => at 0
+little o %02~~~/p~ => 7
+big o ~~~%02/p~ => 7
+little o %02~~~p/~ => at 0
+big o ~~~%02p/~ => at 0
+little g %02su~ => 4
+big g %02su~ => 4
+little g %02()~ => at 0
+big g %02()~ => at 0
+little v %01y~%07 => 4
+big v %01y~%07 => 4
+little v %02yy~%07%07 => at 0
+big v %02yy~%07%07 => at 0
+little at ~~~~~~~~ => 8
+big at ~~~~~~~~ => 8
+little at ~~~~ => at 0
+big at ~~~~ => at 0
+little au %06~~~abcdef => at 0
+big au ~~~%06abcdef => at 0
+little (yy)ai %01%02~~%04~~~abcd => 12
+big (yy)ai %01%02~~~~~%04abcd => 12
+little su %02~~~ab~~%07~~~%01%01 => 12
+little suyy %02~~~ab~~%07~~~%01%01 => 14
+little suyyy %02~~~ab~~%07~~~%01%01 => at 14
+little suyb %02~~~ab~~%07~~~%01%01 => at 13
+little a{sv} %10~~~~~~~%01~~~a~%01u~~~~%07~~~ => 24
+little a{sv} %11~~~~~~~%01~~~a~%01u~~~~%07~~~~ => at 0
+";
+
+/// How many variants lie around a byte, and where the outermost ends, or where it was to begin.
+const VARIANTS: &str = "\
+1 => 4
+64 => 193
+65 => at 0
+";
+
+fn told_end(alloc: Global, row: &str) -> Result<String, AllocError> {
+    let (order, values) = row.split_once(' ').unwrap_or((row, ""));
+    let (signature, bytes) = values.split_once(' ').unwrap_or((values, ""));
+    let order = if order == "big" {
+        Order::Big
+    } else {
+        Order::Little
+    };
+    told_values(alloc, order, signature, &plain(alloc, bytes)?)
+}
+
+fn told_values(
+    alloc: Global,
+    order: Order,
+    signature: &str,
+    bytes: &[u8],
+) -> Result<String, AllocError> {
+    match Signature::read(signature.as_bytes()) {
+        Ok(signature) => told(alloc, value_end(order, signature, bytes, 0)),
+        Err(_) => String::from_str(alloc, "no signature"),
+    }
+}
+
+fn told(alloc: Global, end: Result<usize, BadValue>) -> Result<String, AllocError> {
+    match end {
+        Ok(end) => format!(in alloc; "{end}"),
+        Err(BadValue { at }) => format!(in alloc; "at {at}"),
+    }
+}
+
+fn told_variants(alloc: Global, count: &str) -> Result<String, AllocError> {
+    let mut bytes = Vec::new(alloc);
+    for _ in 1..count.parse().unwrap_or(0_u32) {
+        bytes.extend_from_slice(b"\x01v\0")?;
+    }
+    bytes.extend_from_slice(b"\x01y\0\x01")?;
+    told_values(alloc, Order::Little, "v", &bytes)
+}
+
+#[test]
+fn values_end_where_their_spelling_does(rt: HostRuntime) {
+    assert_rows(&rt, rt.alloc(), ENDS, &told_end);
+    assert_rows(&rt, rt.alloc(), VARIANTS, &told_variants);
+}
+
+fn told_texts(alloc: Global) -> Result<String, AllocError> {
+    let body = b"\x01\0\0\0a\0\0\0\0\0\0\0\0\0\0\0\x02\0\0\0bc\0";
+    let first = match Signature::read(b"sss") {
+        Ok(signature) => first_text(Order::Little, signature, body).unwrap_or("-"),
+        Err(_) => "-",
+    };
+    let [one, two, three] = texts3(Order::Little, body);
+    format!(in alloc; "{first}|{one}|{two}|{three}")
+}
+
+fn told_list(alloc: Global) -> Result<String, AllocError> {
+    let list = b"\x0f\0\0\0\x01\0\0\0a\0\0\0\x02\0\0\0bc\0";
+    let mut told = String::new(alloc);
+    for text in text_list(Order::Little, list) {
+        told.push_str(text)?;
+        told.push('|')?;
+    }
+    Ok(told)
+}
+
+#[test]
+fn texts_of_a_body_are_lent(rt: HostRuntime) {
+    assert_told(&rt, "sss", told_texts(rt.alloc()), "a|a||bc");
+    assert_told(&rt, "as", told_list(rt.alloc()), "a|bc|");
+}
