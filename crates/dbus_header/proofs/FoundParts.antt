@@ -1,8 +1,8 @@
 -- What was found is the parts of the fields that were read, the newest of them foremost.
-use Rattle.std.proofs.Common.{◌≡◌, ℕ, zero, suc, ◌+◌, ◌<◌, ◌≤◌, Bool, true, false, cond, List, [], ◌∷◌, Option, Some, None, refl, sym, ap, ◌∙◌, arith}
+use Rattle.std.proofs.Common.{◌≡◌, ℕ, zero, suc, ◌+◌, ◌<◌, ◌≤◌, Bool, true, false, cond, List, [], ◌∷◌, Option, Some, None, refl, sym, ap, subst, ◌∙◌, arith}
 use Rattle.std.specs.Prelude.{not, ◌&&◌, ◌||◌, ◌==◌, nat_lt, is_some}
 use Rattle.std.proofs.lemmas.Bool.{and_parts, lt-ltb, eqb-true, ne_eqb}
-use Rattle.dbus_types.specs.Signature.{uint32}
+use Rattle.dbus_types.specs.Signature.{Complete, uint32}
 use Rattle.dbus_values.specs.Values.{Value, a_number, a_string, a_path, a_signature, padding}
 use Rattle.dbus_values.specs.Reading.{when}
 use Rattle.dbus_header.specs.Message.{Field, field_in, has_field, text_in, number_in, is_field_of, text_passes, number_passes, may_follow}
@@ -22,17 +22,31 @@ next_place place f kept = cond (f.code == 5) (Some (place + padding 8 place + 4)
 
 -- ---- a part stands where its field does
 
+-- the value that a field in its grammar has
+path_only : (v : Value) → is_field_of 1 v ≡ true → (text : List ℕ) × (v ≡ a_path text)
+path_only (a_path text) e = (text, refl)
+path_only _ e = absurd cc
+
+string_only : (test : List ℕ → Bool) (v : Value) → text_passes test v ≡ true → (text : List ℕ) × (v ≡ a_string text)
+string_only test (a_string text) e = (text, refl)
+string_only test _ e = absurd cc
+
+number_only : (test : ℕ → Bool) (v : Value) → number_passes test v ≡ true → (x : ℕ) × (v ≡ a_number uint32 x)
+number_only test (a_number uint32 x) e = (x, refl)
+number_only test _ e = absurd cc
+
+signature_only : (v : Value) → is_field_of 8 v ≡ true → (types : List Complete) × (v ≡ a_signature types)
+signature_only (a_signature types) e = (types, refl)
+signature_only _ e = absurd cc
+
 pub path_holds : (v : Value) → is_field_of 1 v ≡ true → is_some (text_in (Some v)) ≡ true
-path_holds (a_path text) e = refl
-path_holds _ e = absurd cc
+path_holds v e = ap (λ (w : Value). is_some (text_in (Some w))) (path_only v e).1
 
 pub string_holds : (test : List ℕ → Bool) (v : Value) → text_passes test v ≡ true → is_some (text_in (Some v)) ≡ true
-string_holds test (a_string text) e = refl
-string_holds test _ e = absurd cc
+string_holds test v e = ap (λ (w : Value). is_some (text_in (Some w))) (string_only test v e).1
 
 pub number_holds : (test : ℕ → Bool) (v : Value) → number_passes test v ≡ true → is_some (number_in (Some v)) ≡ true
-number_holds test (a_number uint32 x) e = refl
-number_holds test _ e = absurd cc
+number_holds test v e = ap (λ (w : Value). is_some (number_in (Some w))) (number_only test v e).1
 
 stands : {A : Type 0} (view : Option Value → Option A) (c : ℕ) → is_some (view None) ≡ false → ((v : Value) → is_field_of c v ≡ true → is_some (view (Some v)) ≡ true) → (before : List Field) → all_follow before ≡ true →
     is_some (view (field_in c before)) ≡ has_field c before
@@ -144,26 +158,48 @@ module _ (before : List Field) (follow : all_follow before ≡ true) (place : �
       some : Found → Option Found
       some x = Some x
 
+  -- where a value is known, what holds of it holds of the field
+  known : (c : ℕ) (v w : Value) → v ≡ w → is_field_of c v ≡ true → (is_field_of c w ≡ true → Puts (field c w)) → Puts (field c v)
+  known c v w is rules puts = subst (λ (x : Value). Puts (field c x)) (sym is) (puts (ap (is_field_of c) (sym is) ∙ rules))
+
+  path_put : (text : List ℕ) → is_field_of 1 (a_path text) ≡ true → Puts (field 1 (a_path text))
+  path_put text rules = put_text (found_in before kept) _ _ _ _ _ (path_stands before follow) rules refl
+
+  interface_put : (text : List ℕ) → is_field_of 2 (a_string text) ≡ true → Puts (field 2 (a_string text))
+  interface_put text rules = put_text (found_in before kept) _ _ _ _ _ (interface_stands before follow) rules refl
+
+  member_put : (text : List ℕ) → is_field_of 3 (a_string text) ≡ true → Puts (field 3 (a_string text))
+  member_put text rules = put_text (found_in before kept) _ _ _ _ _ (member_stands before follow) rules refl
+
+  error_put : (text : List ℕ) → is_field_of 4 (a_string text) ≡ true → Puts (field 4 (a_string text))
+  error_put text rules = put_text (found_in before kept) _ _ _ _ _ (error_stands before follow) rules refl
+
+  destination_put : (text : List ℕ) → is_field_of 6 (a_string text) ≡ true → Puts (field 6 (a_string text))
+  destination_put text rules = put_text (found_in before kept) _ _ _ _ _ (destination_stands before follow) rules refl
+
+  sender_put : (text : List ℕ) → is_field_of 7 (a_string text) ≡ true → Puts (field 7 (a_string text))
+  sender_put text rules = put_text (found_in before kept) _ _ _ _ _ (sender_stands before follow) rules refl
+
+  reply_put : (x : ℕ) → is_field_of 5 (a_number uint32 x) ≡ true → Puts (field 5 (a_number uint32 x))
+  reply_put x rules = put_other _ _ _ _ (reply_stands before follow) rules
+
+  signature_put : (types : List Complete) → is_field_of 8 (a_signature types) ≡ true → Puts (field 8 (a_signature types))
+  signature_put types rules = put_other _ _ _ _ (signature_stands before follow) rules
+
+  descriptors_put : (x : ℕ) → is_field_of 9 (a_number uint32 x) ≡ true → Puts (field 9 (a_number uint32 x))
+  descriptors_put x rules = put_other _ _ _ _ (descriptors_stand before follow) rules
+
   by_code : (c : ℕ) (v : Value) → is_field_of c v ≡ true → Puts (field c v)
   by_code zero v rules = absurd cc
-  by_code (suc zero) (a_path text) rules = put_text (found_in before kept) _ _ _ _ _ (path_stands before follow) rules refl
-  by_code (suc zero) _ rules = absurd cc
-  by_code (suc (suc zero)) (a_string text) rules = put_text (found_in before kept) _ _ _ _ _ (interface_stands before follow) rules refl
-  by_code (suc (suc zero)) _ rules = absurd cc
-  by_code (suc (suc (suc zero))) (a_string text) rules = put_text (found_in before kept) _ _ _ _ _ (member_stands before follow) rules refl
-  by_code (suc (suc (suc zero))) _ rules = absurd cc
-  by_code (suc (suc (suc (suc zero)))) (a_string text) rules = put_text (found_in before kept) _ _ _ _ _ (error_stands before follow) rules refl
-  by_code (suc (suc (suc (suc zero)))) _ rules = absurd cc
-  by_code (suc (suc (suc (suc (suc zero))))) (a_number uint32 x) rules = put_other _ _ _ _ (reply_stands before follow) rules
-  by_code (suc (suc (suc (suc (suc zero))))) _ rules = absurd cc
-  by_code (suc (suc (suc (suc (suc (suc zero)))))) (a_string text) rules = put_text (found_in before kept) _ _ _ _ _ (destination_stands before follow) rules refl
-  by_code (suc (suc (suc (suc (suc (suc zero)))))) _ rules = absurd cc
-  by_code (suc (suc (suc (suc (suc (suc (suc zero))))))) (a_string text) rules = put_text (found_in before kept) _ _ _ _ _ (sender_stands before follow) rules refl
-  by_code (suc (suc (suc (suc (suc (suc (suc zero))))))) _ rules = absurd cc
-  by_code (suc (suc (suc (suc (suc (suc (suc (suc zero)))))))) (a_signature ts) rules = put_other _ _ _ _ (signature_stands before follow) rules
-  by_code (suc (suc (suc (suc (suc (suc (suc (suc zero)))))))) _ rules = absurd cc
-  by_code (suc (suc (suc (suc (suc (suc (suc (suc (suc zero))))))))) (a_number uint32 x) rules = put_other _ _ _ _ (descriptors_stand before follow) rules
-  by_code (suc (suc (suc (suc (suc (suc (suc (suc (suc zero))))))))) _ rules = absurd cc
+  by_code (suc zero) v rules = let p = path_only v rules in known 1 v _ p.1 rules (path_put p.0)
+  by_code (suc (suc zero)) v rules = let p = string_only _ v rules in known 2 v _ p.1 rules (interface_put p.0)
+  by_code (suc (suc (suc zero))) v rules = let p = string_only _ v rules in known 3 v _ p.1 rules (member_put p.0)
+  by_code (suc (suc (suc (suc zero)))) v rules = let p = string_only _ v rules in known 4 v _ p.1 rules (error_put p.0)
+  by_code (suc (suc (suc (suc (suc zero))))) v rules = let p = number_only _ v rules in known 5 v _ p.1 rules (reply_put p.0)
+  by_code (suc (suc (suc (suc (suc (suc zero)))))) v rules = let p = string_only _ v rules in known 6 v _ p.1 rules (destination_put p.0)
+  by_code (suc (suc (suc (suc (suc (suc (suc zero))))))) v rules = let p = string_only _ v rules in known 7 v _ p.1 rules (sender_put p.0)
+  by_code (suc (suc (suc (suc (suc (suc (suc (suc zero)))))))) v rules = let p = signature_only v rules in known 8 v _ p.1 rules (signature_put p.0)
+  by_code (suc (suc (suc (suc (suc (suc (suc (suc (suc zero))))))))) v rules = let p = number_only _ v rules in known 9 v _ p.1 rules (descriptors_put p.0)
   by_code (suc (suc (suc (suc (suc (suc (suc (suc (suc (suc n)))))))))) v rules = other (suc (suc (suc (suc (suc (suc (suc (suc (suc (suc n)))))))))) v (omega arith) rules
 
   -- a field's part is put in exactly where the field may follow those before it
