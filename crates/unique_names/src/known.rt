@@ -1,6 +1,7 @@
 //! What is kept of a unique name.
 ghost use Rattle.std.specs.Prelude.{◌≡◌, IfOk};
 ghost use Rattle.std.specs.Option.{option_copied};
+ghost use Rattle.policy_args.specs.Policy.{level as policy_level};
 ghost use Rattle.unique_names.specs.Merged.{merged_from};
 ghost use Rattle.unique_names.specs.Taught.{has_at_least, known_level, known_numbers, owning, raised};
 
@@ -53,18 +54,20 @@ impl Known {
         })
     }
 
-    /// The same where it owns a name, too.
+    /// The same where it owns a name, too, to which the policy gives this level.
     pub(crate) fn owning(
         alloc: Global,
         known: Option<&Known>,
         policy: &Policy,
         name: &str,
+        level: Level,
     ) -> Result<Known, AllocError>
+        requires { level ≡ policy_level policy.now name.now }
         ensures { IfOk result (λ k. k ≡ owning policy.now name.now (option_copied known.entry)) }
     {
         let numbers = merged(alloc, policy, name, numbers_in(known))?;
         Ok(Known {
-            level: level_in(known).max_with(policy.level(name)),
+            level: level_in(known).max_with(level),
             numbers,
         })
     }

@@ -166,10 +166,11 @@ impl Tracker {
         ensures ok { OnOk result (self.new ≡ learned policy.now self.old (Owned name.now id.now)) }
         ensures err { OnErr result (self.new ≡ self.old) }
     {
-        if !policy.level(name).is_at_least(Level::See) {
+        let level = policy.level(name);
+        if !level.is_at_least(Level::See) {
             return Ok(());
         }
-        let known = Known::owning(self.alloc, self.known(id), policy, name)?;
+        let known = Known::owning(self.alloc, self.known(id), policy, name, level)?;
         self.keep(id, known)
     }
 
