@@ -14,8 +14,6 @@ ghost use Rattle.verdicts.specs.Judging.{is_judged as judged_so_far, is_no_start
 ghost use Rattle.verdicts.specs.Seen.{message_seen};
 
 mod entries;
-#[cfg(test)]
-mod tests;
 
 use dbus_header::{Instead, Message};
 use dbus_names::is_well_known;

@@ -1,0 +1,7 @@
+//! Tests of the parts that a session is made of, one module a part.
+#![tactic(auto)]
+
+#[cfg(test)]
+mod judging;
+#[cfg(test)]
+mod rows;
