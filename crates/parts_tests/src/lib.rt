@@ -7,3 +7,5 @@ mod own_messages;
 mod serials;
 #[cfg(test)]
 mod unique_names;
+#[cfg(test)]
+mod verdicts;

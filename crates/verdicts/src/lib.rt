@@ -15,8 +15,6 @@ ghost use Rattle.verdicts.specs.Judging.{is_judged as judged_so_far, judged, jud
 ghost use Rattle.dbus_header.specs.Read.{message_seen};
 
 mod entries;
-#[cfg(test)]
-mod tests;
 
 use dbus_header::{Instead, Message};
 use dbus_names::{is_bus, is_well_known};
