@@ -2,10 +2,12 @@
 #![tactic(auto)]
 
 #[cfg(test)]
+mod judging;
+#[cfg(test)]
 mod own_messages;
+#[cfg(test)]
+mod rows;
 #[cfg(test)]
 mod serials;
 #[cfg(test)]
 mod unique_names;
-#[cfg(test)]
-mod verdicts;
