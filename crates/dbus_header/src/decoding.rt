@@ -12,6 +12,7 @@ ghost use Rattle.dbus_header.specs.Whole.{body_fault_at, stated_in, HasParts};
 
 use crate::fields::{Fields, read_fields};
 use crate::head::{HEAD_LEN, body_start, check_head, order_in, read_u32};
+use crate::kinds::{ERROR, METHOD_CALL, METHOD_RETURN, SIGNAL};
 use crate::message::Message;
 use crate::{Malformed, MalformedKind};
 use dbus_types::Signature;
@@ -22,10 +23,10 @@ fn has_required(kind: u8, fields: &Fields<'_>) -> bool
     ensures { result ≡ has_required_parts kind (parts_seen fields.now) }
 {
     match kind {
-        1 => fields.path.is_some() && fields.member.is_some(),
-        2 => fields.reply_serial.is_some(),
-        3 => fields.error_name.is_some() && fields.reply_serial.is_some(),
-        4 => fields.path.is_some() && fields.interface.is_some() && fields.member.is_some(),
+        METHOD_CALL => fields.path.is_some() && fields.member.is_some(),
+        METHOD_RETURN => fields.reply_serial.is_some(),
+        ERROR => fields.error_name.is_some() && fields.reply_serial.is_some(),
+        SIGNAL => fields.path.is_some() && fields.interface.is_some() && fields.member.is_some(),
         _ => true,
     }
 }
