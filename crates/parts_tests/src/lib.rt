@@ -4,4 +4,6 @@
 #[cfg(test)]
 mod own_messages;
 #[cfg(test)]
+mod replies;
+#[cfg(test)]
 mod serials;

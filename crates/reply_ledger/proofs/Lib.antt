@@ -1,0 +1,4 @@
+pub mod Apart
+pub mod Counting
+pub mod Maps
+pub mod Texts

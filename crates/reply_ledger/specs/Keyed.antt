@@ -1,0 +1,7 @@
+-- A map by texts, seen by the bytes of its keys.
+use Rattle.std.specs.Prelude.{ℕ, List, [], ◌∷◌, String, string_bytes}
+
+-- the entries, each with its key's bytes
+abbrev pub by_bytes : {Z X : Type 0} → List (String Z × X) → List (List ℕ × X)
+by_bytes [] = []
+by_bytes (e ∷ es) = (string_bytes e.0, e.1) ∷ by_bytes es

@@ -1,0 +1,5 @@
+pub mod Answered
+pub mod Apart
+pub mod Keyed
+pub mod Ledger
+pub mod Owed
