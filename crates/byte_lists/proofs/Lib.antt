@@ -1,2 +1,4 @@
 pub mod Bytes
+pub mod NumberMaps
 pub mod Options
+pub mod TextMaps

@@ -1,2 +1,3 @@
-//! Lists of bytes: the words that the definitions of other crates share, and the lemmas that their proofs do.
+//! Lists of bytes, and maps by texts and by numbers: the words that the definitions of other crates share, and the lemmas that
+//! their proofs do.
 #![tactic(auto)]

@@ -6,6 +6,8 @@ mod judging;
 #[cfg(test)]
 mod own_messages;
 #[cfg(test)]
+mod replies;
+#[cfg(test)]
 mod rows;
 #[cfg(test)]
 mod serials;

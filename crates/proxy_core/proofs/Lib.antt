@@ -3,7 +3,6 @@ pub mod Driven
 pub mod Going
 pub mod LineCuts
 pub mod LineSteps
-pub mod Maps
 pub mod LedgerLaws
 pub mod Knowing
 pub mod Placing

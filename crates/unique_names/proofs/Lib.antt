@@ -1,4 +1,3 @@
 pub mod Learned
 pub mod Levels
 pub mod Merging
-pub mod Texts

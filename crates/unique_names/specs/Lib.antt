@@ -1,4 +1,3 @@
-pub mod Keyed
 pub mod Known
 pub mod Merged
 pub mod Taught

@@ -33,7 +33,7 @@ impl Model for Tracker {
     ghost use Rattle.std.specs.Cmp.Lexicographic.{slice_cmp};
     ghost use Rattle.std.specs.FinMap as map;
     ghost use Rattle.std.specs.Coded.{codes, coded_ℕ, coded_list};
-    ghost use Rattle.unique_names.specs.Keyed.{by_bytes};
+    ghost use Rattle.byte_lists.specs.TextMaps.{by_bytes};
     ghost use Rattle.unique_names.specs.Known.{Known as KnownValue};
     ghost use Rattle.unique_names.specs.Taught.{Ids};
 

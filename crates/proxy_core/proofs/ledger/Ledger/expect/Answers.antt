@@ -1,6 +1,6 @@
 use Rattle.std.proofs.Common.{ap, ◌∙◌}
 use Rattle.std.specs.FinMap as map
-use Rattle.proxy_core.proofs.Maps.{one_given}
+use Rattle.byte_lists.proofs.NumberMaps.{one_given}
 use Rattle.proxy_core.proofs.ledger.Ledger.expect.Goals as goal
 
 pub returns-clause-ok : goal.returns-clause-ok

@@ -1,6 +1,6 @@
 use Rattle.std.proofs.Common.{ap, sym, ◌∙◌}
 use Rattle.std.specs.FinMap as map
-use Rattle.proxy_core.proofs.Maps.{get_at, one_taken}
+use Rattle.byte_lists.proofs.NumberMaps.{get_at, one_taken}
 use Rattle.proxy_core.proofs.ledger.Ledger.take.Goals as goal
 
 pub returns-clause-was : goal.returns-clause-was

@@ -1,7 +1,7 @@
 use Rattle.std.proofs.Common.{ap, ap₂, sym, ◌∙◌, string_bytes}
 use Rattle.std.specs.FinMap as map
 use Rattle.std.proofs.lemmas.Map.Text.{btree_map_updates_text}
-use Rattle.unique_names.proofs.Texts.{text_given}
+use Rattle.byte_lists.proofs.TextMaps.{text_given}
 use Rattle.unique_names.proofs.tracker.Tracker.keep.Goals as goal
 
 pub returns-clause-ok : goal.returns-clause-ok

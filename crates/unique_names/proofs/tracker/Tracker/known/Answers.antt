@@ -1,6 +1,6 @@
 use Rattle.std.proofs.Common.{ap, sym, ◌∙◌}
 use Rattle.std.specs.FinMap.{get}
-use Rattle.unique_names.proofs.Texts.{get_text}
+use Rattle.byte_lists.proofs.TextMaps.{get_text}
 use Rattle.unique_names.proofs.tracker.Tracker.known.Goals as goal
 
 pub returns : goal.returns

@@ -1,0 +1,109 @@
+//! The calls of one sender.
+ghost use Rattle.std.specs.Prelude.{◌≡◌, ◌+◌, ◌-◌, ◌^◌, ◌<◌, OnOk, OnErr};
+ghost use Rattle.std.specs.FinMap as map;
+ghost use Rattle.reply_ledger.specs.Answered.{IsAnswered};
+ghost use Rattle.reply_ledger.specs.Owed.{IsKept, count_in, one_more_in};
+
+use crate::counts::Counts;
+use std::alloc::{AllocError, Global};
+use std::marker::Model;
+
+/// What became of a reply.
+#[derive(Clone, Copy)]
+pub(crate) enum Answered {
+    /// None was owed, and nothing changed.
+    NotOwed,
+    /// One less is owed.
+    Taken,
+    /// It was the only one that was owed to the sender, which is to be forgotten.
+    Last,
+}
+
+/// The calls of one sender to which replies are owed: at least one.
+///
+/// A sender mostly waits for one reply. The first of its serials stands here, and takes no memory of its own.
+#[derive(Drop)]
+pub(crate) struct Calls {
+    serial: u32,
+    count: u64,
+    others: Counts,
+}
+
+impl Model for Calls {
+    ghost use Rattle.std.specs.FinMap as map;
+    ghost use Rattle.std.specs.Coded.{coded_ℕ};
+    ghost use Rattle.reply_ledger.specs.Owed.{Serials};
+
+    ghost Value = { Serials };
+
+    ghost coded = { map.code coded_ℕ coded_ℕ };
+
+    ghost use Rattle.reply_ledger.specs.Apart.{AreApart};
+
+    ghost view = { λ c. map.insert c.others c.serial c.count };
+
+    ghost invariant = { λ c. AreApart c.serial c.count c.others };
+}
+
+impl Calls {
+    /// One call.
+    pub(crate) fn one(alloc: Global, serial: u32) -> Calls
+        ensures { result ≡ one_more_in map.empty serial }
+    {
+        Calls {
+            serial,
+            count: 1,
+            others: Counts::new(alloc),
+        }
+    }
+
+    /// How many replies are owed to calls with this serial.
+    pub(crate) fn count(&self, serial: u32) -> u64
+        ensures { result ≡ count_in self.now serial }
+    {
+        if serial == self.serial {
+            self.count
+        } else {
+            self.others.count(serial)
+        }
+    }
+
+    /// One more call.
+    pub(crate) fn add(&mut self, serial: u32) -> Result<(), AllocError>
+        requires { count_in self.old serial < 2 ^ 64 - 1 }
+        ensures ok { OnOk result (self.new ≡ one_more_in self.old serial) }
+        ensures err { OnErr result (self.new ≡ self.old) }
+    {
+        if serial == self.serial {
+            self.count += 1;
+            return Ok(());
+        }
+        self.others.add(serial)?;
+        Ok(())
+    }
+
+    /// One reply.
+    pub(crate) fn answer(&mut self, serial: u32) -> Answered
+        ensures answered { IsAnswered self.old serial self.new result }
+        ensures kept { IsKept self.new }
+    {
+        if serial != self.serial {
+            if self.others.take(serial) {
+                return Answered::Taken;
+            }
+            return Answered::NotOwed;
+        }
+        if self.count > 1 {
+            self.count -= 1;
+            return Answered::Taken;
+        }
+        match self.others.pop() {
+            Some((serial, count)) => {
+                self.serial = serial;
+                self.count = count;
+                Answered::Taken
+            }
+            None => Answered::Last,
+        }
+    }
+}

@@ -1,0 +1,111 @@
+//! The ledger.
+ghost use Rattle.std.specs.Prelude.{◌≡◌, ◌+◌, ◌-◌, ◌^◌, ◌<◌, ℕ, Bool, false, OnOk, OnErr, nat_lt, if◌then◌else◌};
+ghost use Rattle.std.specs.FinMap as map;
+ghost use Rattle.std.specs.Option.{option_copied};
+ghost use Rattle.dbus_names.specs.Texts.{Text};
+ghost use Rattle.reply_ledger.specs.Owed.{KeepsOwedAlone, count_of, is_pair};
+
+use crate::kind::Kind;
+use crate::owed::Owed;
+use std::alloc::{AllocError, Global};
+use std::collections::BTreeMap;
+use std::marker::Model;
+
+/// The answers of the bus that are expected, and the replies that the client owes.
+///
+/// It is told what was sent and what came, and takes memory for what is outstanding alone.
+#[derive(Drop)]
+pub struct Ledger {
+    expected: BTreeMap<u32, Kind>,
+    owed: Owed,
+}
+
+impl Model for Ledger {
+    ghost use Rattle.std.specs.FinMap as map;
+    ghost use Rattle.std.specs.Ordering.{nat_cmp};
+    ghost use Rattle.std.specs.Cmp.Lexicographic.{slice_cmp};
+    ghost use Rattle.std.specs.Coded.{codes, coded_ℕ, coded_list};
+    ghost use Rattle.reply_ledger.specs.Ledger.{Ledger as LedgerValue};
+    ghost use Rattle.reply_ledger.specs.declared.kind.Kind.{Kind as KindValue};
+
+    ghost Value = { LedgerValue };
+
+    ghost coded = { Prim.hlevel (codes, map.code {X = KindValue} {R = nat_cmp} coded_ℕ (Prim.hlevel (codes, coded_list coded_ℕ)), map.code {R = slice_cmp nat_cmp} (coded_list coded_ℕ) (map.code {R = nat_cmp} coded_ℕ coded_ℕ)) };
+
+    ghost view = { λ l. record { expected = map.from_entries l.expected.entries; owed = l.owed } };
+}
+
+impl Ledger {
+    /// No answer is expected, and no reply is owed.
+    pub fn new(alloc: Global) -> Ledger
+        ensures { result ≡ record { expected = map.empty; owed = map.empty } }
+    {
+        Ledger {
+            expected: BTreeMap::new(alloc),
+            owed: Owed::new(alloc),
+        }
+    }
+
+    /// The answer to the message that was sent with this serial is for this.
+    pub fn expect(&mut self, position: u32, kind: Kind) -> Result<(), AllocError>
+        ensures ok { OnOk result (self.new ≡ record self.old { expected = map.insert self.old.expected position kind }) }
+        ensures err { OnErr result (self.new ≡ self.old) }
+    {
+        self.expected.insert(position, kind)?;
+        Ok(())
+    }
+
+    /// What the answer to the message that was sent with this serial is for, if one is expected.
+    pub fn peek(&self, position: u32) -> Option<&Kind>
+        ensures { option_copied result ≡ map.get self.now.expected position }
+    {
+        self.expected.get(&position)
+    }
+
+    /// Takes what that answer is for: then none is expected there.
+    pub fn take(&mut self, position: u32) -> Option<Kind>
+        ensures was { result ≡ map.get self.old.expected position }
+        ensures left { self.new ≡ record self.old { expected = map.remove self.old.expected position } }
+    {
+        self.expected.remove(&position)
+    }
+
+    /// A call came from this sender with this serial, and wants a reply.
+    pub fn called(&mut self, sender: &str, serial: u32) -> Result<(), AllocError>
+        requires { count_of self.old.owed sender.now serial < 2 ^ 64 - 1 }
+
+        // One reply more is owed to that pair, and to every other as many as before.
+        ensures counted { OnOk result ((s : Text) (n : ℕ) → count_of self.new.owed s n ≡ (if is_pair sender.now serial s n then count_of self.old.owed s n + 1 else count_of self.old.owed s n)) }
+
+        // Nothing is kept of a pair or a sender to which nothing is owed.
+        ensures kept { KeepsOwedAlone self.new.owed }
+
+        ensures expected { self.new.expected ≡ self.old.expected }
+        ensures err { OnErr result (self.new ≡ self.old) }
+    {
+        self.owed.add(sender, serial)
+    }
+
+    /// Whether a reply is owed to the calls of this destination with this serial.
+    pub fn owed(&self, dest: &str, serial: u32) -> bool
+        ensures { result ≡ nat_lt 0 (count_of self.now.owed dest.now serial) }
+    {
+        self.owed.count(dest, serial) > 0
+    }
+
+    /// The client replied: where that was owed, one reply less is, and else nothing changes.
+    pub fn answer(&mut self, dest: &str, serial: u32) -> bool
+        ensures was { result ≡ nat_lt 0 (count_of self.old.owed dest.now serial) }
+
+        // One reply less is owed to that pair, and to every other as many as before.
+        ensures counted { (s : Text) (n : ℕ) → count_of self.new.owed s n ≡ (if is_pair dest.now serial s n then count_of self.old.owed s n - 1 else count_of self.old.owed s n) }
+
+        // Nothing is kept of a pair or a sender to which nothing is owed.
+        ensures kept { KeepsOwedAlone self.new.owed }
+
+        ensures expected { self.new.expected ≡ self.old.expected }
+        ensures unchanged { result ≡ false → self.new ≡ self.old }
+    {
+        self.owed.answer(dest, serial)
+    }
+}
