@@ -7,8 +7,6 @@ mod ledger;
 mod own;
 mod queue;
 mod session;
-#[cfg(test)]
-mod tests;
 
 pub use ledger::Expected;
 pub use session::{LONGEST_STREAM, Session};

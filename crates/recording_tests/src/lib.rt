@@ -1,0 +1,11 @@
+//! Tests of recordings, and of files and sinks in memory.
+#![tactic(auto)]
+
+#[cfg(test)]
+mod links;
+#[cfg(test)]
+mod recordings;
+#[cfg(test)]
+mod rows;
+#[cfg(test)]
+mod texts;
