@@ -1,12 +1,13 @@
 //! What bytes are as messages, what is wrong with others, and the numbers that are changed in place.
-use crate::messages::{changed, is_whole, plain};
-use crate::rows::assert_rows;
+use crate::messages::{changed, is_whole};
 use dbus_header::{
     Malformed, Message, SERIAL_PLACE, decode, length, set_reply_serial, set_serial, write_u32,
 };
 use dbus_values::Order;
 use std::alloc::{AllocError, Global};
 use std::str;
+use std::test::Fail;
+use test_tables::{plain, wrong_row};
 
 /// The first sixteen bytes of messages, and the length of the whole, or what is wrong with them and its place.
 const HEADS: &str = "\
@@ -183,24 +184,31 @@ fn told_reply_serial(alloc: Global, row: &str) -> Result<String, AllocError> {
 }
 
 #[test]
-fn the_first_sixteen_bytes_tell_the_length_or_a_fault(rt: HostRuntime) {
-    assert_rows(&rt, rt.alloc(), HEADS, &told_length);
+fn the_first_sixteen_bytes_tell_the_length_or_a_fault(rt: HostRuntime) -> Result<(), Fail> {
+    assert_eq!(rt; wrong_row(rt.alloc(), HEADS, &told_length)?, None);
+    Ok(())
 }
 
 #[test]
-fn a_changed_message_is_malformed(rt: HostRuntime) {
-    assert_rows(&rt, rt.alloc(), CHANGES, &told_validity);
+fn a_changed_message_is_malformed(rt: HostRuntime) -> Result<(), Fail> {
+    assert_eq!(rt; wrong_row(rt.alloc(), CHANGES, &told_validity)?, None);
+    Ok(())
 }
 
 #[test]
-fn a_message_is_read_in_place(rt: HostRuntime) {
-    assert_rows(&rt, rt.alloc(), MESSAGES, &told_message);
+fn a_message_is_read_in_place(rt: HostRuntime) -> Result<(), Fail> {
+    assert_eq!(rt; wrong_row(rt.alloc(), MESSAGES, &told_message)?, None);
+    Ok(())
 }
 
 #[test]
-fn a_serial_alone_changes(rt: HostRuntime) {
-    assert_rows(&rt, rt.alloc(), SERIALS, &told_serial);
-    assert_rows(&rt, rt.alloc(), REPLY_SERIALS, &told_reply_serial);
+fn a_serial_alone_changes(rt: HostRuntime) -> Result<(), Fail> {
+    assert_eq!(rt; wrong_row(rt.alloc(), SERIALS, &told_serial)?, None);
+    assert_eq!(rt;
+        wrong_row(rt.alloc(), REPLY_SERIALS, &told_reply_serial)?,
+        None
+    );
+    Ok(())
 }
 
 #[test]

@@ -7,5 +7,3 @@ mod framing;
 mod headers;
 #[cfg(test)]
 mod messages;
-#[cfg(test)]
-mod rows;

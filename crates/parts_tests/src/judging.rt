@@ -2,11 +2,12 @@
 ghost use Rattle.std.specs.Prelude.{◌≡◌, ◌≤◌, None, IsTrue, length};
 ghost use Rattle.dbus_header.specs.Malformed.{head_fault, whole_len};
 
-use crate::rows::assert_rows;
 use dbus_header::{decode, length as message_length};
 use policy_args::{LineRefusal, Policy, read_options};
 use policy_view::Verdict;
 use std::alloc::{AllocError, Global};
+use std::test::Fail;
+use test_tables::wrong_row;
 use verdicts::{is_judged, is_service, judge};
 
 /// The flags of a call of `org.a.T` and the words of a policy, and the verdict.
@@ -212,22 +213,26 @@ fn told_service(alloc: Global, destination: &str) -> Result<String, AllocError> 
 }
 
 #[test]
-fn calls_are_judged_by_the_entries_of_their_name(rt: HostRuntime) {
-    assert_rows(&rt, rt.alloc(), CALLS, &told_call);
+fn calls_are_judged_by_the_entries_of_their_name(rt: HostRuntime) -> Result<(), Fail> {
+    assert_eq!(rt; wrong_row(rt.alloc(), CALLS, &told_call)?, None);
+    Ok(())
 }
 
 #[test]
-fn rules_are_asked_of_path_interface_and_member(rt: HostRuntime) {
-    assert_rows(&rt, rt.alloc(), RULES, &told_rule);
+fn rules_are_asked_of_path_interface_and_member(rt: HostRuntime) -> Result<(), Fail> {
+    assert_eq!(rt; wrong_row(rt.alloc(), RULES, &told_rule)?, None);
+    Ok(())
 }
 
 #[test]
-fn calls_of_services_and_unknown_types_are_judged(rt: HostRuntime) {
-    assert_rows(&rt, rt.alloc(), KINDS, &told_kind);
+fn calls_of_services_and_unknown_types_are_judged(rt: HostRuntime) -> Result<(), Fail> {
+    assert_eq!(rt; wrong_row(rt.alloc(), KINDS, &told_kind)?, None);
+    Ok(())
 }
 
 #[test]
-fn services_have_well_known_names(rt: HostRuntime) {
-    assert_rows(&rt, rt.alloc(), SERVICES, &told_service);
+fn services_have_well_known_names(rt: HostRuntime) -> Result<(), Fail> {
+    assert_eq!(rt; wrong_row(rt.alloc(), SERVICES, &told_service)?, None);
     assert!(rt; !is_service(None));
+    Ok(())
 }

@@ -8,8 +8,6 @@ mod own_messages;
 #[cfg(test)]
 mod replies;
 #[cfg(test)]
-mod rows;
-#[cfg(test)]
 mod serials;
 #[cfg(test)]
 mod unique_names;

@@ -6,6 +6,4 @@ mod patterns;
 #[cfg(test)]
 mod policies;
 #[cfg(test)]
-mod rows;
-#[cfg(test)]
 mod rules;

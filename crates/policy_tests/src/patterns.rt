@@ -1,7 +1,8 @@
 //! Which texts are patterns of bus names, and which names they cover.
-use crate::rows::{assert_rows, assert_told};
 use name_patterns::{BadPattern, Pattern};
 use std::alloc::{AllocError, Global};
+use std::test::Fail;
+use test_tables::wrong_row;
 
 /// Texts, and the name of the pattern and whether it is exact, or why it is refused.
 const PATTERNS: &str = "\
@@ -111,23 +112,27 @@ fn long(alloc: Global, len: usize, end: &str) -> Result<String, AllocError> {
 }
 
 #[test]
-fn texts_are_read_as_patterns_or_refused(rt: HostRuntime) {
-    assert_rows(&rt, rt.alloc(), PATTERNS, &told_pattern);
+fn texts_are_read_as_patterns_or_refused(rt: HostRuntime) -> Result<(), Fail> {
+    assert_eq!(rt; wrong_row(rt.alloc(), PATTERNS, &told_pattern)?, None);
+    Ok(())
 }
 
 #[test]
-fn names_have_at_most_255_bytes(rt: HostRuntime) {
-    assert_rows(&rt, rt.alloc(), LENGTHS, &told_length);
+fn names_have_at_most_255_bytes(rt: HostRuntime) -> Result<(), Fail> {
+    assert_eq!(rt; wrong_row(rt.alloc(), LENGTHS, &told_length)?, None);
+    Ok(())
 }
 
 #[test]
-fn patterns_cover_names(rt: HostRuntime) {
-    assert_rows(&rt, rt.alloc(), NAMES, &told_cover);
+fn patterns_cover_names(rt: HostRuntime) -> Result<(), Fail> {
+    assert_eq!(rt; wrong_row(rt.alloc(), NAMES, &told_cover)?, None);
+    Ok(())
 }
 
 #[test]
-fn refusals_are_told(rt: HostRuntime) {
+fn refusals_are_told(rt: HostRuntime) -> Result<(), Fail> {
     let told = format!(in rt.alloc(); "{}; {}", BadPattern::Form, BadPattern::Memory);
     let expected = "the text is no pattern of bus names; out of memory";
-    assert_told(&rt, "", told, expected);
+    assert_eq!(rt; told?.as_str(), expected);
+    Ok(())
 }

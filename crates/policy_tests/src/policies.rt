@@ -1,10 +1,11 @@
 //! What policy files and proxy lines say, and the first bad word of others.
-use crate::rows::{assert_rows, assert_told};
 use policy_args::{
     Block, Entry, Grant, Level, LineRefusal, Options, Policy, ProxyLine, read_line, read_options,
     words_of,
 };
 use std::alloc::{AllocError, Global};
+use std::test::Fail;
+use test_tables::wrong_row;
 
 /// Words of a policy file, and whether messages are filtered and how many entries there are, or the first bad word.
 const OPTIONS: &str = "\
@@ -321,25 +322,29 @@ fn marked(alloc: Global, words: &[String]) -> Result<String, AllocError> {
 }
 
 #[test]
-fn words_give_options_or_the_first_bad_word(rt: HostRuntime) {
-    assert_rows(&rt, rt.alloc(), OPTIONS, &told_options);
+fn words_give_options_or_the_first_bad_word(rt: HostRuntime) -> Result<(), Fail> {
+    assert_eq!(rt; wrong_row(rt.alloc(), OPTIONS, &told_options)?, None);
+    Ok(())
 }
 
 #[test]
-fn words_give_a_line_or_the_first_bad_word(rt: HostRuntime) {
-    assert_rows(&rt, rt.alloc(), LINES, &told_line);
+fn words_give_a_line_or_the_first_bad_word(rt: HostRuntime) -> Result<(), Fail> {
+    assert_eq!(rt; wrong_row(rt.alloc(), LINES, &told_line)?, None);
+    Ok(())
 }
 
 #[test]
-fn entries_stand_in_the_order_of_their_first_words(rt: HostRuntime) {
-    assert_rows(&rt, rt.alloc(), ENTRIES, &told_entries);
+fn entries_stand_in_the_order_of_their_first_words(rt: HostRuntime) -> Result<(), Fail> {
+    assert_eq!(rt; wrong_row(rt.alloc(), ENTRIES, &told_entries)?, None);
     let none = Policy::new(rt.alloc());
     assert!(rt; none.is_empty());
+    Ok(())
 }
 
 #[test]
-fn a_name_has_the_greatest_level_that_is_given(rt: HostRuntime) {
-    assert_rows(&rt, rt.alloc(), LEVELS, &told_level);
+fn a_name_has_the_greatest_level_that_is_given(rt: HostRuntime) -> Result<(), Fail> {
+    assert_eq!(rt; wrong_row(rt.alloc(), LEVELS, &told_level)?, None);
+    Ok(())
 }
 
 #[test]
@@ -354,13 +359,17 @@ fn the_greater_of_two_levels_is_told(rt: HostRuntime) {
 }
 
 #[test]
-fn policies_and_lines_have_at_most_65535_entries_and_blocks(rt: HostRuntime) {
-    assert_rows(&rt, rt.alloc(), MANY_WORDS, &told_with_many);
-    assert_rows(&rt, rt.alloc(), MANY_BLOCKS, &told_with_blocks);
+fn policies_and_lines_have_at_most_65535_entries_and_blocks(rt: HostRuntime) -> Result<(), Fail> {
+    assert_eq!(rt; wrong_row(rt.alloc(), MANY_WORDS, &told_with_many)?, None);
+    assert_eq!(rt;
+        wrong_row(rt.alloc(), MANY_BLOCKS, &told_with_blocks)?,
+        None
+    );
+    Ok(())
 }
 
 #[test]
-fn words_end_at_nul(rt: HostRuntime) {
+fn words_end_at_nul(rt: HostRuntime) -> Result<(), Fail> {
     let rows: [(&[u8], &str); 13] = [
         (b"--filter\0\0caf\xc3\xa9", "--filter||caf\u{e9}|"),
         (b"", ""),
@@ -377,6 +386,7 @@ fn words_end_at_nul(rt: HostRuntime) {
         (b"\xc3\0\xa9", "UnknownOption 0"),
     ];
     for (file, expected) in rows {
-        assert_told(&rt, expected, told_words(rt.alloc(), file), expected);
+        assert_eq!(rt; told_words(rt.alloc(), file)?.as_str(), expected);
     }
+    Ok(())
 }

@@ -1,7 +1,8 @@
 //! Which texts are call rules, and which calls they match.
-use crate::rows::assert_rows;
 use call_rules::{BadRule, Rule};
 use std::alloc::{AllocError, Global};
+use std::test::Fail;
+use test_tables::wrong_row;
 
 /// Texts, and the interface, the member and the path of the rule, a `-` for none, whether it is of all paths below, and
 /// its text; or why it is refused.
@@ -110,11 +111,13 @@ fn is_matched(rule: &Rule, call: &str) -> bool {
 }
 
 #[test]
-fn texts_say_rules_or_none(rt: HostRuntime) {
-    assert_rows(&rt, rt.alloc(), RULES, &told_rule);
+fn texts_say_rules_or_none(rt: HostRuntime) -> Result<(), Fail> {
+    assert_eq!(rt; wrong_row(rt.alloc(), RULES, &told_rule)?, None);
+    Ok(())
 }
 
 #[test]
-fn rules_match_calls(rt: HostRuntime) {
-    assert_rows(&rt, rt.alloc(), CALLS, &told_match);
+fn rules_match_calls(rt: HostRuntime) -> Result<(), Fail> {
+    assert_eq!(rt; wrong_row(rt.alloc(), CALLS, &told_match)?, None);
+    Ok(())
 }

@@ -1,12 +1,12 @@
 //! The words and the files of runs that end without a session, each with its status and its line.
-use crate::rows::{assert_rows, assert_told};
 use crate::runs::{Ended, file, replay, run_over};
-use crate::texts::plain;
 use link_traits::MemFile;
 use proxy_main::POLICY_LIMIT;
 use recording::RECORDING_LIMIT;
 use std::alloc::{AllocError, Global};
 use std::str;
+use std::test::Fail;
+use test_tables::{plain, wrong_row};
 
 /// Words, and the status, how many bytes are written, and the line.
 const WORDS: &str = "\
@@ -79,13 +79,15 @@ fn line_of(text: &str) -> &str {
 }
 
 #[test]
-fn words_of_another_form_are_usage(rt: HostRuntime) {
-    assert_rows(&rt, rt.alloc(), WORDS, &told_words);
+fn words_of_another_form_are_usage(rt: HostRuntime) -> Result<(), Fail> {
+    assert_eq!(rt; wrong_row(rt.alloc(), WORDS, &told_words)?, None);
+    Ok(())
 }
 
 #[test]
-fn bad_files_have_a_status_and_a_line(rt: HostRuntime) {
-    assert_rows(&rt, rt.alloc(), FILES, &told_files);
+fn bad_files_have_a_status_and_a_line(rt: HostRuntime) -> Result<(), Fail> {
+    assert_eq!(rt; wrong_row(rt.alloc(), FILES, &told_files)?, None);
+    Ok(())
 }
 
 /// A replay of as many zeros for a policy, and of as many for a recording.
@@ -96,9 +98,10 @@ fn told_zeros(alloc: Global, policy: usize, recording: usize) -> Result<String, 
 }
 
 #[test]
-fn files_above_their_limits_are_too_long(rt: HostRuntime) {
+fn files_above_their_limits_are_too_long(rt: HostRuntime) -> Result<(), Fail> {
     let told = told_zeros(rt.alloc(), POLICY_LIMIT + 1, 0);
-    assert_told(&rt, "", told, "2 0 error: policy file too long");
+    assert_eq!(rt; told?.as_str(), "2 0 error: policy file too long");
     let told = told_zeros(rt.alloc(), 0, RECORDING_LIMIT + 1);
-    assert_told(&rt, "", told, "3 0 error: recording: TooLong at 67108864");
+    assert_eq!(rt; told?.as_str(), "3 0 error: recording: TooLong at 67108864");
+    Ok(())
 }

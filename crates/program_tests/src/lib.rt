@@ -6,8 +6,4 @@ mod files;
 #[cfg(test)]
 mod outside;
 #[cfg(test)]
-mod rows;
-#[cfg(test)]
 mod runs;
-#[cfg(test)]
-mod texts;

@@ -7,8 +7,6 @@ pub mod laws;
 mod ledger;
 mod queue;
 mod session;
-#[cfg(test)]
-mod tests;
 
 pub use ledger::Expected;
 pub use session::{LONGEST_STREAM, Session};

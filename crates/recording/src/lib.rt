@@ -8,8 +8,6 @@
 
 mod laws;
 mod reading;
-#[cfg(test)]
-mod tests;
 mod writing;
 
 use bytes::Bytes;

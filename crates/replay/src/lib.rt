@@ -7,8 +7,6 @@
 #![tactic(auto)]
 
 mod playing;
-#[cfg(test)]
-mod tests;
 mod writing;
 
 ghost use Rattle.std.specs.Prelude.{◌≡◌, ◌≤◌, OnOk, IsErrOf};

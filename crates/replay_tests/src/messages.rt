@@ -2,6 +2,7 @@
 ghost use Rattle.std.specs.Prelude.{◌<◌};
 
 use std::alloc::{AllocError, Global};
+use test_tables::{add_text, plain};
 
 /// The ping that goes to the bus in place of a refused call, with serial 2.
 const PING: &[u8] = b"l\x01\0\x01\0\0\0\0\x02\0\0\0\x65\0\0\0\
@@ -59,37 +60,6 @@ fn kind_and_flags(kind: &str) -> [u8; 2] {
         "type_9" => [9, 0],
         _ => [0, 0],
     }
-}
-
-/// The bytes of a text, in which `~` is a zero and `%` stands before two hexadecimal digits of a byte.
-pub fn plain(alloc: Global, text: &str) -> Result<Vec<u8>, AllocError> {
-    let mut bytes = Vec::new(alloc);
-    let (first, rest) = text.split_once('%').unwrap_or((text, ""));
-    add_plain(&mut bytes, first.as_bytes())?;
-    for part in rest.split('%') {
-        if let [high, low, behind @ ..] = part.as_bytes() {
-            bytes.push(digit(*high) * 16 + digit(*low))?;
-            add_plain(&mut bytes, behind)?;
-        }
-    }
-    Ok(bytes)
-}
-
-fn digit(byte: u8) -> u8
-    ensures { result < 16 }
-{
-    match byte {
-        b'0'..=b'9' => byte - b'0',
-        b'A'..=b'F' => byte - b'A' + 10,
-        _ => 0,
-    }
-}
-
-fn add_plain(into: &mut Vec<u8>, bytes: &[u8]) -> Result<(), AllocError> {
-    for byte in bytes {
-        into.push(if *byte == b'~' { 0 } else { *byte })?;
-    }
-    Ok(())
 }
 
 /// A message with another serial, and with another number at a place.
@@ -151,15 +121,6 @@ fn add_field(fields: &mut Vec<u8>, name: &str, value: &str) -> Result<(), AllocE
         "sender" => add_text(fields, [7, 1, b's', 0], value),
         _ => Ok(()),
     }
-}
-
-/// Adds the code and the type of a header field, and its text.
-fn add_text(fields: &mut Vec<u8>, head: [u8; 4], text: &str) -> Result<(), AllocError> {
-    fields.extend_from_slice(&head)?;
-    fields.extend_from_slice(&length(text.as_bytes()))?;
-    fields.extend_from_slice(text.as_bytes())?;
-    fields.push(0)?;
-    Ok(())
 }
 
 fn add_number(fields: &mut Vec<u8>, value: &str) -> Result<(), AllocError> {

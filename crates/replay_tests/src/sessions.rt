@@ -3,10 +3,11 @@
 //! A case has a line for each thing. `policy` has the words of the policy file, and `lines` says that the streams begin
 //! with lines of authentication. `client` and `bus` have what comes of a side, in order, `to_bus` and `to_client` what goes
 //! to a side, and `end` the bytes that tell why the session ended.
-use crate::messages::{length, named, plain};
+use crate::messages::{length, named};
 use crate::runs::{Ended, replay};
 use std::alloc::{AllocError, Global};
 use std::process::Abort;
+use test_tables::plain;
 
 /// Calls, pings in place of refused calls, and the answers of the bus.
 const CALLS: [&str; 8] = [

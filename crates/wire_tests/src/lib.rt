@@ -4,10 +4,6 @@
 #[cfg(test)]
 mod names;
 #[cfg(test)]
-mod rows;
-#[cfg(test)]
-mod texts;
-#[cfg(test)]
 mod types;
 #[cfg(test)]
 mod values;

@@ -1,8 +1,9 @@
 //! Which bytes are signatures, and what follows a type.
-use crate::rows::assert_rows;
 use dbus_types::{BadSignature, Signature, behind_type};
 use std::alloc::{AllocError, Global};
 use std::str;
+use std::test::Fail;
+use test_tables::wrong_row;
 
 /// Texts, and whether they are signatures, or why they aren't.
 const SIGNATURES: &str = "\
@@ -91,16 +92,19 @@ fn told_behind(alloc: Global, types: &str) -> Result<String, AllocError> {
 }
 
 #[test]
-fn signatures_are_told_by_their_form(rt: HostRuntime) {
-    assert_rows(&rt, rt.alloc(), SIGNATURES, &told_signature);
+fn signatures_are_told_by_their_form(rt: HostRuntime) -> Result<(), Fail> {
+    assert_eq!(rt; wrong_row(rt.alloc(), SIGNATURES, &told_signature)?, None);
+    Ok(())
 }
 
 #[test]
-fn signatures_are_within_their_limits(rt: HostRuntime) {
-    assert_rows(&rt, rt.alloc(), LIMITS, &told_repeated);
+fn signatures_are_within_their_limits(rt: HostRuntime) -> Result<(), Fail> {
+    assert_eq!(rt; wrong_row(rt.alloc(), LIMITS, &told_repeated)?, None);
+    Ok(())
 }
 
 #[test]
-fn what_is_behind_a_type(rt: HostRuntime) {
-    assert_rows(&rt, rt.alloc(), BEHIND, &told_behind);
+fn what_is_behind_a_type(rt: HostRuntime) -> Result<(), Fail> {
+    assert_eq!(rt; wrong_row(rt.alloc(), BEHIND, &told_behind)?, None);
+    Ok(())
 }

@@ -1,9 +1,9 @@
 //! Where values end, and the texts of bodies.
-use crate::rows::{assert_rows, assert_told};
-use crate::texts::plain;
 use dbus_types::Signature;
 use dbus_values::{BadValue, Order, first_text, text_list, texts3, value_end};
 use std::alloc::{AllocError, Global};
+use std::test::Fail;
+use test_tables::{plain, wrong_row};
 
 /// A byte order, a signature and bytes, and where its values end, or where the last valid one ended.
 const ENDS: &str = "\
@@ -106,9 +106,10 @@ fn told_variants(alloc: Global, count: &str) -> Result<String, AllocError> {
 }
 
 #[test]
-fn values_end_where_their_spelling_does(rt: HostRuntime) {
-    assert_rows(&rt, rt.alloc(), ENDS, &told_end);
-    assert_rows(&rt, rt.alloc(), VARIANTS, &told_variants);
+fn values_end_where_their_spelling_does(rt: HostRuntime) -> Result<(), Fail> {
+    assert_eq!(rt; wrong_row(rt.alloc(), ENDS, &told_end)?, None);
+    assert_eq!(rt; wrong_row(rt.alloc(), VARIANTS, &told_variants)?, None);
+    Ok(())
 }
 
 fn told_texts(alloc: Global) -> Result<String, AllocError> {
@@ -132,7 +133,8 @@ fn told_list(alloc: Global) -> Result<String, AllocError> {
 }
 
 #[test]
-fn texts_of_a_body_are_lent(rt: HostRuntime) {
-    assert_told(&rt, "sss", told_texts(rt.alloc()), "a|a||bc");
-    assert_told(&rt, "as", told_list(rt.alloc()), "a|bc|");
+fn texts_of_a_body_are_lent(rt: HostRuntime) -> Result<(), Fail> {
+    assert_eq!(rt; told_texts(rt.alloc())?.as_str(), "a|a||bc", "sss");
+    assert_eq!(rt; told_list(rt.alloc())?.as_str(), "a|bc|", "as");
+    Ok(())
 }

@@ -1,6 +1,6 @@
 use Rattle.std.proofs.Common.{◌+◌, ◌≤◌, length}
 use Rattle.sasl_watch.specs.Watching.{came}
-use Rattle.sasl_watch.proofs.tests.client_told.Given as goal
+use Rattle.line_tests.proofs.lines.bus_told.Given as goal
 
 abbrev pub invariant-loop-rest : goal.invariant-loop-rest
 invariant-loop-rest l = came l.lines + length l.rest ≤ length l.stream

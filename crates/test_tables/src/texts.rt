@@ -33,3 +33,34 @@ fn add_plain(into: &mut Vec<u8>, bytes: &[u8]) -> Result<(), AllocError> {
     }
     Ok(())
 }
+
+/// Adds bytes as such a text.
+pub fn add_text(told: &mut String, bytes: &[u8]) -> Result<(), AllocError> {
+    for byte in bytes {
+        match byte {
+            0 => told.push('~')?,
+            b'!'..=b'$' | b'&'..=b'}' | b' ' => told.push(char::from(*byte))?,
+            _ => {
+                told.push('%')?;
+                told.push(hexadecimal(*byte / 16))?;
+                told.push(hexadecimal(*byte % 16))?;
+            }
+        }
+    }
+    Ok(())
+}
+
+fn hexadecimal(digit: u8) -> char {
+    match digit {
+        0..=9 => char::from(b'0' + digit),
+        10..=15 => char::from(b'A' + (digit - 10)),
+        _ => '?',
+    }
+}
+
+/// The bytes as such a text.
+pub fn text_of(alloc: Global, bytes: &[u8]) -> Result<String, AllocError> {
+    let mut told = String::new(alloc);
+    add_text(&mut told, bytes)?;
+    Ok(told)
+}

@@ -1,6 +1,6 @@
 use Rattle.std.proofs.Common.{◌≡◌, length}
 use Rattle.sasl_watch.specs.Watching.{came}
-use Rattle.sasl_watch.proofs.tests.take_client.Given as goal
+use Rattle.line_tests.proofs.lines.take_client.Given as goal
 
 abbrev pub invariant-loop-given : goal.invariant-loop-given
 invariant-loop-given l = came l.lines ≡ came l.initial.lines

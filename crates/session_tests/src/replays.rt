@@ -1,0 +1,74 @@
+//! What a replay writes of a recording.
+use crate::texts::options_of;
+use link_traits::MemSink;
+use policy_args::Options;
+use recording::{RecordingRefusal, read};
+use replay::{ReplayFault, replay};
+use std::alloc::{AllocError, Global};
+use std::test::Fail;
+use test_tables::{plain, text_of, wrong_row};
+
+/// The words of a policy, which commas part, the room of the output, and the bytes of a recording, and the answer, what is
+/// written, and how many writes have failed.
+///
+/// In the last two the client calls `a.b`: the call and its answer are numbered anew, and a ping stands in the place of a
+/// call to a hidden name.
+const REPLAYS: &str = "\
+--filter 64 DBPR%01~ => Ok(()) [] 0
+--filter 64 DBPR%01~%02~~~~ => Ok(()) [%12%01~~~%03] 0
+--filter 6 DBPR%01~%03~~~~%02~~~~ => Ok(()) [%12%01~~~%04] 0
+--filter 64 DBPR%01%01~%01~~~~ => Ok(()) [%10%01~~~~] 0
+--filter 0 DBPR%01~%02~~~~ => Err(Out) [] 1
+--filter 3 DBPR%01~%02~~~~ => Err(Out) [%12%01~] 1
+--filter,--talk=a.b 256 DBPR%01~~@~~~l%01~%01~~~~%04%03%02%01,~~~%01%01o~%01~~~/~~~~~~~%03%01s~%01~~~M~~~~~~~%06%01s~%03~~~a.b~~~~~%01(~~~l%02%01%01~~~~%09~~~%18~~~%07%01s~%04~~~:1.7~~~~%05%01u~%01~~~ => Ok(()) [%10@~~~l%01~%01~~~~%01~~~,~~~%01%01o~%01~~~/~~~~~~~%03%01s~%01~~~M~~~~~~~%06%01s~%03~~~a.b~~~~~%11(~~~l%02%01%01~~~~%09~~~%18~~~%07%01s~%04~~~:1.7~~~~%05%01u~%04%03%02%01] 0
+--filter 256 DBPR%01~~@~~~l%01~%01~~~~%04%03%02%01,~~~%01%01o~%01~~~/~~~~~~~%03%01s~%01~~~M~~~~~~~%06%01s~%03~~~a.b~~~~~ => Ok(()) [%10x~~~l%01~%01~~~~%01~~~e~~~%01%01o~%01~~~/~~~~~~~%02%01s~%19~~~org.freedesktop.DBus.Peer~~~~~~~%03%01s~%04~~~Ping~~~~%06%01s~%14~~~org.freedesktop.DBus~~~~] 0
+";
+
+fn told_replay(alloc: Global, row: &str) -> Result<String, AllocError> {
+    let (policy, row) = row.split_once(' ').unwrap_or((row, ""));
+    let (room, file) = row.split_once(' ').unwrap_or((row, ""));
+    let options = options_of(alloc, policy)?;
+    told_in_room(alloc, &options, room.parse().unwrap_or(0), file)
+}
+
+fn told_in_room(
+    alloc: Global,
+    options: &Options,
+    room: usize,
+    file: &str,
+) -> Result<String, AllocError> {
+    let mut out = MemSink::new(alloc, room)?;
+    told_file(alloc, options, &mut out, file)
+}
+
+fn told_file(
+    alloc: Global,
+    options: &Options,
+    out: &mut MemSink,
+    file: &str,
+) -> Result<String, AllocError> {
+    let file = plain(alloc, file)?;
+    match read(alloc, &file) {
+        Ok(recording) => {
+            let answer = replay(alloc, options, &recording, out);
+            told_output(alloc, answer, out)
+        }
+        Err(RecordingRefusal::Bad(_)) => String::from_str(alloc, "no recording"),
+        Err(RecordingRefusal::Memory) => Err(AllocError),
+    }
+}
+
+fn told_output(
+    alloc: Global,
+    answer: Result<(), ReplayFault>,
+    out: &MemSink,
+) -> Result<String, AllocError> {
+    let written = text_of(alloc, &out.bytes)?;
+    format!(in alloc; "{answer:?} [{written}] {}", out.faults)
+}
+
+#[test]
+fn writes_what_the_session_gives(rt: HostRuntime) -> Result<(), Fail> {
+    assert_eq!(rt; wrong_row(rt.alloc(), REPLAYS, &told_replay)?, None);
+    Ok(())
+}

@@ -1,0 +1,169 @@
+//! Sessions that messages are fed to, and what waits for either side.
+ghost use Rattle.std.specs.Prelude.{◌≤◌};
+
+use crate::texts::options_of;
+use policy_args::Policy;
+use policy_view::{End, Mode};
+use proxy_core::Session;
+use std::alloc::{AllocError, Global};
+use std::test::Fail;
+use test_tables::wrong_row;
+
+/// The words of a policy, which commas part, and what comes and is taken, one after the other; and the answer of each, a `-`
+/// for none, how many bytes wait for the bus and for the client, or the byte that was asked for; and why the session ended.
+const SESSIONS: &str = "\
+--filter,--talk=org.a.T; client call; bus_byte 8; took_bus 80; bus return; bus return; client_byte 20; took_client 56 => - 80 0; 1; - 0 0; - 0 56; - 0 56; 7; - 0 0; None
+--filter; client call; bus return => - 120 0; - 120 140; None
+--filter; client_ended; bus_ended; client call => ClientEnd 0 0; ClientEnd 0 0; ClientEnd 0 0; Some(ClientEnd)
+--filter; bus_ended; client_ended => BusEnd 0 0; BusEnd 0 0; Some(BusEnd)
+--filter; client return => NotBuilt 0 0; Some(NotBuilt)
+--filter,--talk=org.a.T; bytes call; bytes call; bytes call; client ones cut=15 => - 80 0; - 160 0; - 240 0; - 240 0; None
+--filter,--talk=org.a.T; bytes call; client ones cut=15; client ones cut=1 => - 80 0; - 80 0; ClientMalformed(Message(Malformed { kind: ByteOrder, at: 0 })) 80 0; Some(ClientMalformed(Message(Malformed { kind: ByteOrder, at: 0 })))
+--filter; client call 2=1; client call 2=2; bus return; client call 1=9 2=2 => - 0 0; - 120 0; - 120 142; - 120 142; None
+";
+
+/// A call to org.a.T, with serial 7.
+const CALL: &[u8] =
+    b"l\x01\x00\x01\x00\x00\x00\x00\x07\x00\x00\x00@\x00\x00\x00\x01\x01o\x00\x02\x00\x00\x00/p\x00\x00\x00\x00\x00\x00\x02\x01s\x00\x07\x00\x00\x00org.a.I\x00\x03\x01s\x00\x01\x00\x00\x00A\x00\x00\x00\x00\x00\x00\x00\x06\x01s\x00\x07\x00\x00\x00org.a.T\x00";
+
+/// A return to :1.40 with serial 60, the answer to serial 1.
+const RETURN: &[u8] =
+    b"l\x02\x01\x01\x00\x00\x00\x00<\x00\x00\x00%\x00\x00\x00\x05\x01u\x00\x01\x00\x00\x00\x06\x01s\x00\x05\x00\x00\x00:1.40\x00\x00\x00\x07\x01s\x00\x04\x00\x00\x00:1.7\x00\x00\x00\x00";
+
+/// Bytes of which none begins a message.
+const ONES: &[u8] = &[0xff; 16];
+
+/// A message, changed as what follows its name says: `PLACE=BYTE` puts a byte at a place, and `cut=LENGTH` leaves so many
+/// bytes.
+fn message(alloc: Global, row: &str) -> Result<Vec<u8>, AllocError> {
+    let (name, changes) = row.split_once(' ').unwrap_or((row, ""));
+    let mut bytes = Vec::from_slice(alloc, bytes_of(name))?;
+    for change in changes.split(' ') {
+        match change.split_once('=') {
+            Some(("cut", len)) => bytes.truncate(len.parse().unwrap_or(0)),
+            Some((place, byte)) => put(&mut bytes, place, byte),
+            None => (),
+        }
+    }
+    Ok(bytes)
+}
+
+fn bytes_of(name: &str) -> &'static [u8] {
+    match name {
+        "call" => CALL,
+        "return" => RETURN,
+        "ones" => ONES,
+        _ => b"",
+    }
+}
+
+fn put(bytes: &mut [u8], place: &str, byte: &str) {
+    if let Some(old) = bytes.get_mut(place.parse().unwrap_or(usize::MAX)) {
+        *old = byte.parse().unwrap_or(0);
+    }
+}
+
+fn told_session(alloc: Global, row: &str) -> Result<String, AllocError> {
+    let (words, steps) = row.split_once("; ").unwrap_or((row, ""));
+    let options = options_of(alloc, words)?;
+    told_under(alloc, &options.policy, steps)
+}
+
+fn told_under(alloc: Global, policy: &Policy, steps: &str) -> Result<String, AllocError> {
+    let mode = Mode {
+        auth: false,
+        filter: true,
+    };
+    let mut session = Session::new(alloc, policy, mode)?;
+    told_steps(alloc, &mut session, policy, steps)
+}
+
+fn told_steps(
+    alloc: Global,
+    session: &mut Session,
+    policy: &Policy,
+    steps: &str,
+) -> Result<String, AllocError> {
+    let mut told = String::new(alloc);
+    for step in steps.split("; ") {
+        told.push_str(&told_step(alloc, session, policy, step)?)?;
+    }
+    told.push_str(&told_end(alloc, session.ended())?)?;
+    Ok(told)
+}
+
+fn told_end(alloc: Global, end: Option<End>) -> Result<String, AllocError> {
+    format!(in alloc; "{end:?}")
+}
+
+fn told_step(
+    alloc: Global,
+    session: &mut Session,
+    policy: &Policy,
+    step: &str,
+) -> Result<String, AllocError> {
+    let (what, text) = step.split_once(' ').unwrap_or((step, ""));
+    match what {
+        "bus_byte" => told_byte(alloc, session.to_bus(), text),
+        "client_byte" => told_byte(alloc, session.to_client(), text),
+        _ => {
+            let bytes = message(alloc, text)?;
+            let end = end_of(session, policy, what, &bytes, text);
+            told_answer(alloc, session, end)
+        }
+    }
+}
+
+fn told_byte(alloc: Global, bytes: &[u8], place: &str) -> Result<String, AllocError> {
+    let place = place.parse().unwrap_or(usize::MAX);
+    format!(in alloc; "{}; ", bytes.get(place).copied().unwrap_or(0))
+}
+
+/// What a step answers.
+fn end_of(
+    session: &mut Session,
+    policy: &Policy,
+    what: &str,
+    bytes: &[u8],
+    count: &str,
+) -> Option<End> {
+    match what {
+        "client" => session.feed_client(policy, bytes).err(),
+        "bus" => session.feed_bus(policy, bytes).err(),
+        "bytes" => feed_each(session, policy, bytes).err(),
+        "client_ended" => Some(session.client_ended()),
+        "bus_ended" => Some(session.bus_ended()),
+        "took_bus" => {
+            let count = session.bus_waits().min(count.parse().unwrap_or(0));
+            session.took_bus(count as usize);
+            None
+        }
+        "took_client" => {
+            let count = session.client_waits().min(count.parse().unwrap_or(0));
+            session.took_client(count as usize);
+            None
+        }
+        _ => Some(End::NotBuilt),
+    }
+}
+
+fn feed_each(session: &mut Session, policy: &Policy, bytes: &[u8]) -> Result<(), End> {
+    for byte in bytes {
+        session.feed_client(policy, &[*byte])?;
+    }
+    Ok(())
+}
+
+fn told_answer(alloc: Global, session: &Session, end: Option<End>) -> Result<String, AllocError> {
+    let (bus, client) = (session.bus_waits(), session.client_waits());
+    match end {
+        None => format!(in alloc; "- {bus} {client}; "),
+        Some(end) => format!(in alloc; "{end:?} {bus} {client}; "),
+    }
+}
+
+#[test]
+fn sessions_have_what_waits_for_either_side(rt: HostRuntime) -> Result<(), Fail> {
+    assert_eq!(rt; wrong_row(rt.alloc(), SESSIONS, &told_session)?, None);
+    Ok(())
+}
