@@ -2,7 +2,7 @@
 ghost use Rattle.std.specs.Prelude.{◌<◌};
 
 use std::alloc::{AllocError, Global};
-use test_tables::{add_text, plain};
+use test_tables::plain;
 
 /// The ping that goes to the bus in place of a refused call, with serial 2.
 const PING: &[u8] = b"l\x01\0\x01\0\0\0\0\x02\0\0\0\x65\0\0\0\
@@ -121,6 +121,15 @@ fn add_field(fields: &mut Vec<u8>, name: &str, value: &str) -> Result<(), AllocE
         "sender" => add_text(fields, [7, 1, b's', 0], value),
         _ => Ok(()),
     }
+}
+
+/// Adds the code and the type of a header field, and its text.
+fn add_text(fields: &mut Vec<u8>, head: [u8; 4], text: &str) -> Result<(), AllocError> {
+    fields.extend_from_slice(&head)?;
+    fields.extend_from_slice(&length(text.as_bytes()))?;
+    fields.extend_from_slice(text.as_bytes())?;
+    fields.push(0)?;
+    Ok(())
 }
 
 fn add_number(fields: &mut Vec<u8>, value: &str) -> Result<(), AllocError> {
