@@ -10,4 +10,4 @@ mod replies;
 #[cfg(test)]
 mod serials;
 #[cfg(test)]
-mod unique_names;
+mod trackers;
