@@ -1,8 +1,6 @@
 //! Verdicts on messages of a client, under policies of each level and rule.
-ghost use Rattle.std.specs.Prelude.{◌≡◌, ◌≤◌, None, IsTrue, length};
-ghost use Rattle.dbus_header.specs.Malformed.{head_fault, whole_len};
-
-use dbus_header::{decode, length as message_length};
+use crate::whole::is_whole;
+use dbus_header::decode;
 use policy_args::{LineRefusal, Policy, read_options};
 use policy_view::Verdict;
 use std::alloc::{AllocError, Global};
@@ -135,20 +133,6 @@ fn pad(bytes: &mut Vec<u8>) -> Result<(), AllocError> {
 fn number(len: usize) -> [u8; 4] {
     let [a, b, c, d, ..] = len.to_le_bytes();
     [a, b, c, d]
-}
-
-/// Whether the bytes are as many as they state, where they state it.
-fn is_whole(bytes: &[u8]) -> bool
-    ensures long { IsTrue result → 16 ≤ length bytes.now }
-    ensures whole { IsTrue result → head_fault bytes.now ≡ None → length bytes.now ≡ whole_len bytes.now }
-{
-    match bytes.first_chunk::<16>() {
-        None => false,
-        Some(head) => match message_length(head) {
-            Ok(len) => len as usize == bytes.len(),
-            Err(_) => false,
-        },
-    }
 }
 
 /// The verdict on the message that the bytes are, where they are one that is judged.

@@ -4,6 +4,8 @@
 #[cfg(test)]
 mod judging;
 #[cfg(test)]
+mod name_lists;
+#[cfg(test)]
 mod own_messages;
 #[cfg(test)]
 mod replies;
@@ -11,3 +13,5 @@ mod replies;
 mod serials;
 #[cfg(test)]
 mod trackers;
+#[cfg(test)]
+mod whole;

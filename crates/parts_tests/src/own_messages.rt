@@ -1,8 +1,7 @@
-ghost use Rattle.std.specs.Prelude.{◌≡◌, ◌≤◌, None, IsTrue, length};
-ghost use Rattle.dbus_header.specs.Malformed.{head_fault, whole_len};
-
+//! The proxy's own messages, byte for byte.
+use crate::whole::is_message;
 use bytes::BytesMut;
-use dbus_header::{Instead, decode, length};
+use dbus_header::Instead;
 use dbus_names::is_well_known;
 use dbus_values::Order;
 use name_patterns::Pattern;
@@ -48,25 +47,6 @@ fn name_of(alloc: Global, len: usize) -> Result<String, AllocError> {
         name.push('b')?;
     }
     Ok(name)
-}
-
-/// Whether the bytes are as many as they state, where they state it.
-fn is_whole(bytes: &[u8]) -> bool
-    ensures long { IsTrue result → 16 ≤ length bytes.now }
-    ensures whole { IsTrue result → head_fault bytes.now ≡ None → length bytes.now ≡ whole_len bytes.now }
-{
-    match bytes.first_chunk::<16>() {
-        None => false,
-        Some(head) => match length(head) {
-            Ok(len) => len as usize == bytes.len(),
-            Err(_) => false,
-        },
-    }
-}
-
-/// Whether the bytes are a valid message.
-fn is_message(bytes: &[u8]) -> bool {
-    is_whole(bytes) && decode(bytes).is_ok()
 }
 
 #[test]

@@ -1,3 +1,4 @@
+//! Expected answers and owed replies.
 use dbus_header::Instead;
 use dbus_names::Name;
 use dbus_values::Order;

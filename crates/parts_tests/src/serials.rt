@@ -1,3 +1,4 @@
+//! Serials, up to the last one.
 use serial_map::{Serials, Spent};
 
 #[test]

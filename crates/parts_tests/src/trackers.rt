@@ -1,3 +1,4 @@
+//! Levels and entries of unique names by what was taught.
 use dbus_names::Name;
 use policy_args::{Fact, Level, Options, Policy, read_options, words_of};
 use std::alloc::Global;

@@ -1,0 +1,4 @@
+pub mod CutBytes
+pub mod ListBodies
+pub mod Listed
+pub mod NameBytes

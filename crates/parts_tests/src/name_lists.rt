@@ -1,0 +1,145 @@
+//! Lists of names, cut to those that are seen.
+use crate::whole::is_whole;
+use bytes::BytesMut;
+use dbus_header::decode;
+use dbus_values::Order;
+use name_filters::cut;
+use policy_args::{Policy, read_options, words_of};
+use std::alloc::{AllocError, Global};
+use std::test::Fail;
+use unique_names::Tracker;
+
+/// A return of ListNames up to its body: serial 30, REPLY_SERIAL, DESTINATION, SENDER and SIGNATURE.
+fn front(
+    alloc: Global,
+    order: Order,
+    reply_serial: u8,
+    body_len: u8,
+) -> Result<Vec<u8>, AllocError> {
+    let mut bytes = Vec::new(alloc);
+    match order {
+        Order::Little => {
+            bytes.extend_from_slice(b"l\x02\x01\x01")?;
+            bytes.push(body_len)?;
+            bytes.extend_from_slice(b"\0\0\0\x1e\0\0\0\x40\0\0\0\x05\x01u\0")?;
+            bytes.push(reply_serial)?;
+            bytes.extend_from_slice(
+                b"\0\0\0\x06\x01s\0\x05\0\0\0:1.40\0\0\0\x07\x01s\0\x14\0\0\0",
+            )?;
+        }
+        Order::Big => {
+            bytes.extend_from_slice(b"B\x02\x01\x01\0\0\0")?;
+            bytes.push(body_len)?;
+            bytes.extend_from_slice(b"\0\0\0\x1e\0\0\0\x40\x05\x01u\0\0\0\0")?;
+            bytes.push(reply_serial)?;
+            bytes.extend_from_slice(b"\x06\x01s\0\0\0\0\x05:1.40\0\0\0\x07\x01s\0\0\0\0\x14")?;
+        }
+    }
+    bytes.extend_from_slice(b"org.freedesktop.DBus\0\0\0\0\x08\x01g\0\x02as\0")?;
+    Ok(bytes)
+}
+
+/// The message with this body.
+fn message(
+    alloc: Global,
+    order: Order,
+    reply_serial: u8,
+    body: &[u8],
+) -> Result<Vec<u8>, AllocError> {
+    let mut bytes = front(alloc, order, reply_serial, body.len().min(255) as u8)?;
+    bytes.extend_from_slice(body)?;
+    Ok(bytes)
+}
+
+/// `abc`, and the message cut behind it, where its body is a list.
+fn cut_behind_abc(
+    alloc: Global,
+    policy: &Policy,
+    tracker: &Tracker,
+    message: &[u8],
+) -> Result<BytesMut, AllocError> {
+    let mut into = BytesMut::new(alloc);
+    into.extend_from_slice(b"abc")?;
+    if !is_whole(message) {
+        return Ok(into);
+    }
+    let Ok(message) = decode(message) else {
+        return Ok(into);
+    };
+    if message.signature.as_bytes() == b"as".as_slice() && message.reply_serial.is_some() {
+        cut(&mut into, policy, tracker, &message, 7)?;
+    }
+    Ok(into)
+}
+
+/// Bodies in an order, each with the one that it is cut to.
+const LITTLE: [(&[u8], &[u8]); 7] = [
+    // No name.
+    (b"\0\0\0\0", b"\0\0\0\0"),
+    // A hidden one alone.
+    (b"\x0c\0\0\0\x07\0\0\0org.h.X\0", b"\0\0\0\0"),
+    // Hidden first.
+    (
+        b"\x18\0\0\0\x07\0\0\0org.h.X\0\x07\0\0\0org.a.A\0",
+        b"\x0c\0\0\0\x07\0\0\0org.a.A\0",
+    ),
+    // Hidden between, with padding in front of what moves.
+    (
+        b"\x28\0\0\0\x08\0\0\0org.a.BB\0\0\0\0\x07\0\0\0org.h.X\0\x07\0\0\0org.a.A\0",
+        b"\x1c\0\0\0\x08\0\0\0org.a.BB\0\0\0\0\x07\0\0\0org.a.A\0",
+    ),
+    // Hidden last, behind a text that is empty.
+    (
+        b"\x3d\0\0\0\x07\0\0\0org.a.A\0\x08\0\0\0org.hh.X\0\0\0\0\x08\0\0\0org.a.BB\0\0\0\0\0\0\0\0\0\0\0\0\x04\0\0\0:1.6\0",
+        b"\x19\0\0\0\x07\0\0\0org.a.A\0\x08\0\0\0org.a.BB\0",
+    ),
+    // Texts that are no names, and a unique name that the client met.
+    (
+        b"\x26\0\0\0\0\0\0\0\0\0\0\0\x03\0\0\0a b\0\x04\0\0\0:1.5\0\0\0\0\x05\0\0\0org.a\0",
+        b"\x16\0\0\0\x04\0\0\0:1.5\0\0\0\0\x05\0\0\0org.a\0",
+    ),
+    // The bus's own name.
+    (
+        b"\x44\0\0\0\x14\0\0\0org.freedesktop.DBus\0\0\0\0\x07\0\0\0org.a.A\0\x08\0\0\0org.h.N0\0\0\0\0\x07\0\0\0org.a.B\0",
+        b"\x34\0\0\0\x14\0\0\0org.freedesktop.DBus\0\0\0\0\x07\0\0\0org.a.A\0\x07\0\0\0org.a.B\0",
+    ),
+];
+
+const BIG: [(&[u8], &[u8]); 5] = [
+    (b"\0\0\0\0", b"\0\0\0\0"),
+    (
+        b"\0\0\0\x18\0\0\0\x07org.h.X\0\0\0\0\x07org.a.A\0",
+        b"\0\0\0\x0c\0\0\0\x07org.a.A\0",
+    ),
+    (
+        b"\0\0\0\x28\0\0\0\x08org.a.BB\0\0\0\0\0\0\0\x07org.h.X\0\0\0\0\x07org.a.A\0",
+        b"\0\0\0\x1c\0\0\0\x08org.a.BB\0\0\0\0\0\0\0\x07org.a.A\0",
+    ),
+    (
+        b"\0\0\0\x3d\0\0\0\x07org.a.A\0\0\0\0\x08org.hh.X\0\0\0\0\0\0\0\x08org.a.BB\0\0\0\0\0\0\0\0\0\0\0\0\0\0\0\x04:1.6\0",
+        b"\0\0\0\x19\0\0\0\x07org.a.A\0\0\0\0\x08org.a.BB\0",
+    ),
+    (
+        b"\0\0\0\x26\0\0\0\0\0\0\0\0\0\0\0\x03a b\0\0\0\0\x04:1.5\0\0\0\0\0\0\0\x05org.a\0",
+        b"\0\0\0\x16\0\0\0\x04:1.5\0\0\0\0\0\0\0\x05org.a\0",
+    ),
+];
+
+#[test]
+fn lists_are_cut(rt: HostRuntime) -> Result<(), Fail> {
+    let words = words_of(rt.alloc(), b"--filter\0--see=org.a.*\0")?;
+    let policy = read_options(rt.alloc(), &words)?.policy;
+    let mut tracker = Tracker::new(rt.alloc());
+    tracker.learn_met(&policy, ":1.5")?;
+    for (order, bodies) in [(Order::Little, &LITTLE[..]), (Order::Big, &BIG[..])] {
+        for (at, (given, left)) in bodies.iter().enumerate() {
+            let given = message(rt.alloc(), order, 1, given)?;
+            let found = cut_behind_abc(rt.alloc(), &policy, &tracker, &given)?;
+            let mut expected = Vec::new(rt.alloc());
+            expected.extend_from_slice(b"abc")?;
+            expected.extend_from_slice(&message(rt.alloc(), order, 7, left)?)?;
+            assert_eq!(rt; found.as_slice(), expected.as_slice(), "{order:?} {at}");
+        }
+    }
+    Ok(())
+}
