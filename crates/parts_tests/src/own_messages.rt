@@ -49,26 +49,26 @@ fn name_of(alloc: Global, len: usize) -> Result<String, AllocError> {
     Ok(name)
 }
 
+/// Whether the bytes are a valid message, and are what the text writes.
+fn is_message_of(alloc: Global, bytes: &[u8], text: &str) -> Result<bool, AllocError> {
+    let expected = bytes_of(alloc, text)?;
+    Ok(bytes == expected.as_slice() && is_message(bytes))
+}
+
 #[test]
 fn calls_without_a_text(rt: HostRuntime) -> Result<(), Fail> {
-    let expected = bytes_of(
-        rt.alloc(),
-        "6c010001 00000000 02000000 65000000 \
+    let ping_text = "6c010001 00000000 02000000 65000000 \
          01016f00 01000000 2f00 000000000000 \
          02017300 19000000 6f72672e667265656465736b746f702e444275732e5065657200 000000000000 \
          03017300 04000000 50696e6700 000000 \
-         06017300 14000000 6f72672e667265656465736b746f702e4442757300 000000",
-    )?;
-    assert_eq!(rt; ping(2).as_slice(), expected.as_slice());
-    let expected = bytes_of(
-        rt.alloc(),
-        "6c010001 00000000 04030201 75000000 \
+         06017300 14000000 6f72672e667265656465736b746f702e4442757300 000000";
+    assert!(rt; is_message_of(rt.alloc(), &ping(2), ping_text)?);
+    let list_names_text = "6c010001 00000000 04030201 75000000 \
          01016f00 15000000 [/org/freedesktop/DBus] 00 0000 \
          02017300 14000000 [org.freedesktop.DBus] 00 000000 \
          03017300 09000000 [ListNames] 00 000000000000 \
-         06017300 14000000 [org.freedesktop.DBus] 00 000000",
-    )?;
-    assert_eq!(rt; list_names(0x0102_0304).as_slice(), expected.as_slice());
+         06017300 14000000 [org.freedesktop.DBus] 00 000000";
+    assert!(rt; is_message_of(rt.alloc(), &list_names(0x0102_0304), list_names_text)?);
     assert!(rt; is_message(&ping(1)) && is_message(&list_names(u32::MAX)));
     Ok(())
 }
@@ -115,6 +115,43 @@ fn calls_with_a_text(rt: HostRuntime) -> Result<(), Fail> {
     Ok(())
 }
 
+/// The length, where the bytes are a valid message of it.
+fn message_len(bytes: &[u8], len: usize) -> Option<usize> {
+    if is_message(bytes) && bytes.len() == len {
+        Some(len)
+    } else {
+        None
+    }
+}
+
+/// How long the AddMatch of a pattern is: of a name of so many bytes, and then this end.
+fn match_len(alloc: Global, len: usize, end: &str) -> Result<Option<usize>, Fail> {
+    let mut text = name_of(alloc, len)?;
+    text.push_str(end)?;
+    match_len_of(alloc, &Pattern::read(alloc, text.as_str())?)
+}
+
+fn match_len_of(alloc: Global, pattern: &Pattern) -> Result<Option<usize>, Fail> {
+    let mut calls = BytesMut::new(alloc);
+    add_match(&mut calls, 1, pattern)?;
+    Ok(message_len(calls.as_slice(), add_match_len(pattern)))
+}
+
+/// How long the GetNameOwner of a name of so many bytes is.
+fn owner_len(alloc: Global, len: usize) -> Result<Option<usize>, Fail> {
+    let name = name_of(alloc, len)?;
+    owner_len_of(alloc, name.as_str())
+}
+
+fn owner_len_of(alloc: Global, name: &str) -> Result<Option<usize>, Fail> {
+    if !is_well_known(name.as_bytes()) {
+        return Ok(None);
+    }
+    let mut calls = BytesMut::new(alloc);
+    get_owner(&mut calls, 1, name)?;
+    Ok(message_len(calls.as_slice(), get_owner_len(name)))
+}
+
 #[test]
 fn calls_with_a_text_are_as_long_as_their_name_makes_them(rt: HostRuntime) -> Result<(), Fail> {
     for (len, end, expected) in [
@@ -123,23 +160,14 @@ fn calls_with_a_text_are_as_long_as_their_name_makes_them(rt: HostRuntime) -> Re
         (255, "", 514),
         (255, ".*", 523),
     ] {
-        let mut text = name_of(rt.alloc(), len)?;
-        text.push_str(end)?;
-        let pattern = Pattern::read(rt.alloc(), text.as_str())?;
-        let mut calls = BytesMut::new(rt.alloc());
-        add_match(&mut calls, 1, &pattern)?;
-        assert_eq!(rt; add_match_len(&pattern), expected, "{len}{end}");
-        assert_eq!(rt; calls.as_slice().len(), expected, "{len}{end}");
-        assert!(rt; is_message(calls.as_slice()), "{len}{end}");
+        assert_eq!(rt;
+            match_len(rt.alloc(), len, end)?,
+            Some(expected),
+            "{len}{end}"
+        );
     }
     for (len, expected) in [(3, 152), (255, 404)] {
-        let name = name_of(rt.alloc(), len)?;
-        let mut calls = BytesMut::new(rt.alloc());
-        assert!(rt; is_well_known(name.as_bytes()), "{len}");
-        get_owner(&mut calls, 1, name.as_str())?;
-        assert_eq!(rt; get_owner_len(name.as_str()), expected, "{len}");
-        assert_eq!(rt; calls.as_slice().len(), expected, "{len}");
-        assert!(rt; is_message(calls.as_slice()), "{len}");
+        assert_eq!(rt; owner_len(rt.alloc(), len)?, Some(expected), "{len}");
     }
     Ok(())
 }
@@ -243,13 +271,8 @@ fn answers_in_place(rt: HostRuntime) -> Result<(), Fail> {
         ),
     ] {
         let answer = answer_in_place(order, reply_serial, serial, what);
-        let expected = bytes_of(rt.alloc(), expected)?;
-        assert_eq!(rt;
-            answer.as_slice(),
-            expected.as_slice(),
-            "{order:?} {what:?}"
-        );
-        assert!(rt; is_message(answer.as_slice()), "{order:?} {what:?}");
+        let is_expected = is_message_of(rt.alloc(), answer.as_slice(), expected)?;
+        assert!(rt; is_expected, "{order:?} {what:?}");
     }
     Ok(())
 }

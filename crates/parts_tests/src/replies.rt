@@ -3,7 +3,7 @@ use dbus_header::Instead;
 use dbus_names::Name;
 use dbus_values::Order;
 use reply_ledger::{Kind, Ledger};
-use std::alloc::AllocError;
+use std::alloc::{AllocError, Global};
 use std::test::Fail;
 
 /// A call of a pair to which none is owed.
@@ -23,10 +23,10 @@ fn call_twice(ledger: &mut Ledger, sender: &str, serial: u32) -> Result<(), Allo
     Ok(())
 }
 
-#[test]
-fn kinds_are_given_once(rt: HostRuntime) -> Result<(), Fail> {
-    let mut ledger = Ledger::new(rt.alloc());
-    let name = Name::new(String::from_str(rt.alloc(), "org.a.A")?);
+/// A ledger that expects an answer to a Hello, to a GetNameOwner, to a ping and to a call.
+fn expecting(alloc: Global) -> Result<Ledger, AllocError> {
+    let mut ledger = Ledger::new(alloc);
+    let name = Name::new(String::from_str(alloc, "org.a.A")?);
     ledger.expect(1, Kind::Hello(10))?;
     ledger.expect(2, Kind::OwnOwner(name))?;
     ledger.expect(
@@ -38,28 +38,38 @@ fn kinds_are_given_once(rt: HostRuntime) -> Result<(), Fail> {
         },
     )?;
     ledger.expect(4_294_967_295, Kind::Call(11))?;
-    assert!(rt; ledger.peek(3).is_none());
-    assert!(rt; ledger.take(3).is_none());
+    Ok(ledger)
+}
+
+/// Whether a name's owner is expected, of this name.
+fn is_owner_of(kind: &Option<Kind>, name: &str) -> bool {
+    match kind {
+        Some(Kind::OwnOwner(expected)) => expected.as_str() == name,
+        _ => false,
+    }
+}
+
+/// Whether the ping is expected.
+fn is_ping(kind: Option<&Kind>) -> bool {
+    matches!(
+        kind,
+        Some(Kind::Ping {
+            serial: 12,
+            order: Order::Big,
+            what: Instead::False,
+        },)
+    )
+}
+
+#[test]
+fn kinds_are_given_once(rt: HostRuntime) -> Result<(), Fail> {
+    let mut ledger = expecting(rt.alloc())?;
+    assert!(rt; ledger.peek(3).is_none() && ledger.take(3).is_none());
     assert!(rt; matches!(ledger.peek(4_294_967_295), Some(Kind::Call(11))));
     assert!(rt; matches!(ledger.take(4_294_967_295), Some(Kind::Call(11))));
-    assert!(rt; ledger.peek(4_294_967_295).is_none());
-    assert!(rt; ledger.take(4_294_967_295).is_none());
-    match ledger.take(2) {
-        Some(Kind::OwnOwner(name)) => assert_eq!(rt; name.as_str(), "org.a.A"),
-        _ => assert!(rt; false),
-    }
-    match ledger.peek(4) {
-        Some(
-            Kind::Ping {
-                serial,
-                order,
-                what,
-            },
-        ) => {
-            assert_eq!(rt; (*serial, *order, *what), (12, Order::Big, Instead::False));
-        }
-        _ => assert!(rt; false),
-    }
+    assert!(rt; ledger.peek(4_294_967_295).is_none() && ledger.take(4_294_967_295).is_none());
+    assert!(rt; is_owner_of(&ledger.take(2), "org.a.A"));
+    assert!(rt; is_ping(ledger.peek(4)));
     assert!(rt; matches!(ledger.take(1), Some(Kind::Hello(10))));
     assert!(rt; ledger.take(2).is_none());
     Ok(())
@@ -75,13 +85,19 @@ fn another_kind_takes_the_place_of_the_first(rt: HostRuntime) -> Result<(), Fail
     Ok(())
 }
 
-#[test]
-fn replies_are_owed_to_pairs(rt: HostRuntime) -> Result<(), Fail> {
-    let mut ledger = Ledger::new(rt.alloc());
+/// Calls of two senders whose names begin alike.
+fn owing(alloc: Global) -> Result<Ledger, AllocError> {
+    let mut ledger = Ledger::new(alloc);
     call(&mut ledger, ":1.5", 7)?;
     call_twice(&mut ledger, ":1.50", 7)?;
     call(&mut ledger, ":1.50", 9)?;
     call_twice(&mut ledger, ":1.50", 8)?;
+    Ok(ledger)
+}
+
+#[test]
+fn replies_are_owed_to_pairs(rt: HostRuntime) -> Result<(), Fail> {
+    let mut ledger = owing(rt.alloc())?;
     // Each reply in turn, and whether it was owed.
     for (dest, serial, owed) in [
         (":1.5", 8, false),
@@ -98,12 +114,8 @@ fn replies_are_owed_to_pairs(rt: HostRuntime) -> Result<(), Fail> {
         (":1.50", 8, true),
         (":1.50", 8, false),
     ] {
-        assert_eq!(rt; ledger.owed(dest, serial), owed, "owed to {dest} {serial}");
-        assert_eq!(rt;
-            ledger.answer(dest, serial),
-            owed,
-            "answer to {dest} {serial}"
-        );
+        let told = (ledger.owed(dest, serial), ledger.answer(dest, serial));
+        assert_eq!(rt; told, (owed, owed), "{dest} {serial}");
     }
     call(&mut ledger, ":1.5", 7)?;
     assert!(rt; ledger.owed(":1.5", 7));
