@@ -18,3 +18,4 @@ pub mod HeaderFields
 pub mod WholeMessage
 pub mod NumberLaws
 pub mod CutLaws
+pub mod MessageBodies

@@ -47,7 +47,7 @@ spelled_is v w o p x y t c dv dw iv iw e =
 abbrev all_complete : List Value → Bool
 all_complete vs = list_all is_complete (map type_of vs)
 
-values_again : (vs : List Value) (o : Order) (p : ℕ) (r : List ℕ) → are_valid o p vs ≡ true → all_complete vs ≡ true → values_at o (map type_of vs) (at p (spelled_list o p vs ++ r)) ≡ (vs, at (p + length (spelled_list o p vs)) r)
+pub values_again : (vs : List Value) (o : Order) (p : ℕ) (r : List ℕ) → are_valid o p vs ≡ true → all_complete vs ≡ true → values_at o (map type_of vs) (at p (spelled_list o p vs ++ r)) ≡ (vs, at (p + length (spelled_list o p vs)) r)
 values_again [] o p r i c = ap (λ (n : ℕ). ([], at n r)) (omega arith)
 values_again (v ∷ vs) o p r i c =
     let first = spelled o p v in
@@ -154,7 +154,7 @@ stated_complete (f ∷ fields) o p i =
       | inr e ↦ ap (λ (d : Bool). list_all is_complete (types_in (cond d (some f.value) (field_in 8 fields)))) e ∙ stated_complete fields o (p + length first) t.1
     ]
 
-map_len : {A B : Type 0} (f : A → B) (xs : List A) → length (map f xs) ≡ length xs
+pub map_len : {A B : Type 0} (f : A → B) (xs : List A) → length (map f xs) ≡ length xs
 map_len f [] = refl
 map_len f (x ∷ xs) = ap suc (map_len f xs)
 

@@ -1,6 +1,7 @@
 //! D-Bus messages: their parts, their spelling, which are valid, and the laws between spelling and reading.
 #![tactic(auto)]
 
+mod bodies;
 mod decoding;
 mod fields;
 mod head;

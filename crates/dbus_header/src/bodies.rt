@@ -1,0 +1,68 @@
+//! The texts of a message's body.
+ghost use Rattle.std.specs.Prelude.{◌≡◌, Some, bytes_eq};
+ghost use Rattle.dbus_header.specs.Contents.{message_of};
+ghost use Rattle.dbus_header.specs.Message.{Message as MessageTree, Valid, first_text, only_text, three_texts, text_list};
+ghost use Rattle.dbus_header.specs.Seen.{text_seen, texts_seen};
+
+use crate::message::Message;
+use dbus_values::Texts;
+
+// A message that is read is valid.
+fn is_valid(bytes: &[u8])
+    ensures { (m : MessageTree) → message_of bytes.now ≡ Some m → Valid m }
+{
+    let _bytes = bytes;
+}
+
+// Whether its signature is this one.
+fn is_signed(message: &Message<'_>, signature: &[u8]) -> bool
+    ensures { result ≡ bytes_eq message.now.signature.bytes.now signature.now }
+{
+    message.signature.as_bytes() == signature
+}
+
+impl<'a> Message<'a> {
+    /// The first value of the body, where that is a string: none exactly where SIGNATURE doesn't begin with `s`.
+    pub fn first_text(&self) -> Option<&'a str>
+        ensures { (m : MessageTree) → message_of self.now.bytes.now ≡ Some m → text_seen result ≡ first_text m }
+    {
+        is_valid(self.bytes);
+        dbus_values::first_text(self.order, self.signature, self.body)
+    }
+
+    /// The string that is the whole body: none exactly where SIGNATURE isn't `s`.
+    pub fn only_text(&self) -> Option<&'a str>
+        ensures { (m : MessageTree) → message_of self.now.bytes.now ≡ Some m → text_seen result ≡ only_text m }
+    {
+        if is_signed(self, b"s") {
+            self.first_text()
+        } else {
+            None
+        }
+    }
+
+    /// The three strings that are the whole body: none exactly where SIGNATURE isn't `sss`.
+    pub fn three_texts(&self) -> Option<(&'a str, &'a str, &'a str)>
+        ensures { (m : MessageTree) → message_of self.now.bytes.now ≡ Some m → texts_seen result ≡ three_texts m }
+    {
+        is_valid(self.bytes);
+        if is_signed(self, b"sss") {
+            let [first, second, third] = dbus_values::texts3(self.order, self.body);
+            Some((first, second, third))
+        } else {
+            None
+        }
+    }
+
+    /// The strings of the list that is the whole body: none exactly where SIGNATURE isn't `as`.
+    pub fn text_list(&self) -> Option<Texts<'a>>
+        ensures { (m : MessageTree) → message_of self.now.bytes.now ≡ Some m → result ≡ text_list m }
+    {
+        is_valid(self.bytes);
+        if is_signed(self, b"as") {
+            Some(dbus_values::text_list(self.order, self.body))
+        } else {
+            None
+        }
+    }
+}
