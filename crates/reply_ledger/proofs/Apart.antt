@@ -36,7 +36,7 @@ out_swapped m n s c apart = ext _ _ (λ q.
     let four = at_put m s c q in
     grind (arith, nat_tests, one, two, three, four))
 
-put_out : (m : Serials) (s c : ℕ) → get m s ≡ None → remove (insert m s c) s ≡ m
+pub put_out : (m : Serials) (s c : ℕ) → get m s ≡ None → remove (insert m s c) s ≡ m
 put_out m s c none = ext _ _ (λ q.
     at_out (insert m s c) s q ∙ ap (λ o. if s == q then None else o) (at_put m s c q)
     ∙ by_serial (λ b. (if b then None else (if b then Some c else get m q)) ≡ get m q) s q (λ same. sym none ∙ ap (get m) same) refl)
@@ -46,7 +46,7 @@ out_put m s c some = ext _ _ (λ q.
     at_put (remove m s) s c q ∙ ap (λ o. if s == q then Some c else o) (at_out m s q)
     ∙ by_serial (λ b. (if b then Some c else (if b then None else get m q)) ≡ get m q) s q (λ same. sym some ∙ ap (get m) same) refl)
 
-at_self : (m : Serials) (s c : ℕ) → get (insert m s c) s ≡ Some c
+pub at_self : (m : Serials) (s c : ℕ) → get (insert m s c) s ≡ Some c
 at_self m s c = at_put m s c s ∙ ap (λ b. if b then Some c else get m s) ((Decides-eqb s s).1 refl)
 
 at_other : (m : Serials) (n s c : ℕ) → n ≢ s → get (insert m s c) n ≡ get m n

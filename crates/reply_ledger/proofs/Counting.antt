@@ -68,7 +68,7 @@ calls_out owed s t =
     get-remove nat_list_cmp_total owed s t
     ∙ ap (λ b. cond b None (get owed t)) ((eq_by_cmp_equiv nat_list_cmp_total).symm t s ∙ is_eq-slice_cmp s t)
 
-by_sender : (P : Bool → Type 0) (s t : Text) → (s ≡ t → P true) → P false → P (bytes_eq s t)
+pub by_sender : (P : Bool → Type 0) (s t : Text) → (s ≡ t → P true) → P false → P (bytes_eq s t)
 by_sender P s t same other = by (bytes_eq s t) (bytes_eq-Decides s t).0
   where
     by : (b : Bool) → (b ≡ true → s ≡ t) → P b

@@ -1,9 +1,9 @@
 -- How many replies are owed: to a sender's calls with a serial.
-use Rattle.std.specs.Prelude.{◌≡◌, ◌+◌, ◌-◌, ◌==◌, ◌&&◌, ℕ, zero, suc, Bool, Option, Some, None, bytes_eq}
+use Rattle.std.specs.Prelude.{◌≡◌, ◌+◌, ◌-◌, ◌==◌, ◌&&◌, ℕ, zero, suc, Bool, Option, Some, None, bytes_eq, if◌then◌else◌}
 use Rattle.std.specs.Option.{unwrap_or}
 use Rattle.std.specs.Ordering.{nat_cmp}
 use Rattle.std.specs.Cmp.Lexicographic.{slice_cmp}
-use Rattle.std.specs.FinMap.{FinMap, empty, get, insert, remove}
+use Rattle.std.specs.FinMap.{FinMap, empty, get, insert, len, remove}
 use Rattle.dbus_names.specs.Texts.{Text}
 
 -- the serials of a sender's calls, each with how many replies are owed to it
@@ -54,3 +54,15 @@ left_in calls n (Some count) = with_count calls n (count - 1)
 
 abbrev pub one_less_in : Serials → ℕ → Serials
 one_less_in calls n = left_in calls n (get calls n)
+
+-- one reply more is owed to a sender's call
+abbrev pub one_more : Replies → Text → ℕ → Replies
+one_more owed s n = insert owed s (one_more_in (calls_of owed s) n)
+
+-- a sender with these calls, or without the sender where there are none
+abbrev pub with_calls : Replies → Text → Serials → Replies
+with_calls owed s calls = if len calls == 0 then remove owed s else insert owed s calls
+
+-- one reply less is owed to it, where one was
+abbrev pub one_less : Replies → Text → ℕ → Replies
+one_less owed s n = if count_of owed s n == 0 then owed else with_calls owed s (one_less_in (calls_of owed s) n)

@@ -4,7 +4,7 @@ ghost use Rattle.std.specs.FinMap as map;
 ghost use Rattle.reply_ledger.specs.Answered.{IsAnswered};
 ghost use Rattle.reply_ledger.specs.Owed.{IsKept, count_in, one_more_in};
 
-use crate::counts::Counts;
+use crate::counts::{Counts, one_more};
 use std::alloc::{AllocError, Global};
 use std::marker::Model;
 
@@ -70,12 +70,11 @@ impl Calls {
 
     /// One more call.
     pub(crate) fn add(&mut self, serial: u32) -> Result<(), AllocError>
-        requires { count_in self.old serial < 2 ^ 64 - 1 }
         ensures ok { OnOk result (self.new ≡ one_more_in self.old serial) }
         ensures err { OnErr result (self.new ≡ self.old) }
     {
         if serial == self.serial {
-            self.count += 1;
+            self.count = one_more(self.count)?;
             return Ok(());
         }
         self.others.add(serial)?;

@@ -1,11 +1,18 @@
 //! Serials, and how often each is outstanding.
-ghost use Rattle.std.specs.Prelude.{◌≡◌, ◌+◌, ◌-◌, ◌^◌, ◌<◌, IfSome, IfNone, OnOk, OnErr, Some, None, is_some};
+ghost use Rattle.std.specs.Prelude.{◌≡◌, ◌+◌, ◌-◌, ◌^◌, ◌<◌, IfOk, IfSome, IfNone, OnOk, OnErr, Some, None, is_some};
 ghost use Rattle.std.specs.FinMap as map;
 ghost use Rattle.reply_ledger.specs.Owed.{count_in, one_less_in, one_more_in};
 
 use std::alloc::{AllocError, Global};
 use std::collections::BTreeMap;
 use std::marker::Model;
+
+/// The next count. There is no room for one above 2^64 - 1.
+pub(crate) fn one_more(count: u64) -> Result<u64, AllocError>
+    ensures { IfOk result (λ more. more ≡ count + 1) }
+{
+    count.checked_add(1).ok_or(AllocError)
+}
 
 /// How often each serial is outstanding.
 #[derive(Drop)]
@@ -42,12 +49,11 @@ impl Counts {
 
     /// Counts a serial once more.
     pub(crate) fn add(&mut self, serial: u32) -> Result<(), AllocError>
-        requires { count_in self.old serial < 2 ^ 64 - 1 }
         ensures ok { OnOk result (self.new ≡ one_more_in self.old serial) }
         ensures err { OnErr result (self.new ≡ self.old) }
     {
-        let count = self.count(serial);
-        self.counts.insert(serial, count + 1)?;
+        let count = one_more(self.count(serial))?;
+        self.counts.insert(serial, count)?;
         Ok(())
     }
 

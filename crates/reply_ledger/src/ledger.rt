@@ -3,7 +3,7 @@ ghost use Rattle.std.specs.Prelude.{◌≡◌, ◌+◌, ◌-◌, ◌^◌, ◌<�
 ghost use Rattle.std.specs.FinMap as map;
 ghost use Rattle.std.specs.Option.{option_copied};
 ghost use Rattle.dbus_names.specs.Texts.{Text};
-ghost use Rattle.reply_ledger.specs.Owed.{KeepsOwedAlone, count_of, is_pair};
+ghost use Rattle.reply_ledger.specs.Owed.{KeepsOwedAlone, count_of, is_pair, one_less, one_more};
 
 use crate::kind::Kind;
 use crate::owed::Owed;
@@ -70,9 +70,10 @@ impl Ledger {
         self.expected.remove(&position)
     }
 
-    /// A call came from this sender with this serial, and wants a reply.
+    /// A call came from this sender with this serial, and wants a reply. Where memory is refused, or there is no room for a
+    /// count above 2^64 - 1, nothing changes.
     pub fn called(&mut self, sender: &str, serial: u32) -> Result<(), AllocError>
-        requires { count_of self.old.owed sender.now serial < 2 ^ 64 - 1 }
+        ensures ok { OnOk result (self.new ≡ record self.old { owed = one_more self.old.owed sender.now serial }) }
 
         // One reply more is owed to that pair, and to every other as many as before.
         ensures counted { OnOk result ((s : Text) (n : ℕ) → count_of self.new.owed s n ≡ (if is_pair sender.now serial s n then count_of self.old.owed s n + 1 else count_of self.old.owed s n)) }
@@ -96,6 +97,7 @@ impl Ledger {
     /// The client replied: where that was owed, one reply less is, and else nothing changes.
     pub fn answer(&mut self, dest: &str, serial: u32) -> bool
         ensures was { result ≡ nat_lt 0 (count_of self.old.owed dest.now serial) }
+        ensures left { self.new ≡ record self.old { owed = one_less self.old.owed dest.now serial } }
 
         // One reply less is owed to that pair, and to every other as many as before.
         ensures counted { (s : Text) (n : ℕ) → count_of self.new.owed s n ≡ (if is_pair dest.now serial s n then count_of self.old.owed s n - 1 else count_of self.old.owed s n) }

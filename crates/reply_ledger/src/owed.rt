@@ -2,7 +2,7 @@
 ghost use Rattle.std.specs.Prelude.{◌≡◌, ◌+◌, ◌-◌, ◌^◌, ◌<◌, ℕ, false, OnOk, OnErr, nat_lt, if◌then◌else◌};
 ghost use Rattle.std.specs.FinMap as map;
 ghost use Rattle.dbus_names.specs.Texts.{Text};
-ghost use Rattle.reply_ledger.specs.Owed.{KeepsOwedAlone, count_of, is_pair};
+ghost use Rattle.reply_ledger.specs.Owed.{KeepsOwedAlone, count_of, is_pair, one_less, one_more};
 
 use crate::calls::{Answered, Calls};
 use std::alloc::{AllocError, Global};
@@ -53,8 +53,8 @@ impl Owed {
 
     /// One more reply is owed.
     pub(crate) fn add(&mut self, sender: &str, serial: u32) -> Result<(), AllocError>
-        requires { count_of self.old sender.now serial < 2 ^ 64 - 1 }
         ensures counted { OnOk result ((s : Text) (n : ℕ) → count_of self.new s n ≡ (if is_pair sender.now serial s n then count_of self.old s n + 1 else count_of self.old s n)) }
+        ensures ok { OnOk result (self.new ≡ one_more self.old sender.now serial) }
         ensures kept { KeepsOwedAlone self.new }
         ensures err { OnErr result (self.new ≡ self.old) }
     {
@@ -71,6 +71,7 @@ impl Owed {
     pub(crate) fn answer(&mut self, sender: &str, serial: u32) -> bool
         ensures was { result ≡ nat_lt 0 (count_of self.old sender.now serial) }
         ensures counted { (s : Text) (n : ℕ) → count_of self.new s n ≡ (if is_pair sender.now serial s n then count_of self.old s n - 1 else count_of self.old s n) }
+        ensures left { self.new ≡ one_less self.old sender.now serial }
         ensures kept { KeepsOwedAlone self.new }
         ensures unchanged { result ≡ false → self.new ≡ self.old }
     {

@@ -1,24 +1,16 @@
-use Rattle.std.proofs.Common.{◌≡◌, Some, Result, Ok, Err, OnErr, ap, ap₂, sym, subst, ◌∙◌, arith, rules, string_bytes, nat_cmp, unwrap_or}
+use Rattle.std.proofs.Common.{◌≡◌, Some, Result, Ok, Err, OnErr, ap, ap₂, sym, subst, ◌∙◌, rules, string_bytes, nat_cmp, unwrap_or}
 use Rattle.std.specs.BTreeMap.{is_at}
 use Rattle.std.specs.Cmp.Lexicographic.{slice_cmp}
 use Rattle.std.specs.FinMap as map
 use Rattle.std.proofs.lemmas.Map.Steps.{set_value_same}
 use Rattle.std.proofs.lemmas.Map.Text.{btree_map_updates_text}
 use Rattle.byte_lists.specs.TextMaps.{by_bytes}
-use Rattle.reply_ledger.specs.Owed.{KeepsOwedAlone, Replies, calls_of, count_in, count_of, one_more_in}
-use Rattle.reply_ledger.proofs.Counting.{first-all-kept, had-count, more-all-kept, more-counted}
+use Rattle.reply_ledger.specs.Owed.{KeepsOwedAlone, Replies, calls_of, count_of, one_more_in}
+use Rattle.reply_ledger.proofs.Counting.{first-all-kept, more-all-kept, more-counted}
 use Rattle.byte_lists.proofs.TextMaps.{get_text, text_given}
 use Rattle.reply_ledger.proofs.owed.Owed.add.Goals as goal
 
 -- ---- a sender that has calls
-
-pub add-requires : goal.add-requires
-add-requires c =
-    let had : map.get c.args.self.now c.args.sender.now ≡ Some c.in-Some.calls.now =
-    ap (λ (o : Replies). map.get o c.args.sender.now) (sym c.self.view_is) ∙ get_text c.self.inside.senders.entries c.args.sender.now ∙ sym c.in-Some.ensures.value in
-    let count_is : count_of c.args.self.now c.args.sender.now c.args.serial ≡ count_in c.in-Some.calls.now c.args.serial =
-    had-count c.args.self.now c.args.sender.now c.args.serial c.in-Some.calls.now had in
-    omega arith
 
 refused-view : (c : goal.After-from_residual) → map.from_entries (by_bytes (c.get_mut.follows.lender c.add.new.self).entries) ≡ c.args.self.now
 refused-view c =
@@ -62,6 +54,11 @@ returns-in-Some-clause-counted c = λ s n.
     ap (λ (o : Replies). count_of o s n) (added-view c)
     ∙ more-counted c.args.self.now c.args.sender.now c.args.serial c.in-Some.calls.now (ap (λ o. unwrap_or o map.empty) (added-had c)) s n
 
+pub returns-in-Some-clause-ok : goal.returns-in-Some-clause-ok
+returns-in-Some-clause-ok c =
+    added-view c
+    ∙ ap (λ w. map.insert c.args.self.now c.args.sender.now (one_more_in w c.args.serial)) (sym (ap (λ o. unwrap_or o map.empty) (added-had c)))
+
 pub returns-in-Some-clause-kept : goal.returns-in-Some-clause-kept
 returns-in-Some-clause-kept c = invariant_of-self-in-Some c
 
@@ -89,6 +86,9 @@ pub returns-clause-counted : goal.returns-clause-counted
 returns-clause-counted c = λ s n.
     ap (λ (o : Replies). count_of o s n) (first-view c)
     ∙ more-counted c.args.self.now c.args.sender.now c.args.serial map.empty (none-had c) s n
+
+pub returns-clause-ok : goal.returns-clause-ok
+returns-clause-ok c = first-view c ∙ ap (λ w. map.insert c.args.self.now c.args.sender.now (one_more_in w c.args.serial)) (sym (none-had c))
 
 pub returns-clause-kept : goal.returns-clause-kept
 returns-clause-kept c = invariant_of-self-2 c

@@ -8,6 +8,7 @@ use Rattle.std.proofs.lemmas.Map.Text.{btree_map_updates_text}
 use Rattle.byte_lists.specs.TextMaps.{by_bytes}
 use Rattle.reply_ledger.specs.Owed.{KeepsOwedAlone, Replies, count_in, count_of, one_more_in}
 use Rattle.reply_ledger.proofs.Counting.{absent-count, had-count, less-counted, none-count, none-less, only-count, out-kept, pair_out, put-kept}
+use Rattle.reply_ledger.proofs.OneLess.{last-less, same-less, taken-less}
 use Rattle.byte_lists.proofs.TextMaps.{get_text, text_given, text_taken}
 use Rattle.reply_ledger.proofs.owed.Owed.answer.Goals as goal
 
@@ -25,6 +26,11 @@ pub returns-in_default-clause-counted : goal.returns-in_default-clause-counted
 returns-in_default-clause-counted c = λ s n.
     ap (λ (o : Replies). count_of o s n) (ap (λ m. map.from_entries (by_bytes m.entries)) c.get_mut.follows.holds-at-none ∙ c.self.view_is)
     ∙ none-less c.args.self.now c.args.sender.now c.args.serial (absent c) s n
+
+pub returns-in_default-clause-left : goal.returns-in_default-clause-left
+returns-in_default-clause-left c =
+    ap (λ m. map.from_entries (by_bytes m.entries)) c.get_mut.follows.holds-at-none ∙ c.self.view_is
+    ∙ same-less c.args.self.now c.args.sender.now c.args.serial (absent c)
 
 -- ---- none was owed
 
@@ -51,6 +57,9 @@ returns-in-NotOwed-clause-was c = ap (nat_lt 0) (sym (unowed c))
 pub returns-in-NotOwed-clause-counted : goal.returns-in-NotOwed-clause-counted
 returns-in-NotOwed-clause-counted c = λ s n.
     ap (λ (o : Replies). count_of o s n) (unowed-view c) ∙ none-less c.args.self.now c.args.sender.now c.args.serial (unowed c) s n
+
+pub returns-in-NotOwed-clause-left : goal.returns-in-NotOwed-clause-left
+returns-in-NotOwed-clause-left c = unowed-view c ∙ same-less c.args.self.now c.args.sender.now c.args.serial (unowed c)
 
 pub returns-in-NotOwed-clause-kept : goal.returns-in-NotOwed-clause-kept
 returns-in-NotOwed-clause-kept c = invariant_of-self-in-NotOwed c
@@ -84,6 +93,11 @@ returns-in-Taken-clause-counted c = λ s n.
     ap (λ (o : Replies). count_of o s n) (taken-put c ∙ ap (λ w. map.insert c.args.self.now c.args.sender.now w) c.in-Taken.ensures.answered.1)
     ∙ less-counted c.args.self.now c.args.sender.now c.args.serial c.in-Some.calls.now (ap (λ o. unwrap_or o map.empty) (taken-had c)) s n
 
+pub returns-in-Taken-clause-left : goal.returns-in-Taken-clause-left
+returns-in-Taken-clause-left c =
+    taken-put c
+    ∙ taken-less c.args.self.now c.args.sender.now c.args.serial c.in-Some.calls.now c.answer.new.self (taken-had c) c.in-Taken.ensures.answered.0 c.in-Taken.ensures.answered.1 c.in-Taken.ensures.kept
+
 pub returns-in-Taken-clause-kept : goal.returns-in-Taken-clause-kept
 returns-in-Taken-clause-kept c = invariant_of-self-in-Taken c
 
@@ -116,6 +130,9 @@ returns-in-Last-clause-was c = ap (nat_lt 0) (sym (only-count c.args.self.now c.
 pub returns-in-Last-clause-counted : goal.returns-in-Last-clause-counted
 returns-in-Last-clause-counted c = λ s n.
     ap (λ (o : Replies). count_of o s n) (last-view c) ∙ pair_out c.args.self.now c.args.sender.now c.args.serial (last-had c) s n
+
+pub returns-in-Last-clause-left : goal.returns-in-Last-clause-left
+returns-in-Last-clause-left c = last-view c ∙ last-less c.args.self.now c.args.sender.now c.args.serial (last-had c)
 
 pub returns-in-Last-clause-kept : goal.returns-in-Last-clause-kept
 returns-in-Last-clause-kept c = invariant_of-self-in-Last c
