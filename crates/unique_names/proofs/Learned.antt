@@ -1,8 +1,8 @@
 -- What a tracker that was taught facts answers, and what it was taught when it has learned one fact more.
-use Rattle.std.proofs.Common.{◌≡◌, ℕ, ◌+◌, Bool, true, false, cond, ◌||◌, List, [], ◌∷◌, ◌++◌, length, Option, Some, None, if◌then◌else◌, refl, ap, ap₂, sym, ◌∙◌, subst, arith}
-use Rattle.std.specs.Prelude.{◌&&◌, nat_le}
+use Rattle.std.proofs.Common.{◌≡◌, ℕ, Bool, true, false, cond, ◌||◌, List, [], ◌∷◌, ◌++◌, length, Option, Some, None, if◌then◌else◌, refl, ap, ap₂, sym, ◌∙◌, subst, arith}
+use Rattle.std.specs.Prelude.{◌&&◌}
 use Rattle.std.specs.List.{list_any}
-use Rattle.std.specs.Ordering.{nat_cmp, eq_by_cmp}
+use Rattle.std.specs.Ordering.{nat_cmp}
 use Rattle.std.specs.Str.{bytes_eq}
 use Rattle.std.specs.Cmp.{eq_by_cmp_equiv}
 use Rattle.std.specs.Cmp.Lexicographic.{slice_cmp}
@@ -14,7 +14,7 @@ use Rattle.dbus_names.specs.Texts.{Text}
 use Rattle.dbus_names.specs.Names.{is_unique, is_well_known}
 use Rattle.name_patterns.specs.Patterns.{covers}
 use Rattle.policy_args.specs.Policy.{Policy, at_least, greater, level}
-use Rattle.policy_args.specs.Levels.{applies_to, covers_name_of, entries, level_by, level_of, level_of_id, numbers_where}
+use Rattle.policy_args.specs.Levels.{applies_to, covers_name_of, entries, level_by, level_of, level_of_id}
 use Rattle.policy_args.specs.declared.Level.{Level}
 use Rattle.policy_args.specs.declared.Level.TheVariants.{None as Hidden, See, Talk, Own}
 use Rattle.policy_args.specs.declared.entry.Entry.{Entry}
@@ -24,7 +24,7 @@ use Rattle.byte_lists.proofs.Bytes.{bytes_eq-refl, bytes_eq-true}
 use Rattle.unique_names.specs.Known.{Known}
 use Rattle.unique_names.specs.Merged.{merged_from}
 use Rattle.unique_names.specs.Taught.{AreNumbers, Fits, Ids, Taught, has_at_least, kept_level, kept_numbers, known_level, known_numbers, known_of, learned, owned_numbers, owning, raised}
-use Rattle.unique_names.proofs.Levels.{any-last, greater-hidden, hidden-numbers, level-last, not-seen, numbers-last, uncovered}
+use Rattle.unique_names.proofs.Levels.{greater-hidden, hidden-numbers, level-last, not-seen, numbers-last, uncovered}
 use Rattle.unique_names.proofs.Merging.{Agree, always-agree, merged-numbers, merged-within, same-numbers}
 
 -- ---- what is known

@@ -47,6 +47,7 @@ impl Model for Tracker {
 impl Tracker {
     /// Nothing is known.
     pub fn new(alloc: Global) -> Tracker
+        ensures empty { result ≡ map.empty }
         ensures taught { (policy : PolicyValue) → Taught result policy [] }
         ensures fits { (policy : PolicyValue) → Fits result policy }
     {

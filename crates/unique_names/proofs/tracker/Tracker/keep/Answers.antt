@@ -1,4 +1,4 @@
-use Rattle.std.proofs.Common.{ap, ap₂, sym, ◌∙◌, string_bytes}
+use Rattle.std.proofs.Common.{ap₂, ◌∙◌, string_bytes}
 use Rattle.std.specs.FinMap as map
 use Rattle.std.proofs.lemmas.Map.Text.{btree_map_updates_text}
 use Rattle.byte_lists.proofs.TextMaps.{text_given}
