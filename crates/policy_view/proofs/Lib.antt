@@ -1,5 +1,5 @@
 pub mod Growth
 pub mod PastLaws
-pub mod BuiltLaws
 pub mod Streams
 pub mod CutLaws
+pub mod RepliesLaws

@@ -8,12 +8,12 @@ use Rattle.dbus_header.specs.Message.{reply_serial}
 use Rattle.policy_args.specs.Policy.{Policy}
 use Rattle.policy_view.specs.Sent.{Past, nothing_before}
 use Rattle.dbus_header.specs.Kinds.{Kind, Call, Return, Error, Signal, Other, kind_of}
-use Rattle.policy_view.specs.Past.{Item, Line, Msg, Ended, History, past, after, due, with_client, used_by, used_at, place_used}
-use Rattle.policy_view.specs.History.{Event, history, end_of, arrived, is_built, placed, followed_by, followed_unless, followed_by_all, most_sent}
+use Rattle.policy_view.specs.Past.{Item, Line, Msg, Ended, History, past, after, due, used_by, used_at, place_used}
+use Rattle.policy_view.specs.History.{Event, history, end_of, arrived, placed, followed_by, followed_unless, followed_by_all, most_sent}
 use Rattle.policy_view.specs.declared.Side.TheVariants.{Client, Bus}
 use Rattle.policy_view.specs.declared.End.{End}
 use Rattle.policy_view.specs.declared.Mode.{Mode}
-use Rattle.policy_view.specs.declared.End.TheVariants.{SerialsSpent, NotBuilt}
+use Rattle.policy_view.specs.declared.End.TheVariants.{SerialsSpent}
 
 -- each place of the list was sent
 abbrev AllSent : List ℕ → ℕ → Type 0
@@ -42,8 +42,12 @@ used_at_sent count Error r n e = place_sent count r n e
 used_at_sent count Signal r n e = cc
 used_at_sent count Other r n e = cc
 
+-- also with those that a bus message uses up, which were sent before it
+pub used_before : (count : ℕ) (used : List ℕ) (k : Kind) (r : Option ℕ) → ((q : ℕ) → list_any (nat_eq q) used ≡ true → q ≤ count) → (q : ℕ) → list_any (nat_eq q) (used ++ used_at count k r) ≡ true → q ≤ count
+used_before count used k r sent = sent_more used (used_at count k r) count count (omega arith) sent (used_at_sent count k r)
+
 pub used_sent : (policy : Policy) (items : History) → AllSent (past policy items).used (length (past policy items).told.sent)
-unfolding past after nothing_before with_client used_by
+unfolding past after nothing_before used_by
 used_sent policy [] r e = cc
 used_sent policy (Msg Client m ∷ before) r e =
     let h : r ≤ length (past policy before).told.sent = used_sent policy before r e in
@@ -58,8 +62,8 @@ used_sent policy (Line side bytes ∷ before) r e = used_sent policy before r e
 used_sent policy (Ended end ∷ before) r e = used_sent policy before r e
 
 -- what an item causes is sent
-sent_after : (policy : Policy) (past : Past) (item : Item) → (after policy item past).told.sent ≡ past.told.sent ++ due policy past item
-unfolding after due with_client
+pub sent_after : (policy : Policy) (past : Past) (item : Item) → (after policy item past).told.sent ≡ past.told.sent ++ due policy past item
+unfolding after due
 sent_after policy past (Msg Client m) = refl
 sent_after policy past (Msg Bus m) = refl
 sent_after policy past (Line side bytes) = sym (append-nil past.told.sent)
@@ -71,19 +75,12 @@ Fits policy items = length (past policy items).told.sent ≤ most_sent
 
 fits_placed : (policy : Policy) (before : History) (item : Item) → Fits policy before → Fits policy (placed policy (past policy before) item ∷ before)
 unfolding placed past after
-fits_placed policy before item f = built (is_built item)
+fits_placed policy before item f = fits_by (nat_le (length (past policy before).told.sent + length (due policy (past policy before) item)) most_sent) refl
   where
-    ended : (end : End) → length (after policy (Ended end) (past policy before)).told.sent ≤ most_sent
-    ended end = f
-
     fits_by : (b : Bool) → nat_le (length (past policy before).told.sent + length (due policy (past policy before) item)) most_sent ≡ b →
         length (after policy (if b then item else Ended SerialsSpent) (past policy before)).told.sent ≤ most_sent
     fits_by true h = rw (sent_after policy (past policy before) item, length-append) (grind (arith, nat_tests, h))
-    fits_by false h = ended SerialsSpent
-
-    built : (b : Bool) → length (after policy (if b then (if nat_le (length (past policy before).told.sent + length (due policy (past policy before) item)) most_sent then item else Ended SerialsSpent) else Ended NotBuilt) (past policy before)).told.sent ≤ most_sent
-    built true = fits_by (nat_le (length (past policy before).told.sent + length (due policy (past policy before) item)) most_sent) refl
-    built false = ended NotBuilt
+    fits_by false h = f
 
 fits_unless : (last : Option End) (policy : Policy) (before : History) (item : Item) → Fits policy before → Fits policy (followed_unless last policy before item)
 fits_unless (Some end) policy before item f = f

@@ -1,13 +1,12 @@
 -- The events of a session and the history that they make.
-use Rattle.std.specs.Prelude.{ℕ, ◌+◌, ◌-◌, nat_lt, nat_le, Bool, true, false, not, ◌&&◌, ◌||◌, ◌==◌, List, [], ◌∷◌, ◌++◌, length, map, take, drop, if◌then◌else◌, Option, Some, None}
+use Rattle.std.specs.Prelude.{ℕ, ◌+◌, ◌-◌, nat_lt, nat_le, Bool, ◌||◌, List, [], ◌∷◌, ◌++◌, length, map, take, drop, if◌then◌else◌, Option, Some, None}
 use Rattle.dbus_header.specs.declared.Malformed.{Malformed}
-use Rattle.dbus_header.specs.Message.{Message, destination}
+use Rattle.dbus_header.specs.Message.{Message}
 use Rattle.sasl_watch.specs.Lines.{client_lines, has_begun, after_begin, asked, client_fault, bus_lines, after_lines, bus_fault}
 use Rattle.sasl_watch.specs.declared.LineFault.{LineFault}
 use Rattle.dbus_header.specs.Stream.{messages, bad}
 use Rattle.policy_args.specs.Policy.{Policy}
-use Rattle.dbus_names.specs.Names.{is_bus, is_empty, is_well_known}
-use Rattle.dbus_names.specs.Texts.{Text}
+use Rattle.dbus_names.specs.Names.{is_empty}
 use Rattle.policy_view.specs.Sent.{Past}
 use Rattle.policy_view.specs.Past.{Item, Line, Msg, Ended, History, past, due}
 use Rattle.policy_view.specs.declared.Mode.{Mode}
@@ -124,22 +123,6 @@ taken_of side events piece = take (longest_stream - length (stream side events))
 
 -- ---- what is built so far
 
--- a well-known name other than the bus's own
-abbrev pub is_service : Option Text → Bool
-is_service None = false
-is_service (Some name) = is_well_known name && not (is_bus name)
-
--- The forms of messages that are built so far: of the client calls of services, of the bus returns and errors, and of
--- either side those of types above 4.
-abbrev pub is_built_for : Side → Message → Bool
-is_built_for Client m = m.kind == 1 && is_service (destination m) || nat_lt 4 m.kind
-is_built_for Bus m = m.kind == 2 || m.kind == 3 || nat_lt 4 m.kind
-
-abbrev pub is_built : Item → Bool
-is_built (Line side bytes) = true
-is_built (Msg side m) = is_built_for side m
-is_built (Ended end) = true
-
 -- Pieces are built in a session that filters messages.
 abbrev pub is_built_piece : Mode → List ℕ → Bool
 is_built_piece mode piece = is_empty piece || mode.filter
@@ -162,9 +145,7 @@ arrived mode events (Stopped end) = Ended end ∷ []
 -- the item, or the End that stands in its place
 unfoldable pub placed : Policy → Past → Item → Item
 placed policy before item =
-    if is_built item
-    then (if nat_le (length before.told.sent + length (due policy before item)) most_sent then item else Ended SerialsSpent)
-    else Ended NotBuilt
+    if nat_le (length before.told.sent + length (due policy before item)) most_sent then item else Ended SerialsSpent
 
 -- the End that a history has
 abbrev pub end_of : History → Option End

@@ -1,6 +1,7 @@
 pub mod Texts
 pub mod Own
 pub mod Sent
+pub mod Knowledge
 pub mod Verdicts
 pub mod Shown
 pub mod Past

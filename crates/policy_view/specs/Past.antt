@@ -8,10 +8,11 @@ use Rattle.name_patterns.specs.Patterns.{covers}
 use Rattle.policy_args.specs.Policy.{Policy}
 use Rattle.policy_args.specs.declared.fact.Fact.TheVariants.{Owned, SelfId, Met}
 use Rattle.policy_args.specs.declared.fact.Fact.{Fact}
-use Rattle.policy_view.specs.Sent.{Past, Told, Exchange, nothing_before, Sent, Passed, Pinged, OwnOwner, own_calls, is_passed_hello, is_hello, asked}
+use Rattle.policy_view.specs.Sent.{Past, Told, Exchange, nothing_before, Sent, Passed, Pinged, OwnOwner, own_calls, is_passed_hello, is_hello, answered, asked}
+use Rattle.policy_view.specs.Knowledge.{knowledge}
 use Rattle.dbus_header.specs.Kinds.{Kind, Call, Return, Error, Signal, Other, kind_of, expects_reply}
 use Rattle.policy_view.specs.Verdicts.{ClientRole, Reply, client_role, verdict, reply_to}
-use Rattle.policy_view.specs.Shown.{BusRole, NoRole, Unexpected, MatchAnswer, OwnerAnswer, NamesAnswer, PingAnswer, NameList, OtherAnswer, CallIn, OwnerChange, SignalIn, BroadcastIn, bus_role}
+use Rattle.policy_view.specs.Shown.{BusRole, NoRole, Unexpected, MatchAnswer, OwnerAnswer, NamesAnswer, PingAnswer, NameList, HelloAnswer, OtherAnswer, CallIn, OwnerChange, SignalIn, BroadcastIn, bus_role}
 use Rattle.policy_view.specs.declared.Side.{Side}
 use Rattle.policy_view.specs.declared.Side.TheVariants.{Client, Bus}
 use Rattle.policy_view.specs.declared.Verdict.{Verdict}
@@ -28,27 +29,28 @@ pub data Item : Type 0 where
 abbrev pub History : Type 0
 History = List Item
 
--- the first Hello that passes is followed by the proxy's own calls
-abbrev pub is_first_hello : Told → Message → Bool
-is_first_hello told m = is_hello m && not (list_any is_passed_hello told.sent)
+-- a Hello has passed
+abbrev pub has_greeted : List Sent → Bool
+has_greeted sent = list_any is_passed_hello sent
 
-abbrev pub due_on : Policy → Told → Message → Verdict → List Sent
-due_on policy told m Pass = Passed m ∷ (if is_first_hello told m then own_calls policy else [])
-due_on policy told m (Ping what reason) = Pinged m what ∷ []
-due_on policy told m (Drop reason) = []
+-- the first Hello that passes is followed by the proxy's own calls
+abbrev pub due_on : Policy → Bool → Message → Verdict → List Sent
+due_on policy greeted m Pass = Passed m ∷ (if is_hello m && not greeted then own_calls policy else [])
+due_on policy greeted m (Ping what reason) = Pinged m what ∷ []
+due_on policy greeted m (Drop reason) = []
 
 -- a reply that passes is no longer owed
 abbrev pub replied_on : Message → ClientRole → Verdict → List Exchange
 replied_on m Reply Pass = reply_to m ∷ []
 replied_on m _ _ = []
 
--- what a client's message adds
-unfoldable pub with_client : Policy → Message → Told → Told
-with_client policy m told = record {
+-- what a client's message adds with its verdict
+abbrev pub with_client : Policy → Message → Verdict → Told → Told
+with_client policy m v told = record {
   facts = told.facts;
-  sent = told.sent ++ due_on policy told m (verdict policy told m);
+  sent = told.sent ++ due_on policy (has_greeted told.sent) m v;
   called = told.called;
-  replied = told.replied ++ replied_on m (client_role m) (verdict policy told m);
+  replied = told.replied ++ replied_on m (client_role m) v;
 }
 
 abbrev pub names_due : Policy → Option (List Text) → List Sent
@@ -89,9 +91,6 @@ owners_of policy (Some texts) =
     then fact_of (Owned texts.0) (if_unique (Some texts.1)) ++ fact_of (Owned texts.0) (if_unique (Some texts.2))
     else []
 
-abbrev pub self_by : Bool → Message → List Fact
-self_by hello m = if hello then fact_of SelfId (if_unique (returned_text m)) else []
-
 abbrev pub met_by : Message → List Fact
 met_by m = fact_of Met (if_unique (sender m))
 
@@ -102,9 +101,10 @@ learned_at policy m Unexpected = []
 learned_at policy m MatchAnswer = []
 learned_at policy m (OwnerAnswer name) = fact_of (Owned name) (if_unique (returned_text m))
 learned_at policy m NamesAnswer = []
-learned_at policy m (PingAnswer request what) = []
-learned_at policy m (NameList request) = []
-learned_at policy m (OtherAnswer request) = self_by (is_hello request) m
+learned_at policy m (PingAnswer serial order what) = []
+learned_at policy m (NameList serial) = []
+learned_at policy m (HelloAnswer serial) = fact_of SelfId (if_unique (returned_text m))
+learned_at policy m (OtherAnswer serial) = []
 learned_at policy m CallIn = met_by m
 learned_at policy m OwnerChange = owners_of policy (three_texts m)
 learned_at policy m SignalIn = met_by m
@@ -144,11 +144,20 @@ used_at count Other r = []
 unfoldable pub used_by : Past → Message → List ℕ
 used_by before m = used_at (length before.told.sent) (kind_of m) (reply_serial m)
 
+-- the verdict on a client's message, by what the items before told
+unfoldable pub judged : Policy → Told → Message → Verdict
+judged policy told m = verdict policy (knowledge policy told) m
+
+-- the role of a bus message, by what it answers
+unfoldable pub role : Past → Message → BusRole
+role before m = bus_role (answered before (reply_serial m)) m
+
 -- the past after an item
 unfoldable pub after : Policy → Item → Past → Past
-after policy (Msg Client m) before = record { told = with_client policy m before.told; used = before.used }
+after policy (Msg Client m) before =
+    record { told = with_client policy m (judged policy before.told m) before.told; used = before.used }
 after policy (Msg Bus m) before =
-    record { told = with_bus policy m (bus_role before m) before.told; used = before.used ++ used_by before m }
+    record { told = with_bus policy m (role before m) before.told; used = before.used ++ used_by before m }
 after policy (Line side bytes) before = before
 after policy (Ended end) before = before
 
@@ -159,7 +168,7 @@ past policy (item ∷ before) = after policy item (past policy before)
 
 -- the messages that an item causes
 unfoldable pub due : Policy → Past → Item → List Sent
-due policy before (Msg Client m) = due_on policy before.told m (verdict policy before.told m)
-due policy before (Msg Bus m) = due_at policy m (bus_role before m)
+due policy before (Msg Client m) = due_on policy (has_greeted before.told.sent) m (judged policy before.told m)
+due policy before (Msg Bus m) = due_at policy m (role before m)
 due policy before (Line side bytes) = []
 due policy before (Ended end) = []

@@ -1,5 +1,5 @@
 -- What was sent to the bus and told by it: the record of a session's past, as lists that never forget.
-use Rattle.std.specs.Prelude.{ℕ, zero, suc, ◌+◌, ◌-◌, nat_eq, ◌==◌, Bool, true, false, ◌&&◌, ◌||◌, not, List, [], ◌∷◌, ◌++◌, flat_map, filter, count_by, if◌then◌else◌, Option, Some, None, slice_get, codes}
+use Rattle.std.specs.Prelude.{ℕ, zero, suc, ◌+◌, ◌-◌, nat_eq, ◌==◌, Bool, true, false, ◌&&◌, ◌||◌, not, List, [], ◌∷◌, ◌++◌, flat_map, filter, count_by, if◌then◌else◌, Option, Some, None, option_map, slice_get, codes}
 use Rattle.std.specs.Str.{bytes_eq}
 use Rattle.std.specs.List.{list_any}
 use Rattle.policy_view.specs.Texts.{has_text, only_if}
@@ -13,6 +13,8 @@ use Rattle.policy_args.specs.declared.entry.Entry.{Entry}
 use Rattle.policy_args.specs.declared.fact.Fact.{Fact}
 use Rattle.policy_view.specs.Own.{ping, add_match, get_owner, list_names}
 use Rattle.dbus_header.specs.declared.Instead.{Instead}
+use Rattle.reply_ledger.specs.declared.kind.Kind.{Kind as Expected}
+use Rattle.reply_ledger.specs.declared.kind.Kind.TheVariants as expects
 
 -- absent, or the bus's own name
 abbrev pub is_bus_or_absent : Option Text → Bool
@@ -54,6 +56,16 @@ expects_answer (Pinged request what) = true
 expects_answer (OwnMatch pattern) = true
 expects_answer (OwnOwner name) = true
 expects_answer OwnNames = true
+
+-- what its answer is for
+abbrev pub expected_of : Sent → Expected
+expected_of (Passed request) =
+    if is_hello request then expects.Hello request.serial
+    else (if asks_names request then expects.Names request.serial else expects.Call request.serial)
+expected_of (Pinged request what) = expects.Ping request.serial request.order what
+expected_of (OwnMatch pattern) = expects.OwnMatch
+expected_of (OwnOwner name) = expects.OwnOwner name
+expected_of OwnNames = expects.OwnNames
 
 -- the spellings, the first with serial n
 abbrev pub spelled_from : ℕ → List Sent → List ℕ
@@ -113,9 +125,9 @@ abbrev pub is_used : List ℕ → Option ℕ → Bool
 is_used used None = false
 is_used used (Some r) = list_any (nat_eq r) used
 
--- the sent call that a bus message with this REPLY_SERIAL answers
-unfoldable pub answered : Past → Option ℕ → Option Sent
-answered before r = if is_used before.used r then None else call_at before.told r
+-- what a bus message with this REPLY_SERIAL answers, by what the answer to that call is for
+unfoldable pub answered : Past → Option ℕ → Option Expected
+answered before r = if is_used before.used r then None else option_map expected_of (call_at before.told r)
 
 -- the own calls that learn who owns the names of a pattern
 abbrev pub calls_for : Pattern → List Sent

@@ -8,11 +8,10 @@ use Rattle.dbus_header.specs.Message.{Message, path, interface, member, destinat
 use Rattle.policy_args.specs.declared.entry.Grant.{Grant}
 use Rattle.policy_args.specs.declared.entry.Grant.TheVariants.{See as to_see, Talk as to_talk, Own as to_own, Call as to_call, Broadcast as to_broadcast}
 use Rattle.policy_args.specs.declared.entry.Entry.{Entry}
-use Rattle.policy_args.specs.Levels.{level_of, entries}
 use Rattle.policy_args.specs.Policy.{Policy, at_least, entry_at}
 use Rattle.dbus_names.specs.Names.{is_bus, is_unique}
-use Rattle.policy_args.specs.declared.fact.Fact.{Fact}
-use Rattle.policy_view.specs.Sent.{Told, owed, Exchange}
+use Rattle.policy_view.specs.Sent.{Exchange}
+use Rattle.policy_view.specs.Knowledge.{Knowledge}
 use Rattle.dbus_header.specs.Kinds.{Kind, Call, Return, Error, Signal, Other, kind_of, expects_reply, forbids_auto_start}
 use Rattle.policy_args.specs.declared.Level.{Level}
 use Rattle.policy_args.specs.declared.Level.TheVariants.{None as Hidden, See, Talk, Own}
@@ -177,14 +176,14 @@ on_text m Startable text level = on_start m level
 on_text m Ownable text level = if at_least Own level then Pass else refused m AccessDenied ArgNotOwn
 
 -- the text that is asked of has to stand
-abbrev pub on_argument : Policy → List Fact → Message → TextDemand → Option Text → Verdict
-on_argument policy facts m demand None = refused m AccessDenied BadArgument
-on_argument policy facts m demand (Some text) = on_text m demand text (level_of policy facts text)
+abbrev pub on_argument : Knowledge → Message → TextDemand → Option Text → Verdict
+on_argument known m demand None = refused m AccessDenied BadArgument
+on_argument known m demand (Some text) = on_text m demand text (known.level text)
 
-abbrev pub on_bus_call : Policy → List Fact → Message → Demand → Verdict
-on_bus_call policy facts m Free = Pass
-on_bus_call policy facts m (OnText demand) = on_argument policy facts m demand (first_text m)
-on_bus_call policy facts m Unlisted = refused m AccessDenied BusMember
+abbrev pub on_bus_call : Knowledge → Message → Demand → Verdict
+on_bus_call known m Free = Pass
+on_bus_call known m (OnText demand) = on_argument known m demand (first_text m)
+on_bus_call known m Unlisted = refused m AccessDenied BusMember
 
 abbrev pub text_or_empty : Option Text → Text
 text_or_empty None = []
@@ -195,17 +194,15 @@ abbrev pub reply_to : Message → Exchange
 reply_to m = record { peer = destination m; number = number_or_0 (reply_serial m) }
 
 -- a row for each role
-abbrev pub verdict_at : Policy → Told → Message → ClientRole → Verdict
-verdict_at policy told m OfUnknownType = Drop UnknownType
-verdict_at policy told m Reply = if nat_lt 0 (owed told (reply_to m)) then Pass else Drop NotOutstanding
-verdict_at policy told m Broadcast = Pass
-verdict_at policy told m (SignalTo name) =
-    on_signal (entries policy told.facts name) (level_of policy told.facts name)
-verdict_at policy told m StandardBusCall = Pass
-verdict_at policy told m OtherBusCall = refused m AccessDenied BusInterface
-verdict_at policy told m BusCall = on_bus_call policy told.facts m (demand_of (text_or_empty (member m)))
-verdict_at policy told m (CallTo name) =
-    on_call policy m name (entries policy told.facts name) (level_of policy told.facts name)
+abbrev pub verdict_at : Policy → Knowledge → Message → ClientRole → Verdict
+verdict_at policy known m OfUnknownType = Drop UnknownType
+verdict_at policy known m Reply = if nat_lt 0 (known.owed (reply_to m)) then Pass else Drop NotOutstanding
+verdict_at policy known m Broadcast = Pass
+verdict_at policy known m (SignalTo name) = on_signal (known.entries name) (known.level name)
+verdict_at policy known m StandardBusCall = Pass
+verdict_at policy known m OtherBusCall = refused m AccessDenied BusInterface
+verdict_at policy known m BusCall = on_bus_call known m (demand_of (text_or_empty (member m)))
+verdict_at policy known m (CallTo name) = on_call policy m name (known.entries name) (known.level name)
 
-unfoldable pub verdict : Policy → Told → Message → Verdict
-verdict policy told m = verdict_at policy told m (client_role m)
+unfoldable pub verdict : Policy → Knowledge → Message → Verdict
+verdict policy known m = verdict_at policy known m (client_role m)

@@ -141,7 +141,7 @@ pub enum End {
     BusConnect,
     /// The log could not be written.
     LogFault,
-    /// An item came whose form isn't built yet.
+    /// Bytes came of a session that doesn't filter messages, which isn't built yet.
     NotBuilt,
 }
 
