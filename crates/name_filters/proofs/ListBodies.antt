@@ -1,21 +1,18 @@
 -- The body of a message of signature `as`: an array of strings.
-use Rattle.std.proofs.Common.{◌≡◌, ℕ, ◌+◌, true, ◌&&◌, ◌%◌, List, [], ◌∷◌, ◌++◌, length, map, Option, Some, codes, replicate, refl, ap, ap₂, sym, subst, ◌∙◌, arith, append-nil}
+use Rattle.std.proofs.Common.{◌≡◌, ℕ, ◌+◌, true, ◌&&◌, ◌%◌, List, [], ◌∷◌, ◌++◌, length, map, Some, codes, replicate, refl, ap, ap₂, sym, subst, ◌∙◌, arith, append-nil}
 use Rattle.std.proofs.lemmas.Bool.{and_parts}
 use Rattle.dbus_names.specs.Texts.{Text}
-use Rattle.dbus_types.specs.Signature.{Complete, basic, string, array, is_complete, spelled_type, spelled_types}
+use Rattle.dbus_types.specs.Signature.{Complete, basic, string, array, spelled_type}
 use Rattle.dbus_types.proofs.SignatureLaws.{spelled_types_is}
 use Rattle.dbus_values.specs.Bodies.{IsBody, list_in, strings}
-use Rattle.dbus_values.specs.Reading.{At, and_then_all, values_at}
 use Rattle.dbus_values.specs.Values.{Value, a_number, a_string, a_path, a_signature, a_variant, an_array, a_struct, an_entry, Values, no_values, value, values_of, type_of, has_type, have_type, is_value, are_values, is_within, elements_place, number_bytes, spelled, padding}
 use Rattle.std.specs.Int.{w32}
 use Rattle.name_filters.specs.Names.{names_bytes}
 use Rattle.byte_lists.proofs.Bytes.{bytes_eq-true}
-use Rattle.dbus_values.proofs.ValueLaws.{at}
 use Rattle.dbus_values.specs.declared.Order.{Order}
 use Rattle.dbus_header.specs.Contents.{body_bytes}
 use Rattle.dbus_header.specs.Message.{Message, Valid, are_valid, body_place, signature, spelled_fields, spelled_list, string_values, text_list}
-use Rattle.dbus_header.proofs.MessageAgain.{value_again}
-use Rattle.dbus_header.proofs.Places.{aligned_8}
+use Rattle.dbus_header.proofs.MessageBodies.{body-is, place_of_body}
 
 abbrev pub names_array : List Text → Value
 names_array names = an_array (basic string) (values_of (string_values names))
@@ -90,34 +87,12 @@ is_list m valid e =
     list_of m m.order (body_place (length (spelled_fields m.order m.fields))) m.body refl valid.body_values (spelled_types_is (map type_of m.body) (array (basic string) ∷ []) e)
 
 -- what is read of it
-
-read_one : (o : Order) (p : ℕ) (v : Value) → is_within 64 v ≡ true → is_value o p v ≡ true → is_complete (type_of v) ≡ true →
-    values_at o (type_of v ∷ []) (at p (spelled_list o p (v ∷ []))) ≡ (v ∷ [], at (p + length (spelled_list o p (v ∷ []))) [])
-read_one o p v deep is complete =
-    ap (λ (q : Option (Value × At)). and_then_all q (at p (spelled o p v ++ [])) (λ w rest. values_at o [] rest)) (value_again v o p [] deep is complete)
-    ∙ ap (λ (bytes : List ℕ). (v ∷ [], at (p + length bytes) [])) (sym (append-nil (spelled o p v)))
-
-one_body : (o : Order) (p : ℕ) (vs : List Value) (t : Complete) → p % 8 ≡ 0 → are_valid o p vs ≡ true → map type_of vs ≡ t ∷ [] → is_complete t ≡ true →
-    IsBody o (spelled_types (t ∷ [])) (spelled_list o p vs) p (t ∷ []) vs
-one_body o p [] t start valid types complete = absurd cc
-one_body o p (v ∷ []) t start valid types complete =
-    let same : type_of v ≡ t = cc in
-    let fits = and_parts (is_within 64 v && is_value o p v) true valid in
-    let good = and_parts (is_within 64 v) (is_value o p v) fits.0 in
-    record {
-      start = start;
-      spelled = refl;
-      read = subst (λ (u : Complete). values_at o (u ∷ []) (at p (spelled_list o p (v ∷ []))) ≡ (v ∷ [], at (p + length (spelled_list o p (v ∷ []))) [])) same
-          (read_one o p v good.0 good.1 (ap is_complete same ∙ complete));
-      all = refl;
-    }
-one_body o p (v ∷ w ∷ vs) t start valid types complete = absurd cc
-
 pub read_body : (m : Message) → Valid m → signature m ≡ codes "as" →
-    IsBody m.order (codes "as") (body_bytes m) (body_place (length (spelled_fields m.order m.fields))) (array (basic string) ∷ []) m.body
+    IsBody m.order (codes "as") (body_bytes m) (place_of_body m) (array (basic string) ∷ []) m.body
 read_body m valid e =
-    one_body m.order (body_place (length (spelled_fields m.order m.fields))) m.body (array (basic string)) (aligned_8 (16 + length (spelled_fields m.order m.fields))) valid.body_values
-    (spelled_types_is (map type_of m.body) (array (basic string) ∷ []) e) refl
+    let types : map type_of m.body ≡ array (basic string) ∷ [] = spelled_types_is (map type_of m.body) (array (basic string) ∷ []) e in
+    subst (λ (ts : List Complete). IsBody m.order (codes "as") (body_bytes m) (place_of_body m) ts m.body) types
+    (subst (λ (s : List ℕ). IsBody m.order s (body_bytes m) (place_of_body m) (map type_of m.body) m.body) e (body-is m valid))
 
 -- ---- how the array is spelled at a multiple of 8
 

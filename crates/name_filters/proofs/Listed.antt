@@ -1,7 +1,8 @@
 -- A message whose body is a list of names, as it is read, and the bytes of the cut one.
-use Rattle.std.proofs.Common.{◌≡◌, ℕ, ◌+◌, ◌-◌, ◌≤◌, ◌^◌, cond, List, [], ◌∷◌, ◌++◌, length, take, codes, Option, Some, None, IsSome, refl, ap, ap₂, sym, subst, ◌∙◌, arith, length-append}
+use Rattle.std.proofs.Common.{◌≡◌, ℕ, ◌+◌, ◌-◌, ◌≤◌, ◌^◌, List, [], ◌∷◌, ◌++◌, length, take, codes, Some, None, IsSome, refl, ap, ap₂, sym, subst, ◌∙◌, arith, length-append}
 use Rattle.std.specs.Int.{w32}
 use Rattle.std.specs.Prelude.{option_map}
+use Rattle.std.proofs.Math.Path.{fun_ext}
 use Rattle.std.proofs.lemmas.List.{take_at}
 use Rattle.dbus_names.specs.Texts.{Text}
 use Rattle.dbus_types.specs.Signature.{array, basic, string}
@@ -13,13 +14,14 @@ use Rattle.dbus_header.specs.Contents.{Contents, body_bytes, contents_of, messag
 use Rattle.dbus_header.specs.Message.{Message, Valid, body_place, reply_place, reply_serial, signature, spell, spelled_list, text_list, with_names, with_number, with_reply_serial}
 use Rattle.dbus_header.specs.Read.{message_seen}
 use Rattle.dbus_header.specs.declared.message.Message.{Message as Seen}
+use Rattle.dbus_header.proofs.MessageBodies.{message-read}
 use Rattle.dbus_header.proofs.NumberLaws.{reply_stands, some_true, there}
 use Rattle.dbus_header.proofs.Places.{aligned_8}
-use Rattle.policy_args.specs.Policy.{Policy, at_least}
-use Rattle.policy_args.specs.declared.Level.TheVariants.{See}
+use Rattle.policy_args.specs.Levels.{level_of}
+use Rattle.policy_args.specs.Policy.{Policy}
 use Rattle.policy_args.specs.declared.fact.Fact.{Fact}
-use Rattle.policy_view.specs.Shown.{cut, cut_names, is_seen, seen_names}
-use Rattle.unique_names.specs.Taught.{Ids, Taught}
+use Rattle.policy_view.specs.Shown.{cut, cut_names}
+use Rattle.unique_names.specs.Taught.{Ids, Taught, kept_level}
 use Rattle.unique_names.proofs.Learned.{exact-level}
 use Rattle.name_filters.specs.Names.{cut_parts, kept_names, names_bytes, with_numbers}
 use Rattle.name_filters.proofs.CutBytes.{behind, cut_parts_are, fields_of, front, front-length, front-replied, front-sized, in_front, number_over, spell-front}
@@ -27,22 +29,10 @@ use Rattle.name_filters.proofs.ListBodies.{IsList, array_spelled, is_list, read_
 
 -- ---- what is read of it
 
--- the message that contents are read of
-pub found_in : (bytes : List ℕ) (q : Contents) → option_map contents_of (message_of bytes) ≡ Some q → (m : Message) × (message_of bytes ≡ Some m) × (contents_of m ≡ q)
-found_in bytes q e = by (message_of bytes) refl e
-  where
-    by : (o : Option Message) → message_of bytes ≡ o → option_map contents_of o ≡ Some q → (m : Message) × (message_of bytes ≡ Some m) × (contents_of m ≡ q)
-    by None is e = absurd cc
-    by (Some m) is e = let same : contents_of m ≡ q = cc in (m, is, same)
-
-pub contents_same : (bytes : List ℕ) (q : Contents) (m : Message) → message_of bytes ≡ Some m → option_map contents_of (message_of bytes) ≡ Some q → contents_of m ≡ q
-contents_same bytes q m is e =
-    let both : ◌≡◌ {A = Option Contents} (Some (contents_of m)) (Some q) = ap (option_map contents_of) (sym is) ∙ e in cc
-
 -- where a reply serial is read, so is its place
 pub place_there : (bytes : List ℕ) (q : Contents) → option_map contents_of (message_of bytes) ≡ Some q → IsSome q.parts.reply_serial → q.reply_place ≡ None → ⊥
 place_there bytes q read some none =
-    let found = found_in bytes q read in
+    let found = message-read bytes q read in
     let x = there q.parts.reply_serial (some_true q.parts.reply_serial some) in
     let place = reply_stands found.0 x.0 (ap (λ (c : Contents). c.parts.reply_serial) found.2 ∙ x.1) in
     let both : Some place.0 ≡ None = sym place.1 ∙ ap (λ (c : Contents). c.reply_place) found.2 ∙ none in
@@ -85,21 +75,19 @@ listed bytes q m contents named valid spelled =
 -- the message that was read
 pub read_as : (s : Seen) → s.signature.bytes.now ≡ codes "as" → ((m : Message) → message_of s.bytes.now ≡ Some m → Valid m × (s.bytes.now ≡ spell m)) → (m : Message) × Listed s.bytes.now (message_seen s) m
 read_as s named spelled =
-    let found = found_in s.bytes.now (message_seen s) s.read in
+    let found = message-read s.bytes.now (message_seen s) s.read in
     let of = spelled found.0 found.1 in
     (found.0, listed s.bytes.now (message_seen s) found.0 found.2 named of.0 of.1)
 
 -- ---- the names that are kept are those that may be seen
 
-pub kept-seen : (policy : Policy) (ids : Ids) (facts : List Fact) → Taught ids policy facts → (names : List Text) → kept_names policy ids names ≡ seen_names policy facts names
-kept-seen policy ids facts taught [] = refl
-kept-seen policy ids facts taught (name ∷ names) =
-    ap (λ b. cond b (name ∷ kept_names policy ids names) (kept_names policy ids names)) (ap (at_least See) (exact-level ids policy facts name taught))
-    ∙ ap (λ ns. cond (is_seen policy facts name) (name ∷ ns) ns) (kept-seen policy ids facts taught names)
-
-cut-is : (policy : Policy) (facts : List Fact) (m : Message) (names : List Text) → text_list m ≡ Some names → cut policy facts m ≡ with_names (seen_names policy facts names) m
+cut-is : (policy : Policy) (ids : Ids) (m : Message) (names : List Text) → text_list m ≡ Some names → cut (kept_level policy ids) m ≡ with_names (kept_names policy ids names) m
 unfolding cut
-cut-is policy facts m names is = ap (λ texts. with_names (cut_names policy facts texts) m) is
+cut-is policy ids m names is = ap (λ texts. with_names (cut_names (kept_level policy ids) texts) m) is
+
+-- by what was taught, the levels are those of the facts
+pub level-is : (policy : Policy) (ids : Ids) (facts : List Fact) → Taught ids policy facts → kept_level policy ids ≡ level_of policy facts
+level-is policy ids facts taught = fun_ext (λ name. exact-level ids policy facts name taught)
 
 -- ---- the numbers of the cut message
 
@@ -126,10 +114,9 @@ numbers-written o r place n old first second nb second_is same long inside n_is 
     ∙ behind o r place old (second ++ listed_names)
     ∙ ap (λ (b : List ℕ). old ++ b) (in_front o r place second listed_names (omega (arith, same, inside)))
 
-pub cut-written : (policy : Policy) (ids : Ids) (facts : List Fact) (bytes : List ℕ) (q : Contents) (m : Message) (r place : ℕ) (old : List ℕ) →
-    Taught ids policy facts → Listed bytes q m → IsSome q.parts.reply_serial → q.reply_place ≡ Some place →
-    with_numbers m.order (length old) (body_at m) place r (old ++ cut_parts policy ids m (take (body_at m) bytes)) ≡ old ++ spell (with_reply_serial r (cut policy facts m))
-cut-written policy ids facts bytes q m r place old taught is some at =
+pub cut-written : (policy : Policy) (ids : Ids) (bytes : List ℕ) (q : Contents) (m : Message) (r place : ℕ) (old : List ℕ) → Listed bytes q m → IsSome q.parts.reply_serial → q.reply_place ≡ Some place →
+    with_numbers m.order (length old) (body_at m) place r (old ++ cut_parts policy ids m (take (body_at m) bytes)) ≡ old ++ spell (with_reply_serial r (cut (kept_level policy ids) m))
+cut-written policy ids bytes q m r place old is some at =
     let x = there q.parts.reply_serial (some_true q.parts.reply_serial some) in
     let has : reply_serial m ≡ Some x.0 = ap (λ (c : Contents). c.parts.reply_serial) is.contents ∙ x.1 in
     let stands : reply_place m ≡ Some place = ap (λ (c : Contents). c.reply_place) is.contents ∙ at in
@@ -148,8 +135,7 @@ cut-written policy ids facts bytes q m r place old taught is some at =
     numbers-written m.order r place (body_at m) old first second nb second_is (front-length m (4 + length nb) ∙ sym long) (omega (arith, long)) inside (sym long)
     ∙ ap (λ (b : List ℕ). old ++ (with_number m.order place r (front m (4 + length b)) ++ (number_bytes m.order w32 (length b) ++ b))) nb_is
     ∙ ap (λ (b : List ℕ). old ++ b) (sym (cut_parts_are r x.0 place kept m is.valid has stands).spelled
-    ∙ ap (λ ns. spell (with_reply_serial r (with_names ns m))) (kept-seen policy ids facts taught names)
-    ∙ ap (λ (k : Message). spell (with_reply_serial r k)) (sym (cut-is policy facts m names is.list.texts)))
+    ∙ ap (λ (k : Message). spell (with_reply_serial r k)) (sym (cut-is policy ids m names is.list.texts)))
 
 -- ---- room for the names
 

@@ -3,9 +3,10 @@ ghost use Rattle.std.specs.Prelude.{◌≡◌, ◌≤◌, ◌<◌, ◌++◌, ◌
 ghost use Rattle.dbus_header.specs.Contents.{message_of};
 ghost use Rattle.dbus_header.specs.Message.{Message as MessageTree, Valid, spell, with_reply_serial};
 ghost use Rattle.name_filters.specs.Names.{cut_parts, with_numbers};
+ghost use Rattle.policy_args.specs.Levels.{level_of};
 ghost use Rattle.policy_args.specs.declared.fact.Fact.{Fact};
 ghost use Rattle.policy_view.specs.Shown.{cut as cut_by};
-ghost use Rattle.unique_names.specs.Taught.{Taught};
+ghost use Rattle.unique_names.specs.Taught.{Taught, kept_level};
 
 use crate::names::{put_names, write_number};
 use bytes::BytesMut;
@@ -34,8 +35,11 @@ pub fn cut(
     requires list { message.now.signature.bytes.now ≡ codes "as" }
     requires reply { IsSome message.now.reply_serial }
 
-    // By all facts that the tracker was taught, the message that the bytes spell is put as it is defined to be seen.
-    ensures ok { OnOk result ((facts : List Fact) (m : MessageTree) → Taught tracker.now policy.now facts → message_of message.now.bytes.now ≡ Some m → into.new.items ≡ into.old.items ++ spell (with_reply_serial reply_serial (cut_by policy.now facts m))) }
+    // The message that the bytes spell is put as it is defined to be seen, by what the tracker keeps.
+    ensures ok { OnOk result ((m : MessageTree) → message_of message.now.bytes.now ≡ Some m → into.new.items ≡ into.old.items ++ spell (with_reply_serial reply_serial (cut_by (kept_level policy.now tracker.now) m))) }
+
+    // That is by all facts that the tracker was taught.
+    ensures exact { OnOk result ((facts : List Fact) (m : MessageTree) → Taught tracker.now policy.now facts → message_of message.now.bytes.now ≡ Some m → into.new.items ≡ into.old.items ++ spell (with_reply_serial reply_serial (cut_by (level_of policy.now facts) m))) }
     ensures len { OnOk result (length into.new.items ≤ length into.old.items + length message.now.bytes.now) }
 
     // Memory is asked for once, and where as many bytes are spare as the message has, it isn't refused.

@@ -7,9 +7,10 @@ use Rattle.dbus_values.specs.declared.Order.{Order}
 use Rattle.dbus_header.specs.Contents.{Contents}
 use Rattle.dbus_header.specs.Message.{Message}
 use Rattle.dbus_header.specs.Read.{message_seen}
+use Rattle.dbus_header.proofs.MessageBodies.{same-contents}
 use Rattle.dbus_header.specs.declared.message.Message.{Message as Seen}
 use Rattle.name_filters.specs.Names.{is_kept, kept_names, names_bytes}
-use Rattle.name_filters.proofs.Listed.{Listed, body_at, contents_same, listed, names-left, read_as}
+use Rattle.name_filters.proofs.Listed.{Listed, body_at, listed, names-left, read_as}
 use Rattle.name_filters.proofs.NameBytes.{fewer-short}
 use Rattle.name_filters.proofs.lists.put_parts.Goals as goal
 
@@ -54,7 +55,7 @@ grouped old front four behind = append_assoc (old ++ front) four behind ∙ appe
 pub returns-clause-parts : goal.returns-clause-parts
 returns-clause-parts c = λ m is.
     let of = c.is_spelled.ensures m is in
-    let m_is = listed c.args.message.now.bytes.now (message_seen c.args.message.now) m (contents_same c.args.message.now.bytes.now (message_seen c.args.message.now) m is c.args.message.now.read) c.requires.list of.0 of.1 in
+    let m_is = listed c.args.message.now.bytes.now (message_seen c.args.message.now) m (same-contents c.args.message.now.bytes.now (message_seen c.args.message.now) m is c.args.message.now.read) c.requires.list of.0 of.1 in
     let read : list_in m.body ≡ Some c.text_list-names.result = c.text_list-names.ensures (body_at m) (array (basic string) ∷ []) m.body m_is.read in
     let front = take c.args.body c.args.message.now.bytes.now in
     let long : length front ≡ c.args.body = length-take-le c.args.body c.args.message.now.bytes.now (omega (arith, c.requires.body)) in
