@@ -1,0 +1,116 @@
+//! The calls right behind the first `Hello`: those for each pattern of the policy, and ListNames where one is `N.*`.
+ghost use Rattle.std.specs.Prelude.{◌≡◌, ◌≤◌, ◌++◌, ◌+◌, ◌*◌, ℕ, OnOk, length};
+ghost use Rattle.std.specs.List.{list_any};
+ghost use Rattle.own_calls.specs.Sending.{expecting};
+ghost use Rattle.policy_args.specs.Policy.{patterns_of};
+ghost use Rattle.policy_view.specs.Sent.{calls_for, is_subtree, own_calls, spelled_from};
+ghost use Rattle.serial_map.specs.Serials.{most_serials};
+
+use crate::sending::{put_calls_for, put_names};
+use bytes::BytesMut;
+use name_patterns::Pattern;
+use ping_rewrite::{add_match_len, get_owner_len};
+use policy_args::Policy;
+use reply_ledger::Ledger;
+use serial_map::Serials;
+use std::alloc::{AllocError, Global};
+
+/// How many bytes a call of ListNames has.
+const LIST_NAMES_LEN: usize = 136;
+
+/// How many calls `after_hello` puts: one or two for each pattern, and one more where a pattern is `N.*`.
+pub fn count(policy: &Policy) -> u32
+    ensures { result ≡ length (own_calls policy.now) }
+{
+    let mut count = 0;
+    for index in 0..pattern_count(policy) {
+        count += calls_for_count(policy.pattern(index + 1));
+    }
+    if has_subtree(policy) {
+        count + 1
+    } else {
+        count
+    }
+}
+
+/// How many bytes the calls have that `after_hello` puts: for each of at most 65,535 patterns an AddMatch of at most 514 and
+/// a GetNameOwner of at most 404, or an AddMatch of at most 523; and 136 for ListNames.
+pub fn after_hello_len(policy: &Policy) -> usize
+    ensures len { (serial : ℕ) → result ≡ length (spelled_from serial (own_calls policy.now)) }
+    ensures short { result ≤ 65535 * 918 + 136 }
+{
+    let mut len = 0;
+    for index in 0..pattern_count(policy) {
+        len += calls_for_len(policy.pattern(index + 1));
+    }
+    if has_subtree(policy) {
+        len + LIST_NAMES_LEN
+    } else {
+        len
+    }
+}
+
+/// Puts the calls that follow the first `Hello` behind the calls: for each pattern of the policy, in order and once, an
+/// AddMatch, and for an exact name a GetNameOwner behind it; where a pattern is `N.*`, a ListNames comes last.
+pub fn after_hello(
+    alloc: Global,
+    calls: &mut BytesMut,
+    policy: &Policy,
+    serials: &mut Serials,
+    ledger: &mut Ledger,
+) -> Result<(), AllocError>
+    requires { serials.old + length (own_calls policy.now) ≤ most_serials }
+    ensures bytes { OnOk result (calls.new.items ≡ calls.old.items ++ spelled_from (serials.old + 1) (own_calls policy.now)) }
+    ensures serials { OnOk result (serials.new ≡ serials.old + length (own_calls policy.now)) }
+    ensures ledger { OnOk result (ledger.new ≡ record ledger.old { expected = expecting ledger.old.expected (serials.old + 1) (own_calls policy.now) }) }
+{
+    for index in 0..pattern_count(policy) {
+        put_calls_for(alloc, calls, serials, ledger, policy.pattern(index + 1))?;
+    }
+    if has_subtree(policy) {
+        put_names(calls, serials, ledger)?;
+    }
+    Ok(())
+}
+
+/// How many patterns the policy has: no more than entries.
+fn pattern_count(policy: &Policy) -> u32
+    ensures count { result ≡ length (patterns_of policy.now.entries) }
+    ensures most { result ≤ 65535 }
+{
+    let _entries = policy.len();
+    policy.pattern_count()
+}
+
+/// Whether a pattern of the policy is `N.*`.
+fn has_subtree(policy: &Policy) -> bool
+    ensures { result ≡ list_any is_subtree policy.now.entries }
+{
+    for index in 0..policy.len() {
+        if !policy.entry(index + 1).pattern.is_exact() {
+            return true;
+        }
+    }
+    false
+}
+
+/// How many calls learn who owns the names of a pattern.
+fn calls_for_count(pattern: &Pattern) -> u32
+    ensures count { result ≡ length (calls_for pattern.now) }
+    ensures few { result ≤ 2 }
+{
+    if pattern.is_exact() { 2 } else { 1 }
+}
+
+/// How many bytes the calls have that learn who owns the names of a pattern.
+fn calls_for_len(pattern: &Pattern) -> usize
+    ensures len { (serial : ℕ) → result ≡ length (spelled_from serial (calls_for pattern.now)) }
+    ensures short { result ≤ 918 }
+{
+    let add_match = add_match_len(pattern);
+    if pattern.is_exact() {
+        add_match + get_owner_len(pattern.name())
+    } else {
+        add_match
+    }
+}
