@@ -1,199 +1,270 @@
-//! Verdicts on messages of a client, under policies of each level and rule.
+//! Verdicts on messages of a client, by what they are.
+use crate::known::{Known, everything, nothing};
+use crate::messages::message;
 use crate::whole::is_whole;
 use dbus_header::decode;
-use policy_args::{LineRefusal, Policy, read_options};
 use policy_view::Verdict;
 use std::alloc::{AllocError, Global};
 use std::test::Fail;
 use test_tables::wrong_row;
-use verdicts::{is_judged, is_service, judge};
+use verdicts::judge;
 
 /// The flags of a call of `org.a.T` and the words of a policy, and the verdict.
 ///
 /// Entries are numbered from 1, those of other names too, and `--filter` gives none. The rule of a Broadcast entry speaks
 /// of no call.
 const CALLS: &str = "\
-plain => Ping(ServiceUnknown, NotVisible)
+call => Ping(ServiceUnknown, NotVisible)
 no_reply => Drop(NotVisible)
 no_start => Ping(NameHasNoOwner, NotVisible)
 both => Drop(NotVisible)
-plain --see=org.a.T => Ping(AccessDenied, OnlySee(1))
+call --see=org.a.T => Ping(AccessDenied, OnlySee(1))
 no_reply --see=org.a.T => Drop(OnlySee(1))
 no_start --see=org.a.T => Ping(AccessDenied, OnlySee(1))
 both --see=org.a.T => Drop(OnlySee(1))
-plain --talk=org.a.T => Pass
+call --talk=org.a.T => Pass
 both --talk=org.a.T => Pass
-plain --own=org.a.T => Pass
+call --own=org.a.T => Pass
 both --own=org.a.T => Pass
-plain --talk=org.a.U => Ping(ServiceUnknown, NotVisible)
-plain --filter --see=org.a.U --see=org.a.T --see=org.a.* => Ping(AccessDenied, OnlySee(2))
+call --talk=org.a.U => Ping(ServiceUnknown, NotVisible)
+call --filter --see=org.a.U --see=org.a.T --see=org.a.* => Ping(AccessDenied, OnlySee(2))
 no_reply --call=org.a.T=org.a.I.B --call=org.a.T=org.a.I.A => Pass
-plain --see=org.a.T --call=org.a.T=org.a.I.B --call=org.a.T=org.a.I.C => Ping(AccessDenied, NoRule(2))
-plain --call=org.a.U=org.a.I.A --see=org.a.T => Ping(AccessDenied, OnlySee(2))
-plain --broadcast=org.a.T=org.a.I.A@/p => Ping(AccessDenied, OnlySee(1))
+call --see=org.a.T --call=org.a.T=org.a.I.B --call=org.a.T=org.a.I.C => Ping(AccessDenied, NoRule(2))
+call --call=org.a.U=org.a.I.A --see=org.a.T => Ping(AccessDenied, OnlySee(2))
+call --broadcast=org.a.T=org.a.I.A@/p => Ping(AccessDenied, OnlySee(1))
 no_reply --broadcast=org.a.T=org.a.I.A@/p --call=org.a.T=org.a.I.B => Drop(NoRule(2))
-plain --see=org.a.* --talk=org.a.T => Pass
-plain --talk=org.a.* --see=org.a.T => Pass
-plain --own=org.a.T.* --see=org.a.T => Pass
-plain --call=org.a.*=org.a.I.A --see=org.a.T => Pass
-plain --see=org.a.* --call=org.a.T=org.a.I.B => Ping(AccessDenied, NoRule(2))
+call --see=org.a.* --talk=org.a.T => Pass
+call --talk=org.a.* --see=org.a.T => Pass
+call --own=org.a.T.* --see=org.a.T => Pass
+call --call=org.a.*=org.a.I.A --see=org.a.T => Pass
+call --see=org.a.* --call=org.a.T=org.a.I.B => Ping(AccessDenied, NoRule(2))
 ";
 
-/// The path, the interface, a `-` for none, and the member of a call of `org.a.C`, which is seen, and of which calls of
-/// `org.a.I.*@/p/*` and `org.a.J.M` pass, and the verdict.
+/// The path, the interface and the member of a call of `org.a.C`, which is seen, and of which calls of `org.a.I.*@/p/*` and
+/// `org.a.J.M` pass, and the verdict.
 const RULES: &str = "\
-/p org.a.I A => Pass
-/p/q org.a.I B => Pass
-/pq org.a.I A => Ping(AccessDenied, NoRule(2))
-/ org.a.I A => Ping(AccessDenied, NoRule(2))
-/p org.a.J A => Ping(AccessDenied, NoRule(2))
-/p - A => Ping(AccessDenied, NoRule(2))
-/pq org.a.J M => Pass
-/pq - M => Ping(AccessDenied, NoRule(2))
+path=/p interface=org.a.I member=A => Pass
+path=/p/q interface=org.a.I member=B => Pass
+path=/pq interface=org.a.I member=A => Ping(AccessDenied, NoRule(2))
+path=/ interface=org.a.I member=A => Ping(AccessDenied, NoRule(2))
+path=/p interface=org.a.J member=A => Ping(AccessDenied, NoRule(2))
+path=/p member=A => Ping(AccessDenied, NoRule(2))
+path=/pq interface=org.a.J member=M => Pass
+path=/pq member=M => Ping(AccessDenied, NoRule(2))
 ";
 
-/// The kinds of messages and their destinations, and the verdict under `--talk=org.a.*`, a `-` where they aren't judged.
-const KINDS: &str = "\
-type_9 org.a.T => Drop(UnknownType)
-type_9 :1.5 => Drop(UnknownType)
-type_9 org.freedesktop.DBus => Drop(UnknownType)
-plain org.a.T => Pass
-plain org.freedesktop.DBus => -
-plain :1.5 => -
-signal org.a.T => -
+/// Members of the bus, and the verdicts on a call of each of which the text is a hidden name, a seen one, one that may be
+/// talked to and one that may be owned.
+const MEMBERS: &str = "\
+Hello => Pass Pass Pass Pass
+GetId => Pass Pass Pass Pass
+ListNames => Pass Pass Pass Pass
+ListActivatableNames => Pass Pass Pass Pass
+AddMatch => Pass Pass Pass Pass
+RemoveMatch => Pass Pass Pass Pass
+GetNameOwner => Ping(NameHasNoOwner, ArgNotVisible) Pass Pass Pass
+GetConnectionUnixUser => Ping(NameHasNoOwner, ArgNotVisible) Pass Pass Pass
+GetConnectionUnixProcessID => Ping(NameHasNoOwner, ArgNotVisible) Pass Pass Pass
+GetConnectionCredentials => Ping(NameHasNoOwner, ArgNotVisible) Pass Pass Pass
+GetAdtAuditSessionData => Ping(NameHasNoOwner, ArgNotVisible) Pass Pass Pass
+GetConnectionSELinuxSecurityContext => Ping(NameHasNoOwner, ArgNotVisible) Pass Pass Pass
+NameHasOwner => Ping(False, ArgNotVisible) Pass Pass Pass
+StartServiceByName => Ping(ServiceUnknown, ArgNotTalk) Ping(AccessDenied, ArgNotTalk) Pass Pass
+RequestName => Ping(AccessDenied, ArgNotOwn) Ping(AccessDenied, ArgNotOwn) Ping(AccessDenied, ArgNotOwn) Pass
+ReleaseName => Ping(AccessDenied, ArgNotOwn) Ping(AccessDenied, ArgNotOwn) Ping(AccessDenied, ArgNotOwn) Pass
+ListQueuedOwners => Ping(AccessDenied, ArgNotOwn) Ping(AccessDenied, ArgNotOwn) Ping(AccessDenied, ArgNotOwn) Pass
+UpdateActivationEnvironment => Ping(AccessDenied, BusMember) Ping(AccessDenied, BusMember) Ping(AccessDenied, BusMember) Ping(AccessDenied, BusMember)
+BecomeMonitor => Ping(AccessDenied, BusMember) Ping(AccessDenied, BusMember) Ping(AccessDenied, BusMember) Ping(AccessDenied, BusMember)
+hello => Ping(AccessDenied, BusMember) Ping(AccessDenied, BusMember) Ping(AccessDenied, BusMember) Ping(AccessDenied, BusMember)
+GetNameOwner2 => Ping(AccessDenied, BusMember) Ping(AccessDenied, BusMember) Ping(AccessDenied, BusMember) Ping(AccessDenied, BusMember)
 ";
 
-/// Destinations, and whether they are services.
-const SERVICES: &str = "\
-org.a.T => true
-org.freedesktop.DBus.Local => true
-org.freedesktop.DBus => false
-:1.5 => false
-org => false
+/// The same where the call has its flag NO_REPLY_EXPECTED set.
+const UNANSWERED: &str = "\
+Hello => Pass Pass Pass Pass
+AddMatch => Pass Pass Pass Pass
+GetNameOwner => Drop(ArgNotVisible) Pass Pass Pass
+NameHasOwner => Drop(ArgNotVisible) Pass Pass Pass
+StartServiceByName => Drop(ArgNotTalk) Drop(ArgNotTalk) Pass Pass
+RequestName => Drop(ArgNotOwn) Drop(ArgNotOwn) Drop(ArgNotOwn) Pass
+ReleaseName => Drop(ArgNotOwn) Drop(ArgNotOwn) Drop(ArgNotOwn) Pass
+BecomeMonitor => Drop(BusMember) Drop(BusMember) Drop(BusMember) Drop(BusMember)
 ";
 
-/// The type and the flags of a kind of message.
-fn type_and_flags(kind: &str) -> [u8; 2] {
-    match kind {
-        "plain" => [1, 0],
-        "no_reply" => [1, 1],
-        "no_start" => [1, 2],
-        "both" => [1, 3],
-        "signal" => [4, 0],
-        "type_9" => [9, 0],
-        _ => [0, 0],
+/// Members of the bus, and the verdicts on a call of each that has no body, one whose body is a number and one whose body
+/// begins with one.
+const WITHOUT_TEXT: &str = "\
+Hello => Pass Pass Pass
+GetId => Pass Pass Pass
+ListNames => Pass Pass Pass
+ListActivatableNames => Pass Pass Pass
+AddMatch => Ping(AccessDenied, BadArgument) Ping(AccessDenied, BadArgument) Ping(AccessDenied, BadArgument)
+RemoveMatch => Ping(AccessDenied, BadArgument) Ping(AccessDenied, BadArgument) Ping(AccessDenied, BadArgument)
+GetNameOwner => Ping(AccessDenied, BadArgument) Ping(AccessDenied, BadArgument) Ping(AccessDenied, BadArgument)
+GetConnectionUnixUser => Ping(AccessDenied, BadArgument) Ping(AccessDenied, BadArgument) Ping(AccessDenied, BadArgument)
+GetConnectionUnixProcessID => Ping(AccessDenied, BadArgument) Ping(AccessDenied, BadArgument) Ping(AccessDenied, BadArgument)
+GetConnectionCredentials => Ping(AccessDenied, BadArgument) Ping(AccessDenied, BadArgument) Ping(AccessDenied, BadArgument)
+GetAdtAuditSessionData => Ping(AccessDenied, BadArgument) Ping(AccessDenied, BadArgument) Ping(AccessDenied, BadArgument)
+GetConnectionSELinuxSecurityContext => Ping(AccessDenied, BadArgument) Ping(AccessDenied, BadArgument) Ping(AccessDenied, BadArgument)
+NameHasOwner => Ping(AccessDenied, BadArgument) Ping(AccessDenied, BadArgument) Ping(AccessDenied, BadArgument)
+StartServiceByName => Ping(AccessDenied, BadArgument) Ping(AccessDenied, BadArgument) Ping(AccessDenied, BadArgument)
+RequestName => Ping(AccessDenied, BadArgument) Ping(AccessDenied, BadArgument) Ping(AccessDenied, BadArgument)
+ReleaseName => Ping(AccessDenied, BadArgument) Ping(AccessDenied, BadArgument) Ping(AccessDenied, BadArgument)
+ListQueuedOwners => Ping(AccessDenied, BadArgument) Ping(AccessDenied, BadArgument) Ping(AccessDenied, BadArgument)
+BecomeMonitor => Ping(AccessDenied, BusMember) Ping(AccessDenied, BusMember) Ping(AccessDenied, BusMember)
+";
+
+/// Other messages, and the verdict.
+const OTHERS: &str = "\
+type_9 to=org.a.Talk => Drop(UnknownType)
+type_9 to=org.freedesktop.DBus => Drop(UnknownType)
+type_9 => Drop(UnknownType)
+return to=:1.2 reply=5 => Pass
+error error=org.a.E to=:1.2 reply=5 => Pass
+return to=:1.2 reply=6 => Drop(NotOutstanding)
+return to=:1.3 reply=5 => Drop(NotOutstanding)
+return reply=5 => Drop(NotOutstanding)
+error error=org.a.E to=org.a.Talk reply=5 => Drop(NotOutstanding)
+signal path=/ interface=org.a.I member=S => Pass
+signal path=/ interface=org.a.I member=S to=org.a.Talk => Pass
+signal path=/ interface=org.a.I member=S to=org.a.Own => Pass
+signal path=/ interface=org.a.I member=S to=:1.2 => Pass
+signal path=/ interface=org.a.I member=S to=:1.6 => Pass
+signal path=/ interface=org.a.I member=S to=org.a.See => Drop(OnlySee(1))
+signal path=/ interface=org.a.I member=S to=:1.1 => Drop(OnlySee(1))
+signal path=/ interface=org.a.I member=S to=:1.4 => Drop(OnlySee(4))
+signal path=/ interface=org.a.I member=S to=:1.5 => Drop(OnlySee(0))
+signal path=/ interface=org.a.I member=S to=:1.9 => Drop(NotVisible)
+signal path=/ interface=org.a.I member=S to=org.a.No => Drop(NotVisible)
+call path=/ interface=org.freedesktop.DBus.Peer member=Ping => Pass
+call path=/ interface=org.freedesktop.DBus.Peer member=Ping to=org.freedesktop.DBus => Pass
+call path=/ interface=org.freedesktop.DBus.Properties member=GetAll to=org.freedesktop.DBus => Pass
+call path=/ interface=org.freedesktop.DBus.Introspectable member=Introspect to=org.freedesktop.DBus => Pass
+call path=/ interface=org.freedesktop.DBus.Monitoring member=BecomeMonitor to=org.freedesktop.DBus => Ping(AccessDenied, BusInterface)
+call path=/ interface=org.a.I member=Hello => Ping(AccessDenied, BusInterface)
+no_reply path=/ interface=org.a.I member=Hello => Drop(BusInterface)
+call path=/ interface=org.freedesktop.DBus member=Hello => Pass
+call path=/ member=Hello => Pass
+call path=/ member=BecomeMonitor => Ping(AccessDenied, BusMember)
+call path=/ member=AddMatch signature=s text=eavesdrop=true => Ping(AccessDenied, Eavesdrop)
+call path=/ member=AddMatch signature=s text=type='signal',eavesdrop=true => Ping(AccessDenied, Eavesdrop)
+call path=/ member=AddMatch signature=s text=arg0='xeavesdropx' => Ping(AccessDenied, Eavesdrop)
+call path=/ member=AddMatch signature=s text=arg0='eavesdro',member='p' => Pass
+call path=/ member=AddMatch signature=s text=eavesdro => Pass
+call path=/ member=AddMatch signature=s text= => Pass
+call path=/ member=RemoveMatch signature=s text=eeavesdrop => Ping(AccessDenied, Eavesdrop)
+no_reply path=/ member=AddMatch signature=s text=eavesdrop=true => Drop(Eavesdrop)
+call path=/ member=GetNameOwner signature=s text=:1.5 => Pass
+call path=/ member=GetNameOwner signature=s text=:1.9 => Ping(NameHasNoOwner, ArgNotVisible)
+call path=/ member=GetNameOwner signature=s text=org.freedesktop.DBus => Pass
+call path=/ member=GetNameOwner signature=s text=no-name => Ping(NameHasNoOwner, ArgNotVisible)
+call path=/ member=RequestName signature=su text=org.a.Own number=4 => Pass
+call path=/ member=RequestName signature=su text=org.a.Talk number=4 => Ping(AccessDenied, ArgNotOwn)
+call path=/ member=ReleaseName signature=s text=org.freedesktop.DBus => Ping(AccessDenied, ArgNotOwn)
+call path=/ member=A to=:1.2 => Pass
+call path=/ member=A to=:1.6 => Pass
+call path=/p interface=org.a.I member=A to=:1.4 => Pass
+call path=/ interface=org.a.J member=B to=:1.4 => Pass
+call path=/ interface=org.a.I member=A to=:1.4 => Ping(AccessDenied, NoRule(5))
+call path=/p interface=org.a.I member=A to=:1.1 => Ping(AccessDenied, OnlySee(1))
+call path=/p interface=org.a.I member=S to=:1.7 => Ping(AccessDenied, OnlySee(7))
+call path=/ member=A to=:1.5 => Ping(AccessDenied, OnlySee(0))
+no_reply path=/ member=A to=:1.5 => Drop(OnlySee(0))
+call path=/ member=A to=:1.9 => Ping(NameHasNoOwner, NotVisible)
+no_start path=/ member=A to=:1.9 => Ping(NameHasNoOwner, NotVisible)
+call path=/ member=A to=org.a.No => Ping(ServiceUnknown, NotVisible)
+call path=/ interface=org.freedesktop.DBus.Peer member=Ping to=org.a.No => Ping(ServiceUnknown, NotVisible)
+";
+
+/// The verdict on the message that a row tells, where it is valid.
+fn verdict_on(alloc: Global, known: &Known, row: &str) -> Result<Option<Verdict>, AllocError> {
+    let bytes = message(alloc, row)?;
+    if !is_whole(&bytes) {
+        return Ok(None);
+    }
+    match decode(&bytes) {
+        Ok(message) => Ok(Some(judge(
+            &known.options.policy,
+            &known.tracker,
+            &known.ledger,
+            &message,
+        ))),
+        Err(_) => Ok(None),
     }
 }
 
-/// A message in little order of a kind, with a destination, and with the path, the interface, a `-` for none, and the
-/// member of a row.
-fn message(alloc: Global, kind: &str, destination: &str, row: &str) -> Result<Vec<u8>, AllocError> {
-    let fields = header_fields(alloc, destination, row)?;
-    let [kind, flags] = type_and_flags(kind);
-    let mut bytes = Vec::from_slice(alloc, &[b'l', kind, flags, 1, 0, 0, 0, 0, 7, 0, 0, 0])?;
-    bytes.extend_from_slice(&number(fields.len()))?;
-    bytes.extend_from_slice(&fields)?;
-    pad(&mut bytes)?;
-    Ok(bytes)
-}
-
-fn header_fields(alloc: Global, destination: &str, row: &str) -> Result<Vec<u8>, AllocError> {
-    let (path, method) = row.split_once(' ').unwrap_or((row, ""));
-    let (interface, member) = method.split_once(' ').unwrap_or((method, ""));
-    let mut fields = Vec::new(alloc);
-    add_field(&mut fields, [1, 1, b'o', 0], path)?;
-    if interface != "-" {
-        add_field(&mut fields, [2, 1, b's', 0], interface)?;
-    }
-    add_field(&mut fields, [3, 1, b's', 0], member)?;
-    add_field(&mut fields, [6, 1, b's', 0], destination)?;
-    Ok(fields)
-}
-
-/// Adds the code and the type of a header field, and its text.
-fn add_field(fields: &mut Vec<u8>, head: [u8; 4], text: &str) -> Result<(), AllocError> {
-    pad(fields)?;
-    fields.extend_from_slice(&head)?;
-    fields.extend_from_slice(&number(text.len()))?;
-    fields.extend_from_slice(text.as_bytes())?;
-    fields.push(0)?;
-    Ok(())
-}
-
-/// Adds zeros up to a multiple of eight bytes.
-fn pad(bytes: &mut Vec<u8>) -> Result<(), AllocError> {
-    let over = bytes.len() % 8;
-    if over == 0 {
-        return Ok(());
-    }
-    bytes.extend_from_slice(&[0; 8][over..])
-}
-
-/// A length as four bytes, the lowest first.
-fn number(len: usize) -> [u8; 4] {
-    let [a, b, c, d, ..] = len.to_le_bytes();
-    [a, b, c, d]
-}
-
-/// The verdict on the message that the bytes are, where they are one that is judged.
-fn verdict_on(policy: &Policy, bytes: &[u8]) -> Option<Verdict> {
-    if !is_whole(bytes) {
-        return None;
-    }
-    match decode(bytes) {
-        Ok(message) if is_judged(&message) => Some(judge(policy, &message)),
-        _ => None,
-    }
-}
-
-/// The verdict on a message under the policy of these words.
-fn told_verdict(alloc: Global, words: &str, message: &[u8]) -> Result<String, AllocError> {
-    let words = split(alloc, words)?;
-    match read_options(alloc, &words) {
-        Ok(options) => told(alloc, verdict_on(&options.policy, message)),
-        Err(LineRefusal::Bad(_)) => String::from_str(alloc, "bad word"),
-        Err(LineRefusal::Memory) => Err(AllocError),
-    }
-}
-
-fn told(alloc: Global, verdict: Option<Verdict>) -> Result<String, AllocError> {
-    match verdict {
+fn told(alloc: Global, known: &Known, row: &str) -> Result<String, AllocError> {
+    match verdict_on(alloc, known, row)? {
         Some(verdict) => format!(in alloc; "{verdict:?}"),
-        None => String::from_str(alloc, "-"),
+        None => String::from_str(alloc, "malformed"),
     }
-}
-
-fn split(alloc: Global, row: &str) -> Result<Vec<String>, AllocError> {
-    let mut words = Vec::new(alloc);
-    if row.is_empty() {
-        return Ok(words);
-    }
-    for word in row.split(' ') {
-        words.push(String::from_str(alloc, word)?)?;
-    }
-    Ok(words)
 }
 
 fn told_call(alloc: Global, row: &str) -> Result<String, AllocError> {
     let (kind, words) = row.split_once(' ').unwrap_or((row, ""));
-    let call = message(alloc, kind, "org.a.T", "/p org.a.I A")?;
-    told_verdict(alloc, words, &call)
+    let row = format!(in alloc; "{kind} path=/p interface=org.a.I member=A to=org.a.T")?;
+    told(alloc, &nothing(alloc, words)?, &row)
 }
 
 fn told_rule(alloc: Global, row: &str) -> Result<String, AllocError> {
     let words = "--see=org.a.C --call=org.a.C=org.a.I.*@/p/* --call=org.a.C=org.a.J.M";
-    let call = message(alloc, "plain", "org.a.C", row)?;
-    told_verdict(alloc, words, &call)
+    let row = format!(in alloc; "call {row} to=org.a.C")?;
+    told(alloc, &nothing(alloc, words)?, &row)
 }
 
-fn told_kind(alloc: Global, row: &str) -> Result<String, AllocError> {
-    let (kind, destination) = row.split_once(' ').unwrap_or((row, ""));
-    let message = message(alloc, kind, destination, "/p org.a.I A")?;
-    told_verdict(alloc, "--talk=org.a.*", &message)
+fn told_other(alloc: Global, row: &str) -> Result<String, AllocError> {
+    told(alloc, &everything(alloc)?, row)
 }
 
-fn told_service(alloc: Global, destination: &str) -> Result<String, AllocError> {
-    format!(in alloc; "{}", is_service(Some(destination)))
+/// The verdicts on a call of the bus with each of these bodies.
+fn told_bodies(alloc: Global, call: &str, bodies: &[&str]) -> Result<String, AllocError> {
+    let known = everything(alloc)?;
+    let mut all = String::new(alloc);
+    for body in bodies {
+        let row = format!(in alloc; "{call}{body}")?;
+        if !all.is_empty() {
+            all.push(' ')?;
+        }
+        all.push_str(&told(alloc, &known, &row)?)?;
+    }
+    Ok(all)
+}
+
+fn told_levels(alloc: Global, call: &str) -> Result<String, AllocError> {
+    let bodies = [
+        " signature=s text=org.a.No",
+        " signature=s text=org.a.See",
+        " signature=s text=org.a.Talk",
+        " signature=s text=org.a.Own",
+    ];
+    told_bodies(alloc, call, &bodies)
+}
+
+fn told_member(alloc: Global, member: &str) -> Result<String, AllocError> {
+    let call = format!(in alloc;
+        "call path=/ interface=org.freedesktop.DBus member={member} to=org.freedesktop.DBus"
+    )?;
+    told_levels(alloc, &call)
+}
+
+fn told_bare_member(alloc: Global, member: &str) -> Result<String, AllocError> {
+    let call = format!(in alloc; "call path=/ member={member}")?;
+    told_levels(alloc, &call)
+}
+
+fn told_unanswered(alloc: Global, member: &str) -> Result<String, AllocError> {
+    let call = format!(in alloc; "no_reply path=/ member={member} to=org.freedesktop.DBus")?;
+    told_levels(alloc, &call)
+}
+
+fn told_without_text(alloc: Global, member: &str) -> Result<String, AllocError> {
+    let call = format!(in alloc; "call path=/ interface=org.freedesktop.DBus member={member}")?;
+    let bodies = [
+        "",
+        " signature=u number=7",
+        " signature=us number=7 text=org.a.Own",
+    ];
+    told_bodies(alloc, &call, &bodies)
 }
 
 #[test]
@@ -209,14 +280,24 @@ fn rules_are_asked_of_path_interface_and_member(rt: HostRuntime) -> Result<(), F
 }
 
 #[test]
-fn calls_of_services_and_unknown_types_are_judged(rt: HostRuntime) -> Result<(), Fail> {
-    assert_eq!(rt; wrong_row(rt.alloc(), KINDS, &told_kind)?, None);
+fn members_of_the_bus_are_judged_by_the_level_of_their_text(rt: HostRuntime) -> Result<(), Fail> {
+    assert_eq!(rt; wrong_row(rt.alloc(), MEMBERS, &told_member)?, None);
+    assert_eq!(rt; wrong_row(rt.alloc(), MEMBERS, &told_bare_member)?, None);
+    assert_eq!(rt; wrong_row(rt.alloc(), UNANSWERED, &told_unanswered)?, None);
     Ok(())
 }
 
 #[test]
-fn services_have_well_known_names(rt: HostRuntime) -> Result<(), Fail> {
-    assert_eq!(rt; wrong_row(rt.alloc(), SERVICES, &told_service)?, None);
-    assert!(rt; !is_service(None));
+fn members_of_the_bus_that_take_a_text_are_given_one(rt: HostRuntime) -> Result<(), Fail> {
+    assert_eq!(rt;
+        wrong_row(rt.alloc(), WITHOUT_TEXT, &told_without_text)?,
+        None
+    );
+    Ok(())
+}
+
+#[test]
+fn messages_are_judged_by_what_they_are(rt: HostRuntime) -> Result<(), Fail> {
+    assert_eq!(rt; wrong_row(rt.alloc(), OTHERS, &told_other)?, None);
     Ok(())
 }

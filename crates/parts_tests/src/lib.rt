@@ -4,13 +4,21 @@
 #[cfg(test)]
 mod judging;
 #[cfg(test)]
+mod known;
+#[cfg(test)]
+mod messages;
+#[cfg(test)]
 mod name_lists;
+#[cfg(test)]
+mod own;
 #[cfg(test)]
 mod own_messages;
 #[cfg(test)]
 mod replies;
 #[cfg(test)]
 mod serials;
+#[cfg(test)]
+mod showing;
 #[cfg(test)]
 mod trackers;
 #[cfg(test)]

@@ -40,7 +40,7 @@ fn front(
 }
 
 /// The message with this body.
-fn message(
+pub(crate) fn message(
     alloc: Global,
     order: Order,
     reply_serial: u8,

@@ -1,3 +1,5 @@
-pub mod JudgedLaws
-pub mod Judges
+pub mod KnowledgeLaws
 pub mod EntryNumbers
+pub mod Eavesdrop
+pub mod Judged
+pub mod Showings

@@ -1,63 +1,110 @@
--- The verdict on a client's message by what is read of it, as far as such messages are built: a call of a service, or a
--- message of a type that nobody knows.
-use Rattle.std.specs.Prelude.{ℕ, Bool, ◌&&◌, ◌||◌, ◌==◌, nat_lt, List, if◌then◌else◌, Option, Some, None, find}
+-- The verdict on a client's message, by what is read of it: the definition's rows.
+use Rattle.std.specs.Prelude.{ℕ, nat_lt, Bool, ◌||◌, List, [], ◌∷◌, if◌then◌else◌, Option, Some, None, codes, find, option_and_then}
 use Rattle.std.specs.List.{list_any}
-use Rattle.dbus_header.specs.Contents.{Contents}
+use Rattle.dbus_header.specs.Contents.{Contents, message_of}
 use Rattle.dbus_header.specs.Kinds.{expects_reply_by, forbids_auto_start_by}
+use Rattle.dbus_header.specs.Message.{first_text}
 use Rattle.dbus_header.specs.declared.Instead.{Instead}
-use Rattle.dbus_header.specs.declared.Instead.TheVariants.{AccessDenied, NameHasNoOwner, ServiceUnknown}
-use Rattle.name_patterns.specs.Patterns.{covers}
-use Rattle.policy_args.specs.Policy.{Policy, level}
+use Rattle.dbus_header.specs.declared.Instead.TheVariants.{AccessDenied, NameHasNoOwner, ServiceUnknown, False}
+use Rattle.dbus_names.specs.Names.{is_unique}
+use Rattle.dbus_names.specs.Texts.{Text}
+use Rattle.policy_args.specs.Policy.{Policy, at_least}
 use Rattle.policy_args.specs.declared.Level.{Level}
 use Rattle.policy_args.specs.declared.Level.TheVariants.{None as Hidden, See, Talk, Own}
 use Rattle.policy_args.specs.declared.entry.Grant.{Grant}
-use Rattle.dbus_names.specs.Texts.{Text}
-use Rattle.policy_args.specs.Levels.{numbers_where}
-use Rattle.policy_view.specs.Verdicts.{entry_passes, first_or_0, call_rule_matches, rules_calls}
-use Rattle.policy_view.specs.History.{is_service}
+use Rattle.policy_view.specs.Knowledge.{Knowledge}
+use Rattle.policy_view.specs.Sent.{Exchange}
+use Rattle.policy_view.specs.Texts.{stands_in}
+use Rattle.policy_view.specs.Verdicts.{ClientRole, OfUnknownType, Reply, Broadcast, SignalTo, StandardBusCall, OtherBusCall, BusCall, CallTo, Demand, Free, OnText, Unlisted, TextDemand, NoEavesdrop, SeenOwner, SeenName, Startable, Ownable, call_rule_matches, demand_of, entry_passes, number_or_0, on_signal, rules_calls, text_or_empty}
 use Rattle.policy_view.specs.declared.Reason.{Reason}
-use Rattle.policy_view.specs.declared.Reason.TheVariants.{NotVisible, OnlySee, NoRule, UnknownType}
+use Rattle.policy_view.specs.declared.Reason.TheVariants.{NotVisible, OnlySee, NoRule, BusMember, BusInterface, ArgNotVisible, ArgNotTalk, ArgNotOwn, Eavesdrop, NotOutstanding, UnknownType, BadArgument}
 use Rattle.policy_view.specs.declared.Verdict.{Verdict}
 use Rattle.policy_view.specs.declared.Verdict.TheVariants.{Pass, Ping, Drop}
 
--- a call of a service
-abbrev pub is_service_call : Contents → Bool
-is_service_call x = x.kind == 1 && is_service x.parts.destination
+-- the first text in the body of the message that the bytes are
+abbrev pub first_text_in : List ℕ → Option Text
+first_text_in bytes = option_and_then first_text (message_of bytes)
 
--- it can be judged so far
-abbrev pub is_judged : Contents → Bool
-is_judged x = is_service_call x || nat_lt 4 x.kind
+-- refused, by the flags of the message
+abbrev pub refused_by : ℕ → Instead → Reason → Verdict
+refused_by flags what reason = if expects_reply_by flags then Ping what reason else Drop reason
 
-abbrev pub refused_by : Contents → Instead → Reason → Verdict
-refused_by x what reason = if expects_reply_by x.flags then Ping what reason else Drop reason
-
--- the numbers of the entries that cover the name, ascending
-abbrev pub covering : Policy → Text → List ℕ
-covering policy name = numbers_where (λ e. covers e.pattern name) 1 policy.entries
+-- ---- calls to others
 
 -- a Call rule matches the call
 abbrev pub allows : Contents → Grant → Bool
 allows x = call_rule_matches x.parts.path x.parts.interface x.parts.member
 
-abbrev pub judged_unruled : Contents → Option ℕ → List ℕ → Verdict
-judged_unruled x (Some n) numbers = refused_by x AccessDenied (NoRule n)
-judged_unruled x None numbers = refused_by x AccessDenied (OnlySee (first_or_0 numbers))
+-- the first number, where there is one
+abbrev pub first_in : List ℕ → Option ℕ
+first_in [] = None
+first_in (n ∷ ns) = Some n
 
--- a call of a name that is only seen
-abbrev pub judged_seen : Policy → Contents → List ℕ → Verdict
-judged_seen policy x numbers =
+-- no rule matches, by the lowest numbers of any entry and of one with a Call rule
+abbrev pub unruled_by : ℕ → Option ℕ → Option ℕ → Verdict
+unruled_by flags first (Some n) = refused_by flags AccessDenied (NoRule n)
+unruled_by flags first None = refused_by flags AccessDenied (OnlySee (number_or_0 first))
+
+abbrev pub seen_call_by : Policy → Contents → List ℕ → Verdict
+seen_call_by policy x numbers =
     if list_any (entry_passes policy (allows x)) numbers then Pass
-    else judged_unruled x (find (entry_passes policy rules_calls) numbers) numbers
+    else unruled_by x.flags (first_in numbers) (find (entry_passes policy rules_calls) numbers)
 
-abbrev pub judged_at : Policy → Contents → Text → Level → Verdict
-judged_at policy x name Hidden = refused_by x (if forbids_auto_start_by x.flags then NameHasNoOwner else ServiceUnknown) NotVisible
-judged_at policy x name See = judged_seen policy x (covering policy name)
-judged_at policy x name Talk = Pass
-judged_at policy x name Own = Pass
+abbrev pub hidden_call_by : ℕ → Text → Verdict
+hidden_call_by flags name =
+    refused_by flags (if is_unique name || forbids_auto_start_by flags then NameHasNoOwner else ServiceUnknown) NotVisible
 
-abbrev pub judged_to : Policy → Contents → Option Text → Verdict
-judged_to policy x None = Drop UnknownType
-judged_to policy x (Some name) = judged_at policy x name (level policy name)
+abbrev pub call_by : Policy → Contents → Text → List ℕ → Level → Verdict
+call_by policy x name numbers Hidden = hidden_call_by x.flags name
+call_by policy x name numbers See = seen_call_by policy x numbers
+call_by policy x name numbers Talk = Pass
+call_by policy x name numbers Own = Pass
 
-unfoldable pub judged : Policy → Contents → Verdict
-judged policy x = if is_service_call x then judged_to policy x x.parts.destination else Drop UnknownType
+-- ---- calls to the bus
+
+abbrev pub start_by : ℕ → Level → Verdict
+start_by flags Hidden = refused_by flags ServiceUnknown ArgNotTalk
+start_by flags See = refused_by flags AccessDenied ArgNotTalk
+start_by flags Talk = Pass
+start_by flags Own = Pass
+
+-- a text at a level and above alone
+abbrev pub from_level : ℕ → Level → Instead → Reason → Level → Verdict
+from_level flags least what reason level = if at_least least level then Pass else refused_by flags what reason
+
+abbrev pub match_by : ℕ → Text → Verdict
+match_by flags text = if stands_in (codes "eavesdrop") text then refused_by flags AccessDenied Eavesdrop else Pass
+
+abbrev pub text_by : ℕ → TextDemand → Text → Level → Verdict
+text_by flags NoEavesdrop text level = match_by flags text
+text_by flags SeenOwner text level = from_level flags See NameHasNoOwner ArgNotVisible level
+text_by flags SeenName text level = from_level flags See False ArgNotVisible level
+text_by flags Startable text level = start_by flags level
+text_by flags Ownable text level = from_level flags Own AccessDenied ArgNotOwn level
+
+abbrev pub argument_by : (Text → Level) → ℕ → TextDemand → Option Text → Verdict
+argument_by level flags demand None = refused_by flags AccessDenied BadArgument
+argument_by level flags demand (Some text) = text_by flags demand text (level text)
+
+abbrev pub bus_call_by : (Text → Level) → ℕ → Option Text → Demand → Verdict
+bus_call_by level flags first Free = Pass
+bus_call_by level flags first (OnText demand) = argument_by level flags demand first
+bus_call_by level flags first Unlisted = refused_by flags AccessDenied BusMember
+
+-- ---- each role
+
+abbrev pub reply_of : Contents → Exchange
+reply_of x = record { peer = x.parts.destination; number = number_or_0 x.parts.reply_serial }
+
+abbrev pub reply_by : Bool → Verdict
+reply_by is_owed = if is_owed then Pass else Drop NotOutstanding
+
+abbrev pub verdict_by : Policy → Knowledge → Contents → Option Text → ClientRole → Verdict
+verdict_by policy known x first OfUnknownType = Drop UnknownType
+verdict_by policy known x first Reply = reply_by (nat_lt 0 (known.owed (reply_of x)))
+verdict_by policy known x first Broadcast = Pass
+verdict_by policy known x first (SignalTo name) = on_signal (known.entries name) (known.level name)
+verdict_by policy known x first StandardBusCall = Pass
+verdict_by policy known x first OtherBusCall = refused_by x.flags AccessDenied BusInterface
+verdict_by policy known x first BusCall = bus_call_by known.level x.flags first (demand_of (text_or_empty x.parts.member))
+verdict_by policy known x first (CallTo name) = call_by policy x name (known.entries name) (known.level name)

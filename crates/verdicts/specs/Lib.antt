@@ -1,2 +1,6 @@
+pub mod Kept
+pub mod Seen
+pub mod Roles
 pub mod Judging
 pub mod Entries
+pub mod Showing

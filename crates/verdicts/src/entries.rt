@@ -1,92 +1,110 @@
-//! The entries of a policy that speak of a name which is only seen: one whose Call rule matches lets a call pass.
+//! The entries of the policy that speak of a name, by their numbers.
 ghost use Rattle.std.specs.Prelude.{◌≡◌};
-ghost use Rattle.policy_view.specs.Texts.{matches};
-ghost use Rattle.policy_view.specs.Verdicts.{rules_calls};
-ghost use Rattle.verdicts.specs.Entries.{looked_at, unruled_by, with_number};
-ghost use Rattle.verdicts.specs.Judging.{allows as grant_allows, covering, judged_seen};
+ghost use Rattle.std.specs.List.{list_any};
+ghost use Rattle.std.specs.Option.{option_copied};
 ghost use Rattle.dbus_header.specs.Read.{message_seen};
+ghost use Rattle.policy_args.specs.Policy.{entry_at};
+ghost use Rattle.policy_view.specs.Texts.{matches as rule_matches};
+ghost use Rattle.policy_view.specs.Verdicts.{entry_passes, rules_calls};
+ghost use Rattle.verdicts.specs.Entries.{lowest_with};
+ghost use Rattle.verdicts.specs.Judging.{allows as grant_allows, seen_call_by, unruled_by};
+ghost use Rattle.verdicts.specs.Showing.{announces as grant_announces};
 
-use crate::refused;
+use crate::calls::refused;
 use call_rules::Rule;
 use dbus_header::{Instead, Message};
 use policy_args::{Entry, Grant, Policy};
 use policy_view::{Reason, Verdict};
+use unique_names::Entries;
 
-/// The lowest numbers, from 1, of the entries that cover a name.
+/// The lowest numbers of entries that were looked at.
 #[derive(Clone, Copy)]
-struct Numbers {
+struct Lowest {
     /// That of any entry.
-    first: Option<u32>,
+    any: Option<u32>,
     /// That of an entry with a Call rule.
-    first_call: Option<u32>,
+    call: Option<u32>,
 }
 
-impl Numbers {
-    // The numbers with that of one more entry, which stands behind those before.
-    fn with(self, number: u32, grant: &Grant) -> Numbers
-        ensures { result ≡ with_number number grant.now self }
+impl Lowest {
+    // The same with one more entry, which stands behind those before.
+    fn with(self, policy: &Policy, number: u32) -> Lowest
+        ensures { result ≡ lowest_with policy.now number self }
     {
-        Numbers {
-            first: self.first.or(Some(number)),
-            first_call: if is_call(grant) {
-                self.first_call.or(Some(number))
+        Lowest {
+            any: self.any.or(Some(number)),
+            call: if has_call_rule(policy, number) {
+                self.call.or(Some(number))
             } else {
-                self.first_call
+                self.call
             },
         }
     }
 }
 
-/// The verdict on a call of a name that is only seen.
-pub(crate) fn judge_seen(policy: &Policy, message: &Message<'_>, name: &str) -> Verdict
-    ensures { result ≡ judged_seen policy.now (message_seen message.now) (covering policy.now name.now) }
+/// The verdict on a call of a name that is only seen, by the numbers of its entries: one whose Call rule matches lets it
+/// pass.
+pub(crate) fn judge_seen(policy: &Policy, message: &Message<'_>, numbers: Entries<'_>) -> Verdict
+    ensures { result ≡ seen_call_by policy.now (message_seen message.now) numbers.entry }
 {
-    let mut numbers = Numbers {
-        first: None,
-        first_call: None,
+    let mut lowest = Lowest {
+        any: None,
+        call: None,
     };
-    for index in 0..policy.len() {
-        let number = index + 1;
-        match look_at(policy.entry(number), message, name, number, numbers) {
-            Some(looked) => numbers = looked,
-            None => return Verdict::Pass,
+    for number in numbers {
+        if allows(policy, number, message) {
+            return Verdict::Pass;
         }
+        lowest = lowest.with(policy, number);
     }
-    refuse(message, numbers)
-}
-
-// The numbers with an entry's, where it covers the name, or `None` where its rule matches the call.
-fn look_at(
-    entry: &Entry,
-    message: &Message<'_>,
-    name: &str,
-    number: u32,
-    numbers: Numbers,
-) -> Option<Numbers>
-    ensures { result ≡ looked_at (message_seen message.now) name.now number entry.now numbers }
-{
-    if !entry.pattern.covers(name) {
-        Some(numbers)
-    } else if allows(&entry.grant, message) {
-        None
-    } else {
-        Some(numbers.with(number, &entry.grant))
-    }
+    refuse(message, lowest)
 }
 
 // Refuses a call that no rule matches.
-fn refuse(message: &Message<'_>, numbers: Numbers) -> Verdict
-    ensures { result ≡ unruled_by (message_seen message.now) numbers }
+fn refuse(message: &Message<'_>, lowest: Lowest) -> Verdict
+    ensures { result ≡ unruled_by message.now.flags lowest.any lowest.call }
 {
-    let reason = match numbers.first_call {
+    let reason = match lowest.call {
         Some(number) => Reason::NoRule(number),
-        None => Reason::OnlySee(numbers.first.unwrap_or(0)),
+        None => Reason::OnlySee(lowest.any.unwrap_or(0)),
     };
     refused(message, Instead::AccessDenied, reason)
 }
 
-// Whether it is a Call rule that matches the call.
-fn allows(grant: &Grant, message: &Message<'_>) -> bool
+/// Whether an entry with one of these numbers has a Broadcast rule that matches the signal.
+pub(crate) fn is_announced(policy: &Policy, message: &Message<'_>, numbers: Entries<'_>) -> bool
+    ensures { result ≡ list_any (entry_passes policy.now (grant_announces (message_seen message.now))) numbers.entry }
+{
+    for number in numbers {
+        if announces(policy, number, message) {
+            return true;
+        }
+    }
+    false
+}
+
+// The entry of a number, if the policy has so many.
+fn entry(policy: &Policy, number: u32) -> Option<&Entry>
+    ensures { option_copied result ≡ entry_at policy.now.entries number }
+{
+    if number == 0 || number > policy.len() {
+        None
+    } else {
+        Some(policy.entry(number))
+    }
+}
+
+// Whether the entry of a number has a Call rule that matches the call.
+fn allows(policy: &Policy, number: u32, message: &Message<'_>) -> bool
+    ensures { result ≡ entry_passes policy.now (grant_allows (message_seen message.now)) number }
+{
+    match entry(policy, number) {
+        None => false,
+        Some(entry) => is_allowing(&entry.grant, message),
+    }
+}
+
+fn is_allowing(grant: &Grant, message: &Message<'_>) -> bool
     ensures { result ≡ grant_allows (message_seen message.now) grant.now }
 {
     match grant {
@@ -95,12 +113,13 @@ fn allows(grant: &Grant, message: &Message<'_>) -> bool
     }
 }
 
-fn is_matched(rule: &Rule, message: &Message<'_>) -> bool
-    ensures { result ≡ matches rule.now (message_seen message.now).parts.path (message_seen message.now).parts.interface (message_seen message.now).parts.member }
+// Whether it has a Call rule.
+fn has_call_rule(policy: &Policy, number: u32) -> bool
+    ensures { result ≡ entry_passes policy.now rules_calls number }
 {
-    match (message.path, message.member) {
-        (Some(path), Some(member)) => rule.matches(path, message.interface, member),
-        _ => false,
+    match entry(policy, number) {
+        None => false,
+        Some(entry) => is_call(&entry.grant),
     }
 }
 
@@ -108,4 +127,32 @@ fn is_call(grant: &Grant) -> bool
     ensures { result ≡ rules_calls grant.now }
 {
     matches!(grant, Grant::Call(_))
+}
+
+// Whether it has a Broadcast rule that matches the signal.
+fn announces(policy: &Policy, number: u32, message: &Message<'_>) -> bool
+    ensures { result ≡ entry_passes policy.now (grant_announces (message_seen message.now)) number }
+{
+    match entry(policy, number) {
+        None => false,
+        Some(entry) => is_announcing(&entry.grant, message),
+    }
+}
+
+fn is_announcing(grant: &Grant, message: &Message<'_>) -> bool
+    ensures { result ≡ grant_announces (message_seen message.now) grant.now }
+{
+    match grant {
+        Grant::Broadcast(rule) => is_matched(rule, message),
+        Grant::See | Grant::Talk | Grant::Own | Grant::Call(_) => false,
+    }
+}
+
+fn is_matched(rule: &Rule, message: &Message<'_>) -> bool
+    ensures { result ≡ rule_matches rule.now (message_seen message.now).parts.path (message_seen message.now).parts.interface (message_seen message.now).parts.member }
+{
+    match (message.path, message.member) {
+        (Some(path), Some(member)) => rule.matches(path, message.interface, member),
+        _ => false,
+    }
 }

@@ -1,20 +1,17 @@
-use Rattle.std.proofs.Common.{sym, ◌∙◌}
 use Rattle.dbus_header.specs.Read.{message_seen}
-use Rattle.verdicts.proofs.Judges.{call-judged, other-judged, of-message}
+use Rattle.verdicts.specs.Kept.{kept}
+use Rattle.verdicts.specs.Seen.{client_role_seen}
+use Rattle.verdicts.proofs.Judged.{is-judged, is-verdict}
+use Rattle.verdicts.proofs.KnowledgeLaws.{knowledge_is}
 use Rattle.verdicts.proofs.judge.Goals as goal
 
-pub returns-then-is_method_call-clause-contents : goal.returns-then-is_method_call-clause-contents
-returns-then-is_method_call-clause-contents c =
-    c.judge_to.ensures ∙ call-judged c.args.policy.now (message_seen c.args.message.now) (sym c.is_method_call.ensures ∙ c.if-is_method_call.true) c.requires
+pub returns-clause-kept : goal.returns-clause-kept
+returns-clause-kept c =
+    is-verdict c.args.policy.now (kept c.args.policy.now c.args.tracker.now c.args.ledger.now.owed) c.args.message.now.bytes.now (message_seen c.args.message.now) (client_role_seen c.client_role.result) _ c.args.message.now.read
+    c.client_role.ensures c.judge_as.ensures
 
-pub returns-then-is_method_call-clause-verdict : goal.returns-then-is_method_call-clause-verdict
-returns-then-is_method_call-clause-verdict c =
-    of-message c.args.policy.now (message_seen c.args.message.now) c.judge_to.result c.requires
-    (c.judge_to.ensures ∙ call-judged c.args.policy.now (message_seen c.args.message.now) (sym c.is_method_call.ensures ∙ c.if-is_method_call.true) c.requires)
-
-pub returns-else-is_method_call-clause-contents : goal.returns-else-is_method_call-clause-contents
-returns-else-is_method_call-clause-contents c = other-judged c.args.policy.now (message_seen c.args.message.now) (sym c.is_method_call.ensures ∙ c.if-is_method_call.false)
-
-pub returns-else-is_method_call-clause-verdict : goal.returns-else-is_method_call-clause-verdict
-returns-else-is_method_call-clause-verdict c =
-    of-message c.args.policy.now (message_seen c.args.message.now) _ c.requires (other-judged c.args.policy.now (message_seen c.args.message.now) (sym c.is_method_call.ensures ∙ c.if-is_method_call.false))
+pub returns-clause-exact : goal.returns-clause-exact
+returns-clause-exact c = λ before m stand at.
+    let known = kept c.args.policy.now c.args.tracker.now c.args.ledger.now.owed in
+    is-judged c.args.policy.now known before m _ (knowledge_is c.args.policy.now c.args.tracker.now c.args.ledger.now before c.covers_no_unique_name.ensures stand)
+    (is-verdict c.args.policy.now known c.args.message.now.bytes.now (message_seen c.args.message.now) (client_role_seen c.client_role.result) _ c.args.message.now.read c.client_role.ensures c.judge_as.ensures m at)

@@ -1,0 +1,102 @@
+-- The verdict by what is read of a message is the definition's.
+use Rattle.std.proofs.Common.{◌≡◌, ℕ, Bool, true, false, cond, List, [], ◌∷◌, Option, Some, None, refl, ap, sym, ◌∙◌}
+use Rattle.std.specs.Prelude.{◌==◌, find, option_and_then, option_map}
+use Rattle.std.specs.List.{list_any}
+use Rattle.dbus_header.specs.Contents.{Contents, contents_of, message_of}
+use Rattle.dbus_header.specs.Kinds.{Call, Error, Other, Return, Signal, kind_of}
+use Rattle.dbus_header.specs.Message.{Message, destination, first_text, interface, member}
+use Rattle.dbus_header.proofs.MessageBodies.{same-contents}
+use Rattle.dbus_names.specs.Texts.{Text}
+use Rattle.policy_args.specs.Policy.{Policy}
+use Rattle.policy_args.specs.declared.Level.{Level}
+use Rattle.policy_args.specs.declared.Level.TheVariants.{None as Hidden, See, Talk, Own}
+use Rattle.policy_view.specs.Knowledge.{Knowledge, knowledge}
+use Rattle.policy_view.specs.Past.{judged}
+use Rattle.policy_view.specs.Sent.{Past}
+use Rattle.policy_view.specs.Verdicts.{ClientRole, OfUnknownType, Reply, Broadcast, SignalTo, StandardBusCall, OtherBusCall, BusCall, CallTo, Demand, Free, OnText, Unlisted, TextDemand, NoEavesdrop, SeenOwner, SeenName, Startable, Ownable, client_role, client_role_at, demand_of, entry_passes, on_argument, on_bus_call, on_call, on_ruled_call, on_seen_call, on_start, on_text, role_of_call, role_of_signal, rules_calls, text_or_empty, verdict, verdict_at}
+use Rattle.policy_view.specs.declared.Verdict.{Verdict}
+use Rattle.policy_view.specs.declared.Verdict.TheVariants.{Pass}
+use Rattle.verdicts.specs.Judging.{allows, argument_by, bus_call_by, call_by, first_in, first_text_in, seen_call_by, start_by, text_by, unruled_by, verdict_by}
+use Rattle.verdicts.specs.Roles.{client_role_of}
+
+-- ---- the role
+
+pub client-role-of : (m : Message) → client_role_of (contents_of m) ≡ client_role m
+unfolding client_role kind_of
+client-role-of m = by (m.kind == 1) (m.kind == 2) (m.kind == 3) (m.kind == 4)
+  where
+    by : (a b c d : Bool) →
+        cond a (role_of_call (destination m) (interface m)) (cond b Reply (cond c Reply (cond d (role_of_signal (destination m)) OfUnknownType)))
+        ≡ client_role_at (cond a Call (cond b Return (cond c Error (cond d Signal Other)))) m
+    by true b c d = refl
+    by false true c d = refl
+    by false false true d = refl
+    by false false false true = refl
+    by false false false false = refl
+
+-- ---- each row
+
+start-row : (m : Message) (level : Level) → start_by m.flags level ≡ on_start m level
+start-row m Hidden = refl
+start-row m See = refl
+start-row m Talk = refl
+start-row m Own = refl
+
+text-row : (m : Message) (demand : TextDemand) (text : Text) (level : Level) → text_by m.flags demand text level ≡ on_text m demand text level
+text-row m NoEavesdrop text level = refl
+text-row m SeenOwner text level = refl
+text-row m SeenName text level = refl
+text-row m Startable text level = start-row m level
+text-row m Ownable text level = refl
+
+argument-row : (known : Knowledge) (m : Message) (demand : TextDemand) (text : Option Text) → argument_by known.level m.flags demand text ≡ on_argument known m demand text
+argument-row known m demand None = refl
+argument-row known m demand (Some text) = text-row m demand text (known.level text)
+
+bus-row : (known : Knowledge) (m : Message) (demand : Demand) → bus_call_by known.level m.flags (first_text m) demand ≡ on_bus_call known m demand
+bus-row known m Free = refl
+bus-row known m (OnText demand) = argument-row known m demand (first_text m)
+bus-row known m Unlisted = refl
+
+seen-row : (policy : Policy) (m : Message) (numbers : List ℕ) → seen_call_by policy (contents_of m) numbers ≡ on_seen_call policy m numbers
+seen-row policy m numbers =
+    ap (cond (list_any (entry_passes policy (allows (contents_of m))) numbers) Pass) (by (find (entry_passes policy rules_calls) numbers) numbers)
+  where
+    by : (call : Option ℕ) (ns : List ℕ) → unruled_by m.flags (first_in ns) call ≡ on_ruled_call m call ns
+    by (Some n) ns = refl
+    by None [] = refl
+    by None (n ∷ ns) = refl
+
+call-row : (policy : Policy) (m : Message) (name : Text) (numbers : List ℕ) (level : Level) → call_by policy (contents_of m) name numbers level ≡ on_call policy m name numbers level
+call-row policy m name numbers Hidden = refl
+call-row policy m name numbers See = seen-row policy m numbers
+call-row policy m name numbers Talk = refl
+call-row policy m name numbers Own = refl
+
+pub verdict-row : (policy : Policy) (known : Knowledge) (m : Message) (role : ClientRole) → verdict_by policy known (contents_of m) (first_text m) role ≡ verdict_at policy known m role
+verdict-row policy known m OfUnknownType = refl
+verdict-row policy known m Reply = refl
+verdict-row policy known m Broadcast = refl
+verdict-row policy known m (SignalTo name) = refl
+verdict-row policy known m StandardBusCall = refl
+verdict-row policy known m OtherBusCall = refl
+verdict-row policy known m BusCall = bus-row known m (demand_of (text_or_empty (member m)))
+verdict-row policy known m (CallTo name) = call-row policy m name (known.entries name) (known.level name)
+
+-- ---- a message that was read
+
+pub is-verdict : (policy : Policy) (known : Knowledge) (bytes : List ℕ) (q : Contents) (role : ClientRole) (given : Verdict) → option_map contents_of (message_of bytes) ≡ Some q →
+    role ≡ client_role_of q → given ≡ verdict_by policy known q (first_text_in bytes) role → (m : Message) → message_of bytes ≡ Some m → given ≡ verdict policy known m
+unfolding verdict
+is-verdict policy known bytes q role given read role_is is m at =
+    is
+    ∙ ap (verdict_by policy known q (first_text_in bytes)) role_is
+    ∙ ap (λ (c : Contents). verdict_by policy known c (first_text_in bytes) (client_role_of c)) (sym (same-contents bytes q m at read))
+    ∙ ap (λ o. verdict_by policy known (contents_of m) (option_and_then first_text o) (client_role_of (contents_of m))) at
+    ∙ verdict-row policy known m (client_role_of (contents_of m))
+    ∙ ap (verdict_at policy known m) (client-role-of m)
+
+-- where what is kept is what a past told
+pub is-judged : (policy : Policy) (known : Knowledge) (before : Past) (m : Message) (given : Verdict) → known ≡ knowledge policy before.told → given ≡ verdict policy known m → given ≡ judged policy before.told m
+unfolding judged
+is-judged policy known before m given same is = is ∙ ap (λ (k : Knowledge). verdict policy k m) same

@@ -1,0 +1,162 @@
+//! The members of the bus, and what each asks of a call of it.
+ghost use Rattle.std.specs.Prelude.{◌≡◌, codes};
+ghost use Rattle.dbus_header.specs.Seen.{text_seen};
+ghost use Rattle.policy_view.specs.Texts.{stands_in};
+ghost use Rattle.policy_view.specs.Verdicts.{demand_of as demand_by, text_or_empty};
+ghost use Rattle.unique_names.specs.Taught.{kept_level};
+ghost use Rattle.verdicts.specs.Judging.{argument_by, bus_call_by, first_text_in, from_level, match_by, start_by, text_by};
+ghost use Rattle.verdicts.specs.Seen.{demand_seen, text_demand_seen};
+
+use crate::calls::refused;
+use dbus_header::{Instead, Message};
+use policy_args::{Level, Policy};
+use policy_view::{Reason, Verdict};
+use unique_names::Tracker;
+
+/// What a member asks of the text that is its first argument.
+#[derive(Clone, Copy)]
+pub(crate) enum TextDemand {
+    /// The match rule doesn't speak of `eavesdrop`.
+    NoEavesdrop,
+    /// The name is seen; else it has no owner.
+    SeenOwner,
+    /// The name is seen; else the answer is false.
+    SeenName,
+    /// The name may be talked to.
+    Startable,
+    /// The name may be owned.
+    Ownable,
+}
+
+/// What is asked of a call of a member.
+#[derive(Clone, Copy)]
+pub(crate) enum Demand {
+    /// Nothing.
+    Free,
+    /// Something of its text.
+    OnText(TextDemand),
+    /// That it isn't made.
+    Unlisted,
+}
+
+/// What is asked of a call of this member (D-Bus Specification, "Message Bus Messages").
+#[tactic(auto, unfolding(policy_view::specs::Verdicts::demand_of))]
+fn demand_of(member: &str) -> Demand
+    ensures { demand_seen result ≡ demand_by member.now }
+{
+    match member {
+        "Hello" | "GetId" | "ListNames" | "ListActivatableNames" => Demand::Free,
+        "AddMatch" | "RemoveMatch" => Demand::OnText(TextDemand::NoEavesdrop),
+        "GetNameOwner"
+        | "GetConnectionUnixUser"
+        | "GetConnectionUnixProcessID"
+        | "GetConnectionCredentials"
+        | "GetAdtAuditSessionData"
+        | "GetConnectionSELinuxSecurityContext" => Demand::OnText(TextDemand::SeenOwner),
+        "NameHasOwner" => Demand::OnText(TextDemand::SeenName),
+        "StartServiceByName" => Demand::OnText(TextDemand::Startable),
+        "RequestName" | "ReleaseName" | "ListQueuedOwners" => Demand::OnText(TextDemand::Ownable),
+        _ => Demand::Unlisted,
+    }
+}
+
+/// The verdict on a call of the bus by its own interface, or by none.
+pub(crate) fn judge_bus_call(policy: &Policy, tracker: &Tracker, message: &Message<'_>) -> Verdict
+    ensures { result ≡ bus_call_by (kept_level policy.now tracker.now) message.now.flags (first_text_in message.now.bytes.now) (demand_by (text_or_empty (text_seen message.now.member))) }
+{
+    match demand_of(message.member.unwrap_or("")) {
+        Demand::Free => Verdict::Pass,
+        Demand::OnText(demand) => {
+            judge_argument(policy, tracker, message, demand, first_text(message))
+        }
+        Demand::Unlisted => refused(message, Instead::AccessDenied, Reason::BusMember),
+    }
+}
+
+// The first text in the message's body.
+fn first_text<'a>(message: &Message<'a>) -> Option<&'a str>
+    ensures { text_seen result ≡ first_text_in message.now.bytes.now }
+{
+    message.first_text()
+}
+
+// The text that is asked of has to stand.
+fn judge_argument(
+    policy: &Policy,
+    tracker: &Tracker,
+    message: &Message<'_>,
+    demand: TextDemand,
+    text: Option<&str>,
+) -> Verdict
+    ensures { result ≡ argument_by (kept_level policy.now tracker.now) message.now.flags (text_demand_seen demand) (text_seen text.entry) }
+{
+    match text {
+        None => refused(message, Instead::AccessDenied, Reason::BadArgument),
+        Some(text) => judge_text(message, demand, text, tracker.level(policy, text)),
+    }
+}
+
+// The text has this level, as a name.
+fn judge_text(message: &Message<'_>, demand: TextDemand, text: &str, level: Level) -> Verdict
+    ensures { result ≡ text_by message.now.flags (text_demand_seen demand) text.now level }
+{
+    let hidden = Reason::ArgNotVisible;
+    match demand {
+        TextDemand::NoEavesdrop => judge_match(message, text),
+        TextDemand::SeenOwner => {
+            pass_from(message, level, Level::See, Instead::NameHasNoOwner, hidden)
+        }
+        TextDemand::SeenName => pass_from(message, level, Level::See, Instead::False, hidden),
+        TextDemand::Startable => judge_start(message, level),
+        TextDemand::Ownable => {
+            let reason = Reason::ArgNotOwn;
+            pass_from(message, level, Level::Own, Instead::AccessDenied, reason)
+        }
+    }
+}
+
+// A match rule that speaks of `eavesdrop`, anywhere in its text, may ask for messages that are meant for others (D-Bus
+// Specification, "Match Rules").
+fn judge_match(message: &Message<'_>, text: &str) -> Verdict
+    ensures { result ≡ match_by message.now.flags text.now }
+{
+    if speaks_of_eavesdrop(text) {
+        refused(message, Instead::AccessDenied, Reason::Eavesdrop)
+    } else {
+        Verdict::Pass
+    }
+}
+
+fn speaks_of_eavesdrop(text: &str) -> bool
+    ensures { result ≡ stands_in (codes "eavesdrop") text.now }
+{
+    text.contains("eavesdrop")
+}
+
+// A service that may be started is talked to.
+fn judge_start(message: &Message<'_>, level: Level) -> Verdict
+    ensures { result ≡ start_by message.now.flags level }
+{
+    match level {
+        Level::None => refused(message, Instead::ServiceUnknown, Reason::ArgNotTalk),
+        Level::See => refused(message, Instead::AccessDenied, Reason::ArgNotTalk),
+        Level::Talk | Level::Own => Verdict::Pass,
+    }
+}
+
+// What passes from a level on, and is refused below it.
+fn pass_from(
+    message: &Message<'_>,
+    level: Level,
+    least: Level,
+    what: Instead,
+    reason: Reason,
+) -> Verdict
+    ensures { result ≡ from_level message.now.flags least what reason level }
+{
+    if level.is_at_least(least) {
+        Verdict::Pass
+    } else {
+        refused(message, what, reason)
+    }
+}

@@ -1,0 +1,118 @@
+//! The verdict on a message of the client by its role.
+ghost use Rattle.std.specs.Prelude.{◌≡◌, nat_lt};
+ghost use Rattle.dbus_header.specs.Read.{message_seen};
+ghost use Rattle.dbus_header.specs.Seen.{text_seen};
+ghost use Rattle.policy_view.specs.Verdicts.{first_or_0, on_signal};
+ghost use Rattle.unique_names.specs.Taught.{kept_level, kept_numbers};
+ghost use Rattle.verdicts.specs.Judging.{call_by, first_text_in, hidden_call_by, refused_by, reply_by, reply_of, verdict_by};
+ghost use Rattle.verdicts.specs.Kept.{kept, owed_by, owed_to};
+ghost use Rattle.verdicts.specs.Seen.{client_role_seen};
+
+use crate::bus_members::judge_bus_call;
+use crate::entries::judge_seen;
+use crate::roles::ClientRole;
+use dbus_header::{Instead, Message};
+use dbus_names::is_unique;
+use policy_args::{Level, Policy};
+use policy_view::{Reason, Verdict};
+use reply_ledger::Ledger;
+use unique_names::{Entries, Tracker};
+
+/// The verdict on a message of this role.
+pub(crate) fn judge_as(
+    policy: &Policy,
+    tracker: &Tracker,
+    ledger: &Ledger,
+    message: &Message<'_>,
+    role: ClientRole<'_>,
+) -> Verdict
+    ensures { result ≡ verdict_by policy.now (kept policy.now tracker.now ledger.now.owed) (message_seen message.now) (first_text_in message.now.bytes.now) (client_role_seen role.entry) }
+{
+    match role {
+        ClientRole::OfUnknownType => Verdict::Drop(Reason::UnknownType),
+        ClientRole::Reply => judge_reply(ledger, message),
+        ClientRole::Broadcast => Verdict::Pass,
+        ClientRole::SignalTo(name) => judge_signal(policy, tracker, name),
+        ClientRole::StandardBusCall => Verdict::Pass,
+        ClientRole::OtherBusCall => refused(message, Instead::AccessDenied, Reason::BusInterface),
+        ClientRole::BusCall => judge_bus_call(policy, tracker, message),
+        ClientRole::CallTo(name) => judge_call(policy, tracker, message, name),
+    }
+}
+
+/// Refuses a message: it is dropped where nobody waits for its answer.
+pub(crate) fn refused(message: &Message<'_>, what: Instead, reason: Reason) -> Verdict
+    ensures { result ≡ refused_by message.now.flags what reason }
+{
+    if message.expects_reply() {
+        Verdict::Ping(what, reason)
+    } else {
+        Verdict::Drop(reason)
+    }
+}
+
+// A reply passes where it is owed.
+fn judge_reply(ledger: &Ledger, message: &Message<'_>) -> Verdict
+    ensures { result ≡ reply_by (nat_lt 0 (owed_by ledger.now.owed (reply_of (message_seen message.now)))) }
+{
+    if is_owed(
+        ledger,
+        message.destination,
+        message.reply_serial.unwrap_or(0),
+    ) {
+        Verdict::Pass
+    } else {
+        Verdict::Drop(Reason::NotOutstanding)
+    }
+}
+
+// Whether a reply is owed to calls of this name, which may be absent, with this serial.
+fn is_owed(ledger: &Ledger, peer: Option<&str>, serial: u32) -> bool
+    ensures { result ≡ nat_lt 0 (owed_to ledger.now.owed (text_seen peer.entry) serial) }
+{
+    match peer {
+        None => false,
+        Some(peer) => ledger.owed(peer, serial),
+    }
+}
+
+// A signal for one name.
+fn judge_signal(policy: &Policy, tracker: &Tracker, name: &str) -> Verdict
+    ensures { result ≡ on_signal (kept_numbers policy.now tracker.now name.now) (kept_level policy.now tracker.now name.now) }
+{
+    match tracker.level(policy, name) {
+        Level::None => Verdict::Drop(Reason::NotVisible),
+        Level::See => Verdict::Drop(Reason::OnlySee(lowest(tracker.entries(policy, name)))),
+        Level::Talk | Level::Own => Verdict::Pass,
+    }
+}
+
+// The first of the numbers, or 0.
+fn lowest(mut numbers: Entries<'_>) -> u32
+    ensures { result ≡ first_or_0 numbers.entry }
+{
+    numbers.next().unwrap_or(0)
+}
+
+// A call of a name other than the bus's own.
+fn judge_call(policy: &Policy, tracker: &Tracker, message: &Message<'_>, name: &str) -> Verdict
+    ensures { result ≡ call_by policy.now (message_seen message.now) name.now (kept_numbers policy.now tracker.now name.now) (kept_level policy.now tracker.now name.now) }
+{
+    match tracker.level(policy, name) {
+        Level::None => judge_hidden(message, name),
+        Level::See => judge_seen(policy, message, tracker.entries(policy, name)),
+        Level::Talk | Level::Own => Verdict::Pass,
+    }
+}
+
+// A call of a name that is hidden: a service that it could have started is unknown, and any other name has no owner.
+fn judge_hidden(message: &Message<'_>, name: &str) -> Verdict
+    ensures { result ≡ hidden_call_by message.now.flags name.now }
+{
+    let what = if is_unique(name.as_bytes()) || message.forbids_auto_start() {
+        Instead::NameHasNoOwner
+    } else {
+        Instead::ServiceUnknown
+    };
+    refused(message, what, Reason::NotVisible)
+}

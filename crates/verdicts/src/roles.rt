@@ -1,0 +1,226 @@
+//! The roles of messages: what a message is, by itself and by the sent call that it answers.
+ghost use Rattle.std.specs.Prelude.{◌≡◌, true, false};
+ghost use Rattle.std.specs.Option.{option_copied};
+ghost use Rattle.dbus_header.specs.Read.{message_seen};
+ghost use Rattle.dbus_header.specs.Seen.{text_seen};
+ghost use Rattle.policy_view.specs.Shown.{role_of_reply as reply_role};
+ghost use Rattle.policy_view.specs.Texts.{has_text as text_is, is_one_of};
+ghost use Rattle.policy_view.specs.Verdicts.{role_of_bus_call as bus_call_role, role_of_call as call_role, role_of_signal as signal_role, standard_interfaces};
+ghost use Rattle.verdicts.specs.Kept.{expected_at};
+ghost use Rattle.verdicts.specs.Roles.{bus_role_of, client_role_of, is_owner_change_of, signal_role_of};
+ghost use Rattle.verdicts.specs.Seen.{bus_role_seen, client_role_seen};
+
+use dbus_header::{ERROR, Instead, METHOD_CALL, METHOD_RETURN, Message, SIGNAL};
+use dbus_names::{BUS_NAME, Name, is_bus};
+use dbus_values::Order;
+use reply_ledger::{Kind, Ledger};
+
+/// What a client's message is.
+#[derive(Clone, Copy)]
+pub(crate) enum ClientRole<'a> {
+    /// Its type has no name.
+    OfUnknownType,
+    /// A return or an error.
+    Reply,
+    /// A signal without DESTINATION.
+    Broadcast,
+    /// A signal for this name.
+    SignalTo(&'a str),
+    /// A call of the bus by an interface that each object has.
+    StandardBusCall,
+    /// A call of the bus by an interface that is neither such nor its own.
+    OtherBusCall,
+    /// A call of the bus by its own interface, or by none.
+    BusCall,
+    /// A call of another name.
+    CallTo(&'a str),
+}
+
+/// What a message of the bus is.
+#[derive(Clone, Copy)]
+pub(crate) enum BusRole<'a> {
+    /// Its type has no name.
+    NoRole,
+    /// It answers nothing that was sent.
+    Unexpected,
+    /// The answer to a match rule of the proxy's own.
+    MatchAnswer,
+    /// The answer to the proxy's own question who owns this name.
+    OwnerAnswer(&'a Name),
+    /// The answer to the proxy's own question for the list of names.
+    NamesAnswer,
+    /// The answer to the ping for the client's call with this serial.
+    PingAnswer {
+        serial: u32,
+        order: Order,
+        what: Instead,
+    },
+    /// The list of names for the client's call with this serial.
+    NameList(u32),
+    /// The answer to the client's `Hello` with this serial.
+    HelloAnswer(u32),
+    /// The answer to another call of the client, with this serial.
+    OtherAnswer(u32),
+    /// A call of the client.
+    CallIn,
+    /// The bus tells that a name's owner changed.
+    OwnerChange,
+    /// A signal for the client.
+    SignalIn,
+    /// A signal for all.
+    BroadcastIn,
+}
+
+/// The role of a client's message.
+pub(crate) fn client_role<'a>(message: &Message<'a>) -> ClientRole<'a>
+    ensures { client_role_seen result ≡ client_role_of (message_seen message.now) }
+{
+    match message.kind {
+        METHOD_CALL => role_of_call(message.destination, message.interface),
+        METHOD_RETURN => ClientRole::Reply,
+        ERROR => ClientRole::Reply,
+        SIGNAL => role_of_signal(message.destination),
+        _ => ClientRole::OfUnknownType,
+    }
+}
+
+fn role_of_call<'a>(destination: Option<&'a str>, interface: Option<&str>) -> ClientRole<'a>
+    ensures { client_role_seen result ≡ call_role (text_seen destination.entry) (text_seen interface.entry) }
+{
+    match destination {
+        None => role_of_bus_call(interface),
+        Some(name) => {
+            if is_bus(name) {
+                role_of_bus_call(interface)
+            } else {
+                ClientRole::CallTo(name)
+            }
+        }
+    }
+}
+
+fn role_of_bus_call<'a>(interface: Option<&str>) -> ClientRole<'a>
+    ensures { client_role_seen result ≡ bus_call_role (text_seen interface.entry) }
+{
+    match interface {
+        None => ClientRole::BusCall,
+        Some(interface) => {
+            if is_standard(interface) {
+                ClientRole::StandardBusCall
+            } else if is_bus(interface) {
+                ClientRole::BusCall
+            } else {
+                ClientRole::OtherBusCall
+            }
+        }
+    }
+}
+
+// Whether each object has the interface (D-Bus Specification, "Standard Interfaces").
+fn is_standard(interface: &str) -> bool
+    ensures { result ≡ is_one_of interface.now standard_interfaces }
+{
+    interface == "org.freedesktop.DBus.Peer"
+        || interface == "org.freedesktop.DBus.Properties"
+        || interface == "org.freedesktop.DBus.Introspectable"
+}
+
+fn role_of_signal(destination: Option<&str>) -> ClientRole<'_>
+    ensures { client_role_seen result ≡ signal_role (text_seen destination.entry) }
+{
+    match destination {
+        None => ClientRole::Broadcast,
+        Some(name) => ClientRole::SignalTo(name),
+    }
+}
+
+/// The role of a bus message, by the answers that the ledger expects.
+pub(crate) fn bus_role<'a>(ledger: &'a Ledger, message: &Message<'_>) -> BusRole<'a>
+    ensures { bus_role_seen result ≡ bus_role_of (expected_at ledger.now.expected message.now.reply_serial) (message_seen message.now) }
+{
+    match message.kind {
+        METHOD_CALL => BusRole::CallIn,
+        METHOD_RETURN => role_of_reply(true, expected(ledger, message.reply_serial)),
+        ERROR => role_of_reply(false, expected(ledger, message.reply_serial)),
+        SIGNAL => role_of_bus_signal(message),
+        _ => BusRole::NoRole,
+    }
+}
+
+// What is expected at a REPLY_SERIAL.
+fn expected(ledger: &Ledger, reply_serial: Option<u32>) -> Option<&Kind>
+    ensures { option_copied result ≡ expected_at ledger.now.expected reply_serial }
+{
+    match reply_serial {
+        None => None,
+        Some(serial) => ledger.peek(serial),
+    }
+}
+
+// The role of a return or an error, by what it is the answer to.
+fn role_of_reply(is_return: bool, answer: Option<&Kind>) -> BusRole<'_>
+    ensures { bus_role_seen result ≡ reply_role is_return (option_copied answer.entry) }
+{
+    match answer {
+        None => BusRole::Unexpected,
+        Some(kind) => role_of_answer(is_return, kind),
+    }
+}
+
+fn role_of_answer(is_return: bool, kind: &Kind) -> BusRole<'_>
+    ensures { bus_role_seen result ≡ reply_role is_return (Some kind.now) }
+{
+    match kind {
+        Kind::Call(serial) => BusRole::OtherAnswer(*serial),
+        Kind::Hello(serial) => BusRole::HelloAnswer(*serial),
+        Kind::Names(serial) => {
+            if is_return {
+                BusRole::NameList(*serial)
+            } else {
+                BusRole::OtherAnswer(*serial)
+            }
+        }
+        Kind::Ping {
+            serial,
+            order,
+            what,
+        } => BusRole::PingAnswer {
+            serial: *serial,
+            order: *order,
+            what: *what,
+        },
+        Kind::OwnMatch => BusRole::MatchAnswer,
+        Kind::OwnOwner(name) => BusRole::OwnerAnswer(name),
+        Kind::OwnNames => BusRole::NamesAnswer,
+    }
+}
+
+fn role_of_bus_signal<'a>(message: &Message<'_>) -> BusRole<'a>
+    ensures { bus_role_seen result ≡ signal_role_of (message_seen message.now) }
+{
+    if is_owner_change(message) {
+        BusRole::OwnerChange
+    } else if message.destination.is_some() {
+        BusRole::SignalIn
+    } else {
+        BusRole::BroadcastIn
+    }
+}
+
+/// Whether it is NameOwnerChanged from the bus (D-Bus Specification, "org.freedesktop.DBus.NameOwnerChanged").
+pub fn is_owner_change(message: &Message<'_>) -> bool
+    ensures { result ≡ is_owner_change_of (message_seen message.now) }
+{
+    is_text(message.sender, BUS_NAME)
+        && is_text(message.interface, BUS_NAME)
+        && is_text(message.member, "NameOwnerChanged")
+}
+
+fn is_text(text: Option<&str>, wanted: &str) -> bool
+    ensures { result ≡ text_is (text_seen text.entry) wanted.now }
+{
+    match text {
+        None => false,
+        Some(text) => text == wanted,
+    }
+}

@@ -1,0 +1,118 @@
+//! What the client is shown of a bus message, by its role.
+ghost use Rattle.std.specs.Prelude.{◌≡◌};
+ghost use Rattle.dbus_header.specs.Read.{message_seen};
+ghost use Rattle.dbus_header.specs.Seen.{text_seen};
+ghost use Rattle.unique_names.specs.Taught.{kept_level, kept_numbers};
+ghost use Rattle.verdicts.specs.Kept.{kept};
+ghost use Rattle.verdicts.specs.Seen.{bus_role_seen};
+ghost use Rattle.verdicts.specs.Showing.{broadcast_by, changed_name_in, has_list_in, may_announce as may_be_announced, names_by, owner_change_by, showing_by};
+
+use crate::entries::is_announced;
+use crate::roles::BusRole;
+use dbus_header::Message;
+use policy_args::{Level, Policy};
+use policy_view::{Reason, Showing};
+use unique_names::Tracker;
+
+/// What is shown of a message of this role.
+pub(crate) fn show_as(
+    policy: &Policy,
+    tracker: &Tracker,
+    message: &Message<'_>,
+    role: BusRole<'_>,
+) -> Showing
+    ensures { result ≡ showing_by policy.now (kept_level policy.now tracker.now) (kept_numbers policy.now tracker.now) (message_seen message.now) message.now.bytes.now (bus_role_seen role.entry) }
+{
+    match role {
+        BusRole::NoRole => Showing::Hide(Reason::UnknownType),
+        BusRole::Unexpected => Showing::Hide(Reason::NotExpected),
+        BusRole::MatchAnswer | BusRole::OwnerAnswer(_) | BusRole::NamesAnswer => {
+            Showing::Hide(Reason::OwnAnswer)
+        }
+        BusRole::PingAnswer {
+            serial,
+            order,
+            what,
+        } => Showing::Instead {
+            order,
+            reply: serial,
+            what,
+        },
+        BusRole::NameList(serial) => show_names(message, serial),
+        BusRole::HelloAnswer(serial) | BusRole::OtherAnswer(serial) => Showing::Reply(serial),
+        BusRole::CallIn | BusRole::SignalIn => Showing::Whole,
+        BusRole::OwnerChange => show_owner_change(policy, tracker, message),
+        BusRole::BroadcastIn => show_broadcast(policy, tracker, message),
+    }
+}
+
+// A list of names, where the body is one.
+fn show_names(message: &Message<'_>, serial: u32) -> Showing
+    ensures { result ≡ names_by serial (has_list_in message.now.bytes.now) }
+{
+    if has_list(message) {
+        Showing::Cut(serial)
+    } else {
+        Showing::Hide(Reason::BadArgument)
+    }
+}
+
+// Whether the body is a list of texts.
+fn has_list(message: &Message<'_>) -> bool
+    ensures { result ≡ has_list_in message.now.bytes.now }
+{
+    message.text_list().is_some()
+}
+
+// The owner of a name changed, which the client learns where it sees the name.
+fn show_owner_change(policy: &Policy, tracker: &Tracker, message: &Message<'_>) -> Showing
+    ensures { result ≡ owner_change_by (kept_level policy.now tracker.now) (changed_name_in message.now.bytes.now) }
+{
+    match changed_name(message) {
+        None => Showing::Hide(Reason::BadArgument),
+        Some(name) => {
+            if tracker.level(policy, name).is_at_least(Level::See) {
+                Showing::Whole
+            } else {
+                Showing::Hide(Reason::NameHidden)
+            }
+        }
+    }
+}
+
+// The first of the three texts that the body is: the name, its old owner and its new one.
+fn changed_name<'a>(message: &Message<'a>) -> Option<&'a str>
+    ensures { text_seen result ≡ changed_name_in message.now.bytes.now }
+{
+    let (name, _, _) = message.three_texts()?;
+    Some(name)
+}
+
+// A signal for all comes from a name that may be talked to, or where a rule says so.
+fn show_broadcast(policy: &Policy, tracker: &Tracker, message: &Message<'_>) -> Showing
+    ensures { result ≡ broadcast_by policy.now (kept_level policy.now tracker.now) (kept_numbers policy.now tracker.now) (message_seen message.now) }
+{
+    if may_announce(policy, tracker, message, message.sender) {
+        Showing::Whole
+    } else {
+        Showing::Hide(Reason::SenderNotTalk)
+    }
+}
+
+// Whether the sender may be talked to, or a Broadcast rule of its entries matches.
+fn may_announce(
+    policy: &Policy,
+    tracker: &Tracker,
+    message: &Message<'_>,
+    sender: Option<&str>,
+) -> bool
+    ensures { result ≡ may_be_announced policy.now (kept_level policy.now tracker.now) (kept_numbers policy.now tracker.now) (message_seen message.now) (text_seen sender.entry) }
+{
+    match sender {
+        None => false,
+        Some(name) => {
+            tracker.level(policy, name).is_at_least(Level::Talk)
+                || is_announced(policy, message, tracker.entries(policy, name))
+        }
+    }
+}
