@@ -1,13 +1,9 @@
 -- Lines and messages taken from the front of a stream, one and then many.
-use Rattle.std.proofs.Common.{ℕ, zero, suc, ◌≡◌, ◌+◌, ◌-◌, ◌*◌, ◌≤◌, ◌<◌, Bool, true, false, cond, List, ◌∷◌, ◌++◌, length, Option, Some, None, refl, ap, ◌∙◌, sym, subst, arith, length-append, inl, inr}
-use Rattle.std.specs.Prelude.{is_none, is_some, not}
-use Rattle.std.specs.Int.{w32}
+use Rattle.std.proofs.Common.{ℕ, zero, suc, ◌≡◌, ◌+◌, ◌-◌, ◌*◌, ◌≤◌, ◌<◌, Bool, true, false, cond, List, [], ◌∷◌, ◌++◌, length, Option, Some, None, refl, ap, ◌∙◌, sym, subst, arith, length-append, inl, inr}
+use Rattle.std.specs.Prelude.{◌==◌, is_none, is_some, not}
 use Rattle.dbus_names.specs.Names.{is_empty}
-use Rattle.dbus_values.specs.Values.{number_bytes, zeros}
-use Rattle.dbus_values.proofs.ValueLaws.{wide_32}
-use Rattle.dbus_header.specs.Message.{Message, Valid, spell, spelled_fields, spelled_list, body_place, order_byte}
+use Rattle.dbus_header.specs.Message.{Message, Valid, spell}
 use Rattle.dbus_header.specs.Malformed.{front, fault}
-use Rattle.dbus_header.specs.Contents.{contents_of}
 use Rattle.dbus_header.specs.declared.Malformed.{Malformed}
 use Rattle.dbus_header.proofs.FaultStays.{fault_front}
 use Rattle.dbus_framing.specs.Framing.{Takes}
@@ -23,32 +19,11 @@ use Rattle.policy_view.specs.declared.End.{End}
 use Rattle.policy_view.specs.declared.End.TheVariants.{Memory, NotBuilt}
 use Rattle.proxy_core.specs.Streams.{StreamView, Phase, InLines, InMessages, pushed, GaveMessage}
 use Rattle.proxy_core.specs.Sessions.{SessionView, stream_of, IsFront}
-use Rattle.proxy_core.specs.Messages.{ended_by, with_message}
-use Rattle.proxy_core.specs.Steps.{with_stream, with_left, with_fault, and_runs, with_front, step_at, step_of, more_if, drained, with_more, with_bytes, TookMessage, Took, Stepped, bus_weight, client_weight, IsLight}
+use Rattle.proxy_core.specs.Messages.{ended_by, with_message, KeepsSides}
+use Rattle.proxy_core.specs.Steps.{with_stream, with_left, with_fault, and_runs, with_front, step_at, step_of, more_if, drained, with_more, with_bytes, TookMessage, Took, Stepped, own_to_come, weight, IsLight}
 use Rattle.proxy_core.proofs.Keeping.{IsKept, message_kept, front_all, front_then}
+use Rattle.proxy_core.proofs.Weights.{message_light}
 use Rattle.proxy_core.proofs.LineSteps.{line_bus, line_client, line_runs}
-
-pub spell_long : (m : Message) → 16 ≤ length (spell m)
-unfolding spell
-spell_long m =
-    let fields = spelled_fields m.order m.fields in
-    let body = spelled_list m.order (body_place (length fields)) m.body in
-    let one = number_bytes m.order w32 (length body) in
-    let two = number_bytes m.order w32 m.serial in
-    let three = number_bytes m.order w32 (length fields) in
-    let gap = zeros 8 (16 + length fields) in
-    let start : List ℕ = order_byte m.order ∷ m.kind ∷ m.flags ∷ 1 ∷ one in
-    omega (
-      arith,
-      wide_32.len m.order (length body),
-      wide_32.len m.order m.serial,
-      wide_32.len m.order (length fields),
-      length-append start two,
-      length-append (start ++ two) three,
-      length-append (start ++ two ++ three) fields,
-      length-append (start ++ two ++ three ++ fields) gap,
-      length-append (start ++ two ++ three ++ fields ++ gap) body,
-    )
 
 -- ---- the rest of a side's stream
 
@@ -76,19 +51,27 @@ left_client Client left view = refl
 left_client Bus left view = refl
 
 -- a message's bytes are no longer left
-left_weight : (side : Side) (left : List ℕ) (n : ℕ) (view : SessionView) → length (left_of side view) ≡ n + length left
-    → (length (with_left side left view).client.left + length (with_left side left view).bus.left) + n ≡ length view.client.left + length view.bus.left
-left_weight Client left n view e = omega (arith, e)
-left_weight Bus left n view e = omega (arith, e)
+left_weighs : (policy : Policy) (side : Side) (left : List ℕ) (n : ℕ) (view : SessionView) → length (left_of side view) ≡ n + length left → weight policy (with_left side left view) + 19 * n ≡ weight policy view
+left_weighs policy Client left n view e = by _ _ _ _ _ e
+  where
+    by : (sides whole left other own : ℕ) → whole ≡ n + left → sides + 19 * (left + other) + own + 19 * n ≡ sides + 19 * (whole + other) + own
+    by sides whole left other own e = omega arith
+left_weighs policy Bus left n view e = by _ _ _ _ _ e
+  where
+    by : (sides whole left other own : ℕ) → whole ≡ n + left → sides + 19 * (other + left) + own + 19 * n ≡ sides + 19 * (other + whole) + own
+    by sides whole left other own e = omega arith
+
+no_more : (new mid n : ℕ) → new ≡ mid → new ≤ mid + n
+no_more new mid n e = omega arith
 
 -- ---- the message in front
 
 module _ (policy : Policy) (side : Side) where
   abbrev after : Message → List ℕ → SessionView → SessionView
-  after m left view = with_message policy side (contents_of m) (spell m) (with_left side left view)
+  after m left view = with_message policy side m (with_left side left view)
 
-  kept : (m : Message) (left : List ℕ) (view : SessionView) → IsKept (9 * length (spell m)) (with_left side left view) (after m left view)
-  kept m left view = message_kept policy (contents_of m) (spell m) (spell_long m) side (with_left side left view)
+  kept : (m : Message) (left : List ℕ) (view : SessionView) → IsKept (with_left side left view) (after m left view)
+  kept m left view = message_kept policy side m (with_left side left view)
 
   bus_front : (m : Message) (left : List ℕ) (view : SessionView) → IsFront view.bus_side (after m left view).bus_side
   bus_front m left view = subst (λ (xs : List ℕ). IsFront xs (after m left view).bus_side) (left_bus side left view) (kept m left view).bus_front
@@ -150,9 +133,9 @@ module _ (policy : Policy) (side : Side) where
 
   -- a whole message is taken
   pub whole_step : (old mid new : SessionView) (frame left : List ℕ) (m : Message) → old.ended ≡ None → (stream_of side old).phase ≡ InMessages → Takes (left_of side old) frame left m → mid ≡ with_left side left old
-      → TookMessage (with_message policy side (contents_of m) (spell m) mid) mid new → Stepped (step_of policy side old) old new (is_none new.ended)
+      → TookMessage (with_message policy side m mid) mid new → Stepped (step_of policy side old) old new (is_none new.ended)
   whole_step old mid new frame left m runs p t is (inl done) =
-      let new_is : new ≡ after m left old = done ∙ ap (λ (v : SessionView). with_message policy side (contents_of m) (spell m) v) is in
+      let new_is : new ≡ after m left old = done ∙ ap (λ (v : SessionView). with_message policy side m v) is in
       inl (new_is ∙ ap (λ (x : SessionView × Bool). x.0) (sym (step_is old m left p t.in_front)), ap (λ (v : SessionView). is_none v.ended) new_is ∙ ap (λ (x : SessionView × Bool). x.1) (sym (step_is old m left p t.in_front)))
   whole_step old mid new frame left m runs p t is (inr refused) =
       let bus : new.bus_side ≡ old.bus_side = refused.kept.bus_side ∙ ap (λ (v : SessionView). v.bus_side) is ∙ left_bus side left old in
@@ -168,48 +151,38 @@ module _ (policy : Policy) (side : Side) where
         ap is_none refused.ended,
       )
 
-  weight_bus : (old mid new : SessionView) (left : List ℕ) (n : ℕ) → mid ≡ with_left side left old → length (left_of side old) ≡ n + length left → length new.bus_side ≤ length mid.bus_side + 9 * n
-      → new.client ≡ mid.client → new.bus ≡ mid.bus → bus_weight new ≤ bus_weight old + 9 * 0
-  weight_bus old mid new left n is parts more c b =
-      let here : (length mid.client.left + length mid.bus.left) + n ≡ length old.client.left + length old.bus.left =
-      ap (λ (v : SessionView). (length v.client.left + length v.bus.left) + n) is ∙ left_weight side left n old parts in
-      let side_is : length mid.bus_side ≡ length old.bus_side = ap length (ap (λ (v : SessionView). v.bus_side) is ∙ left_bus side left old) in
-      let c_is : length new.client.left ≡ length mid.client.left = ap (λ (x : StreamView). length x.left) c in
-      let b_is : length new.bus.left ≡ length mid.bus.left = ap (λ (x : StreamView). length x.left) b in
-      omega (arith, here, side_is, c_is, b_is, more)
+  -- nothing changed that weighs
+  sides_weigh : (old new : SessionView) → KeepsSides old new → weight policy new ≡ weight policy old
+  sides_weigh old new k =
+      by (ap length k.bus_side) (ap length k.client_side) (ap (λ (x : StreamView). length x.left) k.client) (ap (λ (x : StreamView). length x.left) k.bus) (ap (own_to_come policy) k.greeted)
+    where
+      by : {a b c d e p q r s t : ℕ} → a ≡ p → b ≡ q → c ≡ r → d ≡ s → e ≡ t → a + b + 19 * (c + d) + e ≡ p + q + 19 * (r + s) + t
+      by e f g h i = omega arith
 
-  weight_client : (old mid new : SessionView) (left : List ℕ) (n : ℕ) → mid ≡ with_left side left old → length (left_of side old) ≡ n + length left → length new.client_side ≤ length mid.client_side + 9 * n
-      → new.client ≡ mid.client → new.bus ≡ mid.bus → client_weight new ≤ client_weight old + 9 * 0
-  weight_client old mid new left n is parts more c b =
-      let here : (length mid.client.left + length mid.bus.left) + n ≡ length old.client.left + length old.bus.left =
-      ap (λ (v : SessionView). (length v.client.left + length v.bus.left) + n) is ∙ left_weight side left n old parts in
-      let side_is : length mid.client_side ≡ length old.client_side = ap length (ap (λ (v : SessionView). v.client_side) is ∙ left_client side left old) in
-      let c_is : length new.client.left ≡ length mid.client.left = ap (λ (x : StreamView). length x.left) c in
-      let b_is : length new.bus.left ≡ length mid.bus.left = ap (λ (x : StreamView). length x.left) b in
-      omega (arith, here, side_is, c_is, b_is, more)
+  weighs_less : (old mid new : SessionView) (left : List ℕ) (n : ℕ) → mid ≡ with_left side left old → length (left_of side old) ≡ n + length left → weight policy new ≤ weight policy mid + 19 * n → weight policy new ≤ weight policy old + 19 * 0
+  weighs_less old mid new left n is parts less = by (ap (weight policy) is) (left_weighs policy side left n old parts) less
+    where
+      by : {new mid cut old : ℕ} → mid ≡ cut → cut + 19 * n ≡ old → new ≤ mid + 19 * n → new ≤ old + 19 * 0
+      by e f g = omega arith
 
-  -- and nine bytes at most come out for each of its own
+  -- and nineteen bytes at most come out for each of its own, beside the own calls that were to come
   pub whole_light : (old mid new : SessionView) (frame left : List ℕ) (m : Message) → Takes (left_of side old) frame left m → mid ≡ with_left side left old
-      → TookMessage (with_message policy side (contents_of m) (spell m) mid) mid new → IsLight 0 old new
+      → TookMessage (with_message policy side m mid) mid new → IsLight policy 0 old new
   whole_light old mid new frame left m t is took =
       let parts : length (left_of side old) ≡ length (spell m) + length left = ap length (t.parts ∙ ap (λ (xs : List ℕ). xs ++ left) t.spelled) ∙ length-append (spell m) left in
       let mode : mid.mode ≡ old.mode = ap (λ (v : SessionView). v.mode) is ∙ left_mode side left old in
       elim took [
         | inl done ↦
-            let k = message_kept policy (contents_of m) (spell m) (spell_long m) side mid in
-            subst (λ (v : SessionView). IsLight 0 old v) (sym done)
+            subst (λ (v : SessionView). IsLight policy 0 old v) (sym done)
             (record {
-              mode = k.mode ∙ mode;
-              for_bus = weight_bus old mid (with_message policy side (contents_of m) (spell m) mid) left (length (spell m)) is parts k.for_bus k.client k.bus;
-              for_client = weight_client old mid (with_message policy side (contents_of m) (spell m) mid) left (length (spell m)) is parts k.for_client k.client k.bus;
+              mode = (message_kept policy side m mid).mode ∙ mode;
+              weighs = weighs_less old mid (with_message policy side m mid) left (length (spell m)) is parts (message_light policy side m mid t.valid);
             })
         | inr refused ↦
-            let bus : length new.bus_side ≡ length mid.bus_side = ap length refused.kept.bus_side in
-            let client : length new.client_side ≡ length mid.client_side = ap length refused.kept.client_side in
+            let same : weight policy new ≡ weight policy mid = sides_weigh mid new refused.kept in
             record {
               mode = refused.kept.mode ∙ mode;
-              for_bus = weight_bus old mid new left (length (spell m)) is parts (omega (arith, bus)) refused.kept.client refused.kept.bus;
-              for_client = weight_client old mid new left (length (spell m)) is parts (omega (arith, client)) refused.kept.client refused.kept.bus;
+              weighs = weighs_less old mid new left (length (spell m)) is parts (no_more _ _ (19 * length (spell m)) same);
             }
       ]
 
@@ -306,7 +279,7 @@ given_bus view v side next new is same gave = subst (λ (s : Side). Given s v ne
 
 module _ (policy : Policy) (side : Side) (old : SessionView) (runs : old.ended ≡ None) where
   abbrev Kept : List ℕ → SessionView → SessionView → Type 0
-  Kept frame mid new = (m : Message) → Valid m → frame ≡ spell m → TookMessage (with_message policy side (contents_of m) (spell m) mid) mid new
+  Kept frame mid new = (m : Message) → Valid m → frame ≡ spell m → TookMessage (with_message policy side m mid) mid new
 
   with_given : {mid : SessionView} {s : StreamView} {left : List ℕ} → mid ≡ with_stream side s old → s ≡ record (stream_of side old) { left = left } → mid ≡ with_left side left old
   with_given e f = e ∙ ap (λ (x : StreamView). with_stream side x old) f
@@ -317,7 +290,7 @@ module _ (policy : Policy) (side : Side) (old : SessionView) (runs : old.ended �
       let t = h.gives.given in
       whole_step policy side old mid new frame h.gives.left t.0 runs h.gives.before t.1 (with_given h.is h.gives.is) (took t.0 t.1.valid t.1.spelled)
 
-  pub whole_weighs : (next : Next) (mid new : SessionView) (frame : List ℕ) → next ≡ Whole frame → Given side old next mid → Kept frame mid new → IsLight 0 old new
+  pub whole_weighs : (next : Next) (mid new : SessionView) (frame : List ℕ) → next ≡ Whole frame → Given side old next mid → Kept frame mid new → IsLight policy 0 old new
   whole_weighs next mid new frame e g took =
       let h : Given side old (Whole frame) mid = subst (λ (n : Next). Given side old n mid) e g in
       let t = h.gives.given in
@@ -354,6 +327,33 @@ pushed_client : (side : Side) (s : StreamView) (view : SessionView) → (with_st
 pushed_client Client s view = refl
 pushed_client Bus s view = refl
 
+pushed_left : (side : Side) (s : StreamView) (view : SessionView) → left_of side (with_stream side s view) ≡ s.left
+pushed_left Client s view = refl
+pushed_left Bus s view = refl
+
+pushed_ended : (side : Side) (s : StreamView) (view : SessionView) → (with_stream side s view).ended ≡ view.ended
+pushed_ended Client s view = refl
+pushed_ended Bus s view = refl
+
+pushed_mode : (side : Side) (s : StreamView) (view : SessionView) → (with_stream side s view).mode ≡ view.mode
+pushed_mode Client s view = refl
+pushed_mode Bus s view = refl
+
+not_empty_by : (bytes : List ℕ) → (length bytes == 0) ≡ false → is_empty bytes ≡ false
+not_empty_by [] e = absurd cc
+not_empty_by (byte ∷ bytes) e = refl
+
+-- from what stood before
+took_from : (expected other old mid new : SessionView) → expected ≡ other → mid.ended ≡ old.ended → mid.mode ≡ old.mode → Took expected mid new → Took other old new
+took_from expected other old mid new is runs mode (inl done) = inl (done ∙ is)
+took_from expected other old mid new is runs mode (inr refused) = inr (record {
+  running = sym runs ∙ refused.running;
+  ended = refused.ended;
+  mode = refused.mode ∙ mode;
+  for_bus = subst (λ (v : SessionView). IsFront new.bus_side v.bus_side) is refused.for_bus;
+  for_client = subst (λ (v : SessionView). IsFront new.client_side v.client_side) is refused.for_client;
+})
+
 module _ (policy : Policy) (side : Side) (bytes : List ℕ) where
   more_bus : (view : SessionView) → IsFront view.bus_side (with_more policy side bytes view).bus_side
   more_bus view = subst (λ (xs : List ℕ). IsFront xs (with_more policy side bytes view).bus_side) (pushed_bus side (pushed bytes (stream_of side view)) view)
@@ -384,3 +384,22 @@ module _ (policy : Policy) (side : Side) (bytes : List ℕ) where
         for_bus = subst (λ (v : SessionView). IsFront v.bus_side (with_bytes policy side bytes old).bus_side) (sym new_is) (built_bus (is_empty bytes) old.mode.filter old);
         for_client = subst (λ (v : SessionView). IsFront v.client_side (with_bytes policy side bytes old).client_side) (sym new_is) (built_client (is_empty bytes) old.mode.filter old);
       })
+
+  -- and those that came are taken
+  pub bytes_taken : (old mid new : SessionView) (most : ℕ) → (length bytes == 0) ≡ false → old.mode.filter ≡ true → mid ≡ with_stream side (pushed bytes (stream_of side old)) old → most ≡ length (left_of side mid) + 2
+      → Took (drained policy side most mid) mid new → Took (with_bytes policy side bytes old) old new
+  bytes_taken old mid new most some filters is enough took =
+      let first : SessionView = with_stream side (pushed bytes (stream_of side old)) old in
+      let most_is : most ≡ length (left_of side old ++ bytes) + 2 = enough ∙ ap (λ (v : SessionView). length (left_of side v) + 2) is ∙ ap (λ (xs : List ℕ). length xs + 2) (pushed_left side (pushed bytes (stream_of side old)) old) in
+      let all : drained policy side most mid ≡ with_bytes policy side bytes old =
+      ap (λ (v : SessionView). drained policy side most v) is
+      ∙ ap (λ (n : ℕ). drained policy side n first) most_is
+      ∙ ap (λ (b : Bool). cond b (with_more policy side bytes old) (ended_by NotBuilt old)) (sym filters)
+      ∙ ap (λ (b : Bool). cond b old (cond old.mode.filter (with_more policy side bytes old) (ended_by NotBuilt old))) (sym (not_empty_by bytes some)) in
+      took_from (drained policy side most mid) (with_bytes policy side bytes old) old mid new all (ap (λ (v : SessionView). v.ended) is ∙ pushed_ended side (pushed bytes (stream_of side old)) old)
+      (ap (λ (v : SessionView). v.mode) is ∙ pushed_mode side (pushed bytes (stream_of side old)) old)
+      took
+
+-- one after the other
+pub light_then : (policy : Policy) (a b c : SessionView) → IsLight policy 0 a b → IsLight policy 0 b c → IsLight policy 0 a c
+light_then policy a b c p q = record { mode = q.mode ∙ p.mode; weighs = omega (arith, p.weighs, q.weighs) }

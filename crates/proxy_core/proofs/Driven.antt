@@ -1,5 +1,5 @@
 -- What a session holds when all that stands in front of a side's stream was taken.
-use Rattle.std.proofs.Common.{ℕ, zero, suc, ◌≡◌, ◌+◌, ◌-◌, ◌*◌, ◌<◌, nat_le, Bool, true, false, cond, List, [], ◌∷◌, ◌++◌, length, Option, Some, None, refl, ap, ◌∙◌, sym, subst, arith, append-nil, append_assoc, length-append}
+use Rattle.std.proofs.Common.{ℕ, zero, suc, ◌≡◌, ◌+◌, ◌-◌, ◌<◌, nat_le, Bool, true, false, cond, List, [], ◌∷◌, ◌++◌, length, Option, Some, None, refl, ap, ◌∙◌, sym, subst, arith, append-nil, append_assoc, length-append}
 use Rattle.std.specs.Prelude.{◌==◌, ◌||◌, not, is_none}
 use Rattle.std.proofs.lemmas.Bool.{eqb-true, eq-eqb, ne_eqb}
 use Rattle.std.proofs.lemmas.Bool.Decides.{nat_tests}
@@ -9,7 +9,6 @@ use Rattle.byte_lists.specs.Bytes.{AreBytes}
 use Rattle.dbus_names.specs.Names.{is_empty}
 use Rattle.dbus_header.specs.Message.{Message, Valid, spell}
 use Rattle.dbus_header.specs.Malformed.{front, fault as message_fault}
-use Rattle.dbus_header.specs.Contents.{contents_of}
 use Rattle.dbus_header.specs.declared.Malformed.{Malformed}
 use Rattle.dbus_header.proofs.MessageRead.{front-is}
 use Rattle.dbus_header.proofs.StreamLaws.{front-shorter}
@@ -35,7 +34,6 @@ use Rattle.proxy_core.specs.Messages.{ended_by, with_message}
 use Rattle.proxy_core.specs.Steps.{with_stream, with_left, behind_line, in_messages, begun_if, asks, with_client_line, with_bus_line, with_line_fault, with_lines, with_all_answered, unanswered, has_begun, line_step, with_fault, with_front, step_at, more_if, drained}
 use Rattle.proxy_core.proofs.Placing.{followed, placed_itself, ended_holds, moved}
 use Rattle.proxy_core.proofs.Keeping.{IsKept, message_kept}
-use Rattle.proxy_core.proofs.Draining.{spell_long}
 use Rattle.proxy_core.proofs.LineCuts.{sound_at, behind, ClientGoes, client_goes, BusGoes, bus_goes}
 use Rattle.proxy_core.proofs.Going.{Goes, GoesAt, GoesInLines, GoesInMessages, Stops, Begins, begins, messages_stop, messages_stand, message_goes, client_stops, client_stands, client_line_goes, begin_goes, bus_stops, bus_stands, bus_line_goes, early_stops, none_stops, done_goes}
 
@@ -48,7 +46,7 @@ end_followed policy view items taken end runs h =
     let fits = (h.knows runs).fits in
     let room : nat_le (length (past policy items).told.sent + 0) most_sent ≡ true = grind (arith, nat_tests, fits) in
     moved policy taken (ended_by end view) (ended_by end view) (followed_by policy items (Ended end)) (Ended end ∷ items) refl
-    (followed policy items (Ended end) (sym h.end_is ∙ runs) ∙ ap (λ (i : Item). i ∷ items) (placed_itself policy (past policy items) (Ended end) refl room))
+    (followed policy items (Ended end) (sym h.end_is ∙ runs) ∙ ap (λ (i : Item). i ∷ items) (placed_itself policy (past policy items) (Ended end) room))
     (ended_holds policy view items taken end h)
 
 pub end_ignored : (policy : Policy) (items : History) (item : Item) (end : End) → end_of items ≡ Some end → followed_by policy items item ≡ items
@@ -69,13 +67,13 @@ stream_holds policy view items taken Client s h = record {
   for_bus = h.for_bus;
   for_client = h.for_client;
   end_is = h.end_is;
-  knows = λ e. let k = h.knows e in record { count = k.count; fits = k.fits; each = k.each; built = k.built; facts = k.facts };
+  knows = λ e. let k = h.knows e in record { count = k.count; fits = k.fits; greeted = k.greeted; stand = k.stand };
 }
 stream_holds policy view items taken Bus s h = record {
   for_bus = h.for_bus;
   for_client = h.for_client;
   end_is = h.end_is;
-  knows = λ e. let k = h.knows e in record { count = k.count; fits = k.fits; each = k.each; built = k.built; facts = k.facts };
+  knows = λ e. let k = h.knows e in record { count = k.count; fits = k.fits; greeted = k.greeted; stand = k.stand };
 }
 
 -- ---- a line in its place
@@ -85,7 +83,7 @@ unfolding due
 line_room policy view items taken side l runs h =
     let fits = (h.knows runs).fits in
     let room : nat_le (length (past policy items).told.sent + 0) most_sent ≡ true = grind (arith, nat_tests, fits) in
-    followed policy items (Line side l) (sym h.end_is ∙ runs) ∙ ap (λ (i : Item). i ∷ items) (placed_itself policy (past policy items) (Line side l) refl room)
+    followed policy items (Line side l) (sym h.end_is ∙ runs) ∙ ap (λ (i : Item). i ∷ items) (placed_itself policy (past policy items) (Line side l) room)
 
 client_line_holds : (policy : Policy) (view : SessionView) (items : History) (taken : Taken) (l : List ℕ) (s : StreamView) → view.ended ≡ None → Holds policy view items taken
     → Holds policy (record view { bus_side = view.bus_side ++ for_bus l; client = s }) (followed_by policy items (Line Client l)) taken
@@ -97,7 +95,7 @@ client_line_holds policy view items taken l s runs h =
       for_bus = sym (append_assoc taken.bus_side view.bus_side (for_bus l)) ∙ ap (λ (w : List ℕ). w ++ for_bus l) h.for_bus;
       for_client = h.for_client ∙ sym (append-nil (client_bytes policy items));
       end_is = h.end_is;
-      knows = λ e. let k = h.knows e in record { count = k.count; fits = k.fits; each = k.each; built = k.built; facts = k.facts };
+      knows = λ e. let k = h.knows e in record { count = k.count; fits = k.fits; greeted = k.greeted; stand = k.stand };
     })
 
 bus_line_holds : (policy : Policy) (view : SessionView) (items : History) (taken : Taken) (l : List ℕ) (s : StreamView) → view.ended ≡ None → Holds policy view items taken
@@ -110,7 +108,7 @@ bus_line_holds policy view items taken l s runs h =
       for_bus = h.for_bus ∙ sym (append-nil (bus_bytes policy items));
       for_client = sym (append_assoc taken.client_side view.client_side l) ∙ ap (λ (w : List ℕ). w ++ l) h.for_client;
       end_is = h.end_is;
-      knows = λ e. let k = h.knows e in record { count = k.count; fits = k.fits; each = k.each; built = k.built; facts = k.facts };
+      knows = λ e. let k = h.knows e in record { count = k.count; fits = k.fits; greeted = k.greeted; stand = k.stand };
     })
 
 -- ---- new items
@@ -124,7 +122,7 @@ new_none (x ∷ xs) = new_none xs
 -- what a session does with a valid message is what the history has
 abbrev pub Steps : Policy → Taken → Type 0
 Steps policy taken = (side : Side) (view : SessionView) (items : History) (m : Message) → view.ended ≡ None → Holds policy view items taken → Valid m
-    → Holds policy (with_message policy side (contents_of m) (spell m) view) (followed_by policy items (Msg side m)) taken
+    → Holds policy (with_message policy side m view) (followed_by policy items (Msg side m)) taken
 
 -- the session holds what its side's stream has beyond these items, and its fault; where it runs, all was taken
 pub record Final (policy : Policy) (taken : Taken) (mode : Mode) (side : Side) (events : List Event) (items : History) (given : List Item) (new : SessionView) : Type 0 where
@@ -345,16 +343,16 @@ module _ (policy : Policy) (taken : Taken) (steps : Steps policy taken) (mode : 
   abbrev left_now : List ℕ
   left_now = (stream_of side view).left
 
-  kept_stream : (s : Side) (k : ℕ) (old new : SessionView) → IsKept k old new → stream_of s new ≡ stream_of s old
-  kept_stream Client k old new x = x.client
-  kept_stream Bus k old new x = x.bus
+  kept_stream : (s : Side) (old new : SessionView) → IsKept old new → stream_of s new ≡ stream_of s old
+  kept_stream Client old new x = x.client
+  kept_stream Bus old new x = x.bus
 
-  kept_other : (s : Side) (k : ℕ) (x : StreamView) (old new : SessionView) → IsKept k (with_stream s x old) new → KnowsOther mode s events old → KnowsOther mode s events new
-  kept_other Client k x old new kept knows = tt
-  kept_other Bus k x old new kept knows = subst (λ (c : StreamView). KnowsClient mode events c) (sym kept.client) knows
+  kept_other : (s : Side) (x : StreamView) (old new : SessionView) → IsKept (with_stream s x old) new → KnowsOther mode s events old → KnowsOther mode s events new
+  kept_other Client x old new kept knows = tt
+  kept_other Bus x old new kept knows = subst (λ (c : StreamView). KnowsClient mode events c) (sym kept.client) knows
 
   abbrev behind_message : Message → List ℕ → SessionView
-  behind_message m left = with_message policy side (contents_of m) (spell m) (with_left side left view)
+  behind_message m left = with_message policy side m (with_left side left view)
 
   message_last : (m : Message) (left : List ℕ) → front left_now ≡ Some (m, left) → (o : Option End) → (behind_message m left).ended ≡ o
       → MessageLast (more_if (behind_message m left, is_none o) (drained policy side n))
@@ -363,14 +361,14 @@ module _ (policy : Policy) (taken : Taken) (steps : Steps policy taken) (mode : 
       let s : StreamView = record (stream_of side view) { left = left } in
       let goes = message_goes mode side events (stream_of side view) given g m left e in
       let held = steps side (with_stream side s view) items m (stream_runs side s view ∙ runs) (stream_holds policy view items taken side s h) is.0 in
-      let kept = message_kept policy (contents_of m) (spell m) (spell_long m) side (with_stream side s view) in
-      let same : stream_of side (behind_message m left) ≡ s = kept_stream side (9 * length (spell m)) (with_stream side s view) (behind_message m left) kept ∙ same_stream side s view in
+      let kept = message_kept policy side m (with_stream side s view) in
+      let same : stream_of side (behind_message m left) ≡ s = kept_stream side (with_stream side s view) (behind_message m left) kept ∙ same_stream side s view in
       let begin = begins mode side events InMessages s (given ++ Msg side m ∷ []) goes in
       let less = front-shorter left_now m left e in
       by o ended s goes held kept same begin less (AreBytes-behind (spell m) left (subst AreBytes is.1 are))
     where
       by : (o : Option End) → (behind_message m left).ended ≡ o → (s : StreamView) → GoesInMessages mode side events (record (stream_of side view) { left = left }) (given ++ Msg side m ∷ []) → Holds policy (behind_message m left) (followed_by policy items (Msg side m)) taken
-          → IsKept (9 * length (spell m)) (with_left side left view) (behind_message m left) → stream_of side (behind_message m left) ≡ record (stream_of side view) { left = left } → Begins (given ++ Msg side m ∷ []) (found mode side events) → length left < length left_now → AreBytes left
+          → IsKept (with_left side left view) (behind_message m left) → stream_of side (behind_message m left) ≡ record (stream_of side view) { left = left } → Begins (given ++ Msg side m ∷ []) (found mode side events) → length left < length left_now → AreBytes left
           → MessageLast (more_if (behind_message m left, is_none o) (drained policy side n))
       by (Some end) ended s goes held kept same begin less behind = ended_last policy taken mode side events items given (Msg side m) (behind_message m left) end begin ended held
       by None ended s goes held kept same begin less behind =
@@ -380,7 +378,7 @@ module _ (policy : Policy) (taken : Taken) (steps : Steps policy taken) (mode : 
           item_last policy taken mode side events items given (Msg side m) (drained policy side n (behind_message m left)) begin
           (others (behind_message m left) (followed_by policy items (Msg side m)) (given ++ Msg side m ∷ []) (subst (λ (x : StreamView). weight x < n) (sym same) light) ended
           (subst (λ (x : StreamView). Goes mode side events x (given ++ Msg side m ∷ [])) (sym same) goes_now) held (subst (λ (x : StreamView). AreBytes x.left) (sym same) behind)
-          (kept_other side (9 * length (spell m)) now view (behind_message m left) kept knows))
+          (kept_other side now view (behind_message m left) kept knows))
 
   no_message_last : front left_now ≡ None → (f : Option Malformed) → message_fault left_now ≡ f → MessageLast (with_fault side f view)
   no_message_last e None f =

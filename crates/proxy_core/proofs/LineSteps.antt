@@ -1,5 +1,5 @@
 -- Lines taken from the front of a stream.
-use Rattle.std.proofs.Common.{ℕ, zero, suc, ◌≡◌, ◌+◌, ◌≤◌, Bool, true, false, cond, List, [], ◌∷◌, ◌++◌, length, take, drop, Option, Some, None, refl, ap, ◌∙◌, sym, subst, arith, length-append, inl, inr}
+use Rattle.std.proofs.Common.{ℕ, zero, suc, ◌≡◌, ◌+◌, ◌*◌, ◌≤◌, Bool, true, false, cond, List, [], ◌∷◌, ◌++◌, length, take, drop, Option, Some, None, refl, ap, ◌∙◌, sym, subst, arith, length-append, inl, inr}
 use Rattle.std.specs.Prelude.{◌⊎◌, ◌==◌, ◌||◌, not, codes, bytes_eq, take_while}
 use Rattle.std.specs.List.{prefix_len}
 use Rattle.std.proofs.lemmas.List.{drop_at}
@@ -17,7 +17,7 @@ use Rattle.policy_view.specs.declared.Side.{Side}
 use Rattle.policy_view.specs.declared.Side.TheVariants.{Client, Bus}
 use Rattle.proxy_core.specs.Streams.{StreamView, InLines, watch_at, GaveLine}
 use Rattle.proxy_core.specs.Sessions.{SessionView, IsFront}
-use Rattle.proxy_core.specs.Steps.{behind_line, in_messages, with_line_fault, with_lines, with_cut, unanswered, has_begun, with_all_answered, step_at, Stepped, Did, bus_weight, client_weight, IsLight}
+use Rattle.proxy_core.specs.Steps.{behind_line, in_messages, with_line_fault, with_lines, with_cut, unanswered, has_begun, with_all_answered, step_at, Stepped, Did, own_to_come, weight, IsLight}
 use Rattle.proxy_core.proofs.Keeping.{front_all, front_more}
 
 -- ---- what waits behind a line starts with what waited before
@@ -120,17 +120,21 @@ module _ (expected : SessionView × Bool) (old mid new target : SessionView) (go
 front_short : (xs ys : List ℕ) → IsFront xs ys → length xs ≤ length ys
 front_short xs ys f = let h : length xs + length f.rest ≡ length ys = sym (length-append xs f.rest) ∙ ap length f.is in omega (arith, h)
 
-pub did_light : (old mid new target : SessionView) (goes : Bool) → Did target mid new goes → mid.mode ≡ old.mode → target.mode ≡ old.mode
-    → length target.client.left ≡ length mid.client.left → length target.bus.left ≡ length mid.bus.left
-    → bus_weight target ≤ bus_weight old → client_weight target ≤ client_weight old → IsLight 0 old new
-did_light old mid new target goes (inl done) mode mode_is client bus b c =
-    subst (λ (v : SessionView). IsLight 0 old v) (sym done.0) (record { mode = mode_is; for_bus = omega (arith, b); for_client = omega (arith, c) })
-did_light old mid new target goes (inr cut) mode mode_is client bus b c =
-    let fb = front_short new.bus_side target.bus_side cut.0.for_bus in
-    let fc = front_short new.client_side target.client_side cut.0.for_client in
-    let lc = cut.0.client in
-    let lb = cut.0.bus in
-    record { mode = cut.0.mode ∙ mode; for_bus = omega (arith, b, fb, lc, lb, client, bus); for_client = omega (arith, c, fc, lc, lb, client, bus) }
+pub did_light : (policy : Policy) (old mid new target : SessionView) (goes : Bool) → Did target mid new goes → mid.mode ≡ old.mode → target.mode ≡ old.mode
+    → length target.client.left ≡ length mid.client.left → length target.bus.left ≡ length mid.bus.left → target.greeted ≡ mid.greeted
+    → weight policy target ≤ weight policy old → IsLight policy 0 old new
+did_light policy old mid new target goes (inl done) mode mode_is client bus greeted less =
+    subst (λ (v : SessionView). IsLight policy 0 old v) (sym done.0) (record { mode = mode_is; weighs = no_heavier _ _ less })
+  where
+    no_heavier : (new old : ℕ) → new ≤ old → new ≤ old + 19 * 0
+    no_heavier new old h = omega arith
+did_light policy old mid new target goes (inr cut) mode mode_is client bus greeted less = record {
+  mode = cut.0.mode ∙ mode;
+  weighs = by (front_short new.bus_side target.bus_side cut.0.for_bus) (front_short new.client_side target.client_side cut.0.for_client) cut.0.client cut.0.bus client bus (ap (own_to_come policy) (cut.0.greeted ∙ sym greeted)) less;
+}
+  where
+    by : {b s l m o b' s' l' m' o' l'' m'' w : ℕ} → b ≤ b' → s ≤ s' → l ≤ l'' → m ≤ m'' → l' ≡ l'' → m' ≡ m'' → o ≡ o' → b' + s' + 19 * (l' + m') + o' ≤ w → b + s + 19 * (l + m) + o ≤ w + 19 * 0
+    by b s l m l' m' o w = omega arith
 
 -- ---- a line goes to the bus in no more bytes than it has
 
@@ -154,30 +158,32 @@ for_bus_short l = by (bytes_eq (word l) (codes "NEGOTIATE_UNIX_FD")) refl
 
 -- ---- how much waits behind a line
 
-pub client_light : (view old new target : SessionView) (s : StreamView) (l : List ℕ) (goes : Bool) → view ≡ old → view.client.left ≡ l ++ s.left
-    → Did target (record view { client = s }) new goes → target.mode ≡ view.mode → target.client.left ≡ s.left → target.bus.left ≡ view.bus.left
-    → target.bus_side ≡ view.bus_side ++ for_bus l → target.client_side ≡ view.client_side → IsLight 0 old new
-client_light view old new target s l goes same parts did mode client bus out shown =
-    let total : length view.client.left ≡ length l + length s.left = ap length parts ∙ length-append l s.left in
-    let c : length target.client.left ≡ length s.left = ap length client in
-    let b : length target.bus.left ≡ length view.bus.left = ap length bus in
-    let o : length target.bus_side ≡ length view.bus_side + length (for_bus l) = ap length out ∙ length-append view.bus_side (for_bus l) in
-    let h : length target.client_side ≡ length view.client_side = ap length shown in
-    let short = for_bus_short l in
-    subst (λ (v : SessionView). IsLight 0 v new) same
-    (did_light view (record view { client = s }) new target goes did refl mode c b (omega (arith, total, c, b, o, short)) (omega (arith, total, c, b, h)))
+module _ (policy : Policy) where
+  pub client_light : (view old new target : SessionView) (s : StreamView) (l : List ℕ) (goes : Bool) → view ≡ old → view.client.left ≡ l ++ s.left
+      → Did target (record view { client = s }) new goes → target.mode ≡ view.mode → target.client.left ≡ s.left → target.bus.left ≡ view.bus.left
+      → target.bus_side ≡ view.bus_side ++ for_bus l → target.client_side ≡ view.client_side → target.greeted ≡ view.greeted → IsLight policy 0 old new
+  client_light view old new target s l goes same parts did mode client bus out shown greeted =
+      let c : length target.client.left ≡ length s.left = ap length client in
+      let b : length target.bus.left ≡ length view.bus.left = ap length bus in
+      let less : weight policy target ≤ weight policy view =
+      by (length view.bus_side) (ap length out ∙ length-append view.bus_side (for_bus l)) (for_bus_short l) (ap length shown) (ap length parts ∙ length-append l s.left) c b (ap (own_to_come policy) greeted) in
+      subst (λ (v : SessionView). IsLight policy 0 v new) same (did_light policy view (record view { client = s }) new target goes did refl mode c b greeted less)
+    where
+      by : {b n k s l m o s' l' r m' o' : ℕ} (b' : ℕ) → b ≡ b' + n → n ≤ k → s ≡ s' → l' ≡ k + r → l ≡ r → m ≡ m' → o ≡ o' → b + s + 19 * (l + m) + o ≤ b' + s' + 19 * (l' + m') + o'
+      by b' b n s l l' m o = omega arith
 
-pub bus_light : (view old new target : SessionView) (s : StreamView) (l : List ℕ) (goes : Bool) → view ≡ old → view.bus.left ≡ l ++ s.left
-    → Did target (record view { bus = s }) new goes → target.mode ≡ view.mode → target.bus.left ≡ s.left → target.client.left ≡ view.client.left
-    → target.client_side ≡ view.client_side ++ l → target.bus_side ≡ view.bus_side → IsLight 0 old new
-bus_light view old new target s l goes same parts did mode bus client out shown =
-    let total : length view.bus.left ≡ length l + length s.left = ap length parts ∙ length-append l s.left in
-    let c : length target.client.left ≡ length view.client.left = ap length client in
-    let b : length target.bus.left ≡ length s.left = ap length bus in
-    let o : length target.client_side ≡ length view.client_side + length l = ap length out ∙ length-append view.client_side l in
-    let h : length target.bus_side ≡ length view.bus_side = ap length shown in
-    subst (λ (v : SessionView). IsLight 0 v new) same
-    (did_light view (record view { bus = s }) new target goes did refl mode c b (omega (arith, total, c, b, h)) (omega (arith, total, c, b, o)))
+  pub bus_light : (view old new target : SessionView) (s : StreamView) (l : List ℕ) (goes : Bool) → view ≡ old → view.bus.left ≡ l ++ s.left
+      → Did target (record view { bus = s }) new goes → target.mode ≡ view.mode → target.bus.left ≡ s.left → target.client.left ≡ view.client.left
+      → target.client_side ≡ view.client_side ++ l → target.bus_side ≡ view.bus_side → target.greeted ≡ view.greeted → IsLight policy 0 old new
+  bus_light view old new target s l goes same parts did mode bus client out shown greeted =
+      let c : length target.client.left ≡ length view.client.left = ap length client in
+      let b : length target.bus.left ≡ length s.left = ap length bus in
+      let less : weight policy target ≤ weight policy view =
+      by (length view.client_side) (length l) (ap length shown) (ap length out ∙ length-append view.client_side l) (ap length parts ∙ length-append l s.left) c b (ap (own_to_come policy) greeted) in
+      subst (λ (v : SessionView). IsLight policy 0 v new) same (did_light policy view (record view { bus = s }) new target goes did refl mode c b greeted less)
+    where
+      by : {b s l m o b' l' r m' o' : ℕ} (s' k : ℕ) → b ≡ b' → s ≡ s' + k → m' ≡ k + r → l ≡ l' → m ≡ r → o ≡ o' → b + s + 19 * (l + m) + o ≤ b' + s' + 19 * (l' + m') + o'
+      by s' k b s m l r o = omega arith
 
 -- what is left behind a line
 pub client_left_behind : (s new : StreamView) (next : NextLine) (l : List ℕ) → (next ≡ Line l) ⊎ (next ≡ Begin l) → GaveLine ClientGives s next new → s.left ≡ l ++ new.left

@@ -1,7 +1,8 @@
 -- A session that stands for events, and one event more.
-use Rattle.std.proofs.Common.{ℕ, zero, suc, ◌≡◌, ◌+◌, ◌-◌, ◌*◌, ◌<◌, ◌≤◌, Bool, true, false, cond, List, [], ◌∷◌, ◌++◌, length, take, drop, map, Option, Some, None, refl, ap, ◌∙◌, sym, subst, arith, append-nil, append_assoc, length-append, inl, inr}
+use Rattle.std.proofs.Common.{ℕ, zero, suc, ◌≡◌, ◌+◌, ◌-◌, ◌<◌, ◌≤◌, Bool, true, false, cond, List, [], ◌∷◌, ◌++◌, length, take, drop, map, Option, Some, None, refl, ap, ◌∙◌, sym, subst, arith, append-nil, append_assoc, length-append, inl, inr}
 use Rattle.std.specs.Prelude.{◌||◌, ◌==◌, not, nat_lt, min}
-use Rattle.std.specs.FinMap.{get-empty}
+use Rattle.std.specs.FinMap.{empty, get-empty}
+use Rattle.std.specs.Cmp.Lexicographic.{slice_cmp}
 use Rattle.std.specs.List.{list_any}
 use Rattle.std.specs.Ordering.{nat_cmp}
 use Rattle.std.proofs.lemmas.Bool.Decides.{nat_tests}
@@ -9,9 +10,8 @@ use Rattle.std.proofs.lemmas.List.{length-take, take-append-drop}
 use Rattle.byte_lists.proofs.Bytes.{AreBytes-take, AreBytes-append, empty_is}
 use Rattle.byte_lists.specs.Bytes.{AreBytes}
 use Rattle.dbus_names.specs.Names.{is_empty}
-use Rattle.dbus_header.specs.Message.{Message, spell}
+use Rattle.dbus_header.specs.Message.{Message}
 use Rattle.dbus_header.specs.Malformed.{fault as message_fault}
-use Rattle.dbus_header.specs.Contents.{contents_of}
 use Rattle.dbus_header.specs.Stream.{split, messages, rest}
 use Rattle.dbus_header.specs.declared.Malformed.{Malformed}
 use Rattle.dbus_header.proofs.StreamLaws.{split-append}
@@ -23,7 +23,7 @@ use Rattle.sasl_watch.specs.declared.LineFault.{LineFault}
 use Rattle.sasl_watch.specs.declared.LineKind.TheVariants.{EarlyBus}
 use Rattle.sasl_watch.proofs.Followed.{client-starts, client-pushed, bus-starts, bus-pushed}
 use Rattle.policy_args.specs.Policy.{Policy}
-use Rattle.policy_view.specs.Sent.{answered, call_at, nothing_before}
+use Rattle.policy_view.specs.Sent.{Exchange, answered, call_at, nothing_before, owed}
 use Rattle.policy_view.specs.Past.{Item, Line, Msg, Ended, History, past}
 use Rattle.policy_view.specs.History.{Event, Bytes, Finished, longest_stream, whole_stream, stream, lines, content, messages_in, found, fault, taken_of, is_over, brought, end_if, fault_end, new_in, finished, is_built_piece, arrived, followed_by, followed_by_all, history}
 use Rattle.policy_view.specs.Laws.{IsPrefixOf}
@@ -38,13 +38,17 @@ use Rattle.policy_view.proofs.PastLaws.{ended_is_final}
 use Rattle.policy_view.proofs.Streams.{stream_more, bus_stream, client_stream, apart, lines_by, content_by, found_by, fault_by, client_by, content_more, BusKept, bus_kept}
 use Rattle.policy_view.proofs.CutLaws.{all_append}
 use Rattle.proxy_core.specs.Streams.{StreamView, Phase, InLines, InMessages, is_in_lines, new_stream, pushed, watch_at}
-use Rattle.proxy_core.specs.Sessions.{SessionView, Taken, Holds, Follows, FollowsStream, FollowsLines, StandsAt, AllGiven, lines_in, StandsFor, IsFront, at_start, nothing, stream_of, is_memory, expected_by}
+use Rattle.proxy_core.specs.Sessions.{SessionView, Taken, Holds, Follows, FollowsStream, FollowsLines, StandsAt, AllGiven, lines_in, StandsFor, IsFront, at_start, nothing, stream_of, is_memory, nothing_expected}
+use Rattle.dbus_names.specs.Texts.{Text}
+use Rattle.reply_ledger.proofs.Counting.{none-count}
+use Rattle.unique_names.proofs.Learned.{start-taught}
+use Rattle.verdicts.specs.Kept.{expected_at, owed_by, owed_to}
+use Rattle.verdicts.proofs.KnowledgeLaws.{CoversNoUniqueName}
 use Rattle.proxy_core.specs.Messages.{ended_by}
 use Rattle.proxy_core.specs.Steps.{with_stream, with_left, behind_line, in_messages, begun_if, asks, with_line_fault, with_lines, with_all_answered, unanswered, has_begun, with_fault, with_front, step_at, step_of, more_if, drained, end_unless, closed_if, room_of, with_piece, IsRefused, Took}
 use Rattle.proxy_core.proofs.Keeping.{IsKept, message_kept}
-use Rattle.proxy_core.proofs.Draining.{spell_long}
-use Rattle.proxy_core.proofs.CallSteps.{call_holds}
-use Rattle.proxy_core.proofs.AnswerSteps.{answer_holds}
+use Rattle.proxy_core.proofs.ClientSteps.{client_holds}
+use Rattle.proxy_core.proofs.BusSteps.{bus_holds}
 use Rattle.proxy_core.proofs.Going.{Counts, Goes, GoesAt}
 use Rattle.proxy_core.proofs.Driven.{Steps, Final, KnowsClient, KnowsOther, phase_weight, weight, none_last, drained_last, end_followed, end_ignored, stream_holds, same_stream, stream_runs}
 use Rattle.dbus_header.specs.Malformed.{front}
@@ -77,8 +81,12 @@ stream_starts mode side = record { came = came side; stands = stands mode.auth r
     sound false Client = refl
     sound false Bus = refl
 
+none_to : (peer : Option Text) (n : ℕ) → owed_to nothing_expected.owed peer n ≡ 0
+none_to None n = refl
+none_to (Some s) n = none-count empty s n (get-empty (slice_cmp nat_cmp) s)
+
 pub start_stands : (policy : Policy) (mode : Mode) → StandsFor policy (at_start mode) [] nothing
-unfolding history bus_bytes client_bytes past nothing_before answered call_at
+unfolding history bus_bytes client_bytes past nothing_before owed answered call_at
 start_stands policy mode = record {
   bus_front = record { rest = []; is = refl };
   client_front = record { rest = []; is = refl };
@@ -86,14 +94,18 @@ start_stands policy mode = record {
     for_bus = refl;
     for_client = refl;
     end_is = refl;
-    knows = λ n. record { count = refl; fits = omega arith; each = λ r. get-empty nat_cmp r ∙ nothing_sent r; built = λ r s g. cc; facts = refl };
+    knows = λ n. record { count = refl; fits = omega arith; greeted = refl; stand = record { facts = start-taught policy; replies = none_owed; answers = none_expected } };
   };
   follows = λ e. record { client = stream_starts mode Client; bus = stream_starts mode Bus };
 }
   where
-    nothing_sent : (r : ℕ) → None ≡ expected_by (answered nothing_before (Some r))
-    nothing_sent zero = refl
-    nothing_sent (suc r) = refl
+    none_owed : (e : Exchange) → owed_by nothing_expected.owed e ≡ owed nothing_before.told e
+    none_owed e = none_to e.peer e.number
+
+    none_expected : (r : Option ℕ) → expected_at nothing_expected.expected r ≡ answered nothing_before r
+    none_expected None = refl
+    none_expected (Some zero) = get-empty nat_cmp zero
+    none_expected (Some (suc r)) = get-empty nat_cmp (suc r)
 
 -- ---- the end of a stream in its place
 
@@ -139,9 +151,9 @@ ended_untouched : (side : Side) (end : End) (view : SessionView) → Untouched s
 ended_untouched Client end view = record { mode = refl; came = refl; other_is = refl }
 ended_untouched Bus end view = record { mode = refl; came = refl; other_is = refl }
 
-kept_untouched : (side : Side) (n : ℕ) (old new : SessionView) → IsKept n old new → Untouched side old new
-kept_untouched Client n old new k = record { mode = k.mode; came = ap (λ (s : StreamView). s.came) k.client; other_is = k.bus }
-kept_untouched Bus n old new k = record { mode = k.mode; came = ap (λ (s : StreamView). s.came) k.bus; other_is = k.client }
+kept_untouched : (side : Side) (old new : SessionView) → IsKept old new → Untouched side old new
+kept_untouched Client old new k = record { mode = k.mode; came = ap (λ (s : StreamView). s.came) k.client; other_is = k.bus }
+kept_untouched Bus old new k = record { mode = k.mode; came = ap (λ (s : StreamView). s.came) k.bus; other_is = k.client }
 
 begun_came : (b : Bool) (s : StreamView) → (begun_if b s).came ≡ s.came
 begun_came true s = refl
@@ -170,7 +182,7 @@ module _ (policy : Policy) where
   front_untouched side None view = fault_untouched side (message_fault (stream_of side view).left) view
   front_untouched side (Some x) view =
       untouched_then side view (with_left side x.1 view) (with_front policy side (Some x) view).0 (stream_untouched side (record (stream_of side view) { left = x.1 }) view refl)
-      (kept_untouched side (9 * length (spell x.0)) (with_left side x.1 view) (with_front policy side (Some x) view).0 (message_kept policy (contents_of x.0) (spell x.0) (spell_long x.0) side (with_left side x.1 view)))
+      (kept_untouched side (with_left side x.1 view) (with_front policy side (Some x) view).0 (message_kept policy side x.0 (with_left side x.1 view)))
 
   bus_untouched : (b : Bool) (place : ℕ) (view : SessionView) → Untouched Bus view (cond {A = SessionView × Bool} b (with_all_answered place view) (with_lines Bus place (bus_ahead (watch_at place None view.bus.left)).lines (bus_ahead (watch_at place None view.bus.left)).fault view)).0
   bus_untouched true place view = answered_untouched (has_begun view) (cond (is_empty view.bus.left) None (Some (record { kind = EarlyBus; at = place }))) place view
@@ -685,14 +697,14 @@ finish_stands policy view events taken side runs stands =
 -- ---- a feed
 
 -- what a session does with a valid message is what the history has
-pub all_steps : (policy : Policy) (taken : Taken) → Steps policy taken
-all_steps policy taken Client view items m runs holds valid = call_holds policy view items taken m (spell m) runs holds valid refl
-all_steps policy taken Bus view items m runs holds valid = answer_holds policy view items taken m (spell m) runs holds valid refl
+pub all_steps : (policy : Policy) → CoversNoUniqueName policy → (taken : Taken) → Steps policy taken
+all_steps policy apart taken Client view items m runs holds valid = client_holds policy apart view items taken m runs holds
+all_steps policy apart taken Bus view items m runs holds valid = bus_holds policy apart view items taken m runs holds
 
-pub feed_stands : (policy : Policy) (old new : SessionView) (events : List Event) (taken : Taken) (side : Side) (piece : List ℕ) → old.ended ≡ None → AreBytes piece →
+pub feed_stands : (policy : Policy) → CoversNoUniqueName policy → (old new : SessionView) (events : List Event) (taken : Taken) (side : Side) (piece : List ℕ) → old.ended ≡ None → AreBytes piece →
     Took (with_piece policy side piece old) old new → StandsFor policy old events taken → StandsFor policy new (Bytes side piece ∷ events) taken
-feed_stands policy old new events taken side piece runs are took stands =
-    let steps = all_steps policy taken in
+feed_stands policy apart old new events taken side piece runs are took stands =
+    let steps = all_steps policy apart taken in
     let expected = piece_stands policy old events taken steps side piece runs stands are in
     elim took [
       | inl is ↦ subst (λ (v : SessionView). StandsFor policy v (Bytes side piece ∷ events) taken) (sym is) expected
@@ -714,7 +726,7 @@ took_bus policy view events taken n stands =
         for_bus = same ∙ h.for_bus;
         for_client = h.for_client;
         end_is = h.end_is;
-        knows = λ r. let k = h.knows r in record { count = k.count; fits = k.fits; each = k.each; built = k.built; facts = k.facts };
+        knows = λ r. let k = h.knows r in record { count = k.count; fits = k.fits; greeted = k.greeted; stand = k.stand };
       };
       follows = λ e. let f = stands.follows e in record { client = f.client; bus = f.bus };
     }
@@ -731,7 +743,7 @@ took_client policy view events taken n stands =
         for_bus = h.for_bus;
         for_client = same ∙ h.for_client;
         end_is = h.end_is;
-        knows = λ r. let k = h.knows r in record { count = k.count; fits = k.fits; each = k.each; built = k.built; facts = k.facts };
+        knows = λ r. let k = h.knows r in record { count = k.count; fits = k.fits; greeted = k.greeted; stand = k.stand };
       };
       follows = λ e. let f = stands.follows e in record { client = f.client; bus = f.bus };
     }

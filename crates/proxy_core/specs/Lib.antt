@@ -3,3 +3,4 @@ pub mod Sessions
 pub mod Messages
 pub mod Steps
 pub mod Seen
+pub mod Shapes

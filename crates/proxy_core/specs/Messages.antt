@@ -1,97 +1,175 @@
 -- What a session does with a message, on what it is seen as.
-use Rattle.std.specs.Prelude.{◌≡◌, ℕ, ◌+◌, ◌||◌, ◌==◌, nat_lt, List, [], ◌++◌, Option, Some, None, if◌then◌else◌}
+use Rattle.std.specs.Prelude.{◌≡◌, ℕ, ◌+◌, ◌&&◌, ◌||◌, ◌==◌, nat_le, Bool, true, false, List, [], ◌∷◌, ◌++◌, length, flat_map, Option, Some, None, unwrap_or, if◌then◌else◌}
 use Rattle.std.specs.Ordering.{nat_cmp}
-use Rattle.std.specs.FinMap.{FinMap, get, insert, remove}
-use Rattle.dbus_header.specs.Message.{spell, with_serial, with_number}
-use Rattle.dbus_header.specs.Contents.{Contents}
-use Rattle.dbus_header.specs.Kinds.{expects_reply_by}
-use Rattle.dbus_header.specs.declared.Instead.{Instead}
+use Rattle.std.specs.FinMap.{FinMap, remove}
+use Rattle.dbus_names.specs.Texts.{Text}
+use Rattle.dbus_header.specs.Message.{Message, reply_serial, spell}
+use Rattle.dbus_header.specs.Contents.{Contents, message_of}
+use Rattle.dbus_header.specs.Kinds.{Kind, Call, Return, Error, Signal, Other, kind_of}
+use Rattle.own_calls.specs.Sending.{expecting}
 use Rattle.policy_args.specs.Policy.{Policy}
-use Rattle.policy_view.specs.Own.{ping, answer_in_place}
+use Rattle.policy_args.specs.declared.fact.Fact.{Fact}
 use Rattle.policy_view.specs.History.{most_sent}
+use Rattle.policy_view.specs.Knowledge.{Knowledge}
+use Rattle.policy_view.specs.Past.{called_at, due_at, due_on, has_greeted, learned_at, replied_on}
+use Rattle.policy_view.specs.Own.{ping}
+use Rattle.policy_view.specs.Sent.{Exchange, Sent, is_bus_or_absent, spelled_from}
+use Rattle.policy_view.specs.Texts.{has_text}
+use Rattle.policy_view.specs.Shown.{BusRole, bus_role, seen_as, showing_at}
+use Rattle.policy_view.specs.Verdicts.{client_role, verdict}
+use Rattle.policy_view.specs.declared.Showing.{Showing}
 use Rattle.policy_view.specs.declared.Verdict.{Verdict}
-use Rattle.policy_view.specs.declared.Verdict.TheVariants.{Pass, Ping, Drop}
 use Rattle.policy_view.specs.declared.Side.{Side}
 use Rattle.policy_view.specs.declared.Side.TheVariants.{Client, Bus}
 use Rattle.policy_view.specs.declared.End.{End}
-use Rattle.policy_view.specs.declared.End.TheVariants.{SerialsSpent, NotBuilt}
-use Rattle.verdicts.specs.Judging.{is_judged, judged}
-use Rattle.proxy_core.specs.declared.ledger.Expected.{Expected}
-use Rattle.proxy_core.specs.declared.ledger.Expected.TheVariants as expects
+use Rattle.policy_view.specs.declared.End.TheVariants.{SerialsSpent}
+use Rattle.reply_ledger.specs.Owed.{Replies, one_less, one_more}
+use Rattle.reply_ledger.specs.declared.kind.Kind.{Kind as Expected}
+use Rattle.reply_ledger.specs.declared.kind.Kind.TheVariants as expects
+use Rattle.unique_names.specs.Taught.{Ids, kept_level, learned}
+use Rattle.verdicts.specs.Kept.{expected_at, kept}
 use Rattle.proxy_core.specs.Sessions.{SessionView}
 
 abbrev pub ended_by : End → SessionView → SessionView
 ended_by end view = record view { ended = Some end }
 
--- ---- a message of the client
+-- the message that the bytes of one spell
+abbrev pub message_in : List ℕ → Message
+message_in bytes = unwrap_or (message_of bytes) ping
 
--- what goes to the bus with serial n, and what its answer is for: the call itself, or a ping in its place
-abbrev pub passed : Contents → List ℕ → ℕ → List ℕ × Option Expected
-passed x bytes n = (with_number x.order 8 n bytes, if expects_reply_by x.flags then Some (expects.Call x.serial) else None)
+-- what is known of names and replies
+abbrev pub known : Policy → SessionView → Knowledge
+known policy view = kept policy view.ids view.ledger.owed
 
-abbrev pub pinged : Contents → Instead → ℕ → List ℕ × Option Expected
-pinged x what n = (spell (with_serial n ping), Some (expects.Ping x.serial x.order what))
+-- ---- messages that are sent
 
-abbrev pub expecting : FinMap nat_cmp Expected → ℕ → Option Expected → FinMap nat_cmp Expected
-expecting expected n None = expected
-expecting expected n (Some e) = insert expected n e
+-- each with the next serial, and its answer is expected where it has one
+abbrev pub with_sent : List Sent → SessionView → SessionView
+with_sent due view = record view {
+  bus_side = view.bus_side ++ spelled_from (view.sent + 1) due;
+  sent = view.sent + length due;
+  greeted = view.greeted || has_greeted due;
+  ledger = record view.ledger { expected = expecting view.ledger.expected (view.sent + 1) due };
+}
+
+-- the same without the bytes: serials are given, and answers are expected
+abbrev pub noted : List Sent → SessionView → SessionView
+noted due view = record view {
+  sent = view.sent + length due;
+  ledger = record view.ledger { expected = expecting view.ledger.expected (view.sent + 1) due };
+}
 
 -- one more serial is given
 abbrev pub counted : SessionView → SessionView
 counted view = record view { sent = view.sent + 1 }
 
--- with the serial that was given last
-abbrev pub with_queued : List ℕ × Option Expected → SessionView → SessionView
-with_queued sent view = record view {
-  bus_side = view.bus_side ++ sent.0;
-  expected = expecting view.expected view.sent sent.1;
-}
+-- the answer to a message with the serial that was given last is expected
+abbrev pub awaiting : Sent → SessionView → SessionView
+awaiting s view = record view { ledger = record view.ledger { expected = expecting view.ledger.expected view.sent (s ∷ []) } }
 
-abbrev pub with_sent : List ℕ × Option Expected → SessionView → SessionView
-with_sent sent view = with_queued sent (counted view)
+-- and the message goes to the bus with that serial
+abbrev pub queued : Sent → SessionView → SessionView
+queued s view = record (awaiting s view) { bus_side = view.bus_side ++ spelled_from view.sent (s ∷ []) }
 
--- sent, where a serial is left
-abbrev pub sent_or_spent : List ℕ × Option Expected → SessionView → SessionView
-sent_or_spent sent view = if view.sent == most_sent then ended_by SerialsSpent view else with_sent sent view
+-- what comes of the view when these messages are due: they are sent, where serials are left for them
+abbrev pub sending : List Sent → SessionView → SessionView → SessionView
+sending [] view new = new
+sending (s ∷ due) view new =
+    if nat_le (view.sent + length (s ∷ due)) most_sent then with_sent (s ∷ due) new else ended_by SerialsSpent view
 
--- by the verdict: the message goes to the bus, or a ping in its place, or nothing
-abbrev pub with_verdict : Verdict → Contents → List ℕ → SessionView → SessionView
-with_verdict Pass x bytes view = sent_or_spent (passed x bytes (view.sent + 1)) view
-with_verdict (Ping what reason) x bytes view = sent_or_spent (pinged x what (view.sent + 1)) view
-with_verdict (Drop reason) x bytes view = view
+-- ---- a message of the client
 
-abbrev pub with_call : Policy → Contents → List ℕ → SessionView → SessionView
-with_call policy x bytes view = if is_judged x then with_verdict (judged policy x) x bytes view else ended_by NotBuilt view
+-- by what is read of it, a call to the bus that its table of members judges, with this member
+abbrev pub is_bus_member_by : Text → Contents → Bool
+is_bus_member_by name x = x.kind == 1 && is_bus_or_absent x.parts.destination && is_bus_or_absent x.parts.interface && has_text x.parts.member name
+
+-- one reply less is owed; to an absent name none is
+abbrev pub less_to : Replies → Option Text → ℕ → Replies
+less_to owed None n = owed
+less_to owed (Some peer) n = one_less owed peer n
+
+abbrev pub less_for : Replies → List Exchange → Replies
+less_for owed [] = owed
+less_for owed (e ∷ es) = less_for (less_to owed e.peer e.number) es
+
+abbrev pub with_replied : List Exchange → SessionView → SessionView
+with_replied replied view = record view { ledger = record view.ledger { owed = less_for view.ledger.owed replied } }
+
+-- what is due is sent, and the replies that passed are no longer owed
+abbrev pub with_due : List Sent → List Exchange → SessionView → SessionView
+with_due due replied view = sending due view (with_replied replied view)
+
+abbrev pub with_verdict : Policy → Message → Verdict → SessionView → SessionView
+with_verdict policy m v view = with_due (due_on policy view.greeted m v) (replied_on m (client_role m) v) view
+
+abbrev pub with_client_message : Policy → Message → SessionView → SessionView
+with_client_message policy m view = with_verdict policy m (verdict policy (known policy view) m) view
 
 -- ---- a message of the bus
 
--- what the client is shown of it, where its answer is for something; the number of REPLY_SERIAL stands at the place
-abbrev pub incoming : Contents → List ℕ → ℕ → Option Expected → List ℕ
-incoming x bytes place None = []
-incoming x bytes place (Some (expects.Call serial)) = with_number x.order place serial bytes
-incoming x bytes place (Some (expects.Ping serial order what)) = spell (answer_in_place order serial x.serial what)
+-- one reply more is owed
+abbrev pub more_to : Replies → Option Text → ℕ → Replies
+more_to owed None n = owed
+more_to owed (Some peer) n = one_more owed peer n
 
-abbrev pub with_answer : Contents → List ℕ → ℕ → ℕ → SessionView → SessionView
-with_answer x bytes place r view = record view {
-  client_side = view.client_side ++ incoming x bytes place (get view.expected r);
-  expected = remove view.expected r;
-}
+abbrev pub more_for : Replies → List Exchange → Replies
+more_for owed [] = owed
+more_for owed (e ∷ es) = more_for (more_to owed e.peer e.number) es
 
--- by REPLY_SERIAL and the place of its number
-abbrev pub with_reply : Contents → List ℕ → Option ℕ → Option ℕ → SessionView → SessionView
-with_reply x bytes None place view = view
-with_reply x bytes (Some r) None view = view
-with_reply x bytes (Some r) (Some place) view = with_answer x bytes place r view
+abbrev pub taught : Policy → Ids → List Fact → Ids
+taught policy ids [] = ids
+taught policy ids (fact ∷ facts) = taught policy (learned policy ids fact) facts
 
--- a message of a type above 4 is hidden
-abbrev pub with_bus_message : Contents → List ℕ → SessionView → SessionView
-with_bus_message x bytes view =
-    if x.kind == 2 || x.kind == 3 then with_reply x bytes x.parts.reply_serial x.reply_place view
-    else (if nat_lt 4 x.kind then view else ended_by NotBuilt view)
+-- the answer to the proxy's own question for the list of names
+abbrev pub own_names : Option Expected → Bool
+own_names None = false
+own_names (Some (expects.Call serial)) = false
+own_names (Some (expects.Hello serial)) = false
+own_names (Some (expects.Names serial)) = false
+own_names (Some (expects.Ping serial order what)) = false
+own_names (Some expects.OwnMatch) = false
+own_names (Some (expects.OwnOwner name)) = false
+own_names (Some expects.OwnNames) = true
 
-abbrev pub with_message : Policy → Side → Contents → List ℕ → SessionView → SessionView
-with_message policy Client x bytes view = with_call policy x bytes view
-with_message policy Bus x bytes view = with_bus_message x bytes view
+-- a return or an error uses up what is expected at its REPLY_SERIAL
+abbrev pub without : FinMap nat_cmp Expected → Option ℕ → FinMap nat_cmp Expected
+without expected None = expected
+without expected (Some r) = remove expected r
+
+abbrev pub used_up : Kind → Option ℕ → FinMap nat_cmp Expected → FinMap nat_cmp Expected
+used_up Call r expected = expected
+used_up Return r expected = without expected r
+used_up Error r expected = without expected r
+used_up Signal r expected = expected
+used_up Other r expected = expected
+
+abbrev pub with_used : Message → SessionView → SessionView
+with_used m view = record view { ledger = record view.ledger { expected = used_up (kind_of m) (reply_serial m) view.ledger.expected } }
+
+-- the facts and the calls that it tells
+abbrev pub with_facts : Policy → List Fact → SessionView → SessionView
+with_facts policy facts view = record view { ids = taught policy view.ids facts }
+
+abbrev pub with_calls : List Exchange → SessionView → SessionView
+with_calls calls view = record view { ledger = record view.ledger { owed = more_for view.ledger.owed calls } }
+
+abbrev pub with_told : Policy → Message → BusRole → SessionView → SessionView
+with_told policy m role view = with_calls (called_at m role) (with_facts policy (learned_at policy m role) view)
+
+-- what the client is shown of it
+abbrev pub with_shown : Policy → Message → Showing → SessionView → SessionView
+with_shown policy m showing view = record view { client_side = view.client_side ++ flat_map spell (seen_as (kept_level policy view.ids) m showing) }
+
+abbrev pub with_role : Policy → Message → BusRole → SessionView → SessionView
+with_role policy m role view =
+    sending (due_at policy m role) view (with_told policy m role (with_shown policy m (showing_at policy (known policy view) m role) view))
+
+abbrev pub with_bus_message : Policy → Message → SessionView → SessionView
+with_bus_message policy m view = with_role policy m (bus_role (expected_at view.ledger.expected (reply_serial m)) m) (with_used m view)
+
+abbrev pub with_message : Policy → Side → Message → SessionView → SessionView
+with_message policy Client m view = with_client_message policy m view
+with_message policy Bus m view = with_bus_message policy m view
 
 -- ---- memory that was refused
 
@@ -102,3 +180,4 @@ pub record KeepsSides (old new : SessionView) : Type 0 where
   pub bus : new.bus ≡ old.bus
   pub bus_side : new.bus_side ≡ old.bus_side
   pub client_side : new.client_side ≡ old.client_side
+  pub greeted : new.greeted ≡ old.greeted

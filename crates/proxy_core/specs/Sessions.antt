@@ -1,16 +1,14 @@
 -- What a session is seen as, and when it stands for events.
-use Rattle.std.specs.Prelude.{◌≡◌, ◌≤◌, ◌<◌, ◌==◌, ◌&&◌, ℕ, Bool, true, false, List, [], ◌++◌, length, get_or, Option, Some, None, Result, Ok, Err, slice_get}
-use Rattle.std.specs.Ordering.{nat_cmp}
-use Rattle.std.specs.FinMap.{FinMap, get, empty}
+use Rattle.std.specs.Prelude.{◌≡◌, ◌≤◌, ◌<◌, ℕ, Bool, true, false, List, [], ◌++◌, length, get_or, Option, Some, None, Result, Ok, Err}
+use Rattle.std.specs.FinMap.{empty}
 use Rattle.dbus_header.specs.Stream.{rest}
 use Rattle.sasl_watch.specs.Lines.{asked}
 use Rattle.sasl_watch.specs.Watching.{Watch}
 use Rattle.sasl_watch.specs.Following.{ClientFollows, BusFollows}
-use Rattle.dbus_header.specs.Message.{destination}
 use Rattle.policy_args.specs.Policy.{Policy}
-use Rattle.policy_view.specs.Sent.{Sent, Passed, Pinged, OwnMatch, OwnOwner, OwnNames, Past, answered}
-use Rattle.policy_view.specs.Past.{History, past}
-use Rattle.policy_view.specs.History.{Event, stream, lines, content, messages_in, fault, history, end_of, is_service, most_sent}
+use Rattle.policy_view.specs.Sent.{Past}
+use Rattle.policy_view.specs.Past.{History, has_greeted, past}
+use Rattle.policy_view.specs.History.{Event, stream, lines, content, messages_in, fault, history, end_of, most_sent}
 use Rattle.policy_view.specs.Outputs.{bus_bytes, client_bytes}
 use Rattle.policy_view.specs.declared.Mode.{Mode}
 use Rattle.policy_view.specs.declared.Side.{Side}
@@ -18,8 +16,9 @@ use Rattle.policy_view.specs.declared.Side.TheVariants.{Client, Bus}
 use Rattle.policy_view.specs.declared.End.{End}
 use Rattle.policy_view.specs.declared.End.TheVariants.{ClientMalformed, BusMalformed, ClientEnd, BusEnd, SerialsSpent, Memory, ClientRead, ClientWrite, BusRead, BusWrite, BusConnect, LogFault, NotBuilt}
 use Rattle.proxy_core.specs.Streams.{StreamView, Phase, InLines, InMessages, new_stream, watch_at}
-use Rattle.proxy_core.specs.declared.ledger.Expected.{Expected}
-use Rattle.proxy_core.specs.declared.ledger.Expected.TheVariants as expects
+use Rattle.reply_ledger.specs.Ledger.{Ledger}
+use Rattle.unique_names.specs.Taught.{Ids}
+use Rattle.verdicts.specs.Kept.{StandFor}
 
 -- ---- what a session is seen as
 
@@ -32,12 +31,30 @@ pub record SessionView : Type 0 where
   -- what came of either side, and how far it was taken
   pub client : StreamView
   pub bus : StreamView
-  -- how many messages were sent, and what is expected of their answers
+  -- how many messages were sent, and whether a Hello is among them
   pub sent : ℕ
-  pub expected : FinMap nat_cmp Expected
+  pub greeted : Bool
+  -- what answers are expected for, and the replies that are owed
+  pub ledger : Ledger
+  -- what is known of unique names
+  pub ids : Ids
+
+abbrev pub nothing_expected : Ledger
+nothing_expected = record { expected = empty; owed = empty }
 
 abbrev pub at_start : Mode → SessionView
-at_start mode = record { mode = mode; bus_side = []; client_side = []; ended = None; client = new_stream mode.auth; bus = new_stream mode.auth; sent = 0; expected = empty }
+at_start mode = record {
+  mode = mode;
+  bus_side = [];
+  client_side = [];
+  ended = None;
+  client = new_stream mode.auth;
+  bus = new_stream mode.auth;
+  sent = 0;
+  greeted = false;
+  ledger = nothing_expected;
+  ids = empty;
+}
 
 abbrev pub stream_of : Side → SessionView → StreamView
 stream_of Client view = view.client
@@ -57,30 +74,11 @@ nothing = record { bus_side = []; client_side = [] }
 
 -- ---- what it keeps of the past
 
--- a message that was sent, as far as such are built: a call of a service, or a ping in place of a call
-abbrev pub IsBuiltSent : Sent → Type 0
-IsBuiltSent (Passed request) = (request.kind == 1 && is_service (destination request)) ≡ true
-IsBuiltSent (Pinged request what) = Unit {0}
-IsBuiltSent (OwnMatch pattern) = ⊥
-IsBuiltSent (OwnOwner name) = ⊥
-IsBuiltSent OwnNames = ⊥
-
--- what the answer to a sent message is for
-abbrev pub expected_by : Option Sent → Option Expected
-expected_by None = None
-expected_by (Some (Passed request)) = Some (expects.Call request.serial)
-expected_by (Some (Pinged request what)) = Some (expects.Ping request.serial request.order what)
-expected_by (Some (OwnMatch pattern)) = None
-expected_by (Some (OwnOwner name)) = None
-expected_by (Some OwnNames) = None
-
-pub record Knows (view : SessionView) (before : Past) : Type 0 where
+pub record Knows (policy : Policy) (view : SessionView) (before : Past) : Type 0 where
   pub count : view.sent ≡ length before.told.sent
   pub fits : length before.told.sent ≤ most_sent
-  pub each : (r : ℕ) → get view.expected r ≡ expected_by (answered before (Some r))
-  pub built : (r : ℕ) (s : Sent) → slice_get before.told.sent r ≡ Some s → IsBuiltSent s
-  -- nothing that is built tells of a unique id
-  pub facts : before.told.facts ≡ []
+  pub greeted : view.greeted ≡ has_greeted before.told.sent
+  pub stand : StandFor policy view.ids view.ledger before
 
 -- ---- standing for events
 
@@ -109,7 +107,7 @@ pub record Holds (policy : Policy) (view : SessionView) (items : History) (taken
   pub for_bus : taken.bus_side ++ view.bus_side ≡ bus_bytes policy items
   pub for_client : taken.client_side ++ view.client_side ≡ client_bytes policy items
   pub end_is : view.ended ≡ end_of items
-  pub knows : view.ended ≡ None → Knows view (past policy items)
+  pub knows : view.ended ≡ None → Knows policy view (past policy items)
 
 -- the lines that were given, of which these are left, are the first of the stream's
 abbrev pub FollowsLines : Side → List ℕ → List (List ℕ) → Watch → Type 0

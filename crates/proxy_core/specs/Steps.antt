@@ -1,12 +1,12 @@
 -- What a session does with a piece, on what it is seen as.
 use Rattle.std.specs.Prelude.{◌≡◌, ◌≤◌, ◌⊎◌, ℕ, zero, suc, ◌+◌, ◌-◌, ◌*◌, Bool, true, false, not, ◌||◌, ◌==◌, nat_lt, List, [], ◌∷◌, ◌++◌, length, take, drop, Option, Some, None, if◌then◌else◌, is_none}
 use Rattle.dbus_names.specs.Names.{is_empty}
-use Rattle.dbus_header.specs.Message.{Message, spell}
+use Rattle.dbus_header.specs.Message.{Message}
 use Rattle.dbus_header.specs.Malformed.{fault, front}
-use Rattle.dbus_header.specs.Contents.{contents_of}
 use Rattle.dbus_header.specs.declared.Malformed.{Malformed}
 use Rattle.policy_args.specs.Policy.{Policy}
 use Rattle.policy_view.specs.History.{longest_stream, finished, malformed}
+use Rattle.policy_view.specs.Sent.{own_calls, spelled_from}
 use Rattle.policy_view.specs.declared.Fault.TheVariants.{Line as OfLine, Message as OfMessage}
 use Rattle.policy_view.specs.declared.Side.{Side}
 use Rattle.policy_view.specs.declared.Side.TheVariants.{Client, Bus}
@@ -108,7 +108,7 @@ and_runs view = (view, is_none view.ended)
 -- with the message in front taken, or the fault; and whether more may follow
 abbrev pub with_front : Policy → Side → Option (Message × List ℕ) → SessionView → SessionView × Bool
 with_front policy side None view = (with_fault side (fault (stream_of side view).left) view, false)
-with_front policy side (Some x) view = and_runs (with_message policy side (contents_of x.0) (spell x.0) (with_left side x.1 view))
+with_front policy side (Some x) view = and_runs (with_message policy side x.0 (with_left side x.1 view))
 
 -- ---- what stands in front of a stream
 
@@ -193,22 +193,24 @@ pub record IsCutOff (expected old new : SessionView) : Type 0 where
   pub for_client : IsFront new.client_side expected.client_side
   pub client : length new.client.left ≤ length old.client.left
   pub bus : length new.bus.left ≤ length old.bus.left
+  pub greeted : new.greeted ≡ old.greeted
 
 abbrev pub Did : SessionView → SessionView → SessionView → Bool → Type 0
 Did expected old new goes = ((new ≡ expected) × (goes ≡ true)) ⊎ (IsCutOff expected old new × (goes ≡ false))
 
 -- ---- how much waits
 
--- Nine bytes at most come out for one that comes in: the bytes that wait, with nine for each that is no whole line or
--- message yet.
-abbrev pub bus_weight : SessionView → ℕ
-bus_weight view = length view.bus_side + 9 * (length view.client.left + length view.bus.left)
+-- how many bytes the own calls have that follow the first Hello, where it hasn't come
+abbrev pub own_to_come : Policy → Bool → ℕ
+own_to_come policy greeted = if greeted then 0 else length (spelled_from 0 (own_calls policy))
 
-abbrev pub client_weight : SessionView → ℕ
-client_weight view = length view.client_side + 9 * (length view.client.left + length view.bus.left)
+-- Nineteen bytes at most come out for one that comes in, and the own calls once: what waits for either side, with nineteen for
+-- each byte that is no whole line or message yet, and the own calls that are to come.
+abbrev pub weight : Policy → SessionView → ℕ
+weight policy view =
+    length view.bus_side + length view.client_side + 19 * (length view.client.left + length view.bus.left) + own_to_come policy view.greeted
 
 -- with so many bytes that came
-pub record IsLight (n : ℕ) (old new : SessionView) : Type 0 where
+pub record IsLight (policy : Policy) (n : ℕ) (old new : SessionView) : Type 0 where
   pub mode : new.mode ≡ old.mode
-  pub for_bus : bus_weight new ≤ bus_weight old + 9 * n
-  pub for_client : client_weight new ≤ client_weight old + 9 * n
+  pub weighs : weight policy new ≤ weight policy old + 19 * n

@@ -3,10 +3,10 @@
 
 mod bus_stream;
 mod client_stream;
+mod facts;
 pub mod laws;
-mod ledger;
 mod queue;
+mod requests;
 mod session;
 
-pub use ledger::Expected;
-pub use session::{LONGEST_STREAM, Session};
+pub use session::{LONGEST_STREAM, MOST_OWN_BYTES, Session};

@@ -8,27 +8,33 @@ ghost use Rattle.policy_args.specs.Policy.{Policy as PolicyValue};
 ghost use Rattle.proxy_core.specs.Streams.{InMessages, is_in_lines as in_lines, pushed};
 ghost use Rattle.proxy_core.specs.Sessions.{StandsFor, Taken, nothing, at_start, stream_of, answer_of, IsFront};
 ghost use Rattle.proxy_core.specs.Messages.{ended_by, with_message};
-ghost use Rattle.proxy_core.specs.Steps.{with_stream, with_left, step_of, drained, with_bytes, with_piece, Took, TookMessage, Stepped, IsLight, bus_weight, client_weight};
+ghost use Rattle.proxy_core.specs.Steps.{with_stream, with_left, step_of, drained, with_bytes, with_piece, Took, TookMessage, Stepped, IsLight, weight};
 ghost use Rattle.proxy_core.specs.Seen.{Given};
 ghost use Rattle.dbus_header.specs.Read.{message_seen};
 
 mod lines;
-mod messages;
+mod receiving;
+mod sending;
 
 use crate::bus_stream::BusStream;
 use crate::client_stream::ClientStream;
-use crate::ledger::Ledger;
 use crate::queue::Queue;
 use dbus_framing::Next;
 use dbus_header::{Message, decode};
+use own_calls::after_hello_len;
 use policy_args::Policy;
 use policy_view::{End, Fault, Mode, Side};
+use reply_ledger::Ledger;
 use serial_map::Serials;
 use std::alloc::{AllocError, Global};
 use std::marker::Model;
+use unique_names::Tracker;
 
 /// How many bytes of a side's stream a session takes at most.
 pub const LONGEST_STREAM: u64 = 1_152_921_504_606_846_976;
+
+/// How many bytes the proxy's own calls after a Hello have at most: those for 65,535 patterns of names of 255 bytes.
+pub const MOST_OWN_BYTES: u64 = 60_161_266;
 
 /// A session between a client and its bus: bytes that come of either side go in, and bytes for either side come out.
 #[derive(Drop)]
@@ -40,22 +46,26 @@ pub struct Session {
     client: ClientStream,
     bus: BusStream,
     serials: Serials,
+    greeted: bool,
     ledger: Ledger,
+    tracker: Tracker,
     alloc: Global,
 }
 
 impl Model for Session {
     ghost use Rattle.std.specs.Ordering.{nat_cmp};
+    ghost use Rattle.std.specs.Cmp.Lexicographic.{slice_cmp};
     ghost use Rattle.std.specs.FinMap as map;
-    ghost use Rattle.std.specs.Coded.{codes, coded_ℕ};
+    ghost use Rattle.std.specs.Coded.{codes, coded_list, coded_ℕ};
     ghost use Rattle.proxy_core.specs.Sessions.{SessionView};
-    ghost use Rattle.proxy_core.specs.declared.ledger.Expected.{Expected};
+    ghost use Rattle.reply_ledger.specs.declared.kind.Kind.{Kind as KindValue};
+    ghost use Rattle.unique_names.specs.Known.{Known as KnownValue};
 
     ghost Value = { SessionView };
 
-    ghost coded = { Prim.hlevel (codes, map.code {X = Expected} {R = nat_cmp} coded_ℕ (Prim.hlevel codes)) };
+    ghost coded = { Prim.hlevel (codes, map.code {X = KindValue} {R = nat_cmp} coded_ℕ (Prim.hlevel (codes, coded_list coded_ℕ)), map.code {R = slice_cmp nat_cmp} (coded_list coded_ℕ) (map.code {R = nat_cmp} coded_ℕ coded_ℕ), map.code {X = KnownValue} {R = slice_cmp nat_cmp} (coded_list coded_ℕ) (Prim.hlevel (codes, coded_list coded_ℕ))) };
 
-    ghost view = { λ s. record { mode = s.mode; bus_side = s.to_bus; client_side = s.to_client; ended = s.ended; client = s.client; bus = s.bus; sent = s.serials; expected = s.ledger } };
+    ghost view = { λ s. record { mode = s.mode; bus_side = s.to_bus; client_side = s.to_client; ended = s.ended; client = s.client; bus = s.bus; sent = s.serials; greeted = s.greeted; ledger = s.ledger; ids = s.tracker } };
 }
 
 /// The end of a side's stream as an End.
@@ -106,8 +116,10 @@ impl Session {
     pub fn new(alloc: Global, policy: &Policy, mode: Mode) -> Result<Session, AllocError>
         ensures stands { IfOk result (λ s. StandsFor policy.now s [] nothing) }
         ensures start { IfOk result (λ s. s ≡ at_start mode) }
+        ensures light { IfOk result (λ s. weight policy.now s ≤ MOST_OWN_BYTES) }
     {
-        let _policy = policy;
+        // A bound on the own calls bounds what will wait for the bus.
+        let _most = after_hello_len(policy);
         Ok(Session {
             mode,
             to_bus: Queue::new(alloc),
@@ -116,29 +128,33 @@ impl Session {
             client: ClientStream::new(alloc, mode.auth),
             bus: BusStream::new(alloc, mode.auth),
             serials: Serials::new(),
+            greeted: false,
             ledger: Ledger::new(alloc),
+            tracker: Tracker::new(alloc),
             alloc,
         })
     }
 
-    /// Takes a piece that came of the client: the messages that the policy lets pass wait for the bus, and pings for
-    /// those that it doesn't. Answers the End where the session ended; what comes later has no effect.
+    /// Takes a piece that came of the client. Of its messages those wait for the bus that the policy lets pass, with a ping
+    /// in the place of each call that is answered with an error, and with the proxy's own calls behind the first Hello.
+    /// Answers the End where the session ended; what comes later has no effect.
     pub fn feed_client(&mut self, policy: &Policy, piece: &[u8]) -> Result<(), End>
         ensures stands { (events : List Event) (taken : Taken) → StandsFor policy.now self.old events taken → StandsFor policy.now self.new (Bytes Side.Client piece.now ∷ events) taken }
         ensures answer { result ≡ answer_of self.new.ended }
         ensures last { (end : SessionEnd) → self.old.ended ≡ Some end → self.new ≡ self.old }
-        ensures light { IsLight (length piece.now) self.old self.new }
+        ensures light { IsLight policy.now (length piece.now) self.old self.new }
     {
         self.feed(policy, Side::Client, piece)
     }
 
-    /// Takes a piece that came of the bus: the answers that the client waits for wait for it, each once.
-    /// Answers the End where the session ended; what comes later has no effect.
+    /// Takes a piece that came of the bus. Of its messages those wait for the client that the policy shows: the answers that
+    /// it waits for, each once, calls, and signals. What they tell of names is learned, and what is still to be asked waits
+    /// for the bus. Answers the End where the session ended; what comes later has no effect.
     pub fn feed_bus(&mut self, policy: &Policy, piece: &[u8]) -> Result<(), End>
         ensures stands { (events : List Event) (taken : Taken) → StandsFor policy.now self.old events taken → StandsFor policy.now self.new (Bytes Side.Bus piece.now ∷ events) taken }
         ensures answer { result ≡ answer_of self.new.ended }
         ensures last { (end : SessionEnd) → self.old.ended ≡ Some end → self.new ≡ self.old }
-        ensures light { IsLight (length piece.now) self.old self.new }
+        ensures light { IsLight policy.now (length piece.now) self.old self.new }
     {
         self.feed(policy, Side::Bus, piece)
     }
@@ -246,10 +262,13 @@ impl Session {
     fn take_frame(&mut self, policy: &Policy, side: Side, frame: &[u8])
         requires running { self.old.ended ≡ None }
         requires valid { (m : MessageTree) × Valid m × (frame.now ≡ spell m) }
-        ensures { (m : MessageTree) → Valid m → frame.now ≡ spell m → TookMessage (with_message policy.now side (contents_of m) (spell m) self.old) self.old self.new }
+        ensures { (m : MessageTree) → Valid m → frame.now ≡ spell m → TookMessage (with_message policy.now side m self.old) self.old self.new }
     {
         let message = message_of(frame);
-        self.take_message(policy, side, &message);
+        match side {
+            Side::Client => self.take_client_message(policy, &message),
+            Side::Bus => self.take_bus_message(policy, &message),
+        }
     }
 
     /// Takes the message in front of a side's stream, or ends the session where a fault stands there. Tells whether more
@@ -258,7 +277,7 @@ impl Session {
         requires running { self.old.ended ≡ None }
         requires messages { (stream_of side self.old).phase ≡ InMessages }
         ensures step { Stepped (step_of policy.now side self.old) self.old self.new result }
-        ensures light { IsLight 0 self.old self.new }
+        ensures light { IsLight policy.now 0 self.old self.new }
     {
         match self.next_message(side) {
             Ok(Next::Whole(frame)) => {
@@ -292,7 +311,7 @@ impl Session {
     fn take_front(&mut self, policy: &Policy, side: Side) -> bool
         requires { self.old.ended ≡ None }
         ensures step { Stepped (step_of policy.now side self.old) self.old self.new result }
-        ensures light { IsLight 0 self.old self.new }
+        ensures light { IsLight policy.now 0 self.old self.new }
     {
         if !self.is_in_lines(side) {
             return self.take_front_message(policy, side);
@@ -307,7 +326,7 @@ impl Session {
     fn drain(&mut self, policy: &Policy, side: Side, most: usize)
         requires { self.old.ended ≡ None }
         ensures took { Took (drained policy.now side most self.old) self.old self.new }
-        ensures light { IsLight 0 self.old self.new }
+        ensures light { IsLight policy.now 0 self.old self.new }
     {
         let mut left = most;
         while left > 0 {
@@ -346,7 +365,7 @@ impl Session {
         requires running { self.old.ended ≡ None }
         requires room { (stream_of side self.old).came + length bytes.now ≤ longest_stream }
         ensures took { Took (with_bytes policy.now side bytes.now self.old) self.old self.new }
-        ensures light { IsLight (length bytes.now) self.old self.new }
+        ensures light { IsLight policy.now (length bytes.now) self.old self.new }
     {
         if bytes.is_empty() {
             return;
@@ -378,7 +397,7 @@ impl Session {
     fn take_piece(&mut self, policy: &Policy, side: Side, piece: &[u8])
         requires { self.old.ended ≡ None }
         ensures took { Took (with_piece policy.now side piece.now self.old) self.old self.new }
-        ensures light { IsLight (length piece.now) self.old self.new }
+        ensures light { IsLight policy.now (length piece.now) self.old self.new }
     {
         let room = LONGEST_STREAM - self.came(side);
         self.take_bytes(policy, side, front_of(room, piece));
@@ -392,11 +411,12 @@ impl Session {
         ensures stands { (events : List Event) (taken : Taken) → StandsFor policy.now self.old events taken → StandsFor policy.now self.new (Bytes side piece.now ∷ events) taken }
         ensures answer { result ≡ answer_of self.new.ended }
         ensures last { (end : SessionEnd) → self.old.ended ≡ Some end → self.new ≡ self.old }
-        ensures light { IsLight (length piece.now) self.old self.new }
+        ensures light { IsLight policy.now (length piece.now) self.old self.new }
     {
         if let Some(end) = self.ended {
             return Err(end);
         }
+        policy.covers_no_unique_name();
         self.take_piece(policy, side, piece);
         match self.ended {
             None => Ok(()),

@@ -2,7 +2,11 @@
 #![tactic(auto)]
 
 #[cfg(test)]
+mod name_lists;
+#[cfg(test)]
 mod replays;
+#[cfg(test)]
+mod serials;
 #[cfg(test)]
 mod sessions;
 #[cfg(test)]

@@ -16,11 +16,17 @@ const SESSIONS: &str = "\
 --filter; client call; bus return => - 120 0; - 120 140; None
 --filter; client_ended; bus_ended; client call => ClientEnd 0 0; ClientEnd 0 0; ClientEnd 0 0; Some(ClientEnd)
 --filter; bus_ended; client_ended => BusEnd 0 0; BusEnd 0 0; Some(BusEnd)
---filter; client return => NotBuilt 0 0; Some(NotBuilt)
+--filter; client return => - 0 0; None
 --filter,--talk=org.a.T; bytes call; bytes call; bytes call; client ones cut=15 => - 80 0; - 160 0; - 240 0; - 240 0; None
 --filter,--talk=org.a.T; bytes call; client ones cut=15; client ones cut=1 => - 80 0; - 80 0; ClientMalformed(Message(Malformed { kind: ByteOrder, at: 0 })) 80 0; Some(ClientMalformed(Message(Malformed { kind: ByteOrder, at: 0 })))
 --filter; client call 2=1; client call 2=2; bus return; client call 1=9 2=2 => - 0 0; - 120 0; - 120 142; - 120 142; None
 ";
+
+/// Messages alone, which the policy filters.
+pub const FILTERED: Mode = Mode {
+    auth: false,
+    filter: true,
+};
 
 /// A call to org.a.T, with serial 7.
 const CALL: &[u8] =
@@ -29,6 +35,21 @@ const CALL: &[u8] =
 /// A return to :1.40 with serial 60, the answer to serial 1.
 const RETURN: &[u8] =
     b"l\x02\x01\x01\x00\x00\x00\x00<\x00\x00\x00%\x00\x00\x00\x05\x01u\x00\x01\x00\x00\x00\x06\x01s\x00\x05\x00\x00\x00:1.40\x00\x00\x00\x07\x01s\x00\x04\x00\x00\x00:1.7\x00\x00\x00\x00";
+
+/// A Hello, with serial 1.
+const HELLO: &[u8] = b"l\x01\0\x01\0\0\0\0\x01\0\0\0\x6d\0\0\0\
+\x01\x01o\0\x15\0\0\0/org/freedesktop/DBus\0\0\0\
+\x02\x01s\0\x14\0\0\0org.freedesktop.DBus\0\0\0\0\
+\x03\x01s\0\x05\0\0\0Hello\0\0\0\
+\x06\x01s\0\x14\0\0\0org.freedesktop.DBus\0\0\0\0";
+
+/// The bus's return of the names org.a.A and org.a.B, with serial 30, the answer to serial 1.
+const NAMES: &[u8] = b"l\x02\x01\x01\x1c\0\0\0\x1e\0\0\0\x40\0\0\0\
+\x05\x01u\0\x01\0\0\0\
+\x06\x01s\0\x05\0\0\0:1.40\0\0\0\
+\x07\x01s\0\x14\0\0\0org.freedesktop.DBus\0\0\0\0\
+\x08\x01g\0\x02as\0\
+\x18\0\0\0\x07\0\0\0org.a.A\0\x07\0\0\0org.a.B\0";
 
 /// Bytes of which none begins a message.
 const ONES: &[u8] = &[0xff; 16];
@@ -52,6 +73,8 @@ fn bytes_of(name: &str) -> &'static [u8] {
     match name {
         "call" => CALL,
         "return" => RETURN,
+        "hello" => HELLO,
+        "names" => NAMES,
         "ones" => ONES,
         _ => b"",
     }
@@ -70,15 +93,12 @@ fn told_session(alloc: Global, row: &str) -> Result<String, AllocError> {
 }
 
 fn told_under(alloc: Global, policy: &Policy, steps: &str) -> Result<String, AllocError> {
-    let mode = Mode {
-        auth: false,
-        filter: true,
-    };
-    let mut session = Session::new(alloc, policy, mode)?;
+    let mut session = Session::new(alloc, policy, FILTERED)?;
     told_steps(alloc, &mut session, policy, steps)
 }
 
-fn told_steps(
+/// What is told of each step, and why the session ended.
+pub fn told_steps(
     alloc: Global,
     session: &mut Session,
     policy: &Policy,

@@ -16,7 +16,7 @@ use std::alloc::AllocError;
 
 impl Session {
     /// Goes on where memory sufficed, and ends the session where it was refused.
-    fn goes_on(&mut self, done: Result<(), AllocError>) -> bool
+    pub(super) fn goes_on(&mut self, done: Result<(), AllocError>) -> bool
         ensures ok { OnOk done ((result ≡ true) × (self.new ≡ self.old)) }
         ensures err { OnErr done ((result ≡ false) × (self.new ≡ ended_by Memory self.old)) }
     {
@@ -103,7 +103,7 @@ impl Session {
         requires running { self.old.ended ≡ None }
         requires lines { in_lines self.old.client.phase ≡ true }
         ensures step { Stepped (step_of policy.now Side.Client self.old) self.old self.new result }
-        ensures light { IsLight 0 self.old self.new }
+        ensures light { IsLight policy.now 0 self.old self.new }
     {
         let _policy = policy;
         match self.client.next_line() {
@@ -129,7 +129,7 @@ impl Session {
         requires running { self.old.ended ≡ None }
         requires lines { in_lines self.old.bus.phase ≡ true }
         ensures step { Stepped (step_of policy.now Side.Bus self.old) self.old self.new result }
-        ensures light { IsLight 0 self.old self.new }
+        ensures light { IsLight policy.now 0 self.old self.new }
     {
         let _policy = policy;
         let (unanswered, begun) = (self.unanswered(), self.has_begun());

@@ -6,7 +6,7 @@ abbrev pub invariant-loop-left : goal.invariant-loop-left
 invariant-loop-left l = record {
   same : drained l.policy l.side l.left l.self ≡ drained l.policy l.side l.most l.fn.self;
   runs : l.self.ended ≡ None;
-  light : IsLight 0 l.fn.self l.self;
+  light : IsLight l.policy 0 l.fn.self l.self;
 }
 
 abbrev pub decreases-loop-left : goal.decreases-loop-left

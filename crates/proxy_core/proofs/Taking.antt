@@ -1,0 +1,169 @@
+-- What the code reads of a message is of the message that its bytes spell.
+use Rattle.std.proofs.Common.{ℕ, zero, suc, ◌≡◌, Bool, true, false, cond, List, [], ◌∷◌, Option, Some, None, drop, ◌+◌, refl, ap, ap₂, ◌∙◌, sym, codes, arith}
+use Rattle.std.specs.Prelude.{◌||◌, ◌==◌, IsSome, OnOk, Result, Ok, Err, option_map, slice_get, unwrap_or}
+use Rattle.std.specs.List.{list_any}
+use Rattle.std.proofs.lemmas.Option.{same_Some}
+use Rattle.dbus_header.specs.Contents.{Contents, contents_of, message_of}
+use Rattle.dbus_header.specs.Message.{Message, Valid, destination, sender, reply_serial, only_text, spell, text_list, with_number, with_reply_serial, with_serial}
+use Rattle.dbus_header.specs.Read.{message_seen}
+use Rattle.dbus_header.specs.declared.message.Message.{Message as Seen}
+use Rattle.dbus_header.proofs.NumberLaws.{reply_patched, reply_stands, serial_patched}
+use Rattle.dbus_header.specs.Kinds.{Kind, Call, Return, Error, Signal, Other, kind_by, kind_of}
+use Rattle.policy_view.specs.Own.{ping}
+use Rattle.policy_view.specs.Past.{if_return, returned_names, returned_text}
+use Rattle.std.proofs.lemmas.Bool.{eqb-true}
+use Rattle.dbus_header.specs.Seen.{text_seen}
+use Rattle.policy_view.specs.Sent.{asks_names}
+use Rattle.policy_view.specs.Shown.{is_owner_change}
+use Rattle.policy_view.specs.Verdicts.{number_or_0}
+use Rattle.verdicts.specs.Roles.{is_owner_change_of}
+use Rattle.proxy_core.specs.Messages.{is_bus_member_by, message_in}
+use Rattle.proxy_core.proofs.Frames.{spelled_message}
+
+-- ---- the message
+
+abbrev pub tree : Seen → Message
+tree x = message_in x.bytes.now
+
+-- what is read of it, and that it is read
+record Found (bytes : List ℕ) (q : Contents) : Type 0 where
+  contents : contents_of (message_in bytes) ≡ q
+  read : message_of bytes ≡ Some (message_in bytes)
+
+found_in : (bytes : List ℕ) (q : Contents) → option_map contents_of (message_of bytes) ≡ Some q → Found bytes q
+found_in bytes q e = by (message_of bytes) refl e
+  where
+    by : (o : Option Message) → message_of bytes ≡ o → option_map contents_of o ≡ Some q → Found bytes q
+    by None is e = absurd cc
+    by (Some m) is e =
+        let same : message_in bytes ≡ m = ap (λ (o : Option Message). unwrap_or o ping) is in
+        record { contents = ap contents_of same ∙ same_Some (contents_of m) q e; read = is ∙ ap Some (sym same) }
+
+pub seen : (x : Seen) → contents_of (tree x) ≡ message_seen x
+seen x = (found_in x.bytes.now (message_seen x) x.read).contents
+
+pub read : (x : Seen) → message_of x.bytes.now ≡ Some (tree x)
+read x = (found_in x.bytes.now (message_seen x) x.read).read
+
+-- it is valid, and its bytes spell it
+abbrev pub IsSpelled : List ℕ → Type 0
+IsSpelled bytes = (m : Message) → message_of bytes ≡ Some m → Valid m × (bytes ≡ spell m)
+
+pub bytes_in : (x : Seen) → IsSpelled x.bytes.now → x.bytes.now ≡ spell (tree x)
+bytes_in x is = (is (tree x) (read x)).1
+
+-- a valid message is the one that its spelling spells
+pub spelled_in : (bytes : List ℕ) (m : Message) → Valid m → bytes ≡ spell m → message_in bytes ≡ m
+spelled_in bytes m valid is = ap (λ (o : Option Message). unwrap_or o ping) (spelled_message bytes m valid is)
+
+-- ---- with another serial
+
+pub with_serial_bytes : (x : Seen) (n : ℕ) → IsSpelled x.bytes.now → with_number x.order 8 n x.bytes.now ≡ spell (with_serial n (tree x))
+with_serial_bytes x n is =
+    ap₂ (λ o bytes. with_number o 8 n bytes) (sym (ap (λ (q : Contents). q.order) (seen x))) (bytes_in x is)
+    ∙ sym (serial_patched n (tree x))
+
+pub with_reply_bytes : (x : Seen) (place n : ℕ) → IsSpelled x.bytes.now → IsSome x.reply_serial → x.reply_serial_place ≡ Some place → with_number x.order place n x.bytes.now ≡ spell (with_reply_serial n (tree x))
+with_reply_bytes x place n spelled has at = by x.reply_serial refl has
+  where
+    by : (o : Option ℕ) → x.reply_serial ≡ o → IsSome o → with_number x.order place n x.bytes.now ≡ spell (with_reply_serial n (tree x))
+    by None is has = absurd cc
+    by (Some r) is has =
+        ap₂ (λ o bytes. with_number o place n bytes) (sym (ap (λ (q : Contents). q.order) (seen x))) (bytes_in x spelled)
+        ∙ sym (reply_patched n r place (tree x) (spelled (tree x) (read x)).0 (ap (λ (q : Contents). q.parts.reply_serial) (seen x) ∙ is) (ap (λ (q : Contents). q.reply_place) (seen x) ∙ at)).bytes
+
+-- where there is a reply serial, its number has a place
+pub has_place : (x : Seen) → IsSome x.reply_serial → x.reply_serial_place ≡ None → ⊥
+has_place x has none = by x.reply_serial refl has
+  where
+    by : (o : Option ℕ) → x.reply_serial ≡ o → IsSome o → ⊥
+    by None is has = absurd cc
+    by (Some r) is has =
+        let p = reply_stands (tree x) r (ap (λ (q : Contents). q.parts.reply_serial) (seen x) ∙ is) in
+        let h : Some p.0 ≡ None = sym p.1 ∙ ap (λ (q : Contents). q.reply_place) (seen x) ∙ none in
+        cc
+
+-- ---- what a return gives
+
+pub kind_is : (x : Seen) → (tree x).kind ≡ x.kind
+kind_is x = ap (λ (q : Contents). q.kind) (seen x)
+
+is_return : (x : Seen) → (x.kind == 2) ≡ true → kind_of (tree x) ≡ Return
+unfolding kind_of
+is_return x e = ap kind_by (kind_is x ∙ eqb-true x.kind 2 e)
+
+no_return : {A : Type 0} (k : ℕ) (body : Option A) → (k == 2) ≡ false → if_return (kind_by k) body ≡ None
+no_return {A} k body e = by (k == 1) (k == 2) (k == 3) (k == 4) e
+  where
+    by : (a b c d : Bool) → b ≡ false → if_return {A = A} (cond a Call (cond b Return (cond c Error (cond d Signal Other)))) body ≡ None
+    by true b c d e = refl
+    by false true c d e = absurd cc
+    by false false true d e = refl
+    by false false false true e = refl
+    by false false false false e = refl
+
+pub text_returned : (x : Seen) → (x.kind == 2) ≡ true → returned_text (tree x) ≡ only_text (tree x)
+unfolding returned_text
+text_returned x e = ap (λ (k : Kind). if_return k (only_text (tree x))) (is_return x e)
+
+pub nothing_returned : (x : Seen) → (x.kind == 2) ≡ false → returned_text (tree x) ≡ None
+unfolding returned_text kind_of
+nothing_returned x e = no_return (tree x).kind (only_text (tree x)) (ap (λ (k : ℕ). k == 2) (kind_is x) ∙ e)
+
+pub names_returned : (x : Seen) → (x.kind == 2) ≡ true → returned_names (tree x) ≡ text_list (tree x)
+unfolding returned_names
+names_returned x e = ap (λ (k : Kind). if_return k (text_list (tree x))) (is_return x e)
+
+pub no_names_returned : (x : Seen) → (x.kind == 2) ≡ false → returned_names (tree x) ≡ None
+unfolding returned_names kind_of
+no_names_returned x e = no_return (tree x).kind (text_list (tree x)) (ap (λ (k : ℕ). k == 2) (kind_is x) ∙ e)
+
+-- ---- what is asked of the bus
+
+pub asks_is : (x : Seen) → asks_names (tree x) ≡ (is_bus_member_by (codes "ListNames") (message_seen x) || is_bus_member_by (codes "ListActivatableNames") (message_seen x))
+unfolding asks_names
+asks_is x = ap (λ (q : Contents). is_bus_member_by (codes "ListNames") q || is_bus_member_by (codes "ListActivatableNames") q) (seen x)
+
+pub replies_is : (x : Seen) (b : Bool) → (x.kind == 2 || x.kind == 3) ≡ b → ((tree x).kind == 2 || (tree x).kind == 3) ≡ b
+replies_is x b e = ap (λ (k : ℕ). k == 2 || k == 3) (kind_is x) ∙ e
+
+pub destination_is : (x : Seen) → destination (tree x) ≡ text_seen x.destination
+destination_is x = ap (λ (q : Contents). q.parts.destination) (seen x)
+
+pub sender_is : (x : Seen) → sender (tree x) ≡ text_seen x.sender
+sender_is x = ap (λ (q : Contents). q.parts.sender) (seen x)
+
+pub reply_serial_is : (x : Seen) → reply_serial (tree x) ≡ x.reply_serial
+reply_serial_is x = ap (λ (q : Contents). q.parts.reply_serial) (seen x)
+
+pub number_is : (o : Option ℕ) → number_or_0 o ≡ unwrap_or o 0
+number_is None = refl
+number_is (Some n) = refl
+
+-- ---- one of a list that passes a test
+
+any_from : {A : Type 0} (test : A → Bool) (xs : List A) (i : ℕ) (x : A) → slice_get xs i ≡ Some x → list_any test (drop i xs) ≡ (test x || list_any test (drop (i + 1) xs))
+any_from test [] i x at = absurd cc
+any_from test (y ∷ ys) zero x at = let same : y ≡ x = same_Some y x at in ap (λ (z : _). test z || list_any test ys) same
+any_from test (y ∷ ys) (suc i) x at =
+    let next : suc (i + 1) ≡ suc i + 1 = omega arith in
+    any_from test ys i x at ∙ ap (λ (n : ℕ). test x || list_any test (drop n (y ∷ ys))) next
+
+pub any_here : {A : Type 0} (test : A → Bool) (xs : List A) (i : ℕ) (x : A) → slice_get xs i ≡ Some x → test x ≡ true → list_any test (drop i xs) ≡ true
+any_here test xs i x at passes = any_from test xs i x at ∙ ap (λ (b : Bool). b || list_any test (drop (i + 1) xs)) passes
+
+pub any_behind : {A : Type 0} (test : A → Bool) (xs : List A) (i : ℕ) (x : A) → slice_get xs i ≡ Some x → test x ≡ false → list_any test (drop i xs) ≡ list_any test (drop (i + 1) xs)
+any_behind test xs i x at fails = any_from test xs i x at ∙ ap (λ (b : Bool). b || list_any test (drop (i + 1) xs)) fails
+
+-- what is so where memory sufficed
+pub on_ok : {A E : Type 0} (r : Result A E) (P Q : Type 0) → (P → Q) → OnOk r P → OnOk r Q
+on_ok (Ok x) P Q f p = f p
+on_ok (Err e) P Q f p = p
+
+-- NameOwnerChanged from the bus
+pub owner_change_is : (x : Seen) → is_owner_change (tree x) ≡ is_owner_change_of (message_seen x)
+unfolding is_owner_change
+owner_change_is x = ap is_owner_change_of (seen x)
+
+pub kind_number : (x : Seen) (n : ℕ) {b : Bool} → (x.kind == n) ≡ b → ((tree x).kind == n) ≡ b
+kind_number x n e = ap (λ (k : ℕ). k == n) (kind_is x) ∙ e

@@ -1,0 +1,10 @@
+use Rattle.std.proofs.Common.{◌++◌, ap, ◌∙◌}
+use Rattle.proxy_core.proofs.Taking.{has_place, on_ok, with_reply_bytes}
+use Rattle.proxy_core.proofs.queue.put_reply.Goals as goal
+
+pub unreachable-requires : goal.unreachable-requires
+unreachable-requires c = has_place c.args.message.now c.requires c.in-None.is
+
+pub returns-clause-ok : goal.returns-clause-ok
+returns-clause-ok c =
+    on_ok c.put_with_number.result _ _ (λ is. is ∙ ap (λ bytes. c.args.into.now.items ++ bytes) (with_reply_bytes c.args.message.now c.in-Some.place c.args.serial c.is_spelled.ensures c.requires c.in-Some.is)) c.put_with_number.ensures.ok

@@ -1,0 +1,27 @@
+use Rattle.std.proofs.Common.{ap, ◌∙◌}
+use Rattle.dbus_header.specs.Message.{reply_serial}
+use Rattle.policy_view.specs.Shown.{BusRole, bus_role}
+use Rattle.verdicts.specs.Kept.{expected_at}
+use Rattle.proxy_core.specs.Messages.{with_role}
+use Rattle.proxy_core.specs.Sessions.{SessionView}
+use Rattle.proxy_core.proofs.ReceivingSteps.{role_as, shown_by, took_used}
+use Rattle.proxy_core.proofs.Taking.{read, tree}
+use Rattle.proxy_core.proofs.session.Session.take_bus_message.Goals as goal
+
+pub take_role-requires-clause-shown : goal.take_role-requires-clause-shown
+take_role-requires-clause-shown c =
+    shown_by c.args.policy.now _ c.self.inside.ledger.expected c.args.message.now c.show-showing.result (c.show-showing.ensures.kept _ (read c.args.message.now))
+
+pub take_role-requires-clause-role : goal.take_role-requires-clause-role
+take_role-requires-clause-role c = role_as c.args.policy.now _ c.args.self.now c.take_answer-answered.new.self c.args.message.now c.take_answer-answered.result c.show-showing.result c.self.view_is
+    c.take_answer-answered.ensures.left
+    c.take_answer-answered.ensures.role
+    (c.show-showing.ensures.kept _ (read c.args.message.now))
+
+pub returns : goal.returns
+returns c =
+    let m = tree c.args.message.now in
+    let mid : SessionView = c.take_answer-answered.new.self in
+    let same = ap (λ (r : BusRole). with_role c.args.policy.now m r mid) c.take_answer-answered.ensures.role
+    ∙ ap (λ (v : SessionView). with_role c.args.policy.now m (bus_role (expected_at c.args.self.now.ledger.expected (reply_serial m)) m) v) c.take_answer-answered.ensures.left in
+    took_used m _ _ c.args.self.now mid c.take_role.new.self c.take_answer-answered.ensures.left same c.take_role.ensures

@@ -1,0 +1,12 @@
+-- What a message has that is shown as an answer.
+use Rattle.std.specs.Prelude.{◌≡◌, IsSome, codes}
+use Rattle.dbus_header.specs.declared.message.Message.{Message}
+use Rattle.policy_view.specs.declared.Showing.{Showing}
+use Rattle.policy_view.specs.declared.Showing.TheVariants.{Whole, Reply, Cut, Instead, Hide}
+
+abbrev pub ShownBy : Message → Showing → Type 0
+ShownBy x Whole = Unit {0}
+ShownBy x (Reply serial) = IsSome x.reply_serial
+ShownBy x (Cut serial) = IsSome x.reply_serial × (x.signature.bytes.now ≡ codes "as")
+ShownBy x (Instead order reply what) = Unit {0}
+ShownBy x (Hide reason) = Unit {0}

@@ -1,0 +1,297 @@
+//! What a message of the bus tells, what the client is shown of it, and what the proxy asks then.
+ghost use Rattle.std.specs.Prelude.{◌≡◌, ◌≤◌, ◌+◌, ◌==◌, ◌||◌, true, None, All, IfSome, OnOk, OnErr, length, map};
+ghost use Rattle.dbus_header.specs.Message.{reply_serial as reply_serial_of};
+ghost use Rattle.dbus_names.specs.Names.{is_well_known as is_well_known_name};
+ghost use Rattle.dbus_header.specs.Seen.{text_seen, texts_seen};
+ghost use Rattle.policy_args.specs.declared.fact.Fact.TheVariants.{Owned, SelfId, Met};
+ghost use Rattle.policy_view.specs.History.{most_sent};
+ghost use Rattle.policy_view.specs.Past.{fact_of, learned_at, owners_of};
+ghost use Rattle.policy_view.specs.Sent.{OwnOwner, asked as names_asked};
+ghost use Rattle.policy_view.specs.Shown.{CallIn, NamesAnswer, bus_role, role_of_reply, role_of_signal, showing_at};
+ghost use Rattle.proxy_core.specs.Messages.{KeepsSides, known, message_in, own_names, sending, with_bus_message, with_facts, with_role, with_sent, with_shown, with_told, with_used};
+ghost use Rattle.proxy_core.specs.Shapes.{ShownBy};
+ghost use Rattle.proxy_core.specs.Steps.{TookMessage};
+ghost use Rattle.verdicts.specs.Kept.{expected_at};
+
+use super::Session;
+use crate::facts::{is_covered, returned_id, returned_names, unique};
+use bytes::BytesMut;
+use dbus_header::Message;
+use dbus_values::Texts;
+use own_calls::{after_names, asked};
+use ping_rewrite::answer_in_place;
+use policy_args::Policy;
+use policy_view::{End, Showing};
+use reply_ledger::Kind;
+use std::alloc::AllocError;
+use verdicts::{is_owner_change, show};
+
+impl Session {
+    /// Learns that a unique name is the client's own, where one is told.
+    fn learn_self(&mut self, policy: &Policy, id: Option<&str>) -> Result<(), AllocError>
+        ensures ok { OnOk result (self.new ≡ with_facts policy.now (fact_of SelfId (text_seen id.entry)) self.old) }
+        ensures err { OnErr result (self.new ≡ self.old) }
+    {
+        match id {
+            Some(id) => self.tracker.learn_self(policy, id),
+            None => Ok(()),
+        }
+    }
+
+    /// Learns that the client met a unique name, where one is told.
+    fn learn_met(&mut self, policy: &Policy, id: Option<&str>) -> Result<(), AllocError>
+        ensures ok { OnOk result (self.new ≡ with_facts policy.now (fact_of Met (text_seen id.entry)) self.old) }
+        ensures err { OnErr result (self.new ≡ self.old) }
+    {
+        match id {
+            Some(id) => self.tracker.learn_met(policy, id),
+            None => Ok(()),
+        }
+    }
+
+    /// Learns who owns a name, or owned it, where that is told.
+    fn learn_owner(
+        &mut self,
+        policy: &Policy,
+        name: &str,
+        id: Option<&str>,
+    ) -> Result<(), AllocError>
+        ensures ok { OnOk result (self.new ≡ with_facts policy.now (fact_of (Owned name.now) (text_seen id.entry)) self.old) }
+        ensures err { OnErr result (self.new ≡ self.old) }
+    {
+        match id {
+            Some(id) => self.tracker.learn_owner(policy, name, id),
+            None => Ok(()),
+        }
+    }
+
+    /// Learns both owners of a name that changed its owner, where an entry covers it.
+    fn learn_owners(
+        &mut self,
+        policy: &Policy,
+        texts: Option<(&str, &str, &str)>,
+    ) -> Result<(), AllocError>
+        ensures ok { OnOk result (self.new ≡ with_facts policy.now (owners_of policy.now (texts_seen texts.entry)) self.old) }
+        ensures err { OnErr result (KeepsSides self.old self.new) }
+    {
+        let Some((name, before, after)) = texts else {
+            return Ok(());
+        };
+        if !is_covered(policy, name) {
+            return Ok(());
+        }
+        self.learn_owner(policy, name, unique(Some(before)))?;
+        self.learn_owner(policy, name, unique(Some(after)))
+    }
+
+    /// Learns what an answer tells: the client's own name, or the owner of a name.
+    fn learn_answer(
+        &mut self,
+        policy: &Policy,
+        message: &Message<'_>,
+        answered: &Option<Kind>,
+    ) -> Result<(), AllocError>
+        ensures ok { OnOk result (self.new ≡ with_facts policy.now (learned_at policy.now (message_in message.now.bytes.now) (role_of_reply (message.now.kind == 2) answered.now)) self.old) }
+        ensures err { OnErr result (self.new ≡ self.old) }
+    {
+        match answered {
+            Some(Kind::Hello(_)) => self.learn_self(policy, returned_id(message)),
+            Some(Kind::OwnOwner(name)) => {
+                self.learn_owner(policy, name.as_str(), returned_id(message))
+            }
+            Some(
+                Kind::Call(_)
+                | Kind::Names(_)
+                | Kind::Ping { .. }
+                | Kind::OwnMatch
+                | Kind::OwnNames,
+            )
+            | None => Ok(()),
+        }
+    }
+
+    /// A call of the bus: the client meets its sender, and owes it a reply where it wants one.
+    fn learn_call(&mut self, policy: &Policy, message: &Message<'_>) -> Result<(), AllocError>
+        ensures ok { OnOk result (self.new ≡ with_told policy.now (message_in message.now.bytes.now) CallIn self.old) }
+        ensures err { OnErr result (KeepsSides self.old self.new) }
+    {
+        self.learn_met(policy, unique(message.sender))?;
+        match message.sender {
+            Some(sender) if message.expects_reply() => self.ledger.called(sender, message.serial),
+            _ => Ok(()),
+        }
+    }
+
+    /// A signal of the bus: of the bus itself it may tell owners, and else the client meets the sender of one that is
+    /// meant for it.
+    fn learn_signal(&mut self, policy: &Policy, message: &Message<'_>) -> Result<(), AllocError>
+        ensures ok { OnOk result (self.new ≡ with_told policy.now (message_in message.now.bytes.now) (role_of_signal (message_in message.now.bytes.now)) self.old) }
+        ensures err { OnErr result (KeepsSides self.old self.new) }
+    {
+        if is_owner_change(message) {
+            self.learn_owners(policy, message.three_texts())
+        } else if message.destination.is_some() {
+            self.learn_met(policy, unique(message.sender))
+        } else {
+            Ok(())
+        }
+    }
+
+    /// Learns what a message of the bus tells, which answers what was expected so.
+    fn learn(
+        &mut self,
+        policy: &Policy,
+        message: &Message<'_>,
+        answered: &Option<Kind>,
+    ) -> Result<(), AllocError>
+        ensures ok { OnOk result (self.new ≡ with_told policy.now (message_in message.now.bytes.now) (bus_role answered.now (message_in message.now.bytes.now)) self.old) }
+        ensures err { OnErr result (KeepsSides self.old self.new) }
+    {
+        if message.is_reply() {
+            self.learn_answer(policy, message, answered)
+        } else if message.is_method_call() {
+            self.learn_call(policy, message)
+        } else if message.is_signal() {
+            self.learn_signal(policy, message)
+        } else {
+            Ok(())
+        }
+    }
+
+    /// What is shown of a message comes to the client.
+    fn show_as(
+        &mut self,
+        policy: &Policy,
+        message: &Message<'_>,
+        showing: Showing,
+    ) -> Result<(), AllocError>
+        requires { ShownBy message.now showing }
+        ensures ok { OnOk result (self.new ≡ with_shown policy.now (message_in message.now.bytes.now) showing self.old) }
+        ensures err { OnErr result (self.new ≡ self.old) }
+    {
+        match showing {
+            Showing::Whole => self.to_client.push_whole(message),
+            Showing::Reply(serial) => self.to_client.push_reply(message, serial),
+            Showing::Cut(serial) => self
+                .to_client
+                .push_cut(policy, &self.tracker, message, serial),
+            Showing::Instead { order, reply, what } => {
+                self.to_client.push(answer_in_place(order, reply, message.serial, what).as_slice())
+            }
+            Showing::Hide(_) => Ok(()),
+        }
+    }
+
+    /// The owners of the names of a list are asked for, one by one.
+    fn send_owner_calls(&mut self, names: &[&str]) -> Result<(), AllocError>
+        requires room { self.old.sent + length names.now ≤ most_sent }
+        requires names { All (λ name. is_well_known_name name.now ≡ true) names.now }
+        ensures ok { OnOk result (self.new ≡ with_sent (map OwnOwner (map (λ n. n.now) names.now)) self.old) }
+        ensures err { OnErr result (KeepsSides self.old self.new) }
+    {
+        let mut calls = BytesMut::new(self.alloc);
+        after_names(
+            self.alloc,
+            &mut calls,
+            names,
+            &mut self.serials,
+            &mut self.ledger,
+        )?;
+        self.to_bus.push(calls.as_slice())
+    }
+
+    /// The owners of those names of a list are asked for that the policy lets ask for, where serials are left for all.
+    fn ask_owners(&mut self, policy: &Policy, names: Texts<'_>)
+        requires { self.old.ended ≡ None }
+        ensures { TookMessage (sending (map OwnOwner (names_asked policy.now names.entry)) self.old self.old) self.old self.new }
+    {
+        let Ok(names) = asked(self.alloc, policy, names) else {
+            return self.end_with(End::Memory);
+        };
+        if names.len() as u64 > u64::from(self.serials.left()) {
+            return self.end_with(End::SerialsSpent);
+        }
+        if self.send_owner_calls(&names).is_err() {
+            self.end_with(End::Memory);
+        }
+    }
+
+    /// What a message answers is no longer expected.
+    fn take_answer(&mut self, message: &Message<'_>) -> Option<Kind>
+        ensures reply { IfSome result (λ _. (message.now.kind == 2 || message.now.kind == 3) ≡ true) }
+        ensures role { bus_role result (message_in message.now.bytes.now) ≡ bus_role (expected_at self.old.ledger.expected (reply_serial_of (message_in message.now.bytes.now))) (message_in message.now.bytes.now) }
+        ensures left { self.new ≡ with_used (message_in message.now.bytes.now) self.old }
+    {
+        if !message.is_reply() {
+            return None;
+        }
+        match message.reply_serial {
+            Some(serial) => self.ledger.take(serial),
+            None => None,
+        }
+    }
+
+    /// Takes the answer to the proxy's own question for the list of names.
+    fn take_names(&mut self, policy: &Policy, message: &Message<'_>)
+        requires { self.old.ended ≡ None }
+        ensures { TookMessage (with_role policy.now (message_in message.now.bytes.now) NamesAnswer self.old) self.old self.new }
+    {
+        if let Some(names) = returned_names(message) {
+            self.ask_owners(policy, names);
+        }
+    }
+
+    /// What a message of the bus tells is learned, and what is shown of it comes to the client.
+    fn take_told(
+        &mut self,
+        policy: &Policy,
+        message: &Message<'_>,
+        answered: &Option<Kind>,
+        showing: Showing,
+    ) -> Result<(), AllocError>
+        requires { ShownBy message.now showing }
+        ensures ok { OnOk result (self.new ≡ with_shown policy.now (message_in message.now.bytes.now) showing (with_told policy.now (message_in message.now.bytes.now) (bus_role answered.now (message_in message.now.bytes.now)) self.old)) }
+        ensures err { OnErr result (KeepsSides self.old self.new) }
+    {
+        self.learn(policy, message, answered)?;
+        self.show_as(policy, message, showing)
+    }
+
+    /// Takes a message of the bus by what it answers and by what is shown of it.
+    fn take_role(
+        &mut self,
+        policy: &Policy,
+        message: &Message<'_>,
+        answered: &Option<Kind>,
+        showing: Showing,
+    )
+        requires running { self.old.ended ≡ None }
+        requires shown { ShownBy message.now showing }
+        requires role { showing ≡ showing_at policy.now (known policy.now self.old) (message_in message.now.bytes.now) (bus_role answered.now (message_in message.now.bytes.now)) }
+        requires reply { IfSome answered.now (λ _. (message.now.kind == 2 || message.now.kind == 3) ≡ true) }
+        ensures { TookMessage (with_role policy.now (message_in message.now.bytes.now) (bus_role answered.now (message_in message.now.bytes.now)) self.old) self.old self.new }
+    {
+        if is_own_names(answered) {
+            return self.take_names(policy, message);
+        }
+        let done = self.take_told(policy, message, answered, showing);
+        self.goes_on(done);
+    }
+
+    /// Takes a message of the bus.
+    pub(super) fn take_bus_message(&mut self, policy: &Policy, message: &Message<'_>)
+        requires { self.old.ended ≡ None }
+        ensures { TookMessage (with_bus_message policy.now (message_in message.now.bytes.now) self.old) self.old self.new }
+    {
+        let showing = show(policy, &self.tracker, &self.ledger, message);
+        let answered = self.take_answer(message);
+        self.take_role(policy, message, &answered, showing);
+    }
+}
+
+/// Whether it is what the answer to the proxy's own question for the list of names is for.
+fn is_own_names(answered: &Option<Kind>) -> bool
+    ensures { result ≡ own_names answered.now }
+{
+    matches!(answered, Some(Kind::OwnNames))
+}

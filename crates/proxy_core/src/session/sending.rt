@@ -1,0 +1,178 @@
+//! What goes to the bus for a message of the client: the message itself or a ping in its place, and behind the first Hello
+//! the proxy's own calls.
+ghost use Rattle.std.specs.Prelude.{◌≡◌, ◌≤◌, ◌+◌, ◌&&◌, ◌∷◌, [], true, false, not, None, IfOk, OnOk, OnErr, length};
+ghost use Rattle.policy_view.specs.History.{most_sent};
+ghost use Rattle.policy_view.specs.Past.{replied_on};
+ghost use Rattle.policy_view.specs.Sent.{Passed, Pinged, is_hello as hello, own_calls as calls_of, spelled_from};
+ghost use Rattle.policy_view.specs.Verdicts.{client_role};
+ghost use Rattle.policy_view.specs.declared.Verdict.TheVariants.{Pass};
+ghost use Rattle.proxy_core.specs.Messages.{KeepsSides, awaiting, message_in, noted, queued, with_client_message, with_due, with_replied, with_sent, with_verdict};
+ghost use Rattle.proxy_core.specs.Steps.{TookMessage};
+
+use super::Session;
+use crate::queue::put_message;
+use crate::requests::{expected, is_hello};
+use bytes::BytesMut;
+use dbus_header::{Instead, Message};
+use own_calls::{after_hello, count};
+use ping_rewrite::ping;
+use policy_args::Policy;
+use policy_view::{End, Verdict};
+use reply_ledger::Kind;
+use std::alloc::AllocError;
+use verdicts::judge;
+
+impl Session {
+    /// The answer to a call with the serial that was given last is expected, where one is wanted.
+    fn expect_answer(&mut self, message: &Message<'_>, serial: u32) -> Result<(), AllocError>
+        requires { serial ≡ self.old.sent }
+        ensures ok { OnOk result (self.new ≡ awaiting (Passed (message_in message.now.bytes.now)) self.old) }
+        ensures err { OnErr result (self.new ≡ self.old) }
+    {
+        if message.is_method_call() && message.expects_reply() {
+            return self.ledger.expect(serial, expected(message));
+        }
+        Ok(())
+    }
+
+    /// The message goes to the bus with the serial that was given last.
+    fn pass(&mut self, message: &Message<'_>, serial: u32) -> Result<(), AllocError>
+        requires { serial ≡ self.old.sent }
+        ensures ok { OnOk result (self.new ≡ queued (Passed (message_in message.now.bytes.now)) self.old) }
+        ensures err { OnErr result (KeepsSides self.old self.new) }
+    {
+        self.expect_answer(message, serial)?;
+        self.to_bus.push_message(message, serial)
+    }
+
+    /// A ping goes to the bus in the call's place with the serial that was given last, and the client is to be answered
+    /// when its answer comes.
+    fn ping(&mut self, message: &Message<'_>, what: Instead, serial: u32) -> Result<(), AllocError>
+        requires { serial ≡ self.old.sent }
+        ensures ok { OnOk result (self.new ≡ queued (Pinged (message_in message.now.bytes.now) what) self.old) }
+        ensures err { OnErr result (KeepsSides self.old self.new) }
+    {
+        let expected = Kind::Ping {
+            serial: message.serial,
+            order: message.order,
+            what,
+        };
+        self.ledger.expect(serial, expected)?;
+        self.to_bus.push(&ping(serial))
+    }
+
+    /// A reply to a call of the bus is no longer owed.
+    fn reply(&mut self, message: &Message<'_>)
+        ensures { self.new ≡ with_replied (replied_on (message_in message.now.bytes.now) (client_role (message_in message.now.bytes.now)) Pass) self.old }
+    {
+        if !message.is_reply() {
+            return;
+        }
+        if let Some(destination) = message.destination {
+            self.ledger
+                .answer(destination, message.reply_serial.unwrap_or(0));
+        }
+    }
+
+    /// A message that passes is sent alone, where a serial is left.
+    fn send(&mut self, message: &Message<'_>)
+        requires running { self.old.ended ≡ None }
+        requires alone { (hello (message_in message.now.bytes.now) && not self.old.greeted) ≡ false }
+        ensures { TookMessage (with_due (Passed (message_in message.now.bytes.now) ∷ []) (replied_on (message_in message.now.bytes.now) (client_role (message_in message.now.bytes.now)) Pass) self.old) self.old self.new }
+    {
+        let Ok(serial) = self.serials.next() else {
+            return self.end_with(End::SerialsSpent);
+        };
+        if self.pass(message, serial).is_err() {
+            return self.end_with(End::Memory);
+        }
+        self.reply(message);
+    }
+
+    /// A ping is sent in a call's place, where a serial is left.
+    fn send_ping(&mut self, message: &Message<'_>, what: Instead)
+        requires { self.old.ended ≡ None }
+        ensures { TookMessage (with_due (Pinged (message_in message.now.bytes.now) what ∷ []) [] self.old) self.old self.new }
+    {
+        let Ok(serial) = self.serials.next() else {
+            return self.end_with(End::SerialsSpent);
+        };
+        if self.ping(message, what, serial).is_err() {
+            self.end_with(End::Memory);
+        }
+    }
+
+    /// The Hello and the proxy's own calls, in one piece, with the serials from the next one on.
+    fn greeting(&mut self, policy: &Policy, message: &Message<'_>) -> Result<BytesMut, AllocError>
+        requires { self.old.sent + length (Passed (message_in message.now.bytes.now) ∷ calls_of policy.now) ≤ most_sent }
+        ensures bytes { IfOk result (λ calls. calls.items ≡ spelled_from (self.old.sent + 1) (Passed (message_in message.now.bytes.now) ∷ calls_of policy.now)) }
+        ensures ok { OnOk result (self.new ≡ noted (Passed (message_in message.now.bytes.now) ∷ calls_of policy.now) self.old) }
+        ensures err { OnErr result (KeepsSides self.old self.new) }
+    {
+        let Ok(serial) = self.serials.next() else {
+            unreachable!()
+        };
+        self.expect_answer(message, serial)?;
+        let mut calls = BytesMut::new(self.alloc);
+        put_message(&mut calls, message, serial)?;
+        after_hello(
+            self.alloc,
+            &mut calls,
+            policy,
+            &mut self.serials,
+            &mut self.ledger,
+        )?;
+        Ok(calls)
+    }
+
+    /// The first Hello goes to the bus, and behind it the proxy's own calls.
+    fn send_greeting(&mut self, policy: &Policy, message: &Message<'_>) -> Result<(), AllocError>
+        requires room { self.old.sent + length (Passed (message_in message.now.bytes.now) ∷ calls_of policy.now) ≤ most_sent }
+        requires hello { hello (message_in message.now.bytes.now) ≡ true }
+        ensures ok { OnOk result (self.new ≡ with_sent (Passed (message_in message.now.bytes.now) ∷ calls_of policy.now) self.old) }
+        ensures err { OnErr result (KeepsSides self.old self.new) }
+    {
+        let calls = self.greeting(policy, message)?;
+        self.to_bus.push(calls.as_slice())?;
+        self.greeted = true;
+        Ok(())
+    }
+
+    /// The first Hello and the proxy's own calls are sent, where serials are left for all of them.
+    fn greet(&mut self, policy: &Policy, message: &Message<'_>)
+        requires running { self.old.ended ≡ None }
+        requires hello { hello (message_in message.now.bytes.now) ≡ true }
+        ensures { TookMessage (with_due (Passed (message_in message.now.bytes.now) ∷ calls_of policy.now) [] self.old) self.old self.new }
+    {
+        if self.serials.left() <= count(policy) {
+            return self.end_with(End::SerialsSpent);
+        }
+        if self.send_greeting(policy, message).is_err() {
+            self.end_with(End::Memory);
+        }
+    }
+
+    /// A message that passes is sent; the first Hello with the proxy's own calls behind it.
+    fn pass_on(&mut self, policy: &Policy, message: &Message<'_>)
+        requires { self.old.ended ≡ None }
+        ensures { TookMessage (with_verdict policy.now (message_in message.now.bytes.now) Pass self.old) self.old self.new }
+    {
+        if !self.greeted && is_hello(message) {
+            self.greet(policy, message);
+        } else {
+            self.send(message);
+        }
+    }
+
+    /// Takes a message of the client, by its verdict: it passes, or a ping takes its place, or it is dropped.
+    pub(super) fn take_client_message(&mut self, policy: &Policy, message: &Message<'_>)
+        requires { self.old.ended ≡ None }
+        ensures { TookMessage (with_client_message policy.now (message_in message.now.bytes.now) self.old) self.old self.new }
+    {
+        match judge(policy, &self.tracker, &self.ledger, message) {
+            Verdict::Pass => self.pass_on(policy, message),
+            Verdict::Ping(what, _) => self.send_ping(message, what),
+            Verdict::Drop(_) => {}
+        }
+    }
+}
