@@ -1,5 +1,5 @@
 -- What waits for a side, as it is written piece by piece.
-use Rattle.std.proofs.Common.{◌≡◌, ◌≤◌, ◌<◌, ◌+◌, ℕ, Bool, List, ◌++◌, refl, ap, sym, ◌∙◌, append_assoc, length, drop, arith}
+use Rattle.std.proofs.Common.{◌≡◌, ◌≤◌, ◌+◌, ℕ, Bool, List, ◌++◌, refl, ap, sym, ◌∙◌, append_assoc, length, drop, arith}
 use Rattle.std.proofs.lemmas.List.{drop_at}
 use Rattle.policy_view.specs.declared.Side.{Side}
 use Rattle.policy_view.specs.declared.Side.TheVariants.{Client, Bus}
@@ -7,9 +7,8 @@ use Rattle.policy_view.specs.Past.{History}
 use Rattle.policy_view.specs.History.{end_of, history}
 use Rattle.policy_view.specs.Outputs.{bus_bytes, client_bytes}
 use Rattle.policy_args.specs.Policy.{Policy}
-use Rattle.proxy_core.specs.Sessions.{SessionView, Holds, nothing, waits_for, at_start}
-use Rattle.proxy_core.specs.Steps.{bus_weight, client_weight, IsLight}
-use Rattle.policy_view.specs.declared.Mode.{Mode}
+use Rattle.proxy_core.specs.Sessions.{SessionView, Holds, nothing, waits_for}
+use Rattle.proxy_core.specs.Steps.{weight, IsLight}
 use Rattle.recording.specs.Recording.{Recording}
 use Rattle.replay.specs.Output.{record_where_any, end_record, output_of_recording, events_of}
 use Rattle.replay.specs.Waiting.{with_waiting, output_of}
@@ -51,21 +50,12 @@ unfolding output_of_recording
 output-is policy filter r v mode holds = holds-output policy v _ holds
     ∙ ap (λ m. let h = history policy m (events_of r.events) in record_where_any 16 (bus_bytes policy h) ++ record_where_any 17 (client_bytes policy h) ++ end_record (end_of h)) mode
 
--- a record can count what waits, since the bytes of a recording are few
 -- what waits after so many bytes from the start on
-pub few-for_bus : (mode : Mode) (start after : SessionView) (came : ℕ) → start ≡ at_start mode → IsLight came start after → came ≤ 67108864 → length after.bus_side < 4294967296
-few-for_bus mode start after came empty light few =
-    let none : bus_weight start ≡ 0 = ap bus_weight empty in
-    omega (arith, light.for_bus, few, none)
+pub few : (policy : Policy) (start after : SessionView) (came : ℕ) → weight policy start ≤ 60161266 → IsLight policy came start after → came ≤ 67108864 → length after.bus_side + length after.client_side ≤ 1335229682
+few policy start after came first light most = omega (arith, light.weighs, first, most)
 
-pub few-for_client : (mode : Mode) (start after : SessionView) (came : ℕ) → start ≡ at_start mode → IsLight came start after → came ≤ 67108864 → length after.client_side < 4294967296
-few-for_client mode start after came empty light few =
-    let none : client_weight start ≡ 0 = ap client_weight empty in
-    omega (arith, light.for_client, few, none)
-
-pub lights : (a b c : SessionView) (n m k : ℕ) → k ≡ n + m → IsLight n a b → IsLight m b c → IsLight k a c
-lights a b c n m k e p q = record {
+pub lights : (policy : Policy) (a b c : SessionView) (n m k : ℕ) → k ≡ n + m → IsLight policy n a b → IsLight policy m b c → IsLight policy k a c
+lights policy a b c n m k e p q = record {
   mode = q.mode ∙ p.mode;
-  for_bus = omega (arith, e, p.for_bus, q.for_bus);
-  for_client = omega (arith, e, p.for_client, q.for_client);
+  weighs = omega (arith, e, p.weighs, q.weighs);
 }

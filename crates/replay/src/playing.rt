@@ -14,10 +14,13 @@ use proxy_core::Session;
 use recording::{Event, RECORDING_LIMIT, Recording, Side};
 use std::alloc::{AllocError, Global};
 
+/// How many bytes the largest recording gives to both sides at most: nineteen for each of its own, and the proxy's own calls.
+pub const MOST_BYTES: u64 = 1_335_229_682;
+
 /// A piece of a side's stream came.
 fn feed(session: &mut Session, policy: &Policy, side: Side, piece: &[u8])
     ensures stands { (events : List SessionEvent) (taken : Taken) → StandsFor policy.now session.old events taken → StandsFor policy.now session.new (Bytes (side_of side) piece.now ∷ events) taken }
-    ensures light { IsLight (length piece.now) session.old session.new }
+    ensures light { IsLight policy.now (length piece.now) session.old session.new }
 {
     let _ = match side {
         Side::Client => session.feed_client(policy, piece),
@@ -28,7 +31,7 @@ fn feed(session: &mut Session, policy: &Policy, side: Side, piece: &[u8])
 /// A side's stream ended.
 fn finish(session: &mut Session, side: Side)
     ensures stands { (policy : PolicyValue) (events : List SessionEvent) (taken : Taken) → StandsFor policy session.old events taken → StandsFor policy session.new (Finished (side_of side) ∷ events) taken }
-    ensures light { IsLight 0 session.old session.new }
+    ensures light { (policy : PolicyValue) → IsLight policy 0 session.old session.new }
 {
     let _ = match side {
         Side::Client => session.client_ended(),
@@ -39,7 +42,7 @@ fn finish(session: &mut Session, side: Side)
 /// Plays one event. A session that has ended takes it without an effect.
 fn play_event(session: &mut Session, policy: &Policy, event: &Event)
     ensures stands { (events : List SessionEvent) (taken : Taken) → StandsFor policy.now session.old events taken → StandsFor policy.now session.new (event_of (seen event.now) ∷ events) taken }
-    ensures light { IsLight (size_of (seen event.now)) session.old session.new }
+    ensures light { IsLight policy.now (size_of (seen event.now)) session.old session.new }
 {
     match event {
         Event::Bytes(side, bytes) => feed(session, policy, *side, bytes.as_slice()),
@@ -50,7 +53,7 @@ fn play_event(session: &mut Session, policy: &Policy, event: &Event)
 /// Plays events in order on a session that has taken nothing.
 fn play_events(session: &mut Session, policy: &Policy, events: &[Event])
     ensures stands { StandsFor policy.now session.old [] nothing → StandsFor policy.now session.new (events_of (map seen events.now)) nothing }
-    ensures light { IsLight (size (map seen events.now)) session.old session.new }
+    ensures light { IsLight policy.now (size (map seen events.now)) session.old session.new }
 {
     for event in events {
         play_event(session, policy, event);
@@ -71,8 +74,7 @@ fn is_memory(ended: Option<End>) -> bool
 pub fn play(alloc: Global, options: &Options, recording: &Recording) -> Result<Session, AllocError>
     requires size { size (recording_seen recording.now).events ≤ RECORDING_LIMIT }
     ensures output { IfOk result (λ s. output_of s ≡ output_of_recording options.now.policy options.now.filter (recording_seen recording.now)) }
-    ensures for_bus { IfOk result (λ s. length s.bus_side < 2 ^ 32) }
-    ensures for_client { IfOk result (λ s. length s.client_side < 2 ^ 32) }
+    ensures few { IfOk result (λ s. length s.bus_side + length s.client_side ≤ MOST_BYTES) }
 {
     let mode = Mode {
         auth: recording.auth,

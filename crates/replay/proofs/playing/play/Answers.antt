@@ -3,7 +3,7 @@ use Rattle.policy_view.specs.History.{history}
 use Rattle.proxy_core.specs.Sessions.{SessionView, Holds, is_memory, nothing}
 use Rattle.recording.specs.Seen.{recording_seen, seen, size}
 use Rattle.replay.specs.Output.{events_of}
-use Rattle.replay.proofs.Sides.{output-is, few-for_bus, few-for_client}
+use Rattle.replay.proofs.Sides.{output-is, few}
 use Rattle.replay.proofs.playing.play.Goals as goal
 
 pub returns-clause-output : goal.returns-clause-output
@@ -16,12 +16,7 @@ returns-clause-output c =
     (subst (λ events. Holds policy session (history policy session.mode (events_of (map seen events))) nothing) c.deref.ensures.value
     ((c.play_events.ensures.stands c.in_ok-session.ensures.stands).holds running))
 
-pub returns-clause-for_bus : goal.returns-clause-for_bus
-returns-clause-for_bus c =
-    few-for_bus _ _ _ _ c.in_ok-session.ensures.start c.play_events.ensures.light
-    (subst (λ events. size (map seen events) ≤ 67108864) (sym c.deref.ensures.value) c.requires.size)
-
-pub returns-clause-for_client : goal.returns-clause-for_client
-returns-clause-for_client c =
-    few-for_client _ _ _ _ c.in_ok-session.ensures.start c.play_events.ensures.light
+pub returns-clause-few : goal.returns-clause-few
+returns-clause-few c =
+    few c.args.options.now.policy _ _ _ c.in_ok-session.ensures.light c.play_events.ensures.light
     (subst (λ events. size (map seen events) ≤ 67108864) (sym c.deref.ensures.value) c.requires.size)

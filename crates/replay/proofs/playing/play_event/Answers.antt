@@ -1,7 +1,8 @@
 use Rattle.std.proofs.Common.{◌∷◌, ◌∙◌, ap, sym, subst}
 use Rattle.policy_view.specs.History.{Bytes}
 use Rattle.proxy_core.specs.Sessions.{StandsFor}
-use Rattle.recording.specs.Seen.{seen}
+use Rattle.proxy_core.specs.Steps.{IsLight}
+use Rattle.recording.specs.Seen.{seen, size_of}
 use Rattle.replay.specs.Output.{event_of, side_of}
 use Rattle.replay.proofs.playing.play_event.Goals as goal
 
@@ -16,3 +17,8 @@ returns-in-Finished-clause-stands c = λ events taken stood.
     subst (λ e. StandsFor c.args.policy.now c.finish.new.session (e ∷ events) taken)
     (sym (ap (λ e. event_of (seen e)) c.in-Finished.is))
     (c.finish.ensures.stands c.args.policy.now events taken stood)
+
+pub returns-in-Finished-clause-light : goal.returns-in-Finished-clause-light
+returns-in-Finished-clause-light c =
+    subst (λ e. IsLight c.args.policy.now (size_of (seen e)) c.args.session.now c.finish.new.session) (sym c.in-Finished.is)
+    (c.finish.ensures.light c.args.policy.now)

@@ -11,5 +11,5 @@ loop-event-preserved c =
     record {
       stands = λ start. subst (λ events. StandsFor c.args.policy.now c.play_event.new.session events nothing) (sym event)
           (c.play_event.ensures.stands _ nothing (c.loop-event.invariant.stands start));
-      light = lights _ _ _ _ _ _ size c.loop-event.invariant.light c.play_event.ensures.light;
+      light = lights c.args.policy.now _ _ _ _ _ _ size c.loop-event.invariant.light c.play_event.ensures.light;
     }

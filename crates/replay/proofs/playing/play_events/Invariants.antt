@@ -8,5 +8,5 @@ use Rattle.replay.proofs.playing.play_events.Given as goal
 abbrev pub invariant-loop-event : goal.invariant-loop-event
 invariant-loop-event l = record {
   stands : StandsFor l.policy l.fn.session [] nothing → StandsFor l.policy l.session (events_of (map seen (take l.event-index l.events))) nothing;
-  light : IsLight (size (map seen (take l.event-index l.events))) l.fn.session l.session;
+  light : IsLight l.policy (size (map seen (take l.event-index l.events))) l.fn.session l.session;
 }
