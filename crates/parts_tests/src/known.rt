@@ -36,6 +36,7 @@ pub fn options(alloc: Global, words: &str) -> Result<Options, AllocError> {
         Ok(options) => Ok(options),
         Err(LineRefusal::Bad(_)) => Ok(Options {
             filter: false,
+            log: false,
             policy: Policy::new(alloc),
         }),
         Err(LineRefusal::Memory) => Err(AllocError),

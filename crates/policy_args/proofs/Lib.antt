@@ -13,4 +13,5 @@ pub mod PolicyExamples
 pub mod PolicyLevels
 pub mod ReadingLine
 pub mod Scanning
+pub mod WordOf
 pub mod WordsExamples

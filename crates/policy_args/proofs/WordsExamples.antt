@@ -47,24 +47,32 @@ no_entries : map entry_of (codes "--call=org.a.C" ∷ codes "--call=org=x" ∷ c
     ≡ Err BadRule ∷ Err BadName ∷ Err BadRule ∷ Err BadName ∷ Err BadName ∷ Err BadName ∷ Err UnknownOption ∷ Err UnknownOption ∷ []
 no_entries = refl
 
-no_words : options_of [] ≡ Ok (record { filter = false; policy = policy_of [] })
+no_words : options_of [] ≡ Ok (record { filter = false; log = false; policy = policy_of [] })
 unfolding options_of
 no_words = refl
 
-filter_alone : options_of (codes "--filter" ∷ []) ≡ Ok (record { filter = true; policy = policy_of [] })
+filter_alone : options_of (codes "--filter" ∷ []) ≡ Ok (record { filter = true; log = false; policy = policy_of [] })
 unfolding options_of
 filter_alone = refl
 
-given_again : options_of (codes "--talk=org.a.T" ∷ codes "--filter" ∷ codes "--see=org.a.*" ∷ codes "--talk=org.a.T" ∷ []) ≡ Ok (record { filter = true; policy = policy_of (talk_T ∷ see_a ∷ []) })
+log_alone : options_of (codes "--log" ∷ []) ≡ Ok (record { filter = false; log = true; policy = policy_of [] })
+unfolding options_of
+log_alone = refl
+
+log_of_filter : options_of (codes "--log" ∷ codes "--filter" ∷ codes "--log" ∷ []) ≡ Ok (record { filter = true; log = true; policy = policy_of [] })
+unfolding options_of
+log_of_filter = refl
+
+given_again : options_of (codes "--talk=org.a.T" ∷ codes "--filter" ∷ codes "--see=org.a.*" ∷ codes "--talk=org.a.T" ∷ []) ≡ Ok (record { filter = true; log = false; policy = policy_of (talk_T ∷ see_a ∷ []) })
 unfolding options_of talk_T see_a
 given_again = refl
 
 -- two words of one meaning are two entries
-two_spellings : options_of (codes "--call=org.a.C=" ∷ codes "--call=org.a.C=*" ∷ codes "--call=org.a.C=" ∷ []) ≡ Ok (record { filter = false; policy = policy_of (call_C [] ∷ call_C (codes "*") ∷ []) })
+two_spellings : options_of (codes "--call=org.a.C=" ∷ codes "--call=org.a.C=*" ∷ codes "--call=org.a.C=" ∷ []) ≡ Ok (record { filter = false; log = false; policy = policy_of (call_C [] ∷ call_C (codes "*") ∷ []) })
 unfolding options_of call_C any
 two_spellings = refl
 
-bad_options : map options_of ((codes "--talk=org" ∷ []) ∷ (codes "--filter" ∷ codes "--talk=:1.5" ∷ []) ∷ (codes "--talk=" ∷ []) ∷ (codes "--filter" ∷ codes "--colour" ∷ codes "--talk=org" ∷ []) ∷ (codes "--talk" ∷ []) ∷ (codes "--log" ∷ []) ∷ (codes "--filter=" ∷ []) ∷ ([] ∷ []) ∷ [])
+bad_options : map options_of ((codes "--talk=org" ∷ []) ∷ (codes "--filter" ∷ codes "--talk=:1.5" ∷ []) ∷ (codes "--talk=" ∷ []) ∷ (codes "--filter" ∷ codes "--colour" ∷ codes "--talk=org" ∷ []) ∷ (codes "--talk" ∷ []) ∷ (codes "--log=" ∷ []) ∷ (codes "--filter=" ∷ []) ∷ ([] ∷ []) ∷ [])
     ≡ bad 0 BadName ∷ bad 1 BadName ∷ bad 0 BadName ∷ bad 1 UnknownOption ∷ bad 0 UnknownOption ∷ bad 0 UnknownOption ∷ bad 0 UnknownOption ∷ bad 0 UnknownOption ∷ []
 unfolding options_of
 bad_options = refl
@@ -86,13 +94,13 @@ numbers : map sessions_of (codes "1" ∷ codes "1000000" ∷ codes "1000001" ∷
 numbers = refl
 
 one_block : line_of (codes "unix:path=/run/user/1000/bus,guid=00" ∷ codes "/tmp/p" ∷ codes "--filter" ∷ codes "--talk=org.a.T" ∷ codes "--talk=org.a.T" ∷ codes "--see=org.a.*" ∷ [])
-    ≡ Ok (record { blocks = record { address = codes "/run/user/1000/bus"; path = codes "/tmp/p"; options = record { filter = true; policy = policy_of (talk_T ∷ see_a ∷ []) } } ∷ []; sessions = 4294967295 })
+    ≡ Ok (record { blocks = record { address = codes "/run/user/1000/bus"; path = codes "/tmp/p"; options = record { filter = true; log = false; policy = policy_of (talk_T ∷ see_a ∷ []) } } ∷ []; sessions = 4294967295 })
 unfolding line_of talk_T see_a is_utf8 chars encode_utf8
 one_block = refl
 
 -- each block has its own options, and the last --sessions counts
 two_blocks : line_of (codes "unix:path=/a" ∷ codes "/p" ∷ codes "--filter" ∷ codes "--sessions=2" ∷ codes "unix:path=/b" ∷ codes "/q" ∷ codes "--talk=org.a.T" ∷ codes "--sessions=3" ∷ [])
-    ≡ Ok (record { blocks = record { address = codes "/a"; path = codes "/p"; options = record { filter = true; policy = policy_of [] } } ∷ record { address = codes "/b"; path = codes "/q"; options = record { filter = false; policy = policy_of (talk_T ∷ []) } } ∷ []; sessions = 3 })
+    ≡ Ok (record { blocks = record { address = codes "/a"; path = codes "/p"; options = record { filter = true; log = false; policy = policy_of [] } } ∷ record { address = codes "/b"; path = codes "/q"; options = record { filter = false; log = false; policy = policy_of (talk_T ∷ []) } } ∷ []; sessions = 3 })
 unfolding line_of talk_T is_utf8 chars encode_utf8
 two_blocks = refl
 

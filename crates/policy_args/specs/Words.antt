@@ -38,10 +38,11 @@ each_word step index state (w ∷ words) = at_word index (step state w) >>= λ n
 -- what contracts see of options
 pub record PolicyOptions : Type 0 where
   pub filter : Bool
+  pub log : Bool
   pub policy : Policy
 
 abbrev pub no_options : PolicyOptions
-no_options = record { filter = false; policy = policy_of [] }
+no_options = record { filter = false; log = false; policy = policy_of [] }
 
 -- NAME
 abbrev pub name_entry : Grant → List ℕ → Result Entry WordKind
@@ -84,7 +85,8 @@ with_policy o entries = if nat_lt 65535 (length entries) then Err TooMany else O
 abbrev pub with_option : PolicyOptions → List ℕ → Result PolicyOptions WordKind
 with_option o w =
     if bytes_eq w (codes "--filter") then Ok (record o { filter = true })
-    else (entry_of w >>= λ e. with_policy o (with_entry o.policy.entries e))
+    else (if bytes_eq w (codes "--log") then Ok (record o { log = true })
+    else (entry_of w >>= λ e. with_policy o (with_entry o.policy.entries e)))
 
 unfoldable pub options_of : List (List ℕ) → Result PolicyOptions BadWord
 options_of words = each_word with_option 0 no_options words

@@ -14,6 +14,8 @@ use std::alloc::Global;
 pub struct Options {
     /// Whether messages are filtered: `--filter` was among the words.
     pub filter: bool,
+    /// Whether each message that is filtered has a line in the log: `--log` was among the words.
+    pub log: bool,
     /// What the other words let be used.
     pub policy: Policy,
 }
@@ -25,6 +27,7 @@ impl Options {
     {
         Options {
             filter: false,
+            log: false,
             policy: Policy::new(alloc),
         }
     }
@@ -38,6 +41,10 @@ impl Options {
             self.filter = true;
             return Ok(());
         }
+        if word == "--log" {
+            self.log = true;
+            return Ok(());
+        }
         match read_entry(alloc, word) {
             Ok(entry) => self.policy.add(alloc, word, entry),
             Err(refusal) => Err(refusal),
@@ -47,7 +54,7 @@ impl Options {
 
 /// The options that the words give, or the first bad word (xdg-dbus-proxy(1), "Options").
 ///
-/// `--filter` asks for the filter. Each other word gives an entry: `--see=NAME`, `--talk=NAME` and
+/// `--filter` asks for the filter, and `--log` for a line of the log for each message. Each other word gives an entry: `--see=NAME`, `--talk=NAME` and
 /// `--own=NAME` a level, `--call=NAME=RULE` and `--broadcast=NAME=RULE` the level `See` and what a
 /// rule matches. NAME is a well-known bus name or `N.*`, and before a RULE it ends at the first `=`;
 /// any other is a `BadName`, and then a missing or wrong RULE is a `BadRule`. A word that is none of

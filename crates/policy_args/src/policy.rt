@@ -1,5 +1,5 @@
 //! A policy: the entries that words gave.
-ghost use Rattle.std.specs.Prelude.{◌≡◌, ◌≤◌, ◌-◌, ◌==◌, ℕ, true, false, List, Some as Just, [], length, slice_get, OnErr};
+ghost use Rattle.std.specs.Prelude.{◌≡◌, ◌≤◌, ◌-◌, ◌==◌, ℕ, true, false, List, Some as Just, [], length, option_map, slice_get, OnErr};
 ghost use Rattle.std.specs.List.{list_any};
 ghost use Rattle.dbus_names.specs.Names.{is_unique};
 ghost use Rattle.name_patterns.specs.Patterns.{covers};
@@ -79,6 +79,18 @@ impl Policy {
         ensures { slice_get self.now.entries (number - 1) ≡ Just result.now }
     {
         &self.entries[number as usize - 1]
+    }
+
+    /// The word that gives the entry of a number, from 1 to the length.
+    pub fn word(&self, number: u32) -> &str
+        requires first { 1 ≤ number }
+        requires last { number ≤ length self.now.entries }
+        ensures { option_map entry_word (slice_get self.now.entries (number - 1)) ≡ Just result.now }
+    {
+        match self.words.get_index(number as usize - 1) {
+            Some(word) => word.as_str(),
+            None => unreachable!(),
+        }
     }
 
     /// How many patterns the entries have, each counted once.

@@ -7,29 +7,32 @@ use std::alloc::{AllocError, Global};
 use std::test::Fail;
 use test_tables::wrong_row;
 
-/// Words of a policy file, and whether messages are filtered and how many entries there are, or the first bad word.
+/// Words of a policy file, and whether messages are filtered, whether they are logged and how many entries there are, or the first bad word.
 const OPTIONS: &str = "\
---filter => true 0
- => false 0
---filter --filter => true 0
---see=org.a.S => false 1
---see=org.a.* => false 1
---talk=org.a.T => false 1
---talk=org.a.* => false 1
---talk=org.* => false 1
---own=org.o.O => false 1
---own=org.o.* => false 1
---call=org.c.C=* => false 1
---call=org.c.C= => false 1
---call=org.c.*=org.c.I.M@/p/* => false 1
---broadcast=org.b.B= => false 1
---broadcast=org.b.*=@/p => false 1
---filter --talk=org.a.T --talk=org.a.T => true 1
---talk=org.b.T --talk=org.a.T --filter --talk=org.b.T => true 2
---call=org.a.C= --call=org.a.C=* => false 2
---see=org.a.T --talk=org.a.T --see=org.a.T => false 2
---call=org.a.C=* --broadcast=org.a.C=* --call=org.a.C=* => false 2
---talk=org.a.T --talk=org.a.T.* --talk=org.a.t => false 3
+--filter => true false 0
+ => false false 0
+--filter --filter => true false 0
+--log => false true 0
+--log --filter --log => true true 0
+--log --filter --talk=org.a.T => true true 1
+--see=org.a.S => false false 1
+--see=org.a.* => false false 1
+--talk=org.a.T => false false 1
+--talk=org.a.* => false false 1
+--talk=org.* => false false 1
+--own=org.o.O => false false 1
+--own=org.o.* => false false 1
+--call=org.c.C=* => false false 1
+--call=org.c.C= => false false 1
+--call=org.c.*=org.c.I.M@/p/* => false false 1
+--broadcast=org.b.B= => false false 1
+--broadcast=org.b.*=@/p => false false 1
+--filter --talk=org.a.T --talk=org.a.T => true false 1
+--talk=org.b.T --talk=org.a.T --filter --talk=org.b.T => true false 2
+--call=org.a.C= --call=org.a.C=* => false false 2
+--see=org.a.T --talk=org.a.T --see=org.a.T => false false 2
+--call=org.a.C=* --broadcast=org.a.C=* --call=org.a.C=* => false false 2
+--talk=org.a.T --talk=org.a.T.* --talk=org.a.t => false false 3
 --see=org => BadName 0
 --talk=org => BadName 0
 --talk=* => BadName 0
@@ -50,7 +53,8 @@ const OPTIONS: &str = "\
 --broadcast=org.a.B=Foo => BadRule 0
 --filter= => UnknownOption 0
 --Filter => UnknownOption 0
---log => UnknownOption 0
+--log= => UnknownOption 0
+--log=x => UnknownOption 0
 --sloppy-names => UnknownOption 0
 --property=org.a.P=org.a.I.P => UnknownOption 0
 --sessions=1 => UnknownOption 0
@@ -87,18 +91,20 @@ org.b.B --talk=org.b.* --call=org.b.B=* => Talk
 org.b.B --broadcast=org.b.B=* => See
 ";
 
-/// Words of a policy file, and the name, whether that is exact, the word, the rule and the level of each entry.
+/// Words of a policy file, and of each entry its word, the name, whether that is exact, the option, the rule and the level.
 const ENTRIES: &str = "\
 --filter => 
---see=org.a.* --talk=org.a.T --see=org.a.* --own=org.o.O => org.a false see  See|org.a.T true talk  Talk|org.o.O true own  Own|
---call=org.c.C=* --talk=org.a.T --broadcast=org.b.*=org.b.I.S@/p => org.c.C true call * See|org.a.T true talk  Talk|org.b false broadcast org.b.I.S@/p See|
+--see=org.a.* --talk=org.a.T --see=org.a.* --own=org.o.O => --see=org.a.* org.a false see  See|--talk=org.a.T org.a.T true talk  Talk|--own=org.o.O org.o.O true own  Own|
+--call=org.c.C=* --talk=org.a.T --broadcast=org.b.*=org.b.I.S@/p => --call=org.c.C=* org.c.C true call * See|--talk=org.a.T org.a.T true talk  Talk|--broadcast=org.b.*=org.b.I.S@/p org.b false broadcast org.b.I.S@/p See|
+--call=org.c.C= => --call=org.c.C= org.c.C true call  See|
 ";
 
-/// How many words of different names, and one word more, and whether messages are filtered and how many entries there are.
+/// How many words of different names, and one word more, and whether messages are filtered, whether they are
+/// logged and how many entries there are.
 const MANY_WORDS: &str = "\
-65535 --filter => true 65535
-65535 --talk=a.b7 => false 65535
-65534 --see=a.b7 => false 65535
+65535 --filter => true false 65535
+65535 --talk=a.b7 => false false 65535
+65534 --see=a.b7 => false false 65535
 65535 --see=a.b7 => TooMany 65535
 ";
 
@@ -109,28 +115,30 @@ const MANY_BLOCKS: &str = "\
 ";
 
 /// Words of a proxy line, and the sessions that are served, and of each block the address, the path, whether messages are
-/// filtered, how many entries there are and the level of org.a.T, or the first bad word.
+/// filtered and whether they are logged, how many entries there are and the level of org.a.T, or the first bad word.
 const LINES: &str = "\
-unix:path=/run/user/1000/bus,guid=00 /tmp/p --filter --talk=org.a.T --talk=org.a.T --see=org.a.* => 4294967295, /run/user/1000/bus /tmp/p true 2 Talk
-unix:path=/a /p => 4294967295, /a /p false 0 None
-unix:path=a p => 4294967295, a p false 0 None
-unix:path=/a -p => 4294967295, /a -p false 0 None
-unix:path=/a unix:path=/b => 4294967295, /a unix:path=/b false 0 None
-unix:path=/a,path=/b /p => 4294967295, /a /p false 0 None
-unix:path=/a;unix:path=/b /p => 4294967295, /a /p false 0 None
-unix:abstract=/x;unix:path=/a%20b /p => 4294967295, /a b /p false 0 None
-tcp:host=h;unix:guid=1,path=/q /p => 4294967295, /q /p false 0 None
-tcp:path=/a;unix:path=/b /p => 4294967295, /b /p false 0 None
-unix:path=/a%e2%82%ac /p => 4294967295, /a€ /p false 0 None
-unix:path=/%E2%82%ACa /p => 4294967295, /€a /p false 0 None
-unix:path=/a%2C%3b%3D%25 /p => 4294967295, /a,;=% /p false 0 None
-unix:path=/a /p --sessions=1 => 1, /a /p false 0 None
-unix:path=/a /p --sessions=1000000 => 1000000, /a /p false 0 None
-unix:path=/a /p --sessions=9 --filter --sessions=10 => 10, /a /p true 0 None
-unix:path=/a /p --filter --talk=org.a.T --sessions=2 unix:path=/b /q unix:path=/c /r --see=org.a.T --own=org.a.T --sessions=3 => 3, /a /p true 1 Talk, /b /q false 0 None, /c /r false 2 Own
+unix:path=/run/user/1000/bus,guid=00 /tmp/p --filter --talk=org.a.T --talk=org.a.T --see=org.a.* => 4294967295, /run/user/1000/bus /tmp/p true false 2 Talk
+unix:path=/a /p => 4294967295, /a /p false false 0 None
+unix:path=a p => 4294967295, a p false false 0 None
+unix:path=/a -p => 4294967295, /a -p false false 0 None
+unix:path=/a unix:path=/b => 4294967295, /a unix:path=/b false false 0 None
+unix:path=/a,path=/b /p => 4294967295, /a /p false false 0 None
+unix:path=/a;unix:path=/b /p => 4294967295, /a /p false false 0 None
+unix:abstract=/x;unix:path=/a%20b /p => 4294967295, /a b /p false false 0 None
+tcp:host=h;unix:guid=1,path=/q /p => 4294967295, /q /p false false 0 None
+tcp:path=/a;unix:path=/b /p => 4294967295, /b /p false false 0 None
+unix:path=/a%e2%82%ac /p => 4294967295, /a€ /p false false 0 None
+unix:path=/%E2%82%ACa /p => 4294967295, /€a /p false false 0 None
+unix:path=/a%2C%3b%3D%25 /p => 4294967295, /a,;=% /p false false 0 None
+unix:path=/a /p --sessions=1 => 1, /a /p false false 0 None
+unix:path=/a /p --sessions=1000000 => 1000000, /a /p false false 0 None
+unix:path=/a /p --log unix:path=/b /q --filter => 4294967295, /a /p false true 0 None, /b /q true false 0 None
+unix:path=/a /p --sessions=9 --filter --sessions=10 => 10, /a /p true false 0 None
+unix:path=/a /p --filter --talk=org.a.T --sessions=2 unix:path=/b /q unix:path=/c /r --see=org.a.T --own=org.a.T --sessions=3 => 3, /a /p true false 1 Talk, /b /q false false 0 None, /c /r false false 2 Own
  => BadAddress 0
  /p => BadAddress 0
 --filter => OptionBeforeAddress 0
+--log => OptionBeforeAddress 0
 --sessions=1 => OptionBeforeAddress 0
 --colour unix:path=/a /p => OptionBeforeAddress 0
 unix:path=/a => NoPath 1
@@ -159,7 +167,7 @@ unix:path=/a /p unix:path=/b => NoPath 3
 unix:path=/a /p unix:path=/b --filter => NoPath 3
 unix:path=/a /p --filter unix:path=/b => NoPath 4
 unix:path=/a /p unix:path=/b /q --talk=org => BadName 4
-unix:path=/a /p --filter --talk=org.a.T --log => UnknownOption 4
+unix:path=/a /p --filter --talk=org.a.T --logs => UnknownOption 4
 unix:path=/a /p --talk=org => BadName 2
 unix:path=/a /p --call=org=Foo => BadName 2
 unix:path=/a /p --call=org.a.C=Foo => BadRule 2
@@ -202,7 +210,12 @@ fn told_options(alloc: Global, row: &str) -> Result<String, AllocError> {
 
 fn told_read(alloc: Global, read: Result<Options, LineRefusal>) -> Result<String, AllocError> {
     match read {
-        Ok(options) => format!(in alloc; "{} {}", options.filter, options.policy.len()),
+        Ok(options) => format!(in alloc;
+            "{} {} {}",
+            options.filter,
+            options.log,
+            options.policy.len()
+        ),
         Err(refusal) => told_refusal(alloc, refusal),
     }
 }
@@ -225,10 +238,14 @@ fn told_blocks(alloc: Global, line: &ProxyLine) -> Result<String, AllocError> {
 }
 
 fn told_block(alloc: Global, block: &Block) -> Result<String, AllocError> {
-    let Options { filter, policy } = &block.options;
+    let Options {
+        filter,
+        log,
+        policy,
+    } = &block.options;
     let level = policy.level("org.a.T");
     format!(in alloc;
-        ", {} {} {filter} {} {level:?}",
+        ", {} {} {filter} {log} {} {level:?}",
         block.address,
         block.path,
         policy.len()
@@ -246,16 +263,19 @@ fn told_entries(alloc: Global, row: &str) -> Result<String, AllocError> {
 fn each_entry(alloc: Global, policy: &Policy) -> Result<String, AllocError> {
     let mut told = String::new(alloc);
     for number in 1..=policy.len() {
-        let text = told_entry(alloc, policy.entry(number))?;
+        let text = told_entry(alloc, policy.word(number), policy.entry(number))?;
         told.push_str(&text)?;
     }
     Ok(told)
 }
 
-fn told_entry(alloc: Global, entry: &Entry) -> Result<String, AllocError> {
+fn told_entry(alloc: Global, given: &str, entry: &Entry) -> Result<String, AllocError> {
     let (word, rule) = told_grant(&entry.grant);
     let (name, exact) = (entry.pattern.name(), entry.pattern.is_exact());
-    format!(in alloc; "{name} {exact} {word} {rule} {:?}|", entry.grant.level())
+    format!(in alloc;
+        "{given} {name} {exact} {word} {rule} {:?}|",
+        entry.grant.level()
+    )
 }
 
 /// What a word names beside its name.
