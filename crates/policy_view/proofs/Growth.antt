@@ -1,9 +1,11 @@
 -- A history grows at its front, and the bytes that it gives out at their end.
-use Rattle.std.proofs.Common.{◌≡◌, List, [], ◌∷◌, ◌++◌, Option, Some, None, refl, ap, ◌∙◌, sym, append_assoc, append-nil}
+use Rattle.std.proofs.Common.{◌≡◌, ℕ, ◌+◌, List, [], ◌∷◌, ◌++◌, Option, Some, None, refl, ap, ◌∙◌, sym, append_assoc, append-nil}
 use Rattle.policy_args.specs.Policy.{Policy}
-use Rattle.policy_view.specs.Past.{Item, History, past}
+use Rattle.policy_view.specs.Past.{Item, Line, Msg, Ended, History, past}
+use Rattle.policy_view.specs.Sent.{Past}
 use Rattle.policy_view.specs.History.{Event, history, end_of, followed_by, followed_unless, followed_by_all, placed, arrived}
 use Rattle.policy_view.specs.Outputs.{bus_bytes, client_bytes, to_bus, to_client}
+use Rattle.policy_view.specs.Notes.{Note, notes, numbered, with_note_of}
 use Rattle.policy_view.specs.Laws.{IsPrefixOf, OnlyGrows}
 use Rattle.policy_view.specs.declared.End.{End}
 use Rattle.policy_view.specs.declared.Mode.{Mode}
@@ -45,6 +47,21 @@ client_grows policy before (item ∷ added) =
     let t = to_client policy (past policy (added ++ before)) item in
     (rest ++ t, sym (append_assoc (client_bytes policy before) rest t) ∙ ap (λ bytes. bytes ++ t) e)
 
+-- more items, more notes at the end
+noted_more : (policy : Policy) (before : Past) (item : Item) (so_far : List Note × ℕ) → IsPrefixOf so_far.0 (with_note_of policy before item so_far).0
+noted_more policy before (Msg side m) so_far = (_, refl)
+noted_more policy before (Line side bytes) so_far = ([], append-nil so_far.0)
+noted_more policy before (Ended end) so_far = ([], append-nil so_far.0)
+
+prefix_on : {A : Type 0} (one two three : List A) → IsPrefixOf one two → IsPrefixOf two three → IsPrefixOf one three
+prefix_on one two three (first, e) (second, f) = (first ++ second, sym (append_assoc one first second) ∙ ap (λ xs. xs ++ second) e ∙ f)
+
+notes_grow : (policy : Policy) (before added : History) → IsPrefixOf (notes policy before) (notes policy (added ++ before))
+unfolding numbered
+notes_grow policy before [] = ([], append-nil (notes policy before))
+notes_grow policy before (item ∷ added) =
+    prefix_on (notes policy before) (notes policy (added ++ before)) _ (notes_grow policy before added) (noted_more policy (past policy (added ++ before)) item (numbered policy (added ++ before)))
+
 grown_over : (policy : Policy) (mode : Mode) (more events : List Event) →
     IsGrown (history policy mode events) (history policy mode (more ++ events))
 unfolding history
@@ -60,4 +77,5 @@ only_grows policy mode more events =
       items = (added, e);
       to_bus = rw e (bus_grows policy (history policy mode events) added);
       to_client = rw e (client_grows policy (history policy mode events) added);
+      noted = rw e (notes_grow policy (history policy mode events) added);
     }

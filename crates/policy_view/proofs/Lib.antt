@@ -1,3 +1,4 @@
+pub mod Frames
 pub mod Growth
 pub mod PastLaws
 pub mod Streams

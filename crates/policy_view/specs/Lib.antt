@@ -7,4 +7,5 @@ pub mod Shown
 pub mod Past
 pub mod History
 pub mod Outputs
+pub mod Notes
 pub mod Laws

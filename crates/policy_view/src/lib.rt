@@ -2,6 +2,8 @@
 //! what the client is shown; the plain types in which the other crates speak of it; and the laws of the definitions.
 #![tactic(auto)]
 
+mod note;
+
 ghost use Rattle.std.specs.Prelude.{◌≡◌, ℕ, ◌∷◌, ◌++◌, ◌&&◌, not, List, IsTrue};
 ghost use Rattle.policy_args.specs.Policy.{Policy};
 ghost use Rattle.policy_view.specs.History.{Event, Bytes, history};
@@ -11,6 +13,7 @@ ghost use Rattle.policy_view.specs.declared.Side.{Side as StreamSide};
 
 use dbus_header::{Instead, Malformed};
 use dbus_values::Order;
+pub use note::{Note, message_of};
 use sasl_watch::LineFault;
 
 /// A side of a session.
@@ -29,6 +32,8 @@ pub struct Mode {
     pub auth: bool,
     /// Whether messages are filtered.
     pub filter: bool,
+    /// Whether each message that is filtered leaves a note of what was decided on it.
+    pub notes: bool,
 }
 
 /// Why a message was refused or hidden; the numbers are entries of the policy, from 1, and 0 for none.

@@ -1,0 +1,49 @@
+-- The notes of a history: what was decided on each of its messages, numbered from 1, both sides counted together.
+use Rattle.std.specs.Prelude.{ℕ, ◌+◌, List, [], ◌∷◌, ◌++◌, unwrap_or, if◌then◌else◌}
+use Rattle.dbus_header.specs.Message.{Message, spell}
+use Rattle.dbus_header.specs.Contents.{message_of}
+use Rattle.policy_args.specs.Policy.{Policy}
+use Rattle.policy_view.specs.Own.{ping}
+use Rattle.policy_view.specs.Sent.{Past}
+use Rattle.policy_view.specs.Shown.{shown}
+use Rattle.policy_view.specs.Past.{Item, Line, Msg, Ended, History, past, judged}
+use Rattle.policy_view.specs.declared.Mode.{Mode}
+use Rattle.policy_view.specs.declared.Side.{Side}
+use Rattle.policy_view.specs.declared.Side.TheVariants.{Client, Bus}
+use Rattle.policy_view.specs.declared.Decision.{Decision}
+use Rattle.policy_view.specs.declared.Decision.TheVariants.{Judged, Shown}
+
+-- the message that the bytes of a valid one spell
+abbrev pub message_in : List ℕ → Message
+message_in bytes = unwrap_or (message_of bytes) ping
+
+pub record Note : Type 0 where
+  pub number : ℕ
+  pub side : Side
+  -- the message's bytes, as it came
+  pub frame : List ℕ
+  pub decision : Decision
+
+-- the verdict on a message of the client, and what is shown of one of the bus
+abbrev pub decision_on : Policy → Past → Side → Message → Decision
+decision_on policy before Client m = Judged (judged policy before.told m)
+decision_on policy before Bus m = Shown (shown policy before m)
+
+-- the notes so far and their number, with the note of one more item: a message has one, a line and an End have none
+abbrev pub with_note_of : Policy → Past → Item → List Note × ℕ → List Note × ℕ
+with_note_of policy before (Msg side m) so_far =
+    (so_far.0 ++ record { number = so_far.1 + 1; side = side; frame = spell m; decision = decision_on policy before side m } ∷ [], so_far.1 + 1)
+with_note_of policy before (Line side bytes) so_far = so_far
+with_note_of policy before (Ended end) so_far = so_far
+
+-- the notes of a history and their number
+unfoldable pub numbered : Policy → History → List Note × ℕ
+numbered policy [] = ([], 0)
+numbered policy (item ∷ before) = with_note_of policy (past policy before) item (numbered policy before)
+
+abbrev pub notes : Policy → History → List Note
+notes policy items = (numbered policy items).0
+
+-- those that a session makes: all where it makes notes, and else none
+abbrev pub notes_made : Mode → Policy → History → List Note
+notes_made mode policy items = if mode.notes then notes policy items else []

@@ -1,0 +1,98 @@
+//! A note: what was decided on a message of a session.
+ghost use Rattle.std.specs.Prelude.{◌≡◌};
+ghost use Rattle.dbus_header.specs.Contents.{contents_of};
+ghost use Rattle.dbus_header.specs.Message.{Message as MessageTree, Valid, spell};
+ghost use Rattle.dbus_header.specs.Read.{message_seen};
+ghost use Rattle.policy_view.specs.Notes.{message_in};
+
+use crate::{Decision, Side};
+use bytes::Bytes;
+use dbus_header::{Message, decode};
+use std::marker::Model;
+
+/// The message that a frame is, which is valid.
+pub fn message_of(frame: &[u8]) -> Message<'_>
+    requires { (m : MessageTree) × Valid m × (frame.now ≡ spell m) }
+    ensures bytes { result.bytes.now ≡ frame.now }
+    ensures contents { (m : MessageTree) → Valid m → frame.now ≡ spell m → message_seen result ≡ contents_of m }
+{
+    match decode(frame) {
+        Ok(message) => message,
+        Err(_) => unreachable!(),
+    }
+}
+
+/// What was decided on a message of a session: on the client's whether it goes to the bus, and on the bus's what the client
+/// is shown of it. Its frame is a valid message, as it came.
+#[derive(Drop)]
+pub struct Note {
+    number: u64,
+    side: Side,
+    frame: Bytes,
+    decision: Decision,
+}
+
+impl Model for Note {
+    ghost use Rattle.std.specs.Prelude.{◌≡◌};
+    ghost use Rattle.dbus_header.specs.Message.{Message as Tree, Valid, spell};
+    ghost use Rattle.policy_view.specs.Notes.{Note as NoteValue};
+
+    ghost Value = { NoteValue };
+
+    ghost view = { λ n. record { number = n.number; side = n.side; frame = n.frame; decision = n.decision } };
+
+    ghost invariant = { λ n. (m : Tree) × Valid m × (n.frame ≡ spell m) };
+}
+
+impl Note {
+    /// The note on a message, by its number among the messages of its session, from 1, both sides counted together. The
+    /// frame is a valid message.
+    pub fn new(number: u64, side: Side, frame: Bytes, decision: Decision) -> Note
+        requires { (m : MessageTree) × Valid m × (frame ≡ spell m) }
+        ensures { result ≡ record { number = number; side = side; frame = frame; decision = decision } }
+    {
+        Note {
+            number,
+            side,
+            frame,
+            decision,
+        }
+    }
+
+    /// The message's number in its session, from 1, both sides counted together.
+    pub fn number(&self) -> u64
+        ensures { result ≡ self.now.number }
+    {
+        self.number
+    }
+
+    /// The side that the message came of.
+    pub fn side(&self) -> Side
+        ensures { result ≡ self.now.side }
+    {
+        self.side
+    }
+
+    /// The message's bytes, as they came.
+    pub fn frame(&self) -> &[u8]
+        ensures { result.now ≡ self.now.frame }
+    {
+        self.frame.as_slice()
+    }
+
+    /// What is read of the message, which is valid.
+    pub fn message(&self) -> Message<'_>
+        ensures bytes { result.bytes.now ≡ self.now.frame }
+        ensures contents { message_seen result ≡ contents_of (message_in self.now.frame) }
+        ensures valid { Valid (message_in self.now.frame) × (self.now.frame ≡ spell (message_in self.now.frame)) }
+    {
+        message_of(self.frame.as_slice())
+    }
+
+    /// What was decided on the message.
+    pub fn decision(&self) -> Decision
+        ensures { result ≡ self.now.decision }
+    {
+        self.decision
+    }
+}
