@@ -24,10 +24,11 @@ use Rattle.unique_names.specs.Taught.{Ids, Taught, kept_level, learned}
 use Rattle.unique_names.proofs.Learned.{learned-taught}
 use Rattle.verdicts.specs.Kept.{expected_at, owed_by}
 use Rattle.verdicts.proofs.KnowledgeLaws.{CoversNoUniqueName, knowledge_is}
-use Rattle.proxy_core.specs.Sessions.{SessionView, Taken, Holds}
+use Rattle.proxy_core.specs.Sessions.{SessionView, Taken}
 use Rattle.proxy_core.specs.Messages.{known, more_for, taught, used_up, with_bus_message, with_role, with_shown, with_told, with_used}
 use Rattle.proxy_core.proofs.LedgerLaws.{answered_in, answers}
 use Rattle.proxy_core.proofs.Replies.{more_for_owed}
+use Rattle.proxy_core.proofs.Placing.{HoldsSides}
 use Rattle.proxy_core.proofs.Sent.{Based, answered_is, sending_holds}
 
 -- a tracker that is taught facts
@@ -54,7 +55,7 @@ used_answers l used sent k r each q = by k r
     by Signal r = same
     by Other r = same
 
-module _ (policy : Policy) (apart : CoversNoUniqueName policy) (view : SessionView) (items : History) (taken : Taken) (m : Message) (runs : view.ended ≡ None) (holds : Holds policy view items taken) where
+module _ (policy : Policy) (apart : CoversNoUniqueName policy) (view : SessionView) (items : History) (taken : Taken) (m : Message) (runs : view.ended ≡ None) (holds : HoldsSides policy view items taken) where
   abbrev before : Past
   before = past policy items
 
@@ -79,6 +80,10 @@ module _ (policy : Policy) (apart : CoversNoUniqueName policy) (view : SessionVi
   shown_is : seen_as (kept_level policy view.ids) m (showing_at policy (known policy view) m now) ≡ seen policy before m
   unfolding seen shown showing role
   shown_is = ap₂ (λ (level : Text → Level) (k : Knowledge). seen_as level m (showing_at policy k m now)) level_is known_is
+
+  pub showing_is : showing_at policy (known policy view) m (bus_role (expected_at view.ledger.expected (reply_serial m)) m) ≡ shown policy before m
+  unfolding shown showing role
+  showing_is = ap₂ (λ (k : Knowledge) (o : Option Expected). showing_at policy k m (bus_role o m)) known_is ((holds.knows runs).stand.answers (reply_serial m))
 
   client_is : client_bytes policy (Msg Bus m ∷ items) ≡ client_bytes policy items ++ flat_map spell (seen policy before m)
   unfolding client_bytes to_client seen_of
@@ -119,7 +124,7 @@ module _ (policy : Policy) (apart : CoversNoUniqueName policy) (view : SessionVi
   by_role : with_bus_message policy m view ≡ with_role policy m now (with_used m view)
   by_role = ap (λ (r : BusRole). with_role policy m r (with_used m view)) role_is
 
-  pub bus_holds : Holds policy (with_bus_message policy m view) (followed_by policy items (Msg Bus m)) taken
+  pub bus_holds : HoldsSides policy (with_bus_message policy m view) (followed_by policy items (Msg Bus m)) taken
   bus_holds =
-      subst (λ (v : SessionView). Holds policy v (followed_by policy items (Msg Bus m)) taken) (sym by_role)
+      subst (λ (v : SessionView). HoldsSides policy v (followed_by policy items (Msg Bus m)) taken) (sym by_role)
       (sending_holds policy view items taken Bus m runs holds (with_used m view) base (due_at policy m now) (record { bus_side = refl; client_side = refl; sent = refl }) based due_is)

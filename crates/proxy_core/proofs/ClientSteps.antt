@@ -14,19 +14,20 @@ use Rattle.policy_view.proofs.PastLaws.{used_sent}
 use Rattle.policy_view.proofs.RepliesLaws.{times, times_append}
 use Rattle.verdicts.specs.Kept.{owed_by}
 use Rattle.verdicts.proofs.KnowledgeLaws.{CoversNoUniqueName, knowledge_is}
-use Rattle.proxy_core.specs.Sessions.{SessionView, Taken, Holds}
+use Rattle.proxy_core.specs.Sessions.{SessionView, Taken}
 use Rattle.proxy_core.specs.Messages.{known, less_for, with_client_message, with_replied, with_verdict}
 use Rattle.proxy_core.proofs.Replies.{less_for_owed}
+use Rattle.proxy_core.proofs.Placing.{HoldsSides}
 use Rattle.proxy_core.proofs.Sent.{Based, answered_is, sending_holds}
 
-module _ (policy : Policy) (apart : CoversNoUniqueName policy) (view : SessionView) (items : History) (taken : Taken) (m : Message) (runs : view.ended ≡ None) (holds : Holds policy view items taken) where
+module _ (policy : Policy) (apart : CoversNoUniqueName policy) (view : SessionView) (items : History) (taken : Taken) (m : Message) (runs : view.ended ≡ None) (holds : HoldsSides policy view items taken) where
   abbrev before : Past
   before = past policy items
 
   abbrev replied : List Exchange
   replied = replied_on m (client_role m) (judged policy before.told m)
 
-  verdict_is : verdict policy (known policy view) m ≡ judged policy before.told m
+  pub verdict_is : verdict policy (known policy view) m ≡ judged policy before.told m
   unfolding judged
   verdict_is = ap (λ (k : Knowledge). verdict policy k m) (knowledge_is policy view.ids view.ledger before apart (holds.knows runs).stand)
 
@@ -59,7 +60,7 @@ module _ (policy : Policy) (apart : CoversNoUniqueName policy) (view : SessionVi
     used = used_sent policy items;
   }
 
-  pub client_holds : Holds policy (with_client_message policy m view) (followed_by policy items (Msg Client m)) taken
+  pub client_holds : HoldsSides policy (with_client_message policy m view) (followed_by policy items (Msg Client m)) taken
   client_holds =
-      subst (λ (v : Verdict). Holds policy (with_verdict policy m v view) (followed_by policy items (Msg Client m)) taken) (sym verdict_is)
+      subst (λ (v : Verdict). HoldsSides policy (with_verdict policy m v view) (followed_by policy items (Msg Client m)) taken) (sym verdict_is)
       (sending_holds policy view items taken Client m runs holds view (with_replied replied view) (due_on policy view.greeted m (judged policy before.told m)) (record { bus_side = refl; client_side = refl; sent = refl }) based due_is)

@@ -12,6 +12,7 @@ use Rattle.dbus_framing.specs.declared.Next.TheVariants.{Whole, Bad}
 use Rattle.proxy_core.specs.Seen.{Given}
 use Rattle.policy_args.specs.Policy.{Policy}
 use Rattle.policy_view.specs.History.{malformed}
+use Rattle.policy_view.specs.Notes.{Note}
 use Rattle.policy_view.specs.declared.Fault.TheVariants.{Message as OfMessage}
 use Rattle.policy_view.specs.declared.Side.{Side}
 use Rattle.policy_view.specs.declared.Side.TheVariants.{Client, Bus}
@@ -19,11 +20,11 @@ use Rattle.policy_view.specs.declared.End.{End}
 use Rattle.policy_view.specs.declared.End.TheVariants.{Memory, NotBuilt}
 use Rattle.proxy_core.specs.Streams.{StreamView, Phase, InLines, InMessages, pushed, GaveMessage}
 use Rattle.proxy_core.specs.Sessions.{SessionView, stream_of, IsFront}
-use Rattle.proxy_core.specs.Messages.{ended_by, with_message, KeepsSides}
-use Rattle.proxy_core.specs.Steps.{with_stream, with_left, with_fault, and_runs, with_front, step_at, step_of, more_if, drained, with_more, with_bytes, TookMessage, Took, Stepped, own_to_come, weight, IsLight}
-use Rattle.proxy_core.proofs.Keeping.{IsKept, message_kept, front_all, front_then}
-use Rattle.proxy_core.proofs.Weights.{message_light}
-use Rattle.proxy_core.proofs.LineSteps.{line_bus, line_client, line_runs}
+use Rattle.proxy_core.specs.Messages.{ended_by, with_noted_message, KeepsSides}
+use Rattle.proxy_core.specs.Steps.{with_stream, with_left, with_fault, and_runs, with_front, step_at, step_of, more_if, drained, with_more, with_bytes, TookMessage, IsRefused, Took, Stepped, own_to_come, weight, IsLight}
+use Rattle.proxy_core.proofs.Keeping.{Grows, grows_none, grows_then, noted_kept}
+use Rattle.proxy_core.proofs.Weights.{noted_light}
+use Rattle.proxy_core.proofs.LineSteps.{line_grows, line_runs}
 
 -- ---- the rest of a side's stream
 
@@ -42,13 +43,33 @@ left_mode : (side : Side) (left : List ℕ) (view : SessionView) → (with_left 
 left_mode Client left view = refl
 left_mode Bus left view = refl
 
-left_bus : (side : Side) (left : List ℕ) (view : SessionView) → (with_left side left view).bus_side ≡ view.bus_side
-left_bus Client left view = refl
-left_bus Bus left view = refl
+left_grows : (side : Side) (left : List ℕ) (view new : SessionView) → Grows (with_left side left view) new → Grows view new
+left_grows Client left view new g = g
+left_grows Bus left view new g = g
 
-left_client : (side : Side) (left : List ℕ) (view : SessionView) → (with_left side left view).client_side ≡ view.client_side
-left_client Client left view = refl
-left_client Bus left view = refl
+grows_left : (side : Side) (left : List ℕ) (view new : SessionView) → Grows view new → Grows (with_left side left view) new
+grows_left Client left view new g = g
+grows_left Bus left view new g = g
+
+-- what waits is as it was
+kept_grows : (old new expected : SessionView) → KeepsSides old new → Grows old expected → Grows new expected
+kept_grows old new expected k (bus, client, notes) = (
+  subst (λ (xs : List ℕ). IsFront xs expected.bus_side) (sym k.bus_side) bus,
+  subst (λ (xs : List ℕ). IsFront xs expected.client_side) (sym k.client_side) client,
+  subst (λ (xs : List Note). IsFront xs expected.notes) (sym k.notes) notes,
+)
+
+-- memory was refused in the midst of what was to be
+refused_in : (expected old new : SessionView) → old.ended ≡ None → new.ended ≡ Some Memory → new.mode ≡ old.mode → Grows new expected → IsRefused expected old new
+refused_in expected old new runs ended mode (bus, client, notes) = record { running = runs; ended = ended; mode = mode; for_bus = bus; for_client = client; noted = notes }
+
+refused_grows : (expected old new : SessionView) → IsRefused expected old new → Grows new expected
+refused_grows expected old new r = (r.for_bus, r.for_client, r.noted)
+
+-- and before anything was done
+refused_first : (expected old new : SessionView) → old.ended ≡ None → new ≡ ended_by Memory old → Grows old expected → IsRefused expected old new
+refused_first expected old new runs is grows =
+    refused_in expected old new runs (ap (λ (v : SessionView). v.ended) is) (ap (λ (v : SessionView). v.mode) is) (subst (λ (v : SessionView). Grows v expected) (sym is) grows)
 
 -- a message's bytes are no longer left
 left_weighs : (policy : Policy) (side : Side) (left : List ℕ) (n : ℕ) (view : SessionView) → length (left_of side view) ≡ n + length left → weight policy (with_left side left view) + 19 * n ≡ weight policy view
@@ -68,46 +89,22 @@ no_more new mid n e = omega arith
 
 module _ (policy : Policy) (side : Side) where
   abbrev after : Message → List ℕ → SessionView → SessionView
-  after m left view = with_message policy side m (with_left side left view)
+  after m left view = with_noted_message policy side m (with_left side left view)
 
-  kept : (m : Message) (left : List ℕ) (view : SessionView) → IsKept (with_left side left view) (after m left view)
-  kept m left view = message_kept policy side m (with_left side left view)
+  fault_grows : (o : Option Malformed) (view : SessionView) → Grows view (with_fault side o view)
+  fault_grows None view = grows_none view
+  fault_grows (Some f) view = grows_none view
 
-  bus_front : (m : Message) (left : List ℕ) (view : SessionView) → IsFront view.bus_side (after m left view).bus_side
-  bus_front m left view = subst (λ (xs : List ℕ). IsFront xs (after m left view).bus_side) (left_bus side left view) (kept m left view).bus_front
+  front_grows : (o : Option (Message × List ℕ)) (view : SessionView) → Grows view (with_front policy side o view).0
+  front_grows None view = fault_grows (fault (left_of side view)) view
+  front_grows (Some x) view = left_grows side x.1 view (after x.0 x.1 view) (noted_kept policy side x.0 (with_left side x.1 view)).grows
 
-  client_front : (m : Message) (left : List ℕ) (view : SessionView) → IsFront view.client_side (after m left view).client_side
-  client_front m left view = subst (λ (xs : List ℕ). IsFront xs (after m left view).client_side) (left_client side left view) (kept m left view).client_front
+  at_grows : (p : Phase) (view : SessionView) → Grows view (step_at policy side p view).0
+  at_grows (InLines place told) view = line_grows side place told policy view
+  at_grows InMessages view = front_grows (front (left_of side view)) view
 
-  fault_bus : (o : Option Malformed) (view : SessionView) → IsFront view.bus_side (with_fault side o view).bus_side
-  fault_bus None view = front_all view.bus_side
-  fault_bus (Some f) view = front_all view.bus_side
-
-  fault_client : (o : Option Malformed) (view : SessionView) → IsFront view.client_side (with_fault side o view).client_side
-  fault_client None view = front_all view.client_side
-  fault_client (Some f) view = front_all view.client_side
-
-  either_bus : (o : Option (Message × List ℕ)) (view : SessionView) → IsFront view.bus_side (with_front policy side o view).0.bus_side
-  either_bus None view = fault_bus (fault (left_of side view)) view
-  either_bus (Some x) view = bus_front x.0 x.1 view
-
-  either_client : (o : Option (Message × List ℕ)) (view : SessionView) → IsFront view.client_side (with_front policy side o view).0.client_side
-  either_client None view = fault_client (fault (left_of side view)) view
-  either_client (Some x) view = client_front x.0 x.1 view
-
-  at_bus : (p : Phase) (view : SessionView) → IsFront view.bus_side (step_at policy side p view).0.bus_side
-  at_bus (InLines place told) view = line_bus side place told policy view
-  at_bus InMessages view = either_bus (front (left_of side view)) view
-
-  at_client : (p : Phase) (view : SessionView) → IsFront view.client_side (step_at policy side p view).0.client_side
-  at_client (InLines place told) view = line_client side place told policy view
-  at_client InMessages view = either_client (front (left_of side view)) view
-
-  step_bus : (view : SessionView) → IsFront view.bus_side (step_of policy side view).0.bus_side
-  step_bus view = at_bus (stream_of side view).phase view
-
-  step_client : (view : SessionView) → IsFront view.client_side (step_of policy side view).0.client_side
-  step_client view = at_client (stream_of side view).phase view
+  step_grows : (view : SessionView) → Grows view (step_of policy side view).0
+  step_grows view = at_grows (stream_of side view).phase view
 
   none_ended : (o : Option End) → is_none o ≡ true → o ≡ None
   none_ended None e = refl
@@ -133,21 +130,15 @@ module _ (policy : Policy) (side : Side) where
 
   -- a whole message is taken
   pub whole_step : (old mid new : SessionView) (frame left : List ℕ) (m : Message) → old.ended ≡ None → (stream_of side old).phase ≡ InMessages → Takes (left_of side old) frame left m → mid ≡ with_left side left old
-      → TookMessage (with_message policy side m mid) mid new → Stepped (step_of policy side old) old new (is_none new.ended)
+      → TookMessage (with_noted_message policy side m mid) mid new → Stepped (step_of policy side old) old new (is_none new.ended)
   whole_step old mid new frame left m runs p t is (inl done) =
-      let new_is : new ≡ after m left old = done ∙ ap (λ (v : SessionView). with_message policy side m v) is in
+      let new_is : new ≡ after m left old = done ∙ ap (λ (v : SessionView). with_noted_message policy side m v) is in
       inl (new_is ∙ ap (λ (x : SessionView × Bool). x.0) (sym (step_is old m left p t.in_front)), ap (λ (v : SessionView). is_none v.ended) new_is ∙ ap (λ (x : SessionView × Bool). x.1) (sym (step_is old m left p t.in_front)))
   whole_step old mid new frame left m runs p t is (inr refused) =
-      let bus : new.bus_side ≡ old.bus_side = refused.kept.bus_side ∙ ap (λ (v : SessionView). v.bus_side) is ∙ left_bus side left old in
-      let client : new.client_side ≡ old.client_side = refused.kept.client_side ∙ ap (λ (v : SessionView). v.client_side) is ∙ left_client side left old in
       inr (
-        record {
-          running = runs;
-          ended = refused.ended;
-          mode = refused.kept.mode ∙ ap (λ (v : SessionView). v.mode) is ∙ left_mode side left old;
-          for_bus = subst (λ (xs : List ℕ). IsFront xs (step_of policy side old).0.bus_side) (sym bus) (step_bus old);
-          for_client = subst (λ (xs : List ℕ). IsFront xs (step_of policy side old).0.client_side) (sym client) (step_client old);
-        },
+        refused_in (step_of policy side old).0 old new runs refused.ended (refused.kept.mode ∙ ap (λ (v : SessionView). v.mode) is ∙ left_mode side left old)
+            (kept_grows mid new (step_of policy side old).0 refused.kept
+            (subst (λ (v : SessionView). Grows v (step_of policy side old).0) (sym is) (grows_left side left old (step_of policy side old).0 (step_grows old)))),
         ap is_none refused.ended,
       )
 
@@ -167,7 +158,7 @@ module _ (policy : Policy) (side : Side) where
 
   -- and nineteen bytes at most come out for each of its own, beside the own calls that were to come
   pub whole_light : (old mid new : SessionView) (frame left : List ℕ) (m : Message) → Takes (left_of side old) frame left m → mid ≡ with_left side left old
-      → TookMessage (with_message policy side m mid) mid new → IsLight policy 0 old new
+      → TookMessage (with_noted_message policy side m mid) mid new → IsLight policy 0 old new
   whole_light old mid new frame left m t is took =
       let parts : length (left_of side old) ≡ length (spell m) + length left = ap length (t.parts ∙ ap (λ (xs : List ℕ). xs ++ left) t.spelled) ∙ length-append (spell m) left in
       let mode : mid.mode ≡ old.mode = ap (λ (v : SessionView). v.mode) is ∙ left_mode side left old in
@@ -175,8 +166,8 @@ module _ (policy : Policy) (side : Side) where
         | inl done ↦
             subst (λ (v : SessionView). IsLight policy 0 old v) (sym done)
             (record {
-              mode = (message_kept policy side m mid).mode ∙ mode;
-              weighs = weighs_less old mid (with_message policy side m mid) left (length (spell m)) is parts (message_light policy side m mid t.valid);
+              mode = (noted_kept policy side m mid).mode ∙ mode;
+              weighs = weighs_less old mid (with_noted_message policy side m mid) left (length (spell m)) is parts (noted_light policy side m mid t.valid);
             })
         | inr refused ↦
             let same : weight policy new ≡ weight policy mid = sides_weigh mid new refused.kept in
@@ -198,35 +189,17 @@ module _ (policy : Policy) (side : Side) where
 
   pub refused_step : (old mid new : SessionView) → old.ended ≡ None → mid ≡ old → new ≡ ended_by Memory mid → Stepped (step_of policy side old) old new false
   refused_step old mid new runs same e =
-      let new_is : new ≡ ended_by Memory old = e ∙ ap (ended_by Memory) same in
-      inr (
-        record {
-          running = runs;
-          ended = ap (λ (v : SessionView). v.ended) new_is;
-          mode = ap (λ (v : SessionView). v.mode) new_is;
-          for_bus = subst (λ (v : SessionView). IsFront v.bus_side (step_of policy side old).0.bus_side) (sym new_is) (step_bus old);
-          for_client = subst (λ (v : SessionView). IsFront v.client_side (step_of policy side old).0.client_side) (sym new_is) (step_client old);
-        },
-        refl,
-      )
+      inr (refused_first (step_of policy side old).0 old new runs (e ∙ ap (ended_by Memory) same) (step_grows old), refl)
 
   -- ---- one message after the other
 
-  drained_bus : (n : ℕ) (view : SessionView) → IsFront view.bus_side (drained policy side n view).bus_side
-  drained_bus zero view = front_all view.bus_side
-  drained_bus (suc n) view = by (step_of policy side view).1 (drained_bus n (step_of policy side view).0)
+  drained_grows : (n : ℕ) (view : SessionView) → Grows view (drained policy side n view)
+  drained_grows zero view = grows_none view
+  drained_grows (suc n) view = by (step_of policy side view).1 (drained_grows n (step_of policy side view).0)
     where
-      by : (b : Bool) → IsFront (step_of policy side view).0.bus_side (drained policy side n (step_of policy side view).0).bus_side → IsFront view.bus_side (more_if ((step_of policy side view).0, b) (drained policy side n)).bus_side
-      by true more = front_then _ _ _ (step_bus view) more
-      by false more = step_bus view
-
-  drained_client : (n : ℕ) (view : SessionView) → IsFront view.client_side (drained policy side n view).client_side
-  drained_client zero view = front_all view.client_side
-  drained_client (suc n) view = by (step_of policy side view).1 (drained_client n (step_of policy side view).0)
-    where
-      by : (b : Bool) → IsFront (step_of policy side view).0.client_side (drained policy side n (step_of policy side view).0).client_side → IsFront view.client_side (more_if ((step_of policy side view).0, b) (drained policy side n)).client_side
-      by true more = front_then _ _ _ (step_client view) more
-      by false more = step_client view
+      by : (b : Bool) → Grows (step_of policy side view).0 (drained policy side n (step_of policy side view).0) → Grows view (more_if ((step_of policy side view).0, b) (drained policy side n))
+      by true more = grows_then view (step_of policy side view).0 (drained policy side n (step_of policy side view).0) (step_grows view) more
+      by false more = step_grows view
 
   abbrev step : SessionView → SessionView × Bool
   step view = step_of policy side view
@@ -249,21 +222,14 @@ module _ (policy : Policy) (side : Side) where
   stops (suc n) first view new expected more pos runs mode is (inl done) e =
       let halts : (step_of policy side view).1 ≡ false = sym done.1 ∙ e in
       inl (done.0 ∙ ap (λ (b : Bool). more_if ((step_of policy side view).0, b) (drained policy side n)) (sym halts) ∙ is)
-  stops (suc n) first view new expected more pos runs mode is (inr refused) e = inr (record {
-    running = runs;
-    ended = refused.0.ended;
-    mode = refused.0.mode ∙ mode;
-    for_bus = subst (λ (v : SessionView). IsFront new.bus_side v.bus_side) is (front_then _ _ _ refused.0.for_bus (later_bus (step_of policy side view).1));
-    for_client = subst (λ (v : SessionView). IsFront new.client_side v.client_side) is (front_then _ _ _ refused.0.for_client (later_client (step_of policy side view).1));
-  })
+  stops (suc n) first view new expected more pos runs mode is (inr refused) e =
+      let whole : SessionView = drained policy side (suc n) view in
+      inr (refused_in expected first new runs refused.0.ended (refused.0.mode ∙ mode)
+      (subst (λ (v : SessionView). Grows new v) is (grows_then new (step_of policy side view).0 whole (refused_grows (step_of policy side view).0 view new refused.0) (later (step_of policy side view).1))))
     where
-      later_bus : (b : Bool) → IsFront (step_of policy side view).0.bus_side (more_if ((step_of policy side view).0, b) (drained policy side n)).bus_side
-      later_bus true = drained_bus n (step_of policy side view).0
-      later_bus false = front_all (step_of policy side view).0.bus_side
-
-      later_client : (b : Bool) → IsFront (step_of policy side view).0.client_side (more_if ((step_of policy side view).0, b) (drained policy side n)).client_side
-      later_client true = drained_client n (step_of policy side view).0
-      later_client false = front_all (step_of policy side view).0.client_side
+      later : (b : Bool) → Grows (step_of policy side view).0 (more_if ((step_of policy side view).0, b) (drained policy side n))
+      later true = drained_grows n (step_of policy side view).0
+      later false = grows_none (step_of policy side view).0
 
 -- ---- what a side's stream gave
 
@@ -279,7 +245,7 @@ given_bus view v side next new is same gave = subst (λ (s : Side). Given s v ne
 
 module _ (policy : Policy) (side : Side) (old : SessionView) (runs : old.ended ≡ None) where
   abbrev Kept : List ℕ → SessionView → SessionView → Type 0
-  Kept frame mid new = (m : Message) → Valid m → frame ≡ spell m → TookMessage (with_message policy side m mid) mid new
+  Kept frame mid new = (m : Message) → Valid m → frame ≡ spell m → TookMessage (with_noted_message policy side m mid) mid new
 
   with_given : {mid : SessionView} {s : StreamView} {left : List ℕ} → mid ≡ with_stream side s old → s ≡ record (stream_of side old) { left = left } → mid ≡ with_left side left old
   with_given e f = e ∙ ap (λ (x : StreamView). with_stream side x old) f
@@ -319,13 +285,9 @@ stepped_as expected old new a b e s = subst (λ (c : Bool). Stepped expected old
 
 -- ---- bytes that come
 
-pushed_bus : (side : Side) (s : StreamView) (view : SessionView) → (with_stream side s view).bus_side ≡ view.bus_side
-pushed_bus Client s view = refl
-pushed_bus Bus s view = refl
-
-pushed_client : (side : Side) (s : StreamView) (view : SessionView) → (with_stream side s view).client_side ≡ view.client_side
-pushed_client Client s view = refl
-pushed_client Bus s view = refl
+pushed_grows : (side : Side) (s : StreamView) (view new : SessionView) → Grows (with_stream side s view) new → Grows view new
+pushed_grows Client s view new g = g
+pushed_grows Bus s view new g = g
 
 pushed_left : (side : Side) (s : StreamView) (view : SessionView) → left_of side (with_stream side s view) ≡ s.left
 pushed_left Client s view = refl
@@ -346,44 +308,24 @@ not_empty_by (byte ∷ bytes) e = refl
 -- from what stood before
 took_from : (expected other old mid new : SessionView) → expected ≡ other → mid.ended ≡ old.ended → mid.mode ≡ old.mode → Took expected mid new → Took other old new
 took_from expected other old mid new is runs mode (inl done) = inl (done ∙ is)
-took_from expected other old mid new is runs mode (inr refused) = inr (record {
-  running = sym runs ∙ refused.running;
-  ended = refused.ended;
-  mode = refused.mode ∙ mode;
-  for_bus = subst (λ (v : SessionView). IsFront new.bus_side v.bus_side) is refused.for_bus;
-  for_client = subst (λ (v : SessionView). IsFront new.client_side v.client_side) is refused.for_client;
-})
+took_from expected other old mid new is runs mode (inr refused) =
+    inr (refused_in other old new (sym runs ∙ refused.running) refused.ended (refused.mode ∙ mode) (subst (λ (v : SessionView). Grows new v) is (refused_grows expected mid new refused)))
 
 module _ (policy : Policy) (side : Side) (bytes : List ℕ) where
-  more_bus : (view : SessionView) → IsFront view.bus_side (with_more policy side bytes view).bus_side
-  more_bus view = subst (λ (xs : List ℕ). IsFront xs (with_more policy side bytes view).bus_side) (pushed_bus side (pushed bytes (stream_of side view)) view)
-      (drained_bus policy side (length (left_of side view ++ bytes) + 2) (with_stream side (pushed bytes (stream_of side view)) view))
+  more_grows : (view : SessionView) → Grows view (with_more policy side bytes view)
+  more_grows view =
+      let behind : SessionView = with_stream side (pushed bytes (stream_of side view)) view in
+      pushed_grows side (pushed bytes (stream_of side view)) view (with_more policy side bytes view) (drained_grows policy side (length (left_of side view ++ bytes) + 2) behind)
 
-  more_client : (view : SessionView) → IsFront view.client_side (with_more policy side bytes view).client_side
-  more_client view = subst (λ (xs : List ℕ). IsFront xs (with_more policy side bytes view).client_side) (pushed_client side (pushed bytes (stream_of side view)) view)
-      (drained_client policy side (length (left_of side view ++ bytes) + 2) (with_stream side (pushed bytes (stream_of side view)) view))
-
-  built_bus : (none built : Bool) (view : SessionView) → IsFront view.bus_side (cond none view (cond built (with_more policy side bytes view) (ended_by NotBuilt view))).bus_side
-  built_bus true built view = front_all view.bus_side
-  built_bus false true view = more_bus view
-  built_bus false false view = front_all view.bus_side
-
-  built_client : (none built : Bool) (view : SessionView) → IsFront view.client_side (cond none view (cond built (with_more policy side bytes view) (ended_by NotBuilt view))).client_side
-  built_client true built view = front_all view.client_side
-  built_client false true view = more_client view
-  built_client false false view = front_all view.client_side
+  built_grows : (none built : Bool) (view : SessionView) → Grows view (cond none view (cond built (with_more policy side bytes view) (ended_by NotBuilt view)))
+  built_grows true built view = grows_none view
+  built_grows false true view = more_grows view
+  built_grows false false view = grows_none view
 
   -- memory was refused before anything was looked at
   pub bytes_refused : (old mid new : SessionView) → old.ended ≡ None → mid ≡ old → new ≡ ended_by Memory mid → Took (with_bytes policy side bytes old) old new
   bytes_refused old mid new runs same e =
-      let new_is : new ≡ ended_by Memory old = e ∙ ap (ended_by Memory) same in
-      inr (record {
-        running = runs;
-        ended = ap (λ (v : SessionView). v.ended) new_is;
-        mode = ap (λ (v : SessionView). v.mode) new_is;
-        for_bus = subst (λ (v : SessionView). IsFront v.bus_side (with_bytes policy side bytes old).bus_side) (sym new_is) (built_bus (is_empty bytes) old.mode.filter old);
-        for_client = subst (λ (v : SessionView). IsFront v.client_side (with_bytes policy side bytes old).client_side) (sym new_is) (built_client (is_empty bytes) old.mode.filter old);
-      })
+      inr (refused_first (with_bytes policy side bytes old) old new runs (e ∙ ap (ended_by Memory) same) (built_grows (is_empty bytes) old.mode.filter old))
 
   -- and those that came are taken
   pub bytes_taken : (old mid new : SessionView) (most : ℕ) → (length bytes == 0) ≡ false → old.mode.filter ≡ true → mid ≡ with_stream side (pushed bytes (stream_of side old)) old → most ≡ length (left_of side mid) + 2

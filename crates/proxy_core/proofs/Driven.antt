@@ -20,6 +20,7 @@ use Rattle.sasl_watch.specs.declared.LineKind.TheVariants.{EarlyBus}
 use Rattle.policy_args.specs.Policy.{Policy}
 use Rattle.policy_view.specs.Past.{Item, Line, Msg, Ended, History, past, after, due}
 use Rattle.policy_view.specs.History.{Event, stream, lines, content, found, fault, line_fault, fault_of, fault_of_line, fault_end, malformed, new_in, end_of, followed_by, followed_unless, followed_by_all, most_sent}
+use Rattle.policy_view.specs.Notes.{numbered}
 use Rattle.policy_view.specs.Outputs.{bus_bytes, client_bytes, to_bus, to_client}
 use Rattle.policy_view.specs.declared.Fault.{Fault}
 use Rattle.policy_view.specs.declared.Fault.TheVariants.{Line as OfLine, Message as OfMessage}
@@ -30,10 +31,10 @@ use Rattle.policy_view.specs.declared.Side.TheVariants.{Client, Bus}
 use Rattle.policy_view.proofs.CutLaws.{new_last}
 use Rattle.proxy_core.specs.Streams.{StreamView, Phase, InLines, InMessages, is_in_lines}
 use Rattle.proxy_core.specs.Sessions.{SessionView, Taken, Holds, stream_of, lines_in, StandsAt}
-use Rattle.proxy_core.specs.Messages.{ended_by, with_message}
+use Rattle.proxy_core.specs.Messages.{ended_by, with_noted_message}
 use Rattle.proxy_core.specs.Steps.{with_stream, with_left, behind_line, in_messages, begun_if, asks, with_client_line, with_bus_line, with_line_fault, with_lines, with_all_answered, unanswered, has_begun, line_step, with_fault, with_front, step_at, more_if, drained}
-use Rattle.proxy_core.proofs.Placing.{followed, placed_itself, ended_holds, moved}
-use Rattle.proxy_core.proofs.Keeping.{IsKept, message_kept}
+use Rattle.proxy_core.proofs.Placing.{followed, placed_itself, ended_holds}
+use Rattle.proxy_core.proofs.Keeping.{IsKept, noted_kept}
 use Rattle.proxy_core.proofs.LineCuts.{sound_at, behind, ClientGoes, client_goes, BusGoes, bus_goes}
 use Rattle.proxy_core.proofs.Going.{Goes, GoesAt, GoesInLines, GoesInMessages, Stops, Begins, begins, messages_stop, messages_stand, message_goes, client_stops, client_stands, client_line_goes, begin_goes, bus_stops, bus_stands, bus_line_goes, early_stops, none_stops, done_goes}
 
@@ -45,8 +46,8 @@ unfolding due
 end_followed policy view items taken end runs h =
     let fits = (h.knows runs).fits in
     let room : nat_le (length (past policy items).told.sent + 0) most_sent ≡ true = grind (arith, nat_tests, fits) in
-    moved policy taken (ended_by end view) (ended_by end view) (followed_by policy items (Ended end)) (Ended end ∷ items) refl
-    (followed policy items (Ended end) (sym h.end_is ∙ runs) ∙ ap (λ (i : Item). i ∷ items) (placed_itself policy (past policy items) (Ended end) room))
+    subst (λ (i : History). Holds policy (ended_by end view) i taken)
+    (sym (followed policy items (Ended end) (sym h.end_is ∙ runs) ∙ ap (λ (i : Item). i ∷ items) (placed_itself policy (past policy items) (Ended end) room)))
     (ended_holds policy view items taken end h)
 
 pub end_ignored : (policy : Policy) (items : History) (item : Item) (end : End) → end_of items ≡ Some end → followed_by policy items item ≡ items
@@ -67,12 +68,16 @@ stream_holds policy view items taken Client s h = record {
   for_bus = h.for_bus;
   for_client = h.for_client;
   end_is = h.end_is;
+  noted = h.noted;
+  count = h.count;
   knows = λ e. let k = h.knows e in record { count = k.count; fits = k.fits; greeted = k.greeted; stand = k.stand };
 }
 stream_holds policy view items taken Bus s h = record {
   for_bus = h.for_bus;
   for_client = h.for_client;
   end_is = h.end_is;
+  noted = h.noted;
+  count = h.count;
   knows = λ e. let k = h.knows e in record { count = k.count; fits = k.fits; greeted = k.greeted; stand = k.stand };
 }
 
@@ -87,27 +92,31 @@ line_room policy view items taken side l runs h =
 
 client_line_holds : (policy : Policy) (view : SessionView) (items : History) (taken : Taken) (l : List ℕ) (s : StreamView) → view.ended ≡ None → Holds policy view items taken
     → Holds policy (record view { bus_side = view.bus_side ++ for_bus l; client = s }) (followed_by policy items (Line Client l)) taken
-unfolding bus_bytes client_bytes to_bus to_client past after
+unfolding bus_bytes client_bytes to_bus to_client past after numbered
 client_line_holds policy view items taken l s runs h =
     let v : SessionView = record view { bus_side = view.bus_side ++ for_bus l; client = s } in
-    moved policy taken v v (followed_by policy items (Line Client l)) (Line Client l ∷ items) refl (line_room policy view items taken Client l runs h)
+    subst (λ (i : History). Holds policy v i taken) (sym (line_room policy view items taken Client l runs h))
     (record {
       for_bus = sym (append_assoc taken.bus_side view.bus_side (for_bus l)) ∙ ap (λ (w : List ℕ). w ++ for_bus l) h.for_bus;
       for_client = h.for_client ∙ sym (append-nil (client_bytes policy items));
       end_is = h.end_is;
+      noted = h.noted;
+      count = h.count;
       knows = λ e. let k = h.knows e in record { count = k.count; fits = k.fits; greeted = k.greeted; stand = k.stand };
     })
 
 bus_line_holds : (policy : Policy) (view : SessionView) (items : History) (taken : Taken) (l : List ℕ) (s : StreamView) → view.ended ≡ None → Holds policy view items taken
     → Holds policy (record view { client_side = view.client_side ++ l; bus = s }) (followed_by policy items (Line Bus l)) taken
-unfolding bus_bytes client_bytes to_bus to_client past after
+unfolding bus_bytes client_bytes to_bus to_client past after numbered
 bus_line_holds policy view items taken l s runs h =
     let v : SessionView = record view { client_side = view.client_side ++ l; bus = s } in
-    moved policy taken v v (followed_by policy items (Line Bus l)) (Line Bus l ∷ items) refl (line_room policy view items taken Bus l runs h)
+    subst (λ (i : History). Holds policy v i taken) (sym (line_room policy view items taken Bus l runs h))
     (record {
       for_bus = h.for_bus ∙ sym (append-nil (bus_bytes policy items));
       for_client = sym (append_assoc taken.client_side view.client_side l) ∙ ap (λ (w : List ℕ). w ++ l) h.for_client;
       end_is = h.end_is;
+      noted = h.noted;
+      count = h.count;
       knows = λ e. let k = h.knows e in record { count = k.count; fits = k.fits; greeted = k.greeted; stand = k.stand };
     })
 
@@ -122,7 +131,7 @@ new_none (x ∷ xs) = new_none xs
 -- what a session does with a valid message is what the history has
 abbrev pub Steps : Policy → Taken → Type 0
 Steps policy taken = (side : Side) (view : SessionView) (items : History) (m : Message) → view.ended ≡ None → Holds policy view items taken → Valid m
-    → Holds policy (with_message policy side m view) (followed_by policy items (Msg side m)) taken
+    → Holds policy (with_noted_message policy side m view) (followed_by policy items (Msg side m)) taken
 
 -- the session holds what its side's stream has beyond these items, and its fault; where it runs, all was taken
 pub record Final (policy : Policy) (taken : Taken) (mode : Mode) (side : Side) (events : List Event) (items : History) (given : List Item) (new : SessionView) : Type 0 where
@@ -352,7 +361,7 @@ module _ (policy : Policy) (taken : Taken) (steps : Steps policy taken) (mode : 
   kept_other Bus x old new kept knows = subst (λ (c : StreamView). KnowsClient mode events c) (sym kept.client) knows
 
   abbrev behind_message : Message → List ℕ → SessionView
-  behind_message m left = with_message policy side m (with_left side left view)
+  behind_message m left = with_noted_message policy side m (with_left side left view)
 
   message_last : (m : Message) (left : List ℕ) → front left_now ≡ Some (m, left) → (o : Option End) → (behind_message m left).ended ≡ o
       → MessageLast (more_if (behind_message m left, is_none o) (drained policy side n))
@@ -361,7 +370,7 @@ module _ (policy : Policy) (taken : Taken) (steps : Steps policy taken) (mode : 
       let s : StreamView = record (stream_of side view) { left = left } in
       let goes = message_goes mode side events (stream_of side view) given g m left e in
       let held = steps side (with_stream side s view) items m (stream_runs side s view ∙ runs) (stream_holds policy view items taken side s h) is.0 in
-      let kept = message_kept policy side m (with_stream side s view) in
+      let kept = noted_kept policy side m (with_stream side s view) in
       let same : stream_of side (behind_message m left) ≡ s = kept_stream side (with_stream side s view) (behind_message m left) kept ∙ same_stream side s view in
       let begin = begins mode side events InMessages s (given ++ Msg side m ∷ []) goes in
       let less = front-shorter left_now m left e in

@@ -14,6 +14,8 @@ pub mod SendingSteps
 pub mod ReceivingSteps
 pub mod Frames
 pub mod Keeping
+pub mod Noting
+pub mod Taken
 pub mod Weights
 pub mod Draining
 pub mod Streams

@@ -18,61 +18,38 @@ use Rattle.policy_view.specs.declared.Side.TheVariants.{Client, Bus}
 use Rattle.proxy_core.specs.Streams.{StreamView, InLines, watch_at, GaveLine}
 use Rattle.proxy_core.specs.Sessions.{SessionView, IsFront}
 use Rattle.proxy_core.specs.Steps.{behind_line, in_messages, with_line_fault, with_lines, with_cut, unanswered, has_begun, with_all_answered, step_at, Stepped, Did, own_to_come, weight, IsLight}
-use Rattle.proxy_core.proofs.Keeping.{front_all, front_more}
+use Rattle.proxy_core.proofs.Keeping.{Grows, grows_none, bus_grows, client_grows}
 
 -- ---- what waits behind a line starts with what waited before
 
-fault_bus : (side : Side) (place : ℕ) (o : Option LineFault) (view : SessionView) → IsFront view.bus_side (with_line_fault side place o view).bus_side
-fault_bus side place None view = front_all view.bus_side
-fault_bus Client place (Some f) view = front_all view.bus_side
-fault_bus Bus place (Some f) view = front_all view.bus_side
+fault_grows : (side : Side) (place : ℕ) (o : Option LineFault) (view : SessionView) → Grows view (with_line_fault side place o view)
+fault_grows side place None view = grows_none view
+fault_grows Client place (Some f) view = grows_none view
+fault_grows Bus place (Some f) view = grows_none view
 
-fault_client : (side : Side) (place : ℕ) (o : Option LineFault) (view : SessionView) → IsFront view.client_side (with_line_fault side place o view).client_side
-fault_client side place None view = front_all view.client_side
-fault_client Client place (Some f) view = front_all view.client_side
-fault_client Bus place (Some f) view = front_all view.client_side
-
-lines_bus : (side : Side) (place : ℕ) (ls : List (List ℕ)) (o : Option LineFault) (view : SessionView) → IsFront view.bus_side (with_lines side place ls o view).0.bus_side
-lines_bus side place [] o view = fault_bus side place o view
-lines_bus Client place (l ∷ ls) o view = front_more view.bus_side (for_bus l)
-lines_bus Bus place (l ∷ ls) o view = front_all view.bus_side
-
-lines_client : (side : Side) (place : ℕ) (ls : List (List ℕ)) (o : Option LineFault) (view : SessionView) → IsFront view.client_side (with_lines side place ls o view).0.client_side
-lines_client side place [] o view = fault_client side place o view
-lines_client Client place (l ∷ ls) o view = front_all view.client_side
-lines_client Bus place (l ∷ ls) o view = front_more view.client_side l
+lines_grow : (side : Side) (place : ℕ) (ls : List (List ℕ)) (o : Option LineFault) (view : SessionView) → Grows view (with_lines side place ls o view).0
+lines_grow side place [] o view = fault_grows side place o view
+lines_grow Client place (l ∷ ls) o view = bus_grows view (for_bus l)
+lines_grow Bus place (l ∷ ls) o view = client_grows view l
 
 abbrev by_begun : Bool → Option LineFault → ℕ → SessionView → SessionView × Bool
 by_begun b o place view = cond b (record view { bus = in_messages view.bus }, true) (with_line_fault Bus place o view, false)
 
-begun_bus : (b : Bool) (o : Option LineFault) (place : ℕ) (view : SessionView) → IsFront view.bus_side (by_begun b o place view).0.bus_side
-begun_bus true o place view = front_all view.bus_side
-begun_bus false o place view = fault_bus Bus place o view
-
-begun_client : (b : Bool) (o : Option LineFault) (place : ℕ) (view : SessionView) → IsFront view.client_side (by_begun b o place view).0.client_side
-begun_client true o place view = front_all view.client_side
-begun_client false o place view = fault_client Bus place o view
+begun_grows : (b : Bool) (o : Option LineFault) (place : ℕ) (view : SessionView) → Grows view (by_begun b o place view).0
+begun_grows true o place view = grows_none view
+begun_grows false o place view = fault_grows Bus place o view
 
 abbrev early : ℕ → SessionView → Option LineFault
 early place view = cond (is_empty view.bus.left) None (Some (record { kind = EarlyBus; at = place }))
 
-bus_line_bus : (b : Bool) (place : ℕ) (view : SessionView) → IsFront view.bus_side (cond b (with_all_answered place view) (with_cut Bus place (bus_ahead (watch_at place None view.bus.left)) view)).0.bus_side
-bus_line_bus true place view = begun_bus (has_begun view) (early place view) place view
-bus_line_bus false place view = lines_bus Bus place (bus_ahead (watch_at place None view.bus.left)).lines (bus_ahead (watch_at place None view.bus.left)).fault view
+bus_line_grows : (b : Bool) (place : ℕ) (view : SessionView) → Grows view (cond b (with_all_answered place view) (with_cut Bus place (bus_ahead (watch_at place None view.bus.left)) view)).0
+bus_line_grows true place view = begun_grows (has_begun view) (early place view) place view
+bus_line_grows false place view = lines_grow Bus place (bus_ahead (watch_at place None view.bus.left)).lines (bus_ahead (watch_at place None view.bus.left)).fault view
 
-bus_line_client : (b : Bool) (place : ℕ) (view : SessionView) → IsFront view.client_side (cond b (with_all_answered place view) (with_cut Bus place (bus_ahead (watch_at place None view.bus.left)) view)).0.client_side
-bus_line_client true place view = begun_client (has_begun view) (early place view) place view
-bus_line_client false place view = lines_client Bus place (bus_ahead (watch_at place None view.bus.left)).lines (bus_ahead (watch_at place None view.bus.left)).fault view
-
-pub line_bus : (side : Side) (place : ℕ) (o : Option LineFault) (policy : Policy) (view : SessionView) → IsFront view.bus_side (step_at policy side (InLines place o) view).0.bus_side
-line_bus Client place None policy view = lines_bus Client place (client_ahead (watch_at place None view.client.left)).lines (client_ahead (watch_at place None view.client.left)).fault view
-line_bus Bus place None policy view = bus_line_bus (unanswered view == 0) place view
-line_bus side place (Some f) policy view = fault_bus side place (Some f) view
-
-pub line_client : (side : Side) (place : ℕ) (o : Option LineFault) (policy : Policy) (view : SessionView) → IsFront view.client_side (step_at policy side (InLines place o) view).0.client_side
-line_client Client place None policy view = lines_client Client place (client_ahead (watch_at place None view.client.left)).lines (client_ahead (watch_at place None view.client.left)).fault view
-line_client Bus place None policy view = bus_line_client (unanswered view == 0) place view
-line_client side place (Some f) policy view = fault_client side place (Some f) view
+pub line_grows : (side : Side) (place : ℕ) (o : Option LineFault) (policy : Policy) (view : SessionView) → Grows view (step_at policy side (InLines place o) view).0
+line_grows Client place None policy view = lines_grow Client place (client_ahead (watch_at place None view.client.left)).lines (client_ahead (watch_at place None view.client.left)).fault view
+line_grows Bus place None policy view = bus_line_grows (unanswered view == 0) place view
+line_grows side place (Some f) policy view = fault_grows side place (Some f) view
 
 -- ---- where more may follow, the session runs
 
@@ -113,6 +90,7 @@ module _ (expected : SessionView × Bool) (old mid new target : SessionView) (go
       mode = cut.0.mode ∙ mode;
       for_bus = subst (λ (v : SessionView). IsFront new.bus_side v.bus_side) is cut.0.for_bus;
       for_client = subst (λ (v : SessionView). IsFront new.client_side v.client_side) is cut.0.for_client;
+      noted = subst (λ (v : SessionView). IsFront new.notes v.notes) is cut.0.noted;
     },
     cut.1,
   )

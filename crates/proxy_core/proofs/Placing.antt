@@ -1,13 +1,14 @@
 -- What stands in an item's place in a history that runs.
-use Rattle.std.proofs.Common.{ℕ, ◌≡◌, ◌+◌, nat_le, true, false, cond, List, ◌∷◌, ◌++◌, length, Bool, Option, None, refl, ap, ◌∙◌, sym, subst, append-nil}
+use Rattle.std.proofs.Common.{ℕ, ◌≡◌, ◌+◌, nat_le, true, false, cond, List, ◌∷◌, ◌++◌, length, Bool, Option, None, refl, ap, ◌∙◌, sym, append-nil}
 use Rattle.policy_args.specs.Policy.{Policy}
 use Rattle.policy_view.specs.Sent.{Past}
 use Rattle.policy_view.specs.Past.{Item, Ended, History, past, due}
 use Rattle.policy_view.specs.History.{end_of, followed_by, followed_unless, placed, most_sent}
+use Rattle.policy_view.specs.Notes.{numbered}
 use Rattle.policy_view.specs.Outputs.{bus_bytes, client_bytes, to_bus, to_client}
 use Rattle.policy_view.specs.declared.End.{End}
 use Rattle.policy_view.specs.declared.End.TheVariants.{SerialsSpent}
-use Rattle.proxy_core.specs.Sessions.{SessionView, Taken, Holds}
+use Rattle.proxy_core.specs.Sessions.{SessionView, Taken, Holds, Knows}
 use Rattle.proxy_core.specs.Messages.{ended_by}
 
 pub followed : (policy : Policy) (items : History) (item : Item) → end_of items ≡ None → followed_by policy items item ≡ placed policy (past policy items) item ∷ items
@@ -24,9 +25,19 @@ pub placed_spent : (policy : Policy) (before : Past) (item : Item) →
 unfolding placed
 placed_spent policy before item r = ap (λ (c : Bool). cond c item (Ended SerialsSpent)) r
 
+-- what a session holds of a history but for its notes
+pub record HoldsSides (policy : Policy) (view : SessionView) (items : History) (taken : Taken) : Type 0 where
+  pub for_bus : taken.bus_side ++ view.bus_side ≡ bus_bytes policy items
+  pub for_client : taken.client_side ++ view.client_side ≡ client_bytes policy items
+  pub end_is : view.ended ≡ end_of items
+  pub knows : view.ended ≡ None → Knows policy view (past policy items)
+
+pub sides_of : (policy : Policy) (view : SessionView) (items : History) (taken : Taken) → Holds policy view items taken → HoldsSides policy view items taken
+sides_of policy view items taken h = record { for_bus = h.for_bus; for_client = h.for_client; end_is = h.end_is; knows = h.knows }
+
 -- an End follows, where nothing more waits
 pub ended_sides : (policy : Policy) (view origin : SessionView) (items : History) (taken : Taken) (end : End) → origin.bus_side ≡ view.bus_side → origin.client_side ≡ view.client_side →
-    Holds policy view items taken → Holds policy (ended_by end origin) (Ended end ∷ items) taken
+    HoldsSides policy view items taken → HoldsSides policy (ended_by end origin) (Ended end ∷ items) taken
 unfolding bus_bytes client_bytes to_bus to_client
 ended_sides policy view origin items taken end bus client h = record {
   for_bus = ap (λ (w : List ℕ). taken.bus_side ++ w) bus ∙ h.for_bus ∙ sym (append-nil (bus_bytes policy items));
@@ -37,8 +48,7 @@ ended_sides policy view origin items taken end bus client h = record {
 
 pub ended_holds : (policy : Policy) (view : SessionView) (items : History) (taken : Taken) (end : End) →
     Holds policy view items taken → Holds policy (ended_by end view) (Ended end ∷ items) taken
-ended_holds policy view items taken end h = ended_sides policy view view items taken end refl refl h
-
-pub moved : (policy : Policy) (taken : Taken) (v w : SessionView) (i j : History) → v ≡ w → i ≡ j → Holds policy w j taken → Holds policy v i taken
-moved policy taken v w i j e f h =
-    subst (λ (v : SessionView). Holds policy v i taken) (sym e) (subst (λ (i : History). Holds policy w i taken) (sym f) h)
+unfolding numbered
+ended_holds policy view items taken end h =
+    let sides = ended_sides policy view view items taken end refl refl (sides_of policy view items taken h) in
+    record { for_bus = sides.for_bus; for_client = sides.for_client; end_is = sides.end_is; noted = h.noted; count = h.count; knows = sides.knows }

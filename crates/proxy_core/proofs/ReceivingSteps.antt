@@ -274,14 +274,18 @@ pub shown_by : (policy : Policy) (now : Knowledge) (l : FinMap nat_cmp Expected)
 unfolding showing
 shown_by policy now l x s is = subst (λ (s : Showing). ShownBy x s) (sym is) (shown_has policy now l x)
 
+pub showing_as : (policy : Policy) (inside old : SessionView) (x : Seen) (s : Showing) → inside ≡ old → s ≡ showing policy (known policy inside) (expected_at inside.ledger.expected (reply_serial (tree x))) (tree x)
+    → s ≡ showing_at policy (known policy old) (tree x) (bus_role (expected_at old.ledger.expected (reply_serial (tree x))) (tree x))
+unfolding showing
+showing_as policy inside old x s view_is is =
+    is ∙ ap (λ (v : SessionView). showing_at policy (known policy v) (tree x) (bus_role (expected_at v.ledger.expected (reply_serial (tree x))) (tree x))) view_is
+
 -- what was used up makes no difference to what is known
 pub role_as : (policy : Policy) (inside old mid : SessionView) (x : Seen) (answered : Option Expected) (s : Showing) → inside ≡ old → mid ≡ with_used (tree x) old
     → bus_role answered (tree x) ≡ bus_role (expected_at old.ledger.expected (reply_serial (tree x))) (tree x)
     → s ≡ showing policy (known policy inside) (expected_at inside.ledger.expected (reply_serial (tree x))) (tree x) → s ≡ showing_at policy (known policy mid) (tree x) (bus_role answered (tree x))
-unfolding showing
 role_as policy inside old mid x answered s view_is left role is =
-    is
-    ∙ ap (λ (v : SessionView). showing_at policy (known policy v) (tree x) (bus_role (expected_at v.ledger.expected (reply_serial (tree x))) (tree x))) view_is
+    showing_as policy inside old x s view_is is
     ∙ ap (λ (r : BusRole). showing_at policy (known policy old) (tree x) r) (sym role)
     ∙ ap (λ (v : SessionView). showing_at policy (known policy v) (tree x) (bus_role answered (tree x))) (sym left)
 
@@ -391,6 +395,7 @@ took_used m expected other old mid new is same (inr refused) = inr (record {
     bus_side = refused.kept.bus_side ∙ ap (λ (v : SessionView). v.bus_side) is;
     client_side = refused.kept.client_side ∙ ap (λ (v : SessionView). v.client_side) is;
     greeted = refused.kept.greeted ∙ ap (λ (v : SessionView). v.greeted) is;
+    notes = refused.kept.notes ∙ ap (λ (v : SessionView). v.notes) is;
   };
 })
 
@@ -408,5 +413,6 @@ took_or_ends (Err e) goes expected old mid new runs ok err on off = inr (record 
     bus_side = ap (λ (v : SessionView). v.bus_side) off.1 ∙ err.bus_side;
     client_side = ap (λ (v : SessionView). v.client_side) off.1 ∙ err.client_side;
     greeted = ap (λ (v : SessionView). v.greeted) off.1 ∙ err.greeted;
+    notes = ap (λ (v : SessionView). v.notes) off.1 ∙ err.notes;
   };
 })

@@ -8,7 +8,7 @@ use Rattle.std.proofs.lemmas.List.Folds.{list_any-append}
 use Rattle.dbus_header.specs.Message.{Message}
 use Rattle.policy_args.specs.Policy.{Policy}
 use Rattle.policy_view.specs.Sent.{Exchange, Past, Sent, answered, call_at, is_passed_hello, owed, spelled_from}
-use Rattle.policy_view.specs.Past.{History, Item, Msg, Ended, due, has_greeted, past}
+use Rattle.policy_view.specs.Past.{History, Item, Msg, due, has_greeted, past}
 use Rattle.policy_view.specs.History.{end_of, followed_by, most_sent}
 use Rattle.policy_view.specs.Outputs.{bus_bytes, client_bytes, to_bus}
 use Rattle.policy_view.specs.declared.Side.{Side}
@@ -17,10 +17,10 @@ use Rattle.policy_view.proofs.PastLaws.{sent_after}
 use Rattle.own_calls.specs.Sending.{expecting}
 use Rattle.unique_names.specs.Taught.{Taught}
 use Rattle.verdicts.specs.Kept.{expected_at, owed_by}
-use Rattle.proxy_core.specs.Sessions.{SessionView, Taken, Holds}
+use Rattle.proxy_core.specs.Sessions.{SessionView, Taken}
 use Rattle.proxy_core.specs.Messages.{ended_by, sending, with_sent}
 use Rattle.proxy_core.proofs.LedgerLaws.{answered_in, sends}
-use Rattle.proxy_core.proofs.Placing.{followed, placed_itself, placed_spent, ended_sides, moved}
+use Rattle.proxy_core.proofs.Placing.{HoldsSides, followed, placed_itself, placed_spent, ended_sides}
 
 -- what a past answers is read off its lists
 pub answered_is : (before : Past) (r : ℕ) → answered before (Some r) ≡ answered_in before.used before.told.sent r
@@ -31,7 +31,7 @@ pub answered_none : (before : Past) → answered before None ≡ None
 unfolding answered call_at
 answered_none before = refl
 
-module _ (policy : Policy) (view : SessionView) (items : History) (taken : Taken) (side : Side) (m : Message) (runs : view.ended ≡ None) (holds : Holds policy view items taken) where
+module _ (policy : Policy) (view : SessionView) (items : History) (taken : Taken) (side : Side) (m : Message) (runs : view.ended ≡ None) (holds : HoldsSides policy view items taken) where
   abbrev before : Past
   before = past policy items
 
@@ -68,7 +68,7 @@ module _ (policy : Policy) (view : SessionView) (items : History) (taken : Taken
   bus_is = refl
 
   -- where nothing is due
-  none_due : (base : SessionView) → Based base → due policy before (Msg side m) ≡ [] → Holds policy base (Msg side m ∷ items) taken
+  none_due : (base : SessionView) → Based base → due policy before (Msg side m) ≡ [] → HoldsSides policy base (Msg side m ∷ items) taken
   none_due base b d =
       let same : behind.told.sent ≡ before.told.sent = sent_is ∙ ap (λ (ds : List Sent). before.told.sent ++ ds) d ∙ append-nil before.told.sent in
       record {
@@ -91,7 +91,7 @@ module _ (policy : Policy) (view : SessionView) (items : History) (taken : Taken
           b.answers r ∙ ap (λ (xs : List Sent). answered_in behind.used xs r) (sym (sent_is ∙ ap (λ (ds : List Sent). before.told.sent ++ ds) d ∙ append-nil before.told.sent)) ∙ sym (answered_is behind r)
 
   -- where it is sent
-  all_due : (base : SessionView) (ds : List Sent) → Based base → due policy before (Msg side m) ≡ ds → length before.told.sent + length ds ≤ most_sent → Holds policy (with_sent ds base) (Msg side m ∷ items) taken
+  all_due : (base : SessionView) (ds : List Sent) → Based base → due policy before (Msg side m) ≡ ds → length before.told.sent + length ds ≤ most_sent → HoldsSides policy (with_sent ds base) (Msg side m ∷ items) taken
   all_due base ds b d room =
       let same : behind.told.sent ≡ before.told.sent ++ ds = sent_is ∙ ap (λ (xs : List Sent). before.told.sent ++ xs) d in
       let count : base.sent ≡ length before.told.sent = b.sent ∙ (holds.knows runs).count in
@@ -122,29 +122,29 @@ module _ (policy : Policy) (view : SessionView) (items : History) (taken : Taken
 
   -- what is due is sent where serials are left, and else the session ends
   sending_by : (origin base : SessionView) (s : Sent) (ds : List Sent) → IsOrigin origin → Based base → due policy before (Msg side m) ≡ s ∷ ds → (fits : Bool) → nat_le (origin.sent + length (s ∷ ds)) most_sent ≡ fits →
-      Holds policy (cond fits (with_sent (s ∷ ds) base) (ended_by SerialsSpent origin)) (followed_by policy items (Msg side m)) taken
+      HoldsSides policy (cond fits (with_sent (s ∷ ds) base) (ended_by SerialsSpent origin)) (followed_by policy items (Msg side m)) taken
   sending_by origin base s ds o b d true fits =
       let count : origin.sent ≡ length before.told.sent = o.sent ∙ (holds.knows runs).count in
       let room : nat_le (length before.told.sent + length (due policy before (Msg side m))) most_sent ≡ true =
       ap₂ (λ (n : ℕ) (xs : List Sent). nat_le (n + length xs) most_sent) (sym count) d ∙ fits in
       let enough : length before.told.sent + length (s ∷ ds) ≤ most_sent = grind (arith, nat_tests, fits, count) in
-      moved policy taken (with_sent (s ∷ ds) base) (with_sent (s ∷ ds) base) (followed_by policy items (Msg side m)) (Msg side m ∷ items) refl
-      (followed policy items (Msg side m) ends ∙ ap (λ (i : Item). i ∷ items) (placed_itself policy before (Msg side m) room))
+      subst (λ (i : History). HoldsSides policy (with_sent (s ∷ ds) base) i taken)
+      (sym (followed policy items (Msg side m) ends ∙ ap (λ (i : Item). i ∷ items) (placed_itself policy before (Msg side m) room)))
       (all_due base (s ∷ ds) b d enough)
   sending_by origin base s ds o b d false fits =
       let count : origin.sent ≡ length before.told.sent = o.sent ∙ (holds.knows runs).count in
       let room : nat_le (length before.told.sent + length (due policy before (Msg side m))) most_sent ≡ false =
       ap₂ (λ (n : ℕ) (xs : List Sent). nat_le (n + length xs) most_sent) (sym count) d ∙ fits in
-      moved policy taken (ended_by SerialsSpent origin) (ended_by SerialsSpent origin) (followed_by policy items (Msg side m)) (Ended SerialsSpent ∷ items) refl
-      (followed policy items (Msg side m) ends ∙ ap (λ (i : Item). i ∷ items) (placed_spent policy before (Msg side m) room))
+      subst (λ (i : History). HoldsSides policy (ended_by SerialsSpent origin) i taken)
+      (sym (followed policy items (Msg side m) ends ∙ ap (λ (i : Item). i ∷ items) (placed_spent policy before (Msg side m) room)))
       (ended_sides policy view origin items taken SerialsSpent o.bus_side o.client_side holds)
 
-  pub sending_holds : (origin base : SessionView) (ds : List Sent) → IsOrigin origin → Based base → due policy before (Msg side m) ≡ ds → Holds policy (sending ds origin base) (followed_by policy items (Msg side m)) taken
+  pub sending_holds : (origin base : SessionView) (ds : List Sent) → IsOrigin origin → Based base → due policy before (Msg side m) ≡ ds → HoldsSides policy (sending ds origin base) (followed_by policy items (Msg side m)) taken
   sending_holds origin base [] o b d =
       let fits = (holds.knows runs).fits in
       let none : length (due policy before (Msg side m)) ≡ 0 = ap length d in
       let room : nat_le (length before.told.sent + length (due policy before (Msg side m))) most_sent ≡ true = grind (arith, nat_tests, none, fits) in
-      moved policy taken base base (followed_by policy items (Msg side m)) (Msg side m ∷ items) refl
-      (followed policy items (Msg side m) ends ∙ ap (λ (i : Item). i ∷ items) (placed_itself policy before (Msg side m) room))
+      subst (λ (i : History). HoldsSides policy base i taken)
+      (sym (followed policy items (Msg side m) ends ∙ ap (λ (i : Item). i ∷ items) (placed_itself policy before (Msg side m) room)))
       (none_due base b d)
   sending_holds origin base (s ∷ ds) o b d = sending_by origin base s ds o b d (nat_le (origin.sent + length (s ∷ ds)) most_sent) refl

@@ -1,12 +1,12 @@
 -- A session that stands for events, and one event more.
-use Rattle.std.proofs.Common.{ℕ, zero, suc, ◌≡◌, ◌+◌, ◌-◌, ◌<◌, ◌≤◌, Bool, true, false, cond, List, [], ◌∷◌, ◌++◌, length, take, drop, map, Option, Some, None, refl, ap, ◌∙◌, sym, subst, arith, append-nil, append_assoc, length-append, inl, inr}
+use Rattle.std.proofs.Common.{ℕ, zero, suc, ◌≡◌, ◌+◌, ◌-◌, ◌<◌, ◌≤◌, Bool, true, false, cond, List, [], ◌∷◌, ◌++◌, length, take, map, Option, Some, None, refl, ap, ◌∙◌, sym, subst, arith, append-nil, append_assoc, length-append, inl, inr}
 use Rattle.std.specs.Prelude.{◌||◌, ◌==◌, not, nat_lt, min}
 use Rattle.std.specs.FinMap.{empty, get-empty}
 use Rattle.std.specs.Cmp.Lexicographic.{slice_cmp}
 use Rattle.std.specs.List.{list_any}
 use Rattle.std.specs.Ordering.{nat_cmp}
 use Rattle.std.proofs.lemmas.Bool.Decides.{nat_tests}
-use Rattle.std.proofs.lemmas.List.{length-take, take-append-drop}
+use Rattle.std.proofs.lemmas.List.{length-take}
 use Rattle.byte_lists.proofs.Bytes.{AreBytes-take, AreBytes-append, empty_is}
 use Rattle.byte_lists.specs.Bytes.{AreBytes}
 use Rattle.dbus_names.specs.Names.{is_empty}
@@ -26,6 +26,7 @@ use Rattle.policy_args.specs.Policy.{Policy}
 use Rattle.policy_view.specs.Sent.{Exchange, answered, call_at, nothing_before, owed}
 use Rattle.policy_view.specs.Past.{Item, Line, Msg, Ended, History, past}
 use Rattle.policy_view.specs.History.{Event, Bytes, Finished, longest_stream, whole_stream, stream, lines, content, messages_in, found, fault, taken_of, is_over, brought, end_if, fault_end, new_in, finished, is_built_piece, arrived, followed_by, followed_by_all, history}
+use Rattle.policy_view.specs.Notes.{Note, notes, notes_made, numbered}
 use Rattle.policy_view.specs.Laws.{IsPrefixOf}
 use Rattle.policy_view.specs.Outputs.{bus_bytes, client_bytes}
 use Rattle.policy_view.specs.declared.Mode.{Mode}
@@ -46,9 +47,8 @@ use Rattle.verdicts.specs.Kept.{expected_at, owed_by, owed_to}
 use Rattle.verdicts.proofs.KnowledgeLaws.{CoversNoUniqueName}
 use Rattle.proxy_core.specs.Messages.{ended_by}
 use Rattle.proxy_core.specs.Steps.{with_stream, with_left, behind_line, in_messages, begun_if, asks, with_line_fault, with_lines, with_all_answered, unanswered, has_begun, with_fault, with_front, step_at, step_of, more_if, drained, end_unless, closed_if, room_of, with_piece, IsRefused, Took}
-use Rattle.proxy_core.proofs.Keeping.{IsKept, message_kept}
-use Rattle.proxy_core.proofs.ClientSteps.{client_holds}
-use Rattle.proxy_core.proofs.BusSteps.{bus_holds}
+use Rattle.proxy_core.proofs.Keeping.{IsKept, noted_kept}
+use Rattle.proxy_core.proofs.Noting.{noted_holds}
 use Rattle.proxy_core.proofs.Going.{Counts, Goes, GoesAt}
 use Rattle.proxy_core.proofs.Driven.{Steps, Final, KnowsClient, KnowsOther, phase_weight, weight, none_last, drained_last, end_followed, end_ignored, stream_holds, same_stream, stream_runs}
 use Rattle.dbus_header.specs.Malformed.{front}
@@ -69,13 +69,13 @@ stream_starts mode side = record { came = came side; stands = stands mode.auth r
     stands false a Client = rw a ([], refl, refl, tt)
     stands false a Bus = rw a ([], refl, refl, λ e. absurd cc)
 
-    counts : (b : Bool) (s : Side) → 0 ≡ lines_in s (record { auth = b; filter = mode.filter }) []
+    counts : (b : Bool) (s : Side) → 0 ≡ lines_in s (record { auth = b; filter = mode.filter; notes = mode.notes }) []
     counts true Client = refl
     counts true Bus = refl
     counts false Client = refl
     counts false Bus = refl
 
-    sound : (b : Bool) (s : Side) → fault (record { auth = b; filter = mode.filter }) s [] ≡ None
+    sound : (b : Bool) (s : Side) → fault (record { auth = b; filter = mode.filter; notes = mode.notes }) s [] ≡ None
     sound true Client = refl
     sound true Bus = refl
     sound false Client = refl
@@ -86,19 +86,26 @@ none_to None n = refl
 none_to (Some s) n = none-count empty s n (get-empty (slice_cmp nat_cmp) s)
 
 pub start_stands : (policy : Policy) (mode : Mode) → StandsFor policy (at_start mode) [] nothing
-unfolding history bus_bytes client_bytes past nothing_before owed answered call_at
+unfolding history bus_bytes client_bytes past nothing_before owed answered call_at numbered
 start_stands policy mode = record {
   bus_front = record { rest = []; is = refl };
   client_front = record { rest = []; is = refl };
+  notes_front = record { rest = []; is = none_noted mode.notes };
   holds = λ e. record {
     for_bus = refl;
     for_client = refl;
     end_is = refl;
+    noted = none_noted mode.notes;
+    count = λ n. refl;
     knows = λ n. record { count = refl; fits = omega arith; greeted = refl; stand = record { facts = start-taught policy; replies = none_owed; answers = none_expected } };
   };
   follows = λ e. record { client = stream_starts mode Client; bus = stream_starts mode Bus };
 }
   where
+    none_noted : (b : Bool) → ◌≡◌ {A = List Note} [] (cond b [] [])
+    none_noted true = refl
+    none_noted false = refl
+
     none_owed : (e : Exchange) → owed_by nothing_expected.owed e ≡ owed nothing_before.told e
     none_owed e = none_to e.peer e.number
 
@@ -182,7 +189,7 @@ module _ (policy : Policy) where
   front_untouched side None view = fault_untouched side (message_fault (stream_of side view).left) view
   front_untouched side (Some x) view =
       untouched_then side view (with_left side x.1 view) (with_front policy side (Some x) view).0 (stream_untouched side (record (stream_of side view) { left = x.1 }) view refl)
-      (kept_untouched side (with_left side x.1 view) (with_front policy side (Some x) view).0 (message_kept policy side x.0 (with_left side x.1 view)))
+      (kept_untouched side (with_left side x.1 view) (with_front policy side (Some x) view).0 (noted_kept policy side x.0 (with_left side x.1 view)))
 
   bus_untouched : (b : Bool) (place : ℕ) (view : SessionView) → Untouched Bus view (cond {A = SessionView × Bool} b (with_all_answered place view) (with_lines Bus place (bus_ahead (watch_at place None view.bus.left)).lines (bus_ahead (watch_at place None view.bus.left)).fault view)).0
   bus_untouched true place view = answered_untouched (has_begun view) (cond (is_empty view.bus.left) None (Some (record { kind = EarlyBus; at = place }))) place view
@@ -635,6 +642,7 @@ module _ (policy : Policy) (view : SessionView) (events : List Event) (taken : T
       record {
         bus_front = record { rest = []; is = append-nil (taken.bus_side ++ new.bus_side) ∙ h.for_bus };
         client_front = record { rest = []; is = append-nil (taken.client_side ++ new.client_side) ∙ h.for_client };
+        notes_front = record { rest = []; is = append-nil (taken.notes ++ new.notes) ∙ h.noted };
         holds = λ e. h;
         follows = λ e. follows_both side new mode (piece_step.follows e (piece_leaves.came e))
             (subst (λ (x : StreamView). FollowsStream view.mode (other side) (Bytes side piece ∷ events) x) (sym piece_leaves.other_is) (other_follows view.mode side events piece view refl follows));
@@ -642,8 +650,12 @@ module _ (policy : Policy) (view : SessionView) (events : List Event) (taken : T
 
 -- ---- what ended
 
-front_more : (front one two : List ℕ) → IsFront front one → IsPrefixOf one two → IsFront front two
-front_more front one two f (more, e) = record { rest = f.rest ++ more; is = sym (append_assoc front f.rest more) ∙ ap (λ (w : List ℕ). w ++ more) f.is ∙ e }
+front_more : {A : Type 0} (front one two : List A) → IsFront front one → IsPrefixOf one two → IsFront front two
+front_more front one two f (more, e) = record { rest = f.rest ++ more; is = sym (append_assoc front f.rest more) ∙ ap (λ (w : List _). w ++ more) f.is ∙ e }
+
+made_more : (make : Bool) (one two : List Note) → IsPrefixOf one two → IsPrefixOf (cond make one []) (cond make two [])
+made_more true one two p = p
+made_more false one two p = ([], refl)
 
 -- a session that has ended stands for whatever follows
 pub ended_stands : (policy : Policy) (view : SessionView) (events : List Event) (taken : Taken) (event : Event) (end : End) →
@@ -653,6 +665,8 @@ ended_stands policy view events taken event end ended stands =
     record {
       bus_front = front_more (taken.bus_side ++ view.bus_side) (bus_bytes policy (history policy view.mode events)) (bus_bytes policy (history policy view.mode (event ∷ events))) stands.bus_front grown.to_bus;
       client_front = front_more (taken.client_side ++ view.client_side) (client_bytes policy (history policy view.mode events)) (client_bytes policy (history policy view.mode (event ∷ events))) stands.client_front grown.to_client;
+      notes_front = front_more (taken.notes ++ view.notes) (notes_made view.mode policy (history policy view.mode events)) (notes_made view.mode policy (history policy view.mode (event ∷ events))) stands.notes_front
+          (made_more view.mode.notes (notes policy (history policy view.mode events)) (notes policy (history policy view.mode (event ∷ events))) grown.noted);
       holds = λ e.
           let h = stands.holds e in
           let same : history policy view.mode (event ∷ events) ≡ history policy view.mode events = ended_is_final policy view.mode events event end (sym h.end_is ∙ ended) in
@@ -667,17 +681,19 @@ refused_stands policy expected old new events taken event refused same stands =
     let mode : new.mode ≡ expected.mode = refused.mode ∙ sym same in
     let for_bus = behind_taken taken.bus_side new.bus_side expected.bus_side (bus_bytes policy (history policy expected.mode (event ∷ events))) refused.for_bus stands.bus_front in
     let for_client = behind_taken taken.client_side new.client_side expected.client_side (client_bytes policy (history policy expected.mode (event ∷ events))) refused.for_client stands.client_front in
+    let noted = behind_taken taken.notes new.notes expected.notes (notes_made expected.mode policy (history policy expected.mode (event ∷ events))) refused.noted stands.notes_front in
     record {
       bus_front = subst (λ (mode : Mode). IsFront (taken.bus_side ++ new.bus_side) (bus_bytes policy (history policy mode (event ∷ events)))) (sym mode) for_bus;
       client_front = subst (λ (mode : Mode). IsFront (taken.client_side ++ new.client_side) (client_bytes policy (history policy mode (event ∷ events)))) (sym mode) for_client;
+      notes_front = subst (λ (mode : Mode). IsFront (taken.notes ++ new.notes) (notes_made mode policy (history policy mode (event ∷ events)))) (sym mode) noted;
       holds = λ e. let memory : is_memory (Some Memory) ≡ false = sym (ap is_memory refused.ended) ∙ e in cc;
       follows = λ e. let none : Some Memory ≡ None = sym refused.ended ∙ e in cc;
     }
   where
-    behind_taken : (taken waits all whole : List ℕ) → IsFront waits all → IsFront (taken ++ all) whole → IsFront (taken ++ waits) whole
+    behind_taken : {A : Type 0} (taken waits all whole : List A) → IsFront waits all → IsFront (taken ++ all) whole → IsFront (taken ++ waits) whole
     behind_taken taken waits all whole f g = record {
       rest = f.rest ++ g.rest;
-      is = append_assoc taken waits (f.rest ++ g.rest) ∙ ap (λ (w : List ℕ). taken ++ w) (sym (append_assoc waits f.rest g.rest) ∙ ap (λ (w : List ℕ). w ++ g.rest) f.is) ∙ sym (append_assoc taken all g.rest) ∙ g.is;
+      is = append_assoc taken waits (f.rest ++ g.rest) ∙ ap (λ (w : List _). taken ++ w) (sym (append_assoc waits f.rest g.rest) ∙ ap (λ (w : List _). w ++ g.rest) f.is) ∙ sym (append_assoc taken all g.rest) ∙ g.is;
     }
 
 -- a side's stream ended
@@ -690,6 +706,7 @@ finish_stands policy view events taken side runs stands =
     record {
       bus_front = record { rest = []; is = append-nil (taken.bus_side ++ view.bus_side) ∙ h.for_bus };
       client_front = record { rest = []; is = append-nil (taken.client_side ++ view.client_side) ∙ h.for_client };
+      notes_front = record { rest = []; is = append-nil (taken.notes ++ view.notes) ∙ h.noted };
       holds = λ e. h;
       follows = λ e. cc;
     }
@@ -698,8 +715,7 @@ finish_stands policy view events taken side runs stands =
 
 -- what a session does with a valid message is what the history has
 pub all_steps : (policy : Policy) → CoversNoUniqueName policy → (taken : Taken) → Steps policy taken
-all_steps policy apart taken Client view items m runs holds valid = client_holds policy apart view items taken m runs holds
-all_steps policy apart taken Bus view items m runs holds valid = bus_holds policy apart view items taken m runs holds
+all_steps policy apart taken side view items m runs holds valid = noted_holds policy apart view items taken side m runs holds
 
 pub feed_stands : (policy : Policy) → CoversNoUniqueName policy → (old new : SessionView) (events : List Event) (taken : Taken) (side : Side) (piece : List ℕ) → old.ended ≡ None → AreBytes piece →
     Took (with_piece policy side piece old) old new → StandsFor policy old events taken → StandsFor policy new (Bytes side piece ∷ events) taken
@@ -711,39 +727,3 @@ feed_stands policy apart old new events taken side piece runs are took stands =
       | inr refused ↦ refused_stands policy (with_piece policy side piece old) old new events taken (Bytes side piece) refused
           (piece_leaves policy old events taken steps side piece runs stands are).mode expected
     ]
-
--- ---- what was taken
-
-pub took_bus : (policy : Policy) (view : SessionView) (events : List Event) (taken : Taken) (n : ℕ) → StandsFor policy view events taken →
-    StandsFor policy (record view { bus_side = drop n view.bus_side }) events (record taken { bus_side = taken.bus_side ++ take n view.bus_side })
-took_bus policy view events taken n stands =
-    let same : (taken.bus_side ++ take n view.bus_side) ++ drop n view.bus_side ≡ taken.bus_side ++ view.bus_side =
-    append_assoc taken.bus_side (take n view.bus_side) (drop n view.bus_side) ∙ ap (λ (w : List ℕ). taken.bus_side ++ w) (take-append-drop n view.bus_side) in
-    record {
-      bus_front = record { rest = stands.bus_front.rest; is = ap (λ (w : List ℕ). w ++ stands.bus_front.rest) same ∙ stands.bus_front.is };
-      client_front = stands.client_front;
-      holds = λ e. let h = stands.holds e in record {
-        for_bus = same ∙ h.for_bus;
-        for_client = h.for_client;
-        end_is = h.end_is;
-        knows = λ r. let k = h.knows r in record { count = k.count; fits = k.fits; greeted = k.greeted; stand = k.stand };
-      };
-      follows = λ e. let f = stands.follows e in record { client = f.client; bus = f.bus };
-    }
-
-pub took_client : (policy : Policy) (view : SessionView) (events : List Event) (taken : Taken) (n : ℕ) → StandsFor policy view events taken →
-    StandsFor policy (record view { client_side = drop n view.client_side }) events (record taken { client_side = taken.client_side ++ take n view.client_side })
-took_client policy view events taken n stands =
-    let same : (taken.client_side ++ take n view.client_side) ++ drop n view.client_side ≡ taken.client_side ++ view.client_side =
-    append_assoc taken.client_side (take n view.client_side) (drop n view.client_side) ∙ ap (λ (w : List ℕ). taken.client_side ++ w) (take-append-drop n view.client_side) in
-    record {
-      bus_front = stands.bus_front;
-      client_front = record { rest = stands.client_front.rest; is = ap (λ (w : List ℕ). w ++ stands.client_front.rest) same ∙ stands.client_front.is };
-      holds = λ e. let h = stands.holds e in record {
-        for_bus = h.for_bus;
-        for_client = same ∙ h.for_client;
-        end_is = h.end_is;
-        knows = λ r. let k = h.knows r in record { count = k.count; fits = k.fits; greeted = k.greeted; stand = k.stand };
-      };
-      follows = λ e. let f = stands.follows e in record { client = f.client; bus = f.bus };
-    }

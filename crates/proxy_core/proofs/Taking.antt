@@ -17,8 +17,9 @@ use Rattle.policy_view.specs.Sent.{asks_names}
 use Rattle.policy_view.specs.Shown.{is_owner_change}
 use Rattle.policy_view.specs.Verdicts.{number_or_0}
 use Rattle.verdicts.specs.Roles.{is_owner_change_of}
-use Rattle.proxy_core.specs.Messages.{is_bus_member_by, message_in}
-use Rattle.proxy_core.proofs.Frames.{spelled_message}
+use Rattle.proxy_core.specs.Messages.{is_bus_member_by}
+use Rattle.policy_view.specs.Notes.{message_in}
+use Rattle.policy_view.proofs.Frames.{spelled_message}
 
 -- ---- the message
 

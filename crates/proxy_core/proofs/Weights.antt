@@ -2,7 +2,7 @@
 use Rattle.std.proofs.Common.{ℕ, ◌≡◌, ◌+◌, ◌*◌, ◌≤◌, ◌%◌, Bool, true, false, cond, List, [], ◌∷◌, ◌++◌, length, map, Option, Some, None, refl, ap, ◌∙◌, sym, arith, length-append, flat_map, codes, inl, inr}
 use Rattle.std.specs.Int.{w32}
 use Rattle.std.specs.List.{filter}
-use Rattle.std.specs.Prelude.{◌⊎◌, ◌==◌, ◌&&◌, ◌||◌, not, nat_le, nat_lt}
+use Rattle.std.specs.Prelude.{◌⊎◌, ◌==◌, ◌&&◌, ◌||◌, is_none, not, nat_le, nat_lt}
 use Rattle.std.proofs.lemmas.Bool.{and_parts, cases_Bool, eqb-true}
 use Rattle.dbus_names.specs.Texts.{Text}
 use Rattle.dbus_types.specs.Signature.{basic, string, uint32, spelled_types}
@@ -41,7 +41,7 @@ use Rattle.name_filters.proofs.NameBytes.{fewer-short}
 use Rattle.own_calls.proofs.Lengths.{asked-calls-short}
 use Rattle.verdicts.specs.Kept.{expected_at}
 use Rattle.proxy_core.specs.Sessions.{SessionView}
-use Rattle.proxy_core.specs.Messages.{known, sending, with_message, with_replied, with_role, with_sent, with_shown, with_told, with_used, with_verdict}
+use Rattle.proxy_core.specs.Messages.{decision_in, known, sending, with_message, with_note, with_noted_message, with_replied, with_role, with_sent, with_shown, with_told, with_used, with_verdict}
 use Rattle.proxy_core.specs.Steps.{own_to_come, weight}
 
 -- ---- how long a message is
@@ -298,6 +298,12 @@ module _ (policy : Policy) (m : Message) (valid : Valid m) where
 
 -- ---- a message of either side
 
-pub message_light : (policy : Policy) (side : Side) (m : Message) (view : SessionView) → Valid m → weight policy (with_message policy side m view) ≤ weight policy view + 19 * length (spell m)
+message_light : (policy : Policy) (side : Side) (m : Message) (view : SessionView) → Valid m → weight policy (with_message policy side m view) ≤ weight policy view + 19 * length (spell m)
 message_light policy Client m view valid = verdict_light policy m (verdict policy (known policy view) m) view
 message_light policy Bus m view valid = role_light policy m valid (bus_role (expected_at view.ledger.expected (reply_serial m)) m) (with_used m view)
+
+-- a note weighs nothing
+pub noted_light : (policy : Policy) (side : Side) (m : Message) (view : SessionView) → Valid m → weight policy (with_noted_message policy side m view) ≤ weight policy view + 19 * length (spell m)
+noted_light policy side m view valid =
+    let new : SessionView = with_message policy side m view in
+    either_light policy m view (with_note side m (decision_in policy side m view) new) new (new.mode.notes && is_none new.ended) (message_light policy side m view valid) (message_light policy side m view valid)

@@ -1,10 +1,10 @@
 -- What a session does with a message, on what it is seen as.
-use Rattle.std.specs.Prelude.{◌≡◌, ℕ, ◌+◌, ◌&&◌, ◌||◌, ◌==◌, nat_le, Bool, true, false, List, [], ◌∷◌, ◌++◌, length, flat_map, Option, Some, None, unwrap_or, if◌then◌else◌}
+use Rattle.std.specs.Prelude.{◌≡◌, ℕ, ◌+◌, ◌&&◌, ◌||◌, ◌==◌, nat_le, Bool, true, false, List, [], ◌∷◌, ◌++◌, length, flat_map, Option, Some, None, is_none, if◌then◌else◌}
 use Rattle.std.specs.Ordering.{nat_cmp}
 use Rattle.std.specs.FinMap.{FinMap, remove}
 use Rattle.dbus_names.specs.Texts.{Text}
 use Rattle.dbus_header.specs.Message.{Message, reply_serial, spell}
-use Rattle.dbus_header.specs.Contents.{Contents, message_of}
+use Rattle.dbus_header.specs.Contents.{Contents}
 use Rattle.dbus_header.specs.Kinds.{Kind, Call, Return, Error, Signal, Other, kind_of}
 use Rattle.own_calls.specs.Sending.{expecting}
 use Rattle.policy_args.specs.Policy.{Policy}
@@ -12,11 +12,12 @@ use Rattle.policy_args.specs.declared.fact.Fact.{Fact}
 use Rattle.policy_view.specs.History.{most_sent}
 use Rattle.policy_view.specs.Knowledge.{Knowledge}
 use Rattle.policy_view.specs.Past.{called_at, due_at, due_on, has_greeted, learned_at, replied_on}
-use Rattle.policy_view.specs.Own.{ping}
 use Rattle.policy_view.specs.Sent.{Exchange, Sent, is_bus_or_absent, spelled_from}
 use Rattle.policy_view.specs.Texts.{has_text}
 use Rattle.policy_view.specs.Shown.{BusRole, bus_role, seen_as, showing_at}
 use Rattle.policy_view.specs.Verdicts.{client_role, verdict}
+use Rattle.policy_view.specs.declared.Decision.{Decision}
+use Rattle.policy_view.specs.declared.Decision.TheVariants.{Judged, Shown}
 use Rattle.policy_view.specs.declared.Showing.{Showing}
 use Rattle.policy_view.specs.declared.Verdict.{Verdict}
 use Rattle.policy_view.specs.declared.Side.{Side}
@@ -32,10 +33,6 @@ use Rattle.proxy_core.specs.Sessions.{SessionView}
 
 abbrev pub ended_by : End → SessionView → SessionView
 ended_by end view = record view { ended = Some end }
-
--- the message that the bytes of one spell
-abbrev pub message_in : List ℕ → Message
-message_in bytes = unwrap_or (message_of bytes) ping
 
 -- what is known of names and replies
 abbrev pub known : Policy → SessionView → Knowledge
@@ -171,9 +168,31 @@ abbrev pub with_message : Policy → Side → Message → SessionView → Sessio
 with_message policy Client m view = with_client_message policy m view
 with_message policy Bus m view = with_bus_message policy m view
 
+-- ---- the note on a message
+
+-- what is decided on it, by what is known when it comes
+abbrev pub decision_in : Policy → Side → Message → SessionView → Decision
+decision_in policy Client m view = Judged (verdict policy (known policy view) m)
+decision_in policy Bus m view = Shown (showing_at policy (known policy view) m (bus_role (expected_at view.ledger.expected (reply_serial m)) m))
+
+-- one more note waits
+abbrev pub with_note : Side → Message → Decision → SessionView → SessionView
+with_note side m decision view = record view {
+  notes = view.notes ++ record { number = view.numbered + 1; side = side; frame = spell m; decision = decision } ∷ [];
+  numbered = view.numbered + 1;
+}
+
+-- a message has a note where the session makes notes; one in whose place the session ended has none
+abbrev pub with_note_on : Side → Message → Decision → SessionView → SessionView
+with_note_on side m decision view = if view.mode.notes && is_none view.ended then with_note side m decision view else view
+
+-- a message and the note on it
+abbrev pub with_noted_message : Policy → Side → Message → SessionView → SessionView
+with_noted_message policy side m view = with_note_on side m (decision_in policy side m view) (with_message policy side m view)
+
 -- ---- memory that was refused
 
--- what waits for either side, and the streams, are what they were
+-- what waits for either side, the notes, and the streams are what they were
 pub record KeepsSides (old new : SessionView) : Type 0 where
   pub mode : new.mode ≡ old.mode
   pub client : new.client ≡ old.client
@@ -181,3 +200,4 @@ pub record KeepsSides (old new : SessionView) : Type 0 where
   pub bus_side : new.bus_side ≡ old.bus_side
   pub client_side : new.client_side ≡ old.client_side
   pub greeted : new.greeted ≡ old.greeted
+  pub notes : new.notes ≡ old.notes

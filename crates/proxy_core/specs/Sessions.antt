@@ -1,5 +1,5 @@
 -- What a session is seen as, and when it stands for events.
-use Rattle.std.specs.Prelude.{◌≡◌, ◌≤◌, ◌<◌, ℕ, Bool, true, false, List, [], ◌++◌, length, get_or, Option, Some, None, Result, Ok, Err}
+use Rattle.std.specs.Prelude.{◌≡◌, ◌≤◌, ◌<◌, ℕ, Bool, true, false, List, [], ◌++◌, length, get_or, IsTrue, Option, Some, None, Result, Ok, Err}
 use Rattle.std.specs.FinMap.{empty}
 use Rattle.dbus_header.specs.Stream.{rest}
 use Rattle.sasl_watch.specs.Lines.{asked}
@@ -10,6 +10,7 @@ use Rattle.policy_view.specs.Sent.{Past}
 use Rattle.policy_view.specs.Past.{History, has_greeted, past}
 use Rattle.policy_view.specs.History.{Event, stream, lines, content, messages_in, fault, history, end_of, most_sent}
 use Rattle.policy_view.specs.Outputs.{bus_bytes, client_bytes}
+use Rattle.policy_view.specs.Notes.{Note, numbered, notes_made}
 use Rattle.policy_view.specs.declared.Mode.{Mode}
 use Rattle.policy_view.specs.declared.Side.{Side}
 use Rattle.policy_view.specs.declared.Side.TheVariants.{Client, Bus}
@@ -38,6 +39,9 @@ pub record SessionView : Type 0 where
   pub ledger : Ledger
   -- what is known of unique names
   pub ids : Ids
+  -- the notes that wait, and how many were made
+  pub notes : List Note
+  pub numbered : ℕ
 
 abbrev pub nothing_expected : Ledger
 nothing_expected = record { expected = empty; owed = empty }
@@ -54,6 +58,8 @@ at_start mode = record {
   greeted = false;
   ledger = nothing_expected;
   ids = empty;
+  notes = [];
+  numbered = 0;
 }
 
 abbrev pub stream_of : Side → SessionView → StreamView
@@ -68,9 +74,10 @@ waits_for Bus view = view.bus_side
 pub record Taken : Type 0 where
   pub bus_side : List ℕ
   pub client_side : List ℕ
+  pub notes : List Note
 
 abbrev pub nothing : Taken
-nothing = record { bus_side = []; client_side = [] }
+nothing = record { bus_side = []; client_side = []; notes = [] }
 
 -- ---- what it keeps of the past
 
@@ -82,8 +89,8 @@ pub record Knows (policy : Policy) (view : SessionView) (before : Past) : Type 0
 
 -- ---- standing for events
 
-pub record IsFront (front whole : List ℕ) : Type 0 where
-  pub rest : List ℕ
+pub record IsFront {A : Type 0} (front whole : List A) : Type 0 where
+  pub rest : List A
   pub is : front ++ rest ≡ whole
 
 abbrev pub is_memory : Option End → Bool
@@ -102,11 +109,14 @@ is_memory (Some BusConnect) = false
 is_memory (Some LogFault) = false
 is_memory (Some NotBuilt) = false
 
--- what was taken and then what waits is what a history gives either side, and the session's End is the history's
+-- what was taken and then what waits is what a history gives either side, and the notes are its notes where the session
+-- makes any; and the session's End is the history's
 pub record Holds (policy : Policy) (view : SessionView) (items : History) (taken : Taken) : Type 0 where
   pub for_bus : taken.bus_side ++ view.bus_side ≡ bus_bytes policy items
   pub for_client : taken.client_side ++ view.client_side ≡ client_bytes policy items
   pub end_is : view.ended ≡ end_of items
+  pub noted : taken.notes ++ view.notes ≡ notes_made view.mode policy items
+  pub count : IsTrue view.mode.notes → view.numbered ≡ (numbered policy items).1
   pub knows : view.ended ≡ None → Knows policy view (past policy items)
 
 -- the lines that were given, of which these are left, are the first of the stream's
@@ -147,10 +157,12 @@ pub record Follows (view : SessionView) (events : List Event) : Type 0 where
   pub client : FollowsStream view.mode Client events view.client
   pub bus : FollowsStream view.mode Bus events view.bus
 
--- A session stands for events: it holds their history. One that was refused memory holds a front of what that gives.
+-- A session stands for events: it holds their history. One that was refused memory holds a front of what that gives, and of
+-- its notes.
 pub record StandsFor (policy : Policy) (view : SessionView) (events : List Event) (taken : Taken) : Type 0 where
   pub bus_front : IsFront (taken.bus_side ++ view.bus_side) (bus_bytes policy (history policy view.mode events))
   pub client_front : IsFront (taken.client_side ++ view.client_side) (client_bytes policy (history policy view.mode events))
+  pub notes_front : IsFront (taken.notes ++ view.notes) (notes_made view.mode policy (history policy view.mode events))
   pub holds : is_memory view.ended ≡ false → Holds policy view (history policy view.mode events) taken
   pub follows : view.ended ≡ None → Follows view events
 

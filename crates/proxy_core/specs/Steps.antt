@@ -18,7 +18,7 @@ use Rattle.sasl_watch.specs.declared.LineFault.{LineFault}
 use Rattle.sasl_watch.specs.declared.LineKind.TheVariants.{EarlyBus}
 use Rattle.proxy_core.specs.Streams.{StreamView, Phase, InLines, InMessages, is_in_lines, pushed, watch_at}
 use Rattle.proxy_core.specs.Sessions.{SessionView, stream_of, IsFront}
-use Rattle.proxy_core.specs.Messages.{ended_by, with_message, KeepsSides}
+use Rattle.proxy_core.specs.Messages.{ended_by, with_noted_message, KeepsSides}
 
 abbrev pub with_stream : Side → StreamView → SessionView → SessionView
 with_stream Client s view = record view { client = s }
@@ -108,7 +108,7 @@ and_runs view = (view, is_none view.ended)
 -- with the message in front taken, or the fault; and whether more may follow
 abbrev pub with_front : Policy → Side → Option (Message × List ℕ) → SessionView → SessionView × Bool
 with_front policy side None view = (with_fault side (fault (stream_of side view).left) view, false)
-with_front policy side (Some x) view = and_runs (with_message policy side x.0 (with_left side x.1 view))
+with_front policy side (Some x) view = and_runs (with_noted_message policy side x.0 (with_left side x.1 view))
 
 -- ---- what stands in front of a stream
 
@@ -170,13 +170,14 @@ pub record IsRefusedAtOnce (old new : SessionView) : Type 0 where
 abbrev pub TookMessage : SessionView → SessionView → SessionView → Type 0
 TookMessage expected old new = (new ≡ expected) ⊎ IsRefusedAtOnce old new
 
--- what waits are the first bytes of what was to be
+-- what waits, and the notes, are the first of what was to be
 pub record IsRefused (expected old new : SessionView) : Type 0 where
   pub running : old.ended ≡ None
   pub ended : new.ended ≡ Some Memory
   pub mode : new.mode ≡ old.mode
   pub for_bus : IsFront new.bus_side expected.bus_side
   pub for_client : IsFront new.client_side expected.client_side
+  pub noted : IsFront new.notes expected.notes
 
 -- it is what was to be, or memory was refused in its midst
 abbrev pub Took : SessionView → SessionView → SessionView → Type 0
@@ -185,12 +186,13 @@ Took expected old new = (new ≡ expected) ⊎ IsRefused expected old new
 abbrev pub Stepped : SessionView × Bool → SessionView → SessionView → Bool → Type 0
 Stepped expected old new more = ((new ≡ expected.0) × (more ≡ expected.1)) ⊎ (IsRefused expected.0 old new × (more ≡ false))
 
--- at one line, which has no effect on what waits then, or at the end of the lines
+-- at one line, which has no effect on what waits then, or at the end of the lines; neither has a note
 pub record IsCutOff (expected old new : SessionView) : Type 0 where
   pub ended : new.ended ≡ Some Memory
   pub mode : new.mode ≡ old.mode
   pub for_bus : IsFront new.bus_side expected.bus_side
   pub for_client : IsFront new.client_side expected.client_side
+  pub noted : IsFront new.notes expected.notes
   pub client : length new.client.left ≤ length old.client.left
   pub bus : length new.bus.left ≤ length old.bus.left
   pub greeted : new.greeted ≡ old.greeted

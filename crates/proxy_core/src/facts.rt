@@ -4,7 +4,7 @@ ghost use Rattle.std.specs.List.{list_any};
 ghost use Rattle.dbus_header.specs.Seen.{text_seen};
 ghost use Rattle.name_patterns.specs.Patterns.{covers};
 ghost use Rattle.policy_view.specs.Past.{if_unique, is_covered as covered, returned_names as names_returned, returned_text};
-ghost use Rattle.proxy_core.specs.Messages.{message_in};
+ghost use Rattle.policy_view.specs.Notes.{message_in};
 
 use dbus_header::Message;
 use dbus_names::{is_unique, is_well_known};

@@ -5,7 +5,7 @@ ghost use Rattle.dbus_values.specs.Values.{number_bytes};
 ghost use Rattle.dbus_header.specs.Contents.{message_of};
 ghost use Rattle.dbus_header.specs.Message.{Message as MessageTree, Valid, spell, with_number, with_reply_serial, with_serial};
 ghost use Rattle.policy_view.specs.Shown.{cut as cut_by};
-ghost use Rattle.proxy_core.specs.Messages.{message_in};
+ghost use Rattle.policy_view.specs.Notes.{message_in};
 ghost use Rattle.unique_names.specs.Taught.{kept_level};
 
 use bytes::BytesMut;

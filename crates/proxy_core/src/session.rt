@@ -1,18 +1,17 @@
 //! The session: pieces of either side's stream are taken, line by line and then message by message.
-ghost use Rattle.std.specs.Prelude.{◌≡◌, ◌≤◌, ◌<◌, ◌+◌, ◌^◌, ◌∷◌, ◌++◌, ℕ, List, [], Some, None, IfOk, OnOk, OnErr, length, take, drop};
-ghost use Rattle.dbus_header.specs.Message.{Message as MessageTree, Valid, spell};
-ghost use Rattle.dbus_header.specs.Contents.{contents_of};
+ghost use Rattle.std.specs.Prelude.{◌≡◌, ◌≤◌, ◌<◌, ◌+◌, ◌^◌, ◌∷◌, ◌++◌, ℕ, List, [], Some, None, IfOk, IfNone, IfSome, OnOk, OnErr, length, take, drop, option_to_list};
 ghost use Rattle.policy_view.specs.History.{Event, Bytes, Finished, finished as finished_by, malformed as malformed_by, longest_stream, most_sent};
+ghost use Rattle.policy_view.specs.Notes.{Note as NoteValue};
 ghost use Rattle.policy_view.specs.declared.End.{End as SessionEnd};
 ghost use Rattle.policy_args.specs.Policy.{Policy as PolicyValue};
 ghost use Rattle.proxy_core.specs.Streams.{InMessages, is_in_lines as in_lines, pushed};
 ghost use Rattle.proxy_core.specs.Sessions.{StandsFor, Taken, nothing, at_start, stream_of, answer_of, IsFront};
-ghost use Rattle.proxy_core.specs.Messages.{ended_by, with_message};
-ghost use Rattle.proxy_core.specs.Steps.{with_stream, with_left, step_of, drained, with_bytes, with_piece, Took, TookMessage, Stepped, IsLight, weight};
+ghost use Rattle.proxy_core.specs.Messages.{ended_by};
+ghost use Rattle.proxy_core.specs.Steps.{with_stream, with_left, step_of, drained, with_bytes, with_piece, Took, Stepped, IsLight, weight};
 ghost use Rattle.proxy_core.specs.Seen.{Given};
-ghost use Rattle.dbus_header.specs.Read.{message_seen};
 
 mod lines;
+mod noting;
 mod receiving;
 mod sending;
 
@@ -20,13 +19,13 @@ use crate::bus_stream::BusStream;
 use crate::client_stream::ClientStream;
 use crate::queue::Queue;
 use dbus_framing::Next;
-use dbus_header::{Message, decode};
 use own_calls::after_hello_len;
 use policy_args::Policy;
-use policy_view::{End, Fault, Mode, Side};
+use policy_view::{End, Fault, Mode, Note, Side};
 use reply_ledger::Ledger;
 use serial_map::Serials;
 use std::alloc::{AllocError, Global};
+use std::collections::VecDeque;
 use std::marker::Model;
 use unique_names::Tracker;
 
@@ -49,6 +48,8 @@ pub struct Session {
     greeted: bool,
     ledger: Ledger,
     tracker: Tracker,
+    notes: VecDeque<Note>,
+    numbered: u64,
     alloc: Global,
 }
 
@@ -65,7 +66,7 @@ impl Model for Session {
 
     ghost coded = { Prim.hlevel (codes, map.code {X = KindValue} {R = nat_cmp} coded_ℕ (Prim.hlevel (codes, coded_list coded_ℕ)), map.code {R = slice_cmp nat_cmp} (coded_list coded_ℕ) (map.code {R = nat_cmp} coded_ℕ coded_ℕ), map.code {X = KnownValue} {R = slice_cmp nat_cmp} (coded_list coded_ℕ) (Prim.hlevel (codes, coded_list coded_ℕ))) };
 
-    ghost view = { λ s. record { mode = s.mode; bus_side = s.to_bus; client_side = s.to_client; ended = s.ended; client = s.client; bus = s.bus; sent = s.serials; greeted = s.greeted; ledger = s.ledger; ids = s.tracker } };
+    ghost view = { λ s. record { mode = s.mode; bus_side = s.to_bus; client_side = s.to_client; ended = s.ended; client = s.client; bus = s.bus; sent = s.serials; greeted = s.greeted; ledger = s.ledger; ids = s.tracker; notes = s.notes.items; numbered = s.numbered } };
 }
 
 /// The end of a side's stream as an End.
@@ -99,18 +100,6 @@ fn front_of(room: u64, piece: &[u8]) -> &[u8]
     }
 }
 
-/// The message that a frame is, which is valid.
-fn message_of(frame: &[u8]) -> Message<'_>
-    requires { (m : MessageTree) × Valid m × (frame.now ≡ spell m) }
-    ensures bytes { result.bytes.now ≡ frame.now }
-    ensures contents { (m : MessageTree) → Valid m → frame.now ≡ spell m → message_seen result ≡ contents_of m }
-{
-    match decode(frame) {
-        Ok(message) => message,
-        Err(_) => unreachable!(),
-    }
-}
-
 impl Session {
     /// A session that has taken nothing. It is for one policy, which its other calls are given again.
     pub fn new(alloc: Global, policy: &Policy, mode: Mode) -> Result<Session, AllocError>
@@ -131,6 +120,8 @@ impl Session {
             greeted: false,
             ledger: Ledger::new(alloc),
             tracker: Tracker::new(alloc),
+            notes: VecDeque::new(alloc),
+            numbered: 0,
             alloc,
         })
     }
@@ -225,6 +216,15 @@ impl Session {
         self.to_client.took(n);
     }
 
+    /// The next note, where one waits: what was decided on a message, in the order of the messages.
+    pub fn next_note(&mut self) -> Option<Note>
+        ensures none { IfNone result ((self.old.notes ≡ []) × (self.new ≡ self.old)) }
+        ensures some { IfSome result (λ note. (rest : List NoteValue) × (self.old.notes ≡ note ∷ rest) × (self.new ≡ record self.old { notes = rest })) }
+        ensures stands { (policy : PolicyValue) (events : List Event) (taken : Taken) → StandsFor policy self.old events taken → StandsFor policy self.new events (record taken { notes = taken.notes ++ option_to_list result }) }
+    {
+        self.notes.pop_front()
+    }
+
     /// Why the session ended.
     pub fn ended(&self) -> Option<End>
         ensures { result ≡ self.now.ended }
@@ -258,19 +258,6 @@ impl Session {
         }
     }
 
-    /// Takes a whole message of a side.
-    fn take_frame(&mut self, policy: &Policy, side: Side, frame: &[u8])
-        requires running { self.old.ended ≡ None }
-        requires valid { (m : MessageTree) × Valid m × (frame.now ≡ spell m) }
-        ensures { (m : MessageTree) → Valid m → frame.now ≡ spell m → TookMessage (with_message policy.now side m self.old) self.old self.new }
-    {
-        let message = message_of(frame);
-        match side {
-            Side::Client => self.take_client_message(policy, &message),
-            Side::Bus => self.take_bus_message(policy, &message),
-        }
-    }
-
     /// Takes the message in front of a side's stream, or ends the session where a fault stands there. Tells whether more
     /// may follow.
     fn take_front_message(&mut self, policy: &Policy, side: Side) -> bool
@@ -281,7 +268,7 @@ impl Session {
     {
         match self.next_message(side) {
             Ok(Next::Whole(frame)) => {
-                self.take_frame(policy, side, frame.as_slice());
+                self.take_frame(policy, side, frame);
                 self.ended.is_none()
             }
             Ok(Next::Rest) => false,

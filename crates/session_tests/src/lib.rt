@@ -4,6 +4,8 @@
 #[cfg(test)]
 mod name_lists;
 #[cfg(test)]
+mod notes;
+#[cfg(test)]
 mod replays;
 #[cfg(test)]
 mod serials;

@@ -9,19 +9,21 @@ use std::test::Fail;
 use test_tables::{plain, text_of, wrong_row};
 
 /// The words of a policy, which commas part, the room of the output, and the bytes of a recording, and the answer, what is
-/// written, and how many writes have failed.
+/// written, how many writes have failed, and how many bytes the log has.
 ///
-/// In the last two the client calls `a.b`: the call and its answer are numbered anew, and a ping stands in the place of a
-/// call to a hidden name.
+/// In three of them the client calls `a.b`: the call and its answer are numbered anew, or a ping stands in the place of a
+/// call to a hidden name, without a log and with one.
 const REPLAYS: &str = "\
---filter 64 DBPR%01~ => Ok(()) [] 0
---filter 64 DBPR%01~%02~~~~ => Ok(()) [%12%01~~~%03] 0
---filter 6 DBPR%01~%03~~~~%02~~~~ => Ok(()) [%12%01~~~%04] 0
---filter 64 DBPR%01%01~%01~~~~ => Ok(()) [%10%01~~~~] 0
---filter 0 DBPR%01~%02~~~~ => Err(Out) [] 1
---filter 3 DBPR%01~%02~~~~ => Err(Out) [%12%01~] 1
---filter,--talk=a.b 256 DBPR%01~~@~~~l%01~%01~~~~%04%03%02%01,~~~%01%01o~%01~~~/~~~~~~~%03%01s~%01~~~M~~~~~~~%06%01s~%03~~~a.b~~~~~%01(~~~l%02%01%01~~~~%09~~~%18~~~%07%01s~%04~~~:1.7~~~~%05%01u~%01~~~ => Ok(()) [%10@~~~l%01~%01~~~~%01~~~,~~~%01%01o~%01~~~/~~~~~~~%03%01s~%01~~~M~~~~~~~%06%01s~%03~~~a.b~~~~~%11(~~~l%02%01%01~~~~%09~~~%18~~~%07%01s~%04~~~:1.7~~~~%05%01u~%04%03%02%01] 0
---filter 256 DBPR%01~~@~~~l%01~%01~~~~%04%03%02%01,~~~%01%01o~%01~~~/~~~~~~~%03%01s~%01~~~M~~~~~~~%06%01s~%03~~~a.b~~~~~ => Ok(()) [%10x~~~l%01~%01~~~~%01~~~e~~~%01%01o~%01~~~/~~~~~~~%02%01s~%19~~~org.freedesktop.DBus.Peer~~~~~~~%03%01s~%04~~~Ping~~~~%06%01s~%14~~~org.freedesktop.DBus~~~~] 0
+--filter 64 DBPR%01~ => Ok(()) [] 0 0
+--filter 64 DBPR%01~%02~~~~ => Ok(()) [%12%01~~~%03] 0 0
+--filter 6 DBPR%01~%03~~~~%02~~~~ => Ok(()) [%12%01~~~%04] 0 0
+--filter 64 DBPR%01%01~%01~~~~ => Ok(()) [%10%01~~~~] 0 0
+--filter 0 DBPR%01~%02~~~~ => Err(Out) [] 1 0
+--filter 3 DBPR%01~%02~~~~ => Err(Out) [%12%01~] 1 0
+--filter,--talk=a.b 256 DBPR%01~~@~~~l%01~%01~~~~%04%03%02%01,~~~%01%01o~%01~~~/~~~~~~~%03%01s~%01~~~M~~~~~~~%06%01s~%03~~~a.b~~~~~%01(~~~l%02%01%01~~~~%09~~~%18~~~%07%01s~%04~~~:1.7~~~~%05%01u~%01~~~ => Ok(()) [%10@~~~l%01~%01~~~~%01~~~,~~~%01%01o~%01~~~/~~~~~~~%03%01s~%01~~~M~~~~~~~%06%01s~%03~~~a.b~~~~~%11(~~~l%02%01%01~~~~%09~~~%18~~~%07%01s~%04~~~:1.7~~~~%05%01u~%04%03%02%01] 0 0
+--filter 256 DBPR%01~~@~~~l%01~%01~~~~%04%03%02%01,~~~%01%01o~%01~~~/~~~~~~~%03%01s~%01~~~M~~~~~~~%06%01s~%03~~~a.b~~~~~ => Ok(()) [%10x~~~l%01~%01~~~~%01~~~e~~~%01%01o~%01~~~/~~~~~~~%02%01s~%19~~~org.freedesktop.DBus.Peer~~~~~~~%03%01s~%04~~~Ping~~~~%06%01s~%14~~~org.freedesktop.DBus~~~~] 0 0
+--filter,--log 256 DBPR%01~~@~~~l%01~%01~~~~%04%03%02%01,~~~%01%01o~%01~~~/~~~~~~~%03%01s~%01~~~M~~~~~~~%06%01s~%03~~~a.b~~~~~ => Ok(()) [%10x~~~l%01~%01~~~~%01~~~e~~~%01%01o~%01~~~/~~~~~~~%02%01s~%19~~~org.freedesktop.DBus.Peer~~~~~~~%03%01s~%04~~~Ping~~~~%06%01s~%14~~~org.freedesktop.DBus~~~~] 0 108
+--filter,--log 0 DBPR%01~%02~~~~ => Err(Out) [] 1 0
 ";
 
 fn told_replay(alloc: Global, row: &str) -> Result<String, AllocError> {
@@ -50,8 +52,9 @@ fn told_file(
     let file = plain(alloc, file)?;
     match read(alloc, &file) {
         Ok(recording) => {
-            let answer = replay(alloc, options, &recording, out);
-            told_output(alloc, answer, out)
+            let mut err = MemSink::new(alloc, 1_000)?;
+            let answer = replay(alloc, options, &recording, out, &mut err);
+            told_output(alloc, answer, out, &err)
         }
         Err(RecordingRefusal::Bad(_)) => String::from_str(alloc, "no recording"),
         Err(RecordingRefusal::Memory) => Err(AllocError),
@@ -62,9 +65,10 @@ fn told_output(
     alloc: Global,
     answer: Result<(), ReplayFault>,
     out: &MemSink,
+    err: &MemSink,
 ) -> Result<String, AllocError> {
     let written = text_of(alloc, &out.bytes)?;
-    format!(in alloc; "{answer:?} [{written}] {}", out.faults)
+    format!(in alloc; "{answer:?} [{written}] {} {}", out.faults, err.bytes.len())
 }
 
 #[test]

@@ -1,6 +1,7 @@
 //! Sessions that messages are fed to, and what waits for either side.
 ghost use Rattle.std.specs.Prelude.{◌≤◌};
 
+use crate::notes::told_note;
 use crate::texts::options_of;
 use policy_args::Policy;
 use policy_view::{End, Mode};
@@ -19,6 +20,7 @@ const SESSIONS: &str = "\
 --filter; client return => - 0 0; None
 --filter,--talk=org.a.T; bytes call; bytes call; bytes call; client ones cut=15 => - 80 0; - 160 0; - 240 0; - 240 0; None
 --filter,--talk=org.a.T; bytes call; client ones cut=15; client ones cut=1 => - 80 0; - 80 0; ClientMalformed(Message(Malformed { kind: ByteOrder, at: 0 })) 80 0; Some(ClientMalformed(Message(Malformed { kind: ByteOrder, at: 0 })))
+--filter,--talk=org.a.T; client call; note; bus return; note => - 80 0; none; - 80 56; none; None
 --filter; client call 2=1; client call 2=2; bus return; client call 1=9 2=2 => - 0 0; - 120 0; - 120 142; - 120 142; None
 ";
 
@@ -26,6 +28,7 @@ const SESSIONS: &str = "\
 pub const FILTERED: Mode = Mode {
     auth: false,
     filter: true,
+    notes: false,
 };
 
 /// A call to org.a.T, with serial 7.
@@ -51,6 +54,13 @@ const NAMES: &[u8] = b"l\x02\x01\x01\x1c\0\0\0\x1e\0\0\0\x40\0\0\0\
 \x08\x01g\0\x02as\0\
 \x18\0\0\0\x07\0\0\0org.a.A\0\x07\0\0\0org.a.B\0";
 
+/// The client's first lines, the bus's answer, and the client's last line.
+const AUTH: &[u8] = b"\0AUTH EXTERNAL 30\r\n";
+
+const OK: &[u8] = b"OK 0123456789abcdef0123456789abcdef\r\n";
+
+const BEGIN: &[u8] = b"BEGIN\r\n";
+
 /// Bytes of which none begins a message.
 const ONES: &[u8] = &[0xff; 16];
 
@@ -69,8 +79,11 @@ fn message(alloc: Global, row: &str) -> Result<Vec<u8>, AllocError> {
     Ok(bytes)
 }
 
-fn bytes_of(name: &str) -> &'static [u8] {
+pub fn bytes_of(name: &str) -> &'static [u8] {
     match name {
+        "auth" => AUTH,
+        "ok" => OK,
+        "begin" => BEGIN,
         "call" => CALL,
         "return" => RETURN,
         "hello" => HELLO,
@@ -126,6 +139,7 @@ fn told_step(
     match what {
         "bus_byte" => told_byte(alloc, session.to_bus(), text),
         "client_byte" => told_byte(alloc, session.to_client(), text),
+        "note" => told_note(alloc, session.next_note()),
         _ => {
             let bytes = message(alloc, text)?;
             let end = end_of(session, policy, what, &bytes, text);

@@ -8,7 +8,8 @@ ghost use Rattle.policy_view.specs.History.{most_sent};
 ghost use Rattle.policy_view.specs.Past.{fact_of, learned_at, owners_of};
 ghost use Rattle.policy_view.specs.Sent.{OwnOwner, asked as names_asked};
 ghost use Rattle.policy_view.specs.Shown.{CallIn, NamesAnswer, bus_role, role_of_reply, role_of_signal, showing_at};
-ghost use Rattle.proxy_core.specs.Messages.{KeepsSides, known, message_in, own_names, sending, with_bus_message, with_facts, with_role, with_sent, with_shown, with_told, with_used};
+ghost use Rattle.proxy_core.specs.Messages.{KeepsSides, known, own_names, sending, with_bus_message, with_facts, with_role, with_sent, with_shown, with_told, with_used};
+ghost use Rattle.policy_view.specs.Notes.{message_in};
 ghost use Rattle.proxy_core.specs.Shapes.{ShownBy};
 ghost use Rattle.proxy_core.specs.Steps.{TookMessage};
 ghost use Rattle.verdicts.specs.Kept.{expected_at};
@@ -278,14 +279,16 @@ impl Session {
         self.goes_on(done);
     }
 
-    /// Takes a message of the bus.
-    pub(super) fn take_bus_message(&mut self, policy: &Policy, message: &Message<'_>)
+    /// Takes a message of the bus. Answers what the client is shown of it.
+    pub(super) fn take_bus_message(&mut self, policy: &Policy, message: &Message<'_>) -> Showing
         requires { self.old.ended ≡ None }
-        ensures { TookMessage (with_bus_message policy.now (message_in message.now.bytes.now) self.old) self.old self.new }
+        ensures took { TookMessage (with_bus_message policy.now (message_in message.now.bytes.now) self.old) self.old self.new }
+        ensures decision { result ≡ showing_at policy.now (known policy.now self.old) (message_in message.now.bytes.now) (bus_role (expected_at self.old.ledger.expected (reply_serial_of (message_in message.now.bytes.now))) (message_in message.now.bytes.now)) }
     {
         let showing = show(policy, &self.tracker, &self.ledger, message);
         let answered = self.take_answer(message);
         self.take_role(policy, message, &answered, showing);
+        showing
     }
 }
 

@@ -4,9 +4,10 @@ ghost use Rattle.std.specs.Prelude.{◌≡◌, ◌≤◌, ◌+◌, ◌&&◌, ◌
 ghost use Rattle.policy_view.specs.History.{most_sent};
 ghost use Rattle.policy_view.specs.Past.{replied_on};
 ghost use Rattle.policy_view.specs.Sent.{Passed, Pinged, is_hello as hello, own_calls as calls_of, spelled_from};
-ghost use Rattle.policy_view.specs.Verdicts.{client_role};
+ghost use Rattle.policy_view.specs.Verdicts.{client_role, verdict as verdict_on};
 ghost use Rattle.policy_view.specs.declared.Verdict.TheVariants.{Pass};
-ghost use Rattle.proxy_core.specs.Messages.{KeepsSides, awaiting, message_in, noted, queued, with_client_message, with_due, with_replied, with_sent, with_verdict};
+ghost use Rattle.proxy_core.specs.Messages.{KeepsSides, awaiting, known, noted, queued, with_client_message, with_due, with_replied, with_sent, with_verdict};
+ghost use Rattle.policy_view.specs.Notes.{message_in};
 ghost use Rattle.proxy_core.specs.Steps.{TookMessage};
 
 use super::Session;
@@ -164,15 +165,26 @@ impl Session {
         }
     }
 
-    /// Takes a message of the client, by its verdict: it passes, or a ping takes its place, or it is dropped.
-    pub(super) fn take_client_message(&mut self, policy: &Policy, message: &Message<'_>)
+    /// Takes a message of the client by its verdict: it passes, or a ping takes its place, or it is dropped.
+    fn take_verdict(&mut self, policy: &Policy, message: &Message<'_>, verdict: Verdict)
         requires { self.old.ended ≡ None }
-        ensures { TookMessage (with_client_message policy.now (message_in message.now.bytes.now) self.old) self.old self.new }
+        ensures { TookMessage (with_verdict policy.now (message_in message.now.bytes.now) verdict self.old) self.old self.new }
     {
-        match judge(policy, &self.tracker, &self.ledger, message) {
+        match verdict {
             Verdict::Pass => self.pass_on(policy, message),
             Verdict::Ping(what, _) => self.send_ping(message, what),
             Verdict::Drop(_) => {}
         }
+    }
+
+    /// Takes a message of the client. Answers the verdict on it.
+    pub(super) fn take_client_message(&mut self, policy: &Policy, message: &Message<'_>) -> Verdict
+        requires { self.old.ended ≡ None }
+        ensures took { TookMessage (with_client_message policy.now (message_in message.now.bytes.now) self.old) self.old self.new }
+        ensures decision { result ≡ verdict_on policy.now (known policy.now self.old) (message_in message.now.bytes.now) }
+    {
+        let verdict = judge(policy, &self.tracker, &self.ledger, message);
+        self.take_verdict(policy, message, verdict);
+        verdict
     }
 }

@@ -4,7 +4,7 @@ use Rattle.policy_view.specs.Shown.{BusRole, bus_role}
 use Rattle.verdicts.specs.Kept.{expected_at}
 use Rattle.proxy_core.specs.Messages.{with_role}
 use Rattle.proxy_core.specs.Sessions.{SessionView}
-use Rattle.proxy_core.proofs.ReceivingSteps.{role_as, shown_by, took_used}
+use Rattle.proxy_core.proofs.ReceivingSteps.{role_as, showing_as, shown_by, took_used}
 use Rattle.proxy_core.proofs.Taking.{read, tree}
 use Rattle.proxy_core.proofs.session.Session.take_bus_message.Goals as goal
 
@@ -18,8 +18,11 @@ take_role-requires-clause-role c = role_as c.args.policy.now _ c.args.self.now c
     c.take_answer-answered.ensures.role
     (c.show-showing.ensures.kept _ (read c.args.message.now))
 
-pub returns : goal.returns
-returns c =
+pub returns-clause-decision : goal.returns-clause-decision
+returns-clause-decision c = showing_as c.args.policy.now _ c.args.self.now c.args.message.now c.show-showing.result c.self.view_is (c.show-showing.ensures.kept _ (read c.args.message.now))
+
+pub returns-clause-took : goal.returns-clause-took
+returns-clause-took c =
     let m = tree c.args.message.now in
     let mid : SessionView = c.take_answer-answered.new.self in
     let same = ap (λ (r : BusRole). with_role c.args.policy.now m r mid) c.take_answer-answered.ensures.role

@@ -1,0 +1,86 @@
+//! A message that is taken, and the note on it. The note's memory is taken first, so that a note and what its message does stand
+//! or fall together.
+ghost use Rattle.std.specs.Prelude.{◌≡◌, ◌<◌, ◌∷◌, ◌++◌, [], true, None, IfOk, OnOk, OnErr};
+ghost use Rattle.std.specs.VecDeque.{deque_capacity, deque_len};
+ghost use Rattle.dbus_header.specs.Message.{Message as MessageTree, Valid, spell};
+ghost use Rattle.proxy_core.specs.Messages.{decision_in, with_message, with_noted_message};
+ghost use Rattle.proxy_core.specs.Steps.{TookMessage};
+
+use super::Session;
+use bytes::Bytes;
+use policy_args::Policy;
+use policy_view::{Decision, End, Note, Side, message_of};
+use std::alloc::AllocError;
+use std::collections::VecDeque;
+use std::mem;
+
+impl Session {
+    /// Takes a whole message of a side. Answers what was decided on it.
+    fn take_message(&mut self, policy: &Policy, side: Side, frame: &[u8]) -> Decision
+        requires running { self.old.ended ≡ None }
+        requires valid { (m : MessageTree) × Valid m × (frame.now ≡ spell m) }
+        ensures took { (m : MessageTree) → Valid m → frame.now ≡ spell m → TookMessage (with_message policy.now side m self.old) self.old self.new }
+        ensures decision { (m : MessageTree) → Valid m → frame.now ≡ spell m → result ≡ decision_in policy.now side m self.old }
+    {
+        let message = message_of(frame);
+        match side {
+            Side::Client => Decision::Judged(self.take_client_message(policy, &message)),
+            Side::Bus => Decision::Shown(self.take_bus_message(policy, &message)),
+        }
+    }
+
+    /// Takes the notes out of the session, with room for one more. They stay outside while a message is taken, and so does
+    /// the room.
+    fn reserved_notes(&mut self) -> Result<VecDeque<Note>, AllocError>
+        ensures notes { IfOk result (λ queue. queue.items ≡ self.old.notes) }
+        ensures room { IfOk result (λ queue. deque_len queue < deque_capacity queue) }
+        ensures ok { OnOk result (self.new ≡ record self.old { notes = [] }) }
+        ensures err { OnErr result (self.new ≡ self.old) }
+    {
+        self.notes.reserve(1)?;
+        Ok(mem::replace(&mut self.notes, VecDeque::new(self.alloc)))
+    }
+
+    /// Puts the notes back, with one more in the room that was reserved for it.
+    fn put_note(&mut self, mut queue: VecDeque<Note>, note: Note)
+        requires { deque_len queue < deque_capacity queue }
+        ensures { self.new ≡ record self.old { notes = queue.items ++ note ∷ []; numbered = note.number } }
+    {
+        self.numbered = note.number();
+        queue.push_back_reserved(note);
+        self.notes = queue;
+    }
+
+    /// Takes a whole message of a side and makes a note of it. One in whose place the session ended has none.
+    fn take_noted(&mut self, policy: &Policy, side: Side, frame: Bytes)
+        requires running { self.old.ended ≡ None }
+        requires notes { self.old.mode.notes ≡ true }
+        requires valid { (m : MessageTree) × Valid m × (frame ≡ spell m) }
+        ensures { (m : MessageTree) → Valid m → frame ≡ spell m → TookMessage (with_noted_message policy.now side m self.old) self.old self.new }
+    {
+        let Some(number) = self.numbered.checked_add(1) else {
+            return self.end_with(End::Memory);
+        };
+        let Ok(queue) = self.reserved_notes() else {
+            return self.end_with(End::Memory);
+        };
+        let decision = self.take_message(policy, side, frame.as_slice());
+        if self.ended.is_some() {
+            self.notes = queue;
+            return;
+        }
+        self.put_note(queue, Note::new(number, side, frame, decision));
+    }
+
+    /// Takes a whole message of a side, and makes a note of it where the session makes notes.
+    pub(super) fn take_frame(&mut self, policy: &Policy, side: Side, frame: Bytes)
+        requires running { self.old.ended ≡ None }
+        requires valid { (m : MessageTree) × Valid m × (frame ≡ spell m) }
+        ensures { (m : MessageTree) → Valid m → frame ≡ spell m → TookMessage (with_noted_message policy.now side m self.old) self.old self.new }
+    {
+        if self.mode.notes {
+            return self.take_noted(policy, side, frame);
+        }
+        let _decision = self.take_message(policy, side, frame.as_slice());
+    }
+}

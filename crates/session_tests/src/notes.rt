@@ -1,0 +1,125 @@
+//! The notes that a session makes of its messages.
+use crate::sessions::{bytes_of, told_steps};
+use crate::texts::options_of;
+use policy_args::Policy;
+use policy_view::{Mode, Note};
+use proxy_core::Session;
+use proxy_core::laws::session_at;
+use std::alloc::{AllocError, Global};
+use std::test::Fail;
+use test_tables::wrong_row;
+
+/// How many serials count as given, the words of a policy, which commas part, and what comes and is told of it, as in the
+/// table of sessions: of a note its number and side, the type, serial and length of its message, and the decision.
+///
+/// Messages of both sides are counted together, the first is 1, and each has a note: one that passes and its answer, one in
+/// whose place a ping goes and what is shown then, and those that are dropped and hidden. A message that comes byte by byte has
+/// one. Notes that were taken change no number. Where a stream is malformed, what came before has its notes; and a message in
+/// whose place the last serial is missing has none.
+const NOTES: &str = "\
+0 --filter; note => none; None
+0 --filter,--talk=org.a.T; client call; bus return; note; note; note => - 80 0; - 80 56; 1 Client 1 7 80 Judged(Pass); 2 Bus 2 60 56 Shown(Reply(7)); none; None
+0 --filter; client call; bus return; note; note; note => - 120 0; - 120 140; 1 Client 1 7 80 Judged(Ping(ServiceUnknown, NotVisible)); 2 Bus 2 60 56 Shown(Instead { order: Little, reply: 7, what: ServiceUnknown }); none; None
+0 --filter; bus return; note; client call 2=1; note; client return; note; note => - 0 0; 1 Bus 2 60 56 Shown(Hide(NotExpected)); - 0 0; 2 Client 1 7 80 Judged(Drop(NotVisible)); - 0 0; 3 Client 2 60 56 Judged(Drop(NotOutstanding)); none; None
+0 --filter,--talk=org.a.T; bytes call; bus call; note; note; note => - 80 0; - 80 80; 1 Client 1 7 80 Judged(Pass); 2 Bus 1 7 80 Shown(Whole); none; None
+0 --filter,--talk=org.a.T; client call; client ones; bus return; note; note => - 80 0; ClientMalformed(Message(Malformed { kind: ByteOrder, at: 0 })) 80 0; ClientMalformed(Message(Malformed { kind: ByteOrder, at: 0 })) 80 0; 1 Client 1 7 80 Judged(Pass); none; Some(ClientMalformed(Message(Malformed { kind: ByteOrder, at: 0 })))
+0 --filter,--talk=org.a.T; client call; client call cut=79; client_ended; note; note => - 80 0; - 80 0; ClientEnd 80 0; 1 Client 1 7 80 Judged(Pass); none; Some(ClientEnd)
+4294967294 --filter,--talk=org.a.T; client call; client call; note; note => - 80 0; SerialsSpent 80 0; 1 Client 1 7 80 Judged(Pass); none; Some(SerialsSpent)
+4294967295 --filter,--talk=org.a.T; client return; client call; note; note => - 0 0; SerialsSpent 0 0; 1 Client 2 60 56 Judged(Drop(NotOutstanding)); none; Some(SerialsSpent)
+";
+
+/// Lines of both sides, of which no note is made, and then a message.
+const LINES: &str = "\
+--filter,--talk=org.a.T; client auth; bus ok; note; client begin; client call; note; note => - 19 0; - 19 37; none; - 26 37; - 106 37; 1 Client 1 7 80 Judged(Pass); none; None
+";
+
+/// Messages that the policy filters, with notes.
+const NOTED: Mode = Mode {
+    auth: false,
+    filter: true,
+    notes: true,
+};
+
+/// The same, behind lines.
+const WITH_LINES: Mode = Mode {
+    auth: true,
+    filter: true,
+    notes: true,
+};
+
+/// What is told of a note, where there is one.
+pub fn told_note(alloc: Global, note: Option<Note>) -> Result<String, AllocError> {
+    match note {
+        None => String::from_str(alloc, "none; "),
+        Some(note) => told_parts(alloc, &note),
+    }
+}
+
+fn told_parts(alloc: Global, note: &Note) -> Result<String, AllocError> {
+    let (number, side, decision) = (note.number(), note.side(), note.decision());
+    let (message, length) = (note.message(), note.frame().len());
+    format!(in alloc;
+        "{number} {side:?} {} {} {length} {decision:?}; ",
+        message.kind, message.serial
+    )
+}
+
+fn told_notes(alloc: Global, row: &str) -> Result<String, AllocError> {
+    let (given, row) = row.split_once(' ').unwrap_or((row, ""));
+    let (words, steps) = row.split_once("; ").unwrap_or((row, ""));
+    let options = options_of(alloc, words)?;
+    told_from(alloc, &options.policy, given.parse().unwrap_or(0), steps)
+}
+
+fn told_from(
+    alloc: Global,
+    policy: &Policy,
+    given: u32,
+    steps: &str,
+) -> Result<String, AllocError> {
+    let mut session = session_at(alloc, policy, NOTED, given)?;
+    told_steps(alloc, &mut session, policy, steps)
+}
+
+fn told_lines(alloc: Global, row: &str) -> Result<String, AllocError> {
+    let (words, steps) = row.split_once("; ").unwrap_or((row, ""));
+    let options = options_of(alloc, words)?;
+    told_behind_lines(alloc, &options.policy, steps)
+}
+
+fn told_behind_lines(alloc: Global, policy: &Policy, steps: &str) -> Result<String, AllocError> {
+    let mut session = Session::new(alloc, policy, WITH_LINES)?;
+    told_steps(alloc, &mut session, policy, steps)
+}
+
+/// The bytes that the note on a message of the client keeps.
+fn kept_frame(alloc: Global, frame: &[u8]) -> Result<Vec<u8>, AllocError> {
+    let options = options_of(alloc, "--filter")?;
+    let mut session = Session::new(alloc, &options.policy, NOTED)?;
+    let _end = session.feed_client(&options.policy, frame);
+    match session.next_note() {
+        Some(note) => Vec::from_slice(alloc, note.frame()),
+        None => Err(AllocError),
+    }
+}
+
+#[test]
+fn each_message_has_a_note(rt: HostRuntime) -> Result<(), Fail> {
+    assert_eq!(rt; wrong_row(rt.alloc(), NOTES, &told_notes)?, None);
+    Ok(())
+}
+
+#[test]
+fn lines_have_no_note(rt: HostRuntime) -> Result<(), Fail> {
+    assert_eq!(rt; wrong_row(rt.alloc(), LINES, &told_lines)?, None);
+    Ok(())
+}
+
+#[test]
+fn a_note_keeps_the_bytes_of_its_message(rt: HostRuntime) -> Result<(), Fail> {
+    assert_eq!(rt;
+        kept_frame(rt.alloc(), bytes_of("call"))?.as_slice(),
+        bytes_of("call")
+    );
+    Ok(())
+}
