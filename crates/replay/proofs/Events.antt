@@ -7,7 +7,7 @@ use Rattle.recording.specs.Recording.{Event as Recorded}
 use Rattle.recording.specs.Seen.{seen, size, size_of}
 use Rattle.replay.specs.Output.{event_of, events_of}
 
-events-last : (es : List Recorded) (e : Recorded) → events_of (es ++ e ∷ []) ≡ event_of e ∷ events_of es
+pub events-last : (es : List Recorded) (e : Recorded) → events_of (es ++ e ∷ []) ≡ event_of e ∷ events_of es
 events-last es e = ap reverse (map-append event_of es (e ∷ [])) ∙ reverse-append (map event_of es) (event_of e ∷ [])
 
 size-last : (es : List Recorded) (e : Recorded) → size (es ++ e ∷ []) ≡ size es + size_of e

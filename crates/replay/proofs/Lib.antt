@@ -1,4 +1,4 @@
-pub mod Parts
 pub mod Events
 pub mod Sides
 pub mod Records
+pub mod Logs

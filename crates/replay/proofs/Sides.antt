@@ -1,5 +1,5 @@
 -- What waits for a side, as it is written piece by piece.
-use Rattle.std.proofs.Common.{◌≡◌, ◌≤◌, ◌+◌, ℕ, Bool, List, ◌++◌, refl, ap, sym, ◌∙◌, append_assoc, length, drop, arith}
+use Rattle.std.proofs.Common.{◌≡◌, ◌≤◌, ◌+◌, ℕ, List, ◌++◌, refl, ap, sym, ◌∙◌, append_assoc, length, drop, arith}
 use Rattle.std.proofs.lemmas.List.{drop_at}
 use Rattle.policy_view.specs.declared.Side.{Side}
 use Rattle.policy_view.specs.declared.Side.TheVariants.{Client, Bus}
@@ -7,10 +7,11 @@ use Rattle.policy_view.specs.Past.{History}
 use Rattle.policy_view.specs.History.{end_of, history}
 use Rattle.policy_view.specs.Outputs.{bus_bytes, client_bytes}
 use Rattle.policy_args.specs.Policy.{Policy}
+use Rattle.policy_args.specs.Words.{PolicyOptions}
 use Rattle.proxy_core.specs.Sessions.{SessionView, Holds, nothing, waits_for}
 use Rattle.proxy_core.specs.Steps.{weight, IsLight}
 use Rattle.recording.specs.Recording.{Recording}
-use Rattle.replay.specs.Output.{record_where_any, end_record, output_of_recording, events_of}
+use Rattle.replay.specs.Output.{record_where_any, end_record, mode_of, output_of_recording, events_of}
 use Rattle.replay.specs.Waiting.{with_waiting, output_of}
 
 waits-with : (side : Side) (bytes : List ℕ) (v : SessionView) → waits_for side (with_waiting side bytes v) ≡ bytes
@@ -36,19 +37,22 @@ side-step side start old new written next rest split same front took =
           ∙ ap (λ t. with_waiting side t start) (sym (ap (waits_for side) took ∙ waits-with side _ old));
     }
 
-holds-output : (policy : Policy) (v : SessionView) (h : History) → Holds policy v h nothing →
-    output_of v ≡ record_where_any 16 (bus_bytes policy h) ++ record_where_any 17 (client_bytes policy h) ++ end_record (end_of h)
+-- what a session that holds a history gives out
+abbrev given : Policy → History → List ℕ
+given policy h = record_where_any 16 (bus_bytes policy h) ++ record_where_any 17 (client_bytes policy h) ++ end_record (end_of h)
+
+holds-output : (policy : Policy) (v : SessionView) (h : History) → Holds policy v h nothing → output_of v ≡ given policy h
 holds-output policy v h holds =
     ap (λ t. record_where_any 16 t ++ record_where_any 17 v.client_side ++ end_record v.ended) holds.for_bus
     ∙ ap (λ t. record_where_any 16 (bus_bytes policy h) ++ record_where_any 17 t ++ end_record v.ended) holds.for_client
     ∙ ap (λ t. record_where_any 16 (bus_bytes policy h) ++ record_where_any 17 (client_bytes policy h) ++ end_record t) holds.end_is
 
 -- a session that holds the history of a recording has its output
-pub output-is : (policy : Policy) (filter : Bool) (r : Recording) (v : SessionView) → v.mode ≡ record { auth = r.auth; filter = filter } →
-    Holds policy v (history policy v.mode (events_of r.events)) nothing → output_of v ≡ output_of_recording policy filter r
+pub output-is : (options : PolicyOptions) (r : Recording) (v : SessionView) → v.mode ≡ mode_of options r →
+    Holds options.policy v (history options.policy v.mode (events_of r.events)) nothing → output_of v ≡ output_of_recording options r
 unfolding output_of_recording
-output-is policy filter r v mode holds = holds-output policy v _ holds
-    ∙ ap (λ m. let h = history policy m (events_of r.events) in record_where_any 16 (bus_bytes policy h) ++ record_where_any 17 (client_bytes policy h) ++ end_record (end_of h)) mode
+output-is options r v mode holds = holds-output options.policy v _ holds
+    ∙ ap (λ m. given options.policy (history options.policy m (events_of r.events))) mode
 
 -- what waits after so many bytes from the start on
 pub few : (policy : Policy) (start after : SessionView) (came : ℕ) → weight policy start ≤ 60161266 → IsLight policy came start after → came ≤ 67108864 → length after.bus_side + length after.client_side ≤ 1335229682

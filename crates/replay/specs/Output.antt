@@ -1,9 +1,11 @@
--- What a replay writes: a record of the bytes for the bus, one of those for the client, and one of the session's End.
-use Rattle.std.specs.Prelude.{ℕ, ◌==◌, if◌then◌else◌, Bool, List, [], ◌∷◌, ◌++◌, length, map, reverse, Option, Some, None}
+-- What a replay writes: a record of the bytes for the bus, one of those for the client, and one of the session's End; and a
+-- log, where one is asked for.
+use Rattle.std.specs.Prelude.{ℕ, ◌==◌, if◌then◌else◌, List, [], ◌∷◌, ◌++◌, length, map, reverse, Option, Some, None}
 use Rattle.std.specs.Int.{w32, w64, to_le_bytes}
 use Rattle.dbus_header.specs.Malformed.{kind_number}
 use Rattle.sasl_watch.specs.Lines.{line_number}
-use Rattle.policy_args.specs.Policy.{Policy}
+use Rattle.explain_log.specs.Lines.{log}
+use Rattle.policy_args.specs.Words.{PolicyOptions}
 use Rattle.policy_view.specs.declared.Side.{Side}
 use Rattle.policy_view.specs.declared.Side.TheVariants.{Client, Bus}
 use Rattle.policy_view.specs.declared.Mode.{Mode}
@@ -12,7 +14,9 @@ use Rattle.policy_view.specs.declared.Fault.TheVariants.{Line, Message}
 use Rattle.policy_view.specs.declared.End.{End}
 use Rattle.policy_view.specs.declared.End.TheVariants.{ClientMalformed, BusMalformed, ClientEnd, BusEnd, SerialsSpent, Memory, ClientRead, ClientWrite, BusRead, BusWrite, BusConnect, LogFault, NotBuilt}
 use Rattle.policy_view.specs.History.{Event, Bytes, Finished, history, end_of}
+use Rattle.policy_view.specs.Notes.{notes}
 use Rattle.policy_view.specs.Outputs.{bus_bytes, client_bytes}
+use Rattle.policy_view.specs.Past.{History}
 use Rattle.recording.specs.declared.Side.{Side as RecordedSide}
 use Rattle.recording.specs.declared.Side.TheVariants as recorded_side
 use Rattle.recording.specs.Recording as recorded
@@ -72,12 +76,22 @@ abbrev pub end_record : Option End → List ℕ
 end_record None = []
 end_record (Some end) = record_of 18 (end_bytes end)
 
--- ---- the output
+-- ---- the output and the log
 
--- All bytes for the bus, all bytes for the client, and the End, where there are any, of the history that a recording's
--- events have under a policy.
-unfoldable pub output_of_recording : Policy → Bool → recorded.Recording → List ℕ
-output_of_recording policy filter recording =
-    let mode : Mode = record { auth = recording.auth; filter = filter } in
-    let h = history policy mode (events_of recording.events) in
-    record_where_any 16 (bus_bytes policy h) ++ record_where_any 17 (client_bytes policy h) ++ end_record (end_of h)
+-- how the session of a recording is held under the options
+abbrev pub mode_of : PolicyOptions → recorded.Recording → Mode
+mode_of options recording = record { auth = recording.auth; filter = options.filter; notes = options.log }
+
+-- the history that a recording's events have under the options
+abbrev pub history_of : PolicyOptions → recorded.Recording → History
+history_of options recording = history options.policy (mode_of options recording) (events_of recording.events)
+
+-- of a history all bytes for the bus, all bytes for the client, and the End, where there are any
+unfoldable pub output_of_recording : PolicyOptions → recorded.Recording → List ℕ
+output_of_recording options recording =
+    let h = history_of options recording in
+    record_where_any 16 (bus_bytes options.policy h) ++ record_where_any 17 (client_bytes options.policy h) ++ end_record (end_of h)
+
+-- the line of each note, where the options ask for a log; the session is number 1
+unfoldable pub log_of_recording : PolicyOptions → recorded.Recording → List ℕ
+log_of_recording options recording = if options.log then log 1 (notes options.policy (history_of options recording)) else []

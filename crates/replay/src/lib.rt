@@ -4,17 +4,23 @@
 //! written, as records. A record is a kind byte, a length of four bytes with the lowest first, and
 //! that many bytes. Kind 16 has all bytes for the bus, kind 17 all bytes for the client, and kind
 //! 18 says why the session ended; each is left out where there is nothing to say.
+//!
+//! Where the policy's words ask for a log, a line for each message of the session is written first,
+//! to a sink of its own.
 #![tactic(auto)]
 
+mod logging;
 mod playing;
 mod writing;
 
-ghost use Rattle.std.specs.Prelude.{◌≡◌, ◌≤◌, OnOk, IsErrOf};
+ghost use Rattle.std.specs.Prelude.{◌≡◌, ◌≤◌, true, OnOk, IsErrOf};
 ghost use Rattle.link_traits.specs.Told.{added, Rose, Part};
+ghost use Rattle.policy_args.specs.Seen.{options_seen};
 ghost use Rattle.recording.specs.Seen.{recording_seen, size};
-ghost use Rattle.replay.specs.Output.{output_of_recording};
+ghost use Rattle.replay.specs.Output.{output_of_recording, log_of_recording};
 
-use link_traits::{Sink, SinkFault};
+use link_traits::Sink;
+use logging::write_log;
 use playing::play;
 use policy_args::Options;
 use recording::{RECORDING_LIMIT, Recording};
@@ -26,19 +32,10 @@ use writing::write_output;
 pub enum ReplayFault {
     /// The output could not be written.
     Out,
+    /// The log could not be written.
+    Err,
     /// Memory was refused; also where the session ended so.
     Memory,
-}
-
-impl From<SinkFault> for ReplayFault {
-    ghost use Rattle.std.specs.Prelude.{◌≡◌};
-    ghost use Rattle.replay.specs.declared.ReplayFault.TheVariants.{Out};
-
-    ghost from_gives = { λ _ e. e ≡ Out };
-
-    fn from(_fault: SinkFault) -> ReplayFault {
-        ReplayFault::Out
-    }
 }
 
 impl From<AllocError> for ReplayFault {
@@ -52,23 +49,41 @@ impl From<AllocError> for ReplayFault {
     }
 }
 
-/// Plays a recording under the policy of the options, and writes what its session gives out. The
-/// output is written once all events were played, so memory grows with the bytes of the recording.
+/// Plays a recording under the policy of the options, writes the log to `err` where the options ask
+/// for one, and then what its session gives out to `out`. Both are written once all events were
+/// played, so memory grows with the bytes of the recording.
 #[tactic(auto, using(link_traits::proofs::Parts::part_none))]
-pub fn replay<O: Sink>(
+pub fn replay<O: Sink, E: Sink>(
     alloc: Global,
     options: &Options,
     recording: &Recording,
     out: &mut O,
+    err: &mut E,
 ) -> Result<(), ReplayFault>
     requires size { size (recording_seen recording.now).events ≤ RECORDING_LIMIT }
-    ensures out { OnOk result (O.told out.new ≡ added (output_of_recording options.now.policy options.now.filter (recording_seen recording.now)) (O.told out.old)) }
-    ensures part { Part (O.told out.old) (O.told out.new) (output_of_recording options.now.policy options.now.filter (recording_seen recording.now)) }
-    ensures cause { IsErrOf result ReplayFault.Out → Rose (O.faults out.old) (O.faults out.new) }
+
+    // out gets the output and err the log: all of it, or a front where the replay stops.
+    ensures out { OnOk result (O.told out.new ≡ added (output_of_recording (options_seen options.now) (recording_seen recording.now)) (O.told out.old)) }
+    ensures log { OnOk result (E.told err.new ≡ added (log_of_recording (options_seen options.now) (recording_seen recording.now)) (E.told err.old)) }
+    ensures part { Part (O.told out.old) (O.told out.new) (output_of_recording (options_seen options.now) (recording_seen recording.now)) }
+    ensures log_part { Part (E.told err.old) (E.told err.new) (log_of_recording (options_seen options.now) (recording_seen recording.now)) }
+
+    // The log is first: out gets nothing before err has all of it.
+    ensures first { IsErrOf result ReplayFault.Out → E.told err.new ≡ added (log_of_recording (options_seen options.now) (recording_seen recording.now)) (E.told err.old) }
+    ensures unwritten { IsErrOf result ReplayFault.Err → O.told out.new ≡ O.told out.old }
     ensures memory { IsErrOf result ReplayFault.Memory → O.told out.new ≡ O.told out.old }
+
+    // A sink is named only where it failed, and err only where a log is asked for.
+    ensures cause { IsErrOf result ReplayFault.Out → Rose (O.faults out.old) (O.faults out.new) }
+    ensures log_cause { IsErrOf result ReplayFault.Err → Rose (E.faults err.old) (E.faults err.new) }
+    ensures asked { IsErrOf result ReplayFault.Err → options.now.log ≡ true }
     ensures count { O.faults out.old ≤ O.faults out.new }
+    ensures log_count { E.faults err.old ≤ E.faults err.new }
 {
     let mut session = play(alloc, options, recording)?;
-    write_output(&mut session, out)?;
+    write_log(alloc, &mut session, err)?;
+    if write_output(&mut session, out).is_err() {
+        return Err(ReplayFault::Out);
+    }
     Ok(())
 }

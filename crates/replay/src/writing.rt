@@ -92,7 +92,7 @@ fn write_header<O: Sink>(kind: u8, len: u64, out: &mut O) -> Result<(), SinkFaul
 }
 
 /// Writes the record of what waits for a side.
-#[tactic(auto, using(crate::proofs::Parts::part_first, crate::proofs::Parts::part_second, crate::proofs::Parts::then_all))]
+#[tactic(auto, using(link_traits::proofs::Parts::part_first, link_traits::proofs::Parts::part_second, link_traits::proofs::Parts::then_all))]
 fn write_record<O: Sink>(session: &mut Session, side: Side, out: &mut O) -> Result<(), SinkFault>
     requires { length (waits_for side session.old) < 2 ^ 32 }
     ensures ok { OnOk result (O.told out.new ≡ added (record_of (kind_of side) (waits_for side session.old)) (O.told out.old)) }
@@ -232,7 +232,7 @@ fn write_end<O: Sink>(ended: Option<End>, out: &mut O) -> Result<(), SinkFault>
 }
 
 /// Writes all that waits, and the End.
-#[tactic(auto, using(crate::proofs::Parts::part_first, crate::proofs::Parts::part_second, crate::proofs::Parts::then_all))]
+#[tactic(auto, using(link_traits::proofs::Parts::part_first, link_traits::proofs::Parts::part_second, link_traits::proofs::Parts::then_all))]
 pub fn write_output<O: Sink>(session: &mut Session, out: &mut O) -> Result<(), SinkFault>
     requires bus { length session.old.bus_side < 2 ^ 32 }
     requires client { length session.old.client_side < 2 ^ 32 }

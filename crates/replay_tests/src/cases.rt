@@ -2,13 +2,14 @@
 //!
 //! A case has a line for each thing. `policy` has the words of the policy file, and `lines` says that the streams begin
 //! with lines of authentication. `client` and `bus` have what comes of a side, in order, and `client_ends` says that the
-//! client's stream ends. `to_bus` and `to_client` have what goes to a side, and `end` the bytes that tell why the session
-//! ended.
+//! client's stream ends. `to_bus` and `to_client` have what goes to a side, `end` the bytes that tell why the session
+//! ended, and `log` a line of the log.
 use crate::messages::named;
 use crate::runs::{Ended, replay};
 use crate::values::length;
 use std::alloc::{AllocError, Global};
 use std::process::Abort;
+use std::str;
 use test_tables::plain;
 
 /// The sizes of the pieces in which the streams come: byte by byte, a few, and as they stand.
@@ -22,6 +23,7 @@ struct Case {
     to_bus: Vec<u8>,
     to_client: Vec<u8>,
     end: Vec<u8>,
+    log: String,
 }
 
 /// What came: bytes of the client (0) or of the bus (1), or the client's end (2).
@@ -39,6 +41,7 @@ fn case_of(alloc: Global, text: &str) -> Result<Case, AllocError> {
         to_bus: Vec::new(alloc),
         to_client: Vec::new(alloc),
         end: Vec::new(alloc),
+        log: String::new(alloc),
     };
     for line in text.lines() {
         add_line(alloc, &mut case, line)?;
@@ -61,8 +64,14 @@ fn add_line(alloc: Global, case: &mut Case, line: &str) -> Result<(), AllocError
         "to_bus" => case.to_bus.extend_from_slice(&named(alloc, text)?),
         "to_client" => case.to_client.extend_from_slice(&named(alloc, text)?),
         "end" => case.end.extend_from_slice(&plain(alloc, text)?),
+        "log" => add_logged(&mut case.log, text),
         _ => case.policy.extend_from_slice(line.as_bytes()),
     }
+}
+
+fn add_logged(log: &mut String, line: &str) -> Result<(), AllocError> {
+    log.push_str(line)?;
+    log.push('\n')
 }
 
 fn add_words(policy: &mut Vec<u8>, words: &str) -> Result<(), AllocError> {
@@ -127,13 +136,22 @@ fn assert_case(rt: &impl Abort, alloc: Global, text: &str) -> Result<(), AllocEr
     for size in SIZES {
         let ended = run_of(alloc, &case, size)?;
         assert_written(rt, text, &ended, &output);
+        assert_logged(rt, text, &ended, &case.log);
     }
     Ok(())
 }
 
 fn assert_written(rt: &impl Abort, text: &str, ended: &Ended, output: &[u8]) {
-    assert_eq!(rt; (ended.code, ended.err.bytes.len()), (0, 0), "{text}");
+    assert_eq!(rt; ended.code, 0, "{text}");
     assert_eq!(rt; ended.out.bytes.as_slice(), output, "{text}");
+}
+
+fn assert_logged(rt: &impl Abort, text: &str, ended: &Ended, log: &str) {
+    assert_eq!(rt;
+        str::from_utf8(&ended.err.bytes).unwrap_or("no text"),
+        log,
+        "{text}"
+    );
 }
 
 /// Whether each case comes out as it says, in pieces of each size.

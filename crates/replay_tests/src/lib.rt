@@ -8,6 +8,8 @@ mod calls;
 #[cfg(test)]
 mod cases;
 #[cfg(test)]
+mod logs;
+#[cfg(test)]
 mod messages;
 #[cfg(test)]
 mod owners;

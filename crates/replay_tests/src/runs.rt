@@ -30,7 +30,7 @@ pub fn replay(
     let mut files = MemFiles::new(both(alloc, policy, recording)?);
     let words = words(alloc)?;
     let mut out = MemSink::new(alloc, room)?;
-    let mut err = MemSink::new(alloc, 100)?;
+    let mut err = MemSink::new(alloc, 10_000)?;
     let status = run(alloc, &words, &mut files, &mut out, &mut err);
     let code = status.code;
     Ok(Ended { code, out, err })

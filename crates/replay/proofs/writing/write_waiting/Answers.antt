@@ -1,6 +1,6 @@
 use Rattle.std.proofs.Common.{◌++◌, ap, sym, ◌∙◌, arith}
 use Rattle.proxy_core.specs.Sessions.{waits_for}
-use Rattle.replay.proofs.Parts.{part_middle, part_so_far, then_all}
+use Rattle.link_traits.proofs.Parts.{part_middle, part_so_far, then_all}
 use Rattle.replay.proofs.Sides.{side-step}
 use Rattle.replay.proofs.writing.write_waiting.Goals as goal
 
