@@ -1,7 +1,8 @@
-//! Output that can't be written, and the files and the standard output of the system.
-use crate::runs::replay;
+//! Output and logs that can't be written, and the files and the standard output of the system.
+use crate::runs::{Ended, file, replay, run_with_room};
 use link_traits::{FileFault, Files, Sink};
 use proxy_main::{DiskFiles, StdSink};
+use std::alloc::{AllocError, Global};
 use std::fs;
 use std::test::Fail;
 
@@ -10,6 +11,49 @@ fn output_without_room_is_cut_with_status_6(rt: HostRuntime) -> Result<(), Fail>
     let ended = replay(rt.alloc(), b"--filter", b"DBPR\x01\0\x02\0\0\0\0", 3)?;
     assert_eq!(rt; (ended.code, ended.err.bytes.len()), (6, 0));
     assert_eq!(rt; ended.out.bytes.as_slice(), b"\x12\x01\0".as_slice());
+    Ok(())
+}
+
+/// A recording of a call that wants no reply, and of the client's end.
+const DROPPED: &[u8] = b"DBPR\x01\0\
+\0\x50\0\0\0l\x01\x01\x01\0\0\0\0\x0a\0\0\0\x40\0\0\0\
+\x01\x01o\0\x02\0\0\0/x\0\0\0\0\0\0\
+\x02\x01s\0\x07\0\0\0org.h.I\0\
+\x03\x01s\0\x01\0\0\0M\0\0\0\0\0\0\0\
+\x06\x01s\0\x07\0\0\0org.h.X\0\
+\x02\0\0\0\0";
+
+/// Its log under a filter that lets nothing be used.
+const LOG: &[u8] =
+    b"1 c 1 call serial=10 reply=- from=- dest=org.h.X path=/x iface=org.h.I member=M drop NotVisible 0\n";
+
+/// A replay of it with room for so many bytes of the log.
+fn logged(alloc: Global, room: usize) -> Result<Ended, AllocError> {
+    let mut files = Vec::new(alloc);
+    files.push(file(alloc, "policy", b"--filter\0--log")?)?;
+    files.push(file(alloc, "recording", DROPPED)?)?;
+    run_with_room(alloc, "replay policy recording", files, 100, room)
+}
+
+#[test]
+fn a_log_without_room_is_cut_with_status_6_before_the_output(rt: HostRuntime) -> Result<(), Fail> {
+    for room in 0..LOG.len() {
+        let ended = logged(rt.alloc(), room)?;
+        assert_eq!(rt; (ended.code, ended.out.bytes.len()), (6, 0));
+        assert_eq!(rt; ended.err.bytes.as_slice(), &LOG[..room]);
+    }
+    Ok(())
+}
+
+#[test]
+fn a_log_with_room_stands_beside_the_output(rt: HostRuntime) -> Result<(), Fail> {
+    let ended = logged(rt.alloc(), LOG.len())?;
+    assert_eq!(rt; ended.code, 0);
+    assert_eq!(rt; ended.err.bytes.as_slice(), LOG);
+    assert_eq!(rt;
+        ended.out.bytes.as_slice(),
+        b"\x12\x01\0\0\0\x03".as_slice()
+    );
     Ok(())
 }
 

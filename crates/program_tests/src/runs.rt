@@ -11,17 +11,28 @@ pub struct Ended {
     pub err: MemSink,
 }
 
-/// A run of words, which spaces part, over these files, with room for so many bytes of output.
+/// A run of words, which spaces part, over these files, with room for so many bytes of output and enough for a line.
 pub fn run_over(
     alloc: Global,
     words: &str,
     files: Vec<MemFile>,
     room: usize,
 ) -> Result<Ended, AllocError> {
+    run_with_room(alloc, words, files, room, 100)
+}
+
+/// The same with room for so many bytes of output, and for so many on standard error.
+pub fn run_with_room(
+    alloc: Global,
+    words: &str,
+    files: Vec<MemFile>,
+    out_room: usize,
+    err_room: usize,
+) -> Result<Ended, AllocError> {
     let words = split(alloc, words)?;
     let mut files = MemFiles::new(files);
-    let mut out = MemSink::new(alloc, room)?;
-    let mut err = MemSink::new(alloc, 100)?;
+    let mut out = MemSink::new(alloc, out_room)?;
+    let mut err = MemSink::new(alloc, err_room)?;
     let status = run(alloc, &words, &mut files, &mut out, &mut err);
     let code = status.code;
     Ok(Ended { code, out, err })

@@ -1,43 +1,75 @@
 -- From why a run stopped to how it ended.
-use Rattle.std.proofs.Common.{◌≡◌, inl, inr, ℕ, List, Option, ap, sym, ◌∙◌, subst}
-use Rattle.link_traits.specs.Told.{added, Part}
+use Rattle.std.proofs.Common.{◌≡◌, ◌≤◌, ◌<◌, ◌^◌, ◌-◌, inl, inr, ℕ, List, Option, ap, sym, ◌∙◌, subst, arith}
+use Rattle.link_traits.specs.Told.{added, Part, Rose}
 use Rattle.policy_args.specs.Words.{PolicyOptions}
 use Rattle.recording.specs.Recording.{Recording}
-use Rattle.replay.specs.Output.{output_of_recording}
+use Rattle.replay.specs.Output.{output_of_recording, log_of_recording}
 use Rattle.proxy_main.specs.declared.Stop.{Stop}
 use Rattle.proxy_main.specs.declared.Stop.TheVariants as stop
 use Rattle.proxy_main.specs.Words.{Command}
 use Rattle.proxy_main.specs.Answers.{Answer, Wrote, replayed, answer_to, IsSettled, Agrees, out_of, code_of}
-use Rattle.proxy_main.specs.Loads.{StopsBy, CausedBy, Keeps, IsDone, IsFront}
-use Rattle.proxy_main.specs.Endings.{Ends, Refuses, NoFile, SinkFails, NoMemory, StopTold}
+use Rattle.proxy_main.specs.Lines.{refusal_line, file_line, memory_line}
+use Rattle.proxy_main.specs.Loads.{StopsBy, CausedBy, Keeps, KeepsLog, IsDone, IsFront, IsLogFront}
+use Rattle.proxy_main.specs.Endings.{Ends, Refuses, NoFile, OutFails, LogFails, NoMemory, Said, Whole, Cut, StopTold}
+use Rattle.proxy_main.proofs.Logs.{front_none}
 
 -- ---- the work
 
-wrote : (a : Answer) (o : PolicyOptions) (r : Recording) → Agrees a (replayed o r) → IsSettled a → a ≡ Wrote (output_of_recording o.policy o.filter r)
+wrote : (a : Answer) (o : PolicyOptions) (r : Recording) → Agrees a (replayed o r) → IsSettled a → a ≡ Wrote (output_of_recording o r) (log_of_recording o r)
 unfolding replayed
 wrote a o r agrees settled = agrees settled
 
 pub done_of : (a : Answer) (o : PolicyOptions) (r : Recording) (out new_out : Option (List ℕ)) → Agrees a (replayed o r) →
-    new_out ≡ added (output_of_recording o.policy o.filter r) out → IsDone a out new_out
+    new_out ≡ added (output_of_recording o r) out → IsDone a out new_out
 done_of a o r out new_out agrees got = λ settled.
     let is = wrote a o r agrees settled in
     (ap code_of is, got ∙ ap (λ x. added (out_of x) out) (sym is))
 
 pub front_of : (a : Answer) (o : PolicyOptions) (r : Recording) (out new_out : Option (List ℕ)) → Agrees a (replayed o r) →
-    Part out new_out (output_of_recording o.policy o.filter r) → IsFront a out new_out
+    Part out new_out (output_of_recording o r) → IsFront a out new_out
 front_of a o r out new_out agrees got = λ settled. subst (λ x. Part out new_out (out_of x)) (sym (wrote a o r agrees settled)) got
 
 pub zero_of : (a : Answer) (o : PolicyOptions) (r : Recording) → Agrees a (replayed o r) → IsSettled a → code_of a ≡ 0
 zero_of a o r agrees settled = ap code_of (wrote a o r agrees settled)
 
+-- ---- err's count of faults, over the work and then the line
+
+rose_later : (a b c : ℕ) → b ≤ c → Rose a b → Rose a c
+rose_later a b c le rose = λ small. let before : b < 2 ^ 64 - 1 = omega arith in let more : a < b = rose before in omega arith
+
+rose_earlier : (a b c : ℕ) → a ≤ b → Rose b c → Rose a c
+rose_earlier a b c le rose = λ small. let more : b < c = rose small in omega arith
+
+said_over : (a b c : ℕ) (old new : Option (List ℕ)) (line : List ℕ) → a ≤ b → Said (Rose b c) old new line → Said (Rose a c) old new line
+said_over a b c old new line le (Whole is) = Whole is
+said_over a b c old new line le (Cut rose part) = Cut (rose_earlier a b c le rose) part
+
+-- a line alone
+said_first : (a b c : ℕ) (old between new : Option (List ℕ)) (line : List ℕ) → a ≤ b → between ≡ old → Said (Rose b c) between new line → Said (Rose a c) old new line
+said_first a b c old between new line le same said = subst (λ told. Said (Rose a c) told new line) same (said_over a b c between new line le said)
+
 -- ---- how a run that stopped ended
 
-pub ends_stop : (told : List ℕ → Option (List ℕ)) (command : Option Command) (rf ro re : Type 0) (out new_out err new_err : Option (List ℕ)) (code : ℕ) (s : Stop) →
-    StopsBy told command s → CausedBy rf ro s → Keeps (answer_to told command) out new_out s → StopTold re err new_err code s →
-    Ends told command rf ro re out new_out err new_err code
-ends_stop told command rf ro re out new_out err new_err code (stop.Refused r) by cause keeps (inl t) = Refuses r t.0 by.0 by.1 keeps t.1
-ends_stop told command rf ro re out new_out err new_err code (stop.Refused r) by cause keeps (inr t) = NoMemory t.0 keeps t.1
-ends_stop told command rf ro re out new_out err new_err code (stop.File path) by cause keeps (inl t) = NoFile path.now t.0 cause by keeps t.1
-ends_stop told command rf ro re out new_out err new_err code (stop.File path) by cause keeps (inr t) = NoMemory t.0 keeps t.1
-ends_stop told command rf ro re out new_out err new_err code stop.Sink by cause keeps t = SinkFails t.0 cause by keeps t.1
-ends_stop told command rf ro re out new_out err new_err code stop.Memory by cause keeps t = NoMemory t.0 keeps t.1
+no_memory : (told : List ℕ → Option (List ℕ)) (command : Option Command) (rf ro : Type 0) (out new_out err between new_err : Option (List ℕ)) (a b c code : ℕ) → a ≤ b → code ≡ 8 → new_out ≡ out →
+    IsLogFront told command err between → Said (Rose b c) between new_err memory_line → Ends told command rf ro (Rose a c) out new_out err new_err code
+no_memory told command rf ro out new_out err between new_err a b c code le is kept log said =
+    NoMemory is kept (record { between = between; log = log; said = said_over a b c between new_err memory_line le said })
+
+-- the count of err's faults is a at the start, b behind the work and c behind the line
+pub ends_stop : (told : List ℕ → Option (List ℕ)) (command : Option Command) (rf ro : Type 0) (out new_out err between new_err : Option (List ℕ)) (a b c code : ℕ) (s : Stop) → a ≤ b → b ≤ c →
+    StopsBy told command s → CausedBy rf ro (Rose a b) s → Keeps (answer_to told command) out new_out s → KeepsLog told command err between s → StopTold (Rose b c) between new_err code s →
+    Ends told command rf ro (Rose a c) out new_out err new_err code
+ends_stop told command rf ro out new_out err between new_err a b c code (stop.Refused r) le more by cause keeps log (inl t) =
+    Refuses r t.0 by.0 by.1 keeps (said_first a b c err between new_err (refusal_line r) le log t.1)
+ends_stop told command rf ro out new_out err between new_err a b c code (stop.Refused r) le more by cause keeps log (inr t) =
+    no_memory told command rf ro out new_out err between new_err a b c code le t.0 keeps (front_none told command err between log) t.1
+ends_stop told command rf ro out new_out err between new_err a b c code (stop.File path) le more by cause keeps log (inl t) =
+    NoFile path.now t.0 cause by keeps (said_first a b c err between new_err (file_line path.now) le log t.1)
+ends_stop told command rf ro out new_out err between new_err a b c code (stop.File path) le more by cause keeps log (inr t) =
+    no_memory told command rf ro out new_out err between new_err a b c code le t.0 keeps (front_none told command err between log) t.1
+ends_stop told command rf ro out new_out err between new_err a b c code stop.Output le more by cause keeps log t =
+    OutFails t.0 cause by keeps (log.0, log.1, t.1 ∙ log.2)
+ends_stop told command rf ro out new_out err between new_err a b c code stop.Log le more by cause keeps log t =
+    LogFails t.0 (rose_later a b c more cause) by.1 by.0 keeps (log.0, log.1, subst (λ told. Part err told log.0) (sym t.1) log.2)
+ends_stop told command rf ro out new_out err between new_err a b c code stop.Memory le more by cause keeps log t =
+    no_memory told command rf ro out new_out err between new_err a b c code le t.0 keeps log t.1

@@ -1,15 +1,43 @@
--- Whatever the ending, out got a front of the answer's output.
-use Rattle.std.proofs.Common.{ℕ, List, Option}
+-- Whatever the ending, out got a front of the answer's output, and err a front of the log and then of the status's line.
+use Rattle.std.proofs.Common.{inl, inr, ℕ, List, [], Option, refl}
 use Rattle.link_traits.specs.Told.{Part}
 use Rattle.link_traits.proofs.Parts.{part_all, part_none}
 use Rattle.proxy_main.specs.Words.{Command}
 use Rattle.proxy_main.specs.Answers.{answer_to, IsSettled, out_of}
-use Rattle.proxy_main.specs.Endings.{Ends, Done, Refuses, NoFile, SinkFails, NoMemory}
+use Rattle.proxy_main.specs.Lines.{refusal_line, file_line, memory_line}
+use Rattle.proxy_main.specs.Loads.{IsLogFront, IsLogged}
+use Rattle.proxy_main.specs.Endings.{Ends, Done, Refuses, NoFile, OutFails, LogFails, NoMemory, Said, Whole, Cut, LineOf, NoLine, OfRefusal, OfFile, OfMemory, ErrFront}
+use Rattle.proxy_main.proofs.Logs.{front_none}
 
 pub out_front : (told : List ℕ → Option (List ℕ)) (command : Option Command) (f o e : Type 0) (out new_out err new_err : Option (List ℕ)) (code : ℕ) →
     Ends told command f o e out new_out err new_err code → IsSettled (answer_to told command) → Part out new_out (out_of (answer_to told command))
-out_front told command f o e out new_out err new_err code (Done is done quiet) settled = part_all _ _ _ (done settled).1
+out_front told command f o e out new_out err new_err code (Done is done log) settled = part_all _ _ _ (done settled).1
 out_front told command f o e out new_out err new_err code (Refuses r is agrees words kept said) settled = part_none _ _ _ kept
 out_front told command f o e out new_out err new_err code (NoFile path is rose needs kept said) settled = part_none _ _ _ kept
-out_front told command f o e out new_out err new_err code (SinkFails is rose work front quiet) settled = front settled
+out_front told command f o e out new_out err new_err code (OutFails is rose work front log) settled = front settled
+out_front told command f o e out new_out err new_err code (LogFails is rose asked work kept log) settled = part_none _ _ _ kept
 out_front told command f o e out new_out err new_err code (NoMemory is kept said) settled = part_none _ _ _ kept
+
+said_front : (rose : Type 0) (old new : Option (List ℕ)) (line : List ℕ) → Said rose old new line → Part old new line
+said_front rose old new line (Whole is) = part_all _ _ _ is
+said_front rose old new line (Cut rise part) = part
+
+log_alone : (told : List ℕ → Option (List ℕ)) (command : Option Command) (err new_err : Option (List ℕ)) (code : ℕ) → LineOf code [] → IsLogFront told command err new_err → ErrFront told command err new_err code
+log_alone told command err new_err code is log = record { between = new_err; log = log; line = []; is_line = is; front = part_none _ _ _ refl }
+
+line_alone : (told : List ℕ → Option (List ℕ)) (command : Option Command) (rose : Type 0) (err new_err : Option (List ℕ)) (code : ℕ) (line : List ℕ) → LineOf code line → Said rose err new_err line → ErrFront told command err new_err code
+line_alone told command rose err new_err code line is said =
+    record { between = err; log = front_none told command err err refl; line = line; is_line = is; front = said_front rose err new_err line said }
+
+whole_front : (told : List ℕ → Option (List ℕ)) (command : Option Command) (err new_err : Option (List ℕ)) → IsLogged told command err new_err → IsLogFront told command err new_err
+whole_front told command err new_err log = (log.0, log.1, part_all _ _ _ log.2)
+
+pub err_front : (told : List ℕ → Option (List ℕ)) (command : Option Command) (f o e : Type 0) (out new_out err new_err : Option (List ℕ)) (code : ℕ) →
+    Ends told command f o e out new_out err new_err code → ErrFront told command err new_err code
+err_front told command f o e out new_out err new_err code (Done is done log) = log_alone told command err new_err code (NoLine (inl is) refl) (whole_front told command err new_err log)
+err_front told command f o e out new_out err new_err code (Refuses r is agrees words kept said) = line_alone told command e err new_err code (refusal_line r) (OfRefusal r is refl) said
+err_front told command f o e out new_out err new_err code (NoFile path is rose needs kept said) = line_alone told command e err new_err code (file_line path) (OfFile path is refl) said
+err_front told command f o e out new_out err new_err code (OutFails is rose work front log) = log_alone told command err new_err code (NoLine (inr is) refl) (whole_front told command err new_err log)
+err_front told command f o e out new_out err new_err code (LogFails is rose asked work kept log) = log_alone told command err new_err code (NoLine (inr is) refl) log
+err_front told command f o e out new_out err new_err code (NoMemory is kept said) =
+    record { between = said.between; log = said.log; line = memory_line; is_line = OfMemory is refl; front = said_front e said.between new_err memory_line said.said }

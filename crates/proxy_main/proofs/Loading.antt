@@ -88,7 +88,8 @@ pub stops_policy : (told : List ℕ → Option (List ℕ)) (p r : List ℕ) (s :
 stops_policy told p r (stop.Refused refusal) is = (read_err (told p) checked_policy refusal _ is.0, of_words refusal _ is.1)
 stops_policy told p r (stop.File path) is =
     subst (λ q. answer_to (without q told) (Some (Replay p r)) ≡ Untold) (sym is) (untold-first _ checked_policy _ (without-path p told))
-stops_policy told p r stop.Sink is = absurd is
+stops_policy told p r stop.Output is = absurd is
+stops_policy told p r stop.Log is = absurd is
 stops_policy told p r stop.Memory is = tt
 
 pub stops_recording : (told : List ℕ → Option (List ℕ)) (t : Option (List ℕ)) (p r : List ℕ) (o : PolicyOptions) (s : Stop) → IfSome (told p) (λ bytes. checked_policy bytes ≡ Ok o) → t ≡ told r →
@@ -98,5 +99,6 @@ stops_recording told t p r o (stop.Refused refusal) ok same is =
 stops_recording told t p r o (stop.File path) ok same is =
     subst (λ q. answer_to (without q told) (Some (Replay p r)) ≡ Untold) (sym is)
     (untold-second (bytes_eq p r) (told p) checked_policy o _ ok (λ y. untold-first _ checked_recording _ (without-path r told)))
-stops_recording told t p r o stop.Sink ok same is = absurd is
+stops_recording told t p r o stop.Output ok same is = absurd is
+stops_recording told t p r o stop.Log ok same is = absurd is
 stops_recording told t p r o stop.Memory ok same is = tt

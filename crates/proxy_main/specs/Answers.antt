@@ -1,11 +1,11 @@
 -- What a run answers, by its words and by what is told of the files.
 --
 -- The files are read in the order of the words, and each is read and checked before the next. The first fault is the answer.
-use Rattle.std.specs.Prelude.{◌≡◌, ℕ, nat_lt, List, [], length, Option, Some, None, Result, Ok, Err, bytes_eq, if◌then◌else◌}
+use Rattle.std.specs.Prelude.{◌≡◌, ℕ, Bool, true, false, nat_lt, List, [], length, Option, Some, None, Result, Ok, Err, bytes_eq, if◌then◌else◌}
 use Rattle.policy_args.specs.declared.BadWord.{BadWord}
 use Rattle.policy_args.specs.Words.{PolicyOptions, options_of, words_in, ◌>>=◌}
 use Rattle.recording.specs.Recording.{Recording, recording_of}
-use Rattle.replay.specs.Output.{output_of_recording}
+use Rattle.replay.specs.Output.{output_of_recording, log_of_recording}
 use Rattle.proxy_main.specs.declared.Refusal.{Refusal}
 use Rattle.proxy_main.specs.declared.Refusal.TheVariants.{Usage, PolicyWord, PolicyTooLong, Recording as BadFile}
 use Rattle.proxy_main.specs.declared.TheConstants.{POLICY_LIMIT}
@@ -16,8 +16,8 @@ pub data Answer : Type 0 where
   Untold : Answer
   -- the words or a file are refused
   Refused : Refusal → Answer
-  -- the work is done, and these are the bytes of its output
-  Wrote : List ℕ → Answer
+  -- the work is done, and these are the bytes of its output and of its log
+  Wrote : List ℕ → List ℕ → Answer
 
 -- ---- reading and checking
 
@@ -51,7 +51,7 @@ checked_recording bytes = or_refused BadFile (recording_of bytes)
 -- ---- answers
 
 unfoldable pub replayed : PolicyOptions → Recording → Answer
-replayed options recording = Wrote (output_of_recording options.policy options.filter recording)
+replayed options recording = Wrote (output_of_recording options recording) (log_of_recording options recording)
 
 abbrev pub answer_to : (List ℕ → Option (List ℕ)) → Option Command → Answer
 answer_to told None = Refused Usage
@@ -65,7 +65,7 @@ answer_of words told = answer_to told (reading words)
 abbrev pub IsSettled : Answer → Type 0
 IsSettled Untold = ⊥
 IsSettled (Refused refusal) = Unit {0}
-IsSettled (Wrote out) = Unit {0}
+IsSettled (Wrote out log) = Unit {0}
 
 -- where the answer is settled it is this one
 abbrev pub Agrees : Answer → Answer → Type 0
@@ -84,13 +84,40 @@ refusal_code (BadFile fault) = 3
 abbrev pub code_of : Answer → ℕ
 code_of Untold = 0
 code_of (Refused refusal) = refusal_code refusal
-code_of (Wrote out) = 0
+code_of (Wrote out log) = 0
 
 -- the output of an answer
 abbrev pub out_of : Answer → List ℕ
 out_of Untold = []
 out_of (Refused refusal) = []
-out_of (Wrote out) = out
+out_of (Wrote out log) = out
+
+-- the log of an answer
+abbrev pub log_of : Answer → List ℕ
+log_of Untold = []
+log_of (Refused refusal) = []
+log_of (Wrote out log) = log
+
+-- ---- the log
+
+abbrev pub asks_for_log : Result PolicyOptions Refusal → Bool
+asks_for_log (Ok options) = options.log
+asks_for_log (Err refusal) = false
+
+-- a policy file may ask for a log unless it is told and does not
+abbrev pub may_ask_for_log : Option (List ℕ) → Bool
+may_ask_for_log None = true
+may_ask_for_log (Some bytes) = asks_for_log (checked_policy bytes)
+
+-- whether a run may have a log, as far as the policy file is told
+abbrev pub may_log : (List ℕ → Option (List ℕ)) → Option Command → Bool
+may_log told None = false
+may_log told (Some (Replay policy recording)) = may_ask_for_log (told policy)
+
+-- a run's log is the answer's where that is settled, and empty where no log may be asked for
+pub record IsLog (told : List ℕ → Option (List ℕ)) (command : Option Command) (log : List ℕ) : Type 0 where
+  pub settled : IsSettled (answer_to told command) → log ≡ log_of (answer_to told command)
+  pub unasked : may_log told command ≡ false → log ≡ []
 
 -- what is told where nothing is told of one path
 abbrev pub without : List ℕ → (List ℕ → Option (List ℕ)) → List ℕ → Option (List ℕ)

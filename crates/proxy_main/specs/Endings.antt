@@ -1,35 +1,42 @@
 -- The ways in which a run ends.
 --
---     0    the whole output was written, and nothing on err
+--     0    the whole output was written, and on err the whole log
 --     1    the words name nothing
 --     2    the policy file is refused
 --     3    the recording is refused
 --     4    a file could not be read
---     6    the output could not be written
+--     6    the output or the log could not be written
 --     8    memory ran out
 --
--- A fault of err changes no status: err got a front of its line. Only what is told of the files settles what they hold.
-use Rattle.std.specs.Prelude.{◌≡◌, ◌⊎◌, ℕ, List, Option}
+-- The log is written before the output. A fault of err while a status's line is said changes no status: err got a front of that
+-- line. Only what is told of the files settles what they hold.
+use Rattle.std.specs.Prelude.{◌≡◌, ◌⊎◌, ℕ, true, List, [], Option}
 use Rattle.link_traits.specs.Told.{added, Part}
 use Rattle.proxy_main.specs.declared.Refusal.{Refusal}
 use Rattle.proxy_main.specs.declared.Stop.{Stop}
 use Rattle.proxy_main.specs.declared.Stop.TheVariants as stop
 use Rattle.proxy_main.specs.Words.{Command}
-use Rattle.proxy_main.specs.Answers.{Untold, Refused, answer_to, IsSettled, Agrees, without, code_of, refusal_code}
+use Rattle.proxy_main.specs.Answers.{Untold, Refused, answer_to, IsSettled, Agrees, without, code_of, refusal_code, may_log}
 use Rattle.proxy_main.specs.Lines.{refusal_line, file_line, memory_line}
-use Rattle.proxy_main.specs.Loads.{IsOfWords, IsDone, IsFront}
+use Rattle.proxy_main.specs.Loads.{IsOfWords, IsDone, IsFront, IsLogged, IsLogFront}
 
 -- a sink got a line, or a front of it where its count of faults rose
 pub data Said (rose : Type 0) (old new : Option (List ℕ)) (line : List ℕ) : Type 0 where
   Whole : new ≡ added line old → Said rose old new line
   Cut : rose → Part old new line → Said rose old new line
 
+-- err got a front of the log, and then a line
+pub record SaidAfterLog (told : List ℕ → Option (List ℕ)) (command : Option Command) (rose : Type 0) (err new_err : Option (List ℕ)) (line : List ℕ) : Type 0 where
+  pub between : Option (List ℕ)
+  pub log : IsLogFront told command err between
+  pub said : Said rose between new_err line
+
 -- how a run of these words ended, by what is told of the files, the counts of faults that rose, and what out and err tell
 pub data Ends (told : List ℕ → Option (List ℕ)) (command : Option Command) (files_rose out_rose err_rose : Type 0) (out new_out err new_err : Option (List ℕ)) (code : ℕ) : Type 0 where
-  -- the whole output was written
+  -- the whole log and the whole output were written
   Done : code ≡ 0
       → IsDone (answer_to told command) out new_out
-      → new_err ≡ err
+      → IsLogged told command err new_err
       → Ends told command files_rose out_rose err_rose out new_out err new_err code
   -- the words or a file were refused
   Refuses : (refusal : Refusal) → code ≡ refusal_code refusal
@@ -41,16 +48,39 @@ pub data Ends (told : List ℕ → Option (List ℕ)) (command : Option Command)
       → answer_to (without path told) command ≡ Untold
       → new_out ≡ out → Said err_rose err new_err (file_line path)
       → Ends told command files_rose out_rose err_rose out new_out err new_err code
-  -- out failed while the output was written
-  SinkFails : code ≡ 6 → out_rose
+  -- out failed while the output was written, after the whole log
+  OutFails : code ≡ 6 → out_rose
       → (IsSettled (answer_to told command) → code_of (answer_to told command) ≡ 0)
       → IsFront (answer_to told command) out new_out
-      → new_err ≡ err
+      → IsLogged told command err new_err
+      → Ends told command files_rose out_rose err_rose out new_out err new_err code
+  -- err failed while a log was written, before any output
+  LogFails : code ≡ 6 → err_rose → may_log told command ≡ true
+      → (IsSettled (answer_to told command) → code_of (answer_to told command) ≡ 0)
+      → new_out ≡ out
+      → IsLogFront told command err new_err
       → Ends told command files_rose out_rose err_rose out new_out err new_err code
   -- memory ran out
   NoMemory : code ≡ 8
-      → new_out ≡ out → Said err_rose err new_err memory_line
+      → new_out ≡ out → SaidAfterLog told command err_rose err new_err memory_line
       → Ends told command files_rose out_rose err_rose out new_out err new_err code
+
+-- ---- what err got, whatever the ending
+
+-- the line of a status: none with 0 and 6
+pub data LineOf (code : ℕ) (line : List ℕ) : Type 0 where
+  NoLine : (code ≡ 0) ⊎ (code ≡ 6) → line ≡ [] → LineOf code line
+  OfRefusal : (refusal : Refusal) → code ≡ refusal_code refusal → line ≡ refusal_line refusal → LineOf code line
+  OfFile : (path : List ℕ) → code ≡ 4 → line ≡ file_line path → LineOf code line
+  OfMemory : code ≡ 8 → line ≡ memory_line → LineOf code line
+
+-- err got a front of the log, then a front of the status's line, and nothing else
+pub record ErrFront (told : List ℕ → Option (List ℕ)) (command : Option Command) (err new_err : Option (List ℕ)) (code : ℕ) : Type 0 where
+  pub between : Option (List ℕ)
+  pub log : IsLogFront told command err between
+  pub line : List ℕ
+  pub is_line : LineOf code line
+  pub front : Part between new_err line
 
 -- ---- one status
 
@@ -75,5 +105,6 @@ IsTold this line rose old new code = ((code ≡ this) × Said rose old new line)
 abbrev pub StopTold : Type 0 → Option (List ℕ) → Option (List ℕ) → ℕ → Stop → Type 0
 StopTold rose old new code (stop.Refused refusal) = IsTold (refusal_code refusal) (refusal_line refusal) rose old new code
 StopTold rose old new code (stop.File path) = IsTold 4 (file_line path.now) rose old new code
-StopTold rose old new code stop.Sink = (code ≡ 6) × (new ≡ old)
+StopTold rose old new code stop.Output = (code ≡ 6) × (new ≡ old)
+StopTold rose old new code stop.Log = (code ≡ 6) × (new ≡ old)
 StopTold rose old new code stop.Memory = (code ≡ 8) × Said rose old new memory_line

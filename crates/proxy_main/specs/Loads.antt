@@ -1,12 +1,12 @@
 -- What reading the files gives, and why a run stops before its work is done.
-use Rattle.std.specs.Prelude.{◌≡◌, ℕ, List, Option, None, Result, Ok, Err, IfSome}
+use Rattle.std.specs.Prelude.{◌≡◌, ℕ, true, List, Option, None, Result, Ok, Err, IfSome}
 use Rattle.link_traits.specs.Told.{added, Part}
 use Rattle.proxy_main.specs.declared.Refusal.{Refusal}
 use Rattle.proxy_main.specs.declared.Refusal.TheVariants.{Usage, PolicyWord, PolicyTooLong, Recording}
 use Rattle.proxy_main.specs.declared.Stop.{Stop}
-use Rattle.proxy_main.specs.declared.Stop.TheVariants.{Refused as Refuses, File, Sink, Memory}
+use Rattle.proxy_main.specs.declared.Stop.TheVariants.{Refused as Refuses, File, Output, Log, Memory}
 use Rattle.proxy_main.specs.Words.{Command}
-use Rattle.proxy_main.specs.Answers.{Answer, Untold, Refused, answer_to, Agrees, without, code_of, out_of, IsSettled}
+use Rattle.proxy_main.specs.Answers.{Answer, Untold, Refused, answer_to, Agrees, without, code_of, out_of, IsSettled, may_log, IsLog}
 
 -- ---- one file
 
@@ -21,7 +21,8 @@ IsOfFile (Recording fault) = Unit {0}
 abbrev pub LoadStops : {A : Type 0} → (List ℕ → Result A Refusal) → Option (List ℕ) → List ℕ → Stop → Type 0
 LoadStops check told path (Refuses refusal) = IfSome told (λ bytes. check bytes ≡ Err refusal) × IsOfFile refusal
 LoadStops check told path (File p) = p.now ≡ path
-LoadStops check told path Sink = ⊥
+LoadStops check told path Output = ⊥
+LoadStops check told path Log = ⊥
 LoadStops check told path Memory = Unit {0}
 
 -- the file at the path was read and checked, or it is why a run stops
@@ -38,19 +39,22 @@ IsOfWords (PolicyWord bad) command = Unit {0}
 IsOfWords PolicyTooLong command = Unit {0}
 IsOfWords (Recording fault) command = Unit {0}
 
--- why a run stops: what is told settles it so, or a file failed without which nothing is settled, or the work had begun
+-- why a run stops: what is told settles it so, or a file failed without which nothing is settled, or the work had begun, with a
+-- log where it was that which failed
 abbrev pub StopsBy : (List ℕ → Option (List ℕ)) → Option Command → Stop → Type 0
 StopsBy told command (Refuses refusal) = Agrees (answer_to told command) (Refused refusal) × IsOfWords refusal command
 StopsBy told command (File path) = answer_to (without path.now told) command ≡ Untold
-StopsBy told command Sink = IsSettled (answer_to told command) → code_of (answer_to told command) ≡ 0
+StopsBy told command Output = IsSettled (answer_to told command) → code_of (answer_to told command) ≡ 0
+StopsBy told command Log = (IsSettled (answer_to told command) → code_of (answer_to told command) ≡ 0) × (may_log told command ≡ true)
 StopsBy told command Memory = Unit {0}
 
 -- the count of faults that rose
-abbrev pub CausedBy : Type 0 → Type 0 → Stop → Type 0
-CausedBy files out (Refuses refusal) = Unit {0}
-CausedBy files out (File path) = files
-CausedBy files out Sink = out
-CausedBy files out Memory = Unit {0}
+abbrev pub CausedBy : Type 0 → Type 0 → Type 0 → Stop → Type 0
+CausedBy files out err (Refuses refusal) = Unit {0}
+CausedBy files out err (File path) = files
+CausedBy files out err Output = out
+CausedBy files out err Log = err
+CausedBy files out err Memory = Unit {0}
 
 -- a front of the output was written
 abbrev pub IsFront : Answer → Option (List ℕ) → Option (List ℕ) → Type 0
@@ -60,9 +64,28 @@ IsFront answer out new_out = IsSettled answer → Part out new_out (out_of answe
 abbrev pub Keeps : Answer → Option (List ℕ) → Option (List ℕ) → Stop → Type 0
 Keeps answer out new_out (Refuses refusal) = new_out ≡ out
 Keeps answer out new_out (File path) = new_out ≡ out
-Keeps answer out new_out Sink = IsFront answer out new_out
+Keeps answer out new_out Output = IsFront answer out new_out
+Keeps answer out new_out Log = new_out ≡ out
 Keeps answer out new_out Memory = new_out ≡ out
 
 -- the whole output was written
 abbrev pub IsDone : Answer → Option (List ℕ) → Option (List ℕ) → Type 0
 IsDone answer out new_out = IsSettled answer → (code_of answer ≡ 0) × (new_out ≡ added (out_of answer) out)
+
+-- ---- the log
+
+-- the whole log was written
+abbrev pub IsLogged : (List ℕ → Option (List ℕ)) → Option Command → Option (List ℕ) → Option (List ℕ) → Type 0
+IsLogged told command err new_err = (log : List ℕ) × IsLog told command log × (new_err ≡ added log err)
+
+-- a front of the log was written
+abbrev pub IsLogFront : (List ℕ → Option (List ℕ)) → Option Command → Option (List ℕ) → Option (List ℕ) → Type 0
+IsLogFront told command err new_err = (log : List ℕ) × IsLog told command log × Part err new_err log
+
+-- what err got before a run stopped: nothing before the work, and all of the log where out failed
+abbrev pub KeepsLog : (List ℕ → Option (List ℕ)) → Option Command → Option (List ℕ) → Option (List ℕ) → Stop → Type 0
+KeepsLog told command err new_err (Refuses refusal) = new_err ≡ err
+KeepsLog told command err new_err (File path) = new_err ≡ err
+KeepsLog told command err new_err Output = IsLogged told command err new_err
+KeepsLog told command err new_err Log = IsLogFront told command err new_err
+KeepsLog told command err new_err Memory = IsLogFront told command err new_err

@@ -1,5 +1,5 @@
 //! The files that the words name.
-ghost use Rattle.std.specs.Prelude.{◌≡◌, ◌≤◌, ◌<◌, ℕ, List, Some, Err, IfOk, IfErr, length};
+ghost use Rattle.std.specs.Prelude.{◌≡◌, ◌≤◌, ◌<◌, ℕ, List, Some, Ok, Err, IfOk, IfErr, IfSome, length};
 ghost use Rattle.link_traits.specs.Told.{Rose};
 ghost use Rattle.policy_args.specs.Gives.{Gives};
 ghost use Rattle.policy_args.specs.Seen.{options_seen};
@@ -30,9 +30,10 @@ pub fn load<'a, F: Files>(
     recording: &'a str,
 ) -> Result<Loaded, Stop<'a>>
     ensures loaded { IfOk result (λ x. Agrees (answer_to (F.told files.old) (Some (Replay policy.now recording.now))) (replayed (options_seen x.options) (recording_seen x.recording))) }
+    ensures options { IfOk result (λ x. IfSome (F.told files.old policy.now) (λ bytes. checked_policy bytes ≡ Ok (options_seen x.options))) }
     ensures size { IfOk result (λ x. size (recording_seen x.recording).events ≤ RECORDING_LIMIT) }
     ensures stops { IfErr result (λ stop. StopsBy (F.told files.old) (Some (Replay policy.now recording.now)) stop) }
-    ensures cause { IfErr result (λ stop. CausedBy (Rose (F.faults files.old) (F.faults files.new)) ⊥ stop) }
+    ensures cause { IfErr result (λ stop. CausedBy (Rose (F.faults files.old) (F.faults files.new)) ⊥ ⊥ stop) }
     ensures count { F.faults files.old ≤ F.faults files.new }
 {
     match load_policy(alloc, files, policy) {
@@ -51,7 +52,7 @@ fn load_policy<'a, F: Files>(
     path: &'a str,
 ) -> Result<Options, Stop<'a>>
     ensures loads { Loads options_seen checked_policy (F.told files.old path.now) path.now result }
-    ensures cause { IfErr result (λ stop. CausedBy (Rose (F.faults files.old) (F.faults files.new)) ⊥ stop) }
+    ensures cause { IfErr result (λ stop. CausedBy (Rose (F.faults files.old) (F.faults files.new)) ⊥ ⊥ stop) }
     ensures count { F.faults files.old ≤ F.faults files.new }
     ensures kept { (p : List ℕ) → F.told files.new p ≡ F.told files.old p }
 {
@@ -83,7 +84,7 @@ fn load_recording<'a, F: Files>(
 ) -> Result<Recording, Stop<'a>>
     ensures loads { Loads recording_seen checked_recording (F.told files.old path.now) path.now result }
     ensures size { IfOk result (λ r. size (recording_seen r).events ≤ RECORDING_LIMIT) }
-    ensures cause { IfErr result (λ stop. CausedBy (Rose (F.faults files.old) (F.faults files.new)) ⊥ stop) }
+    ensures cause { IfErr result (λ stop. CausedBy (Rose (F.faults files.old) (F.faults files.new)) ⊥ ⊥ stop) }
     ensures count { F.faults files.old ≤ F.faults files.new }
 {
     match read_whole(alloc, files, path, RECORDING_LIMIT) {

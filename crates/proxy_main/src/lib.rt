@@ -1,8 +1,9 @@
 //! The program behind its command line.
 //!
 //! `replay POLICY RECORDING` plays a recorded session under a policy, and writes what its sides get
-//! on the standard output. A run ends with a status, and with a line on the standard error where
-//! the status says that something is wrong.
+//! on the standard output. Where the policy asks for a log, that is written first, on the standard
+//! error. A run ends with a status, and with a line on the standard error where the status says that
+//! something is wrong.
 #![tactic(auto)]
 
 mod disk_files;
@@ -48,16 +49,18 @@ pub(crate) enum Stop<'a> {
     /// The file at this path was not read.
     File(&'a str),
     /// The output was not written.
-    Sink,
+    Output,
+    /// The log was not written.
+    Log,
     /// Memory ran out.
     Memory,
 }
 
 /// The status of a run.
 ///
-/// 0: the whole output was written. 1: the words name no command. 2: the policy file is refused.
-/// 3: the recording is refused. 4: a file was not read. 6: the output was not written. 8: memory
-/// ran out.
+/// 0: the whole log and the whole output were written. 1: the words name no command. 2: the policy
+/// file is refused. 3: the recording is refused. 4: a file was not read. 6: the output or the log was
+/// not written. 8: memory ran out.
 #[derive(Clone, Copy, Debug, PartialEq, Eq)]
 pub struct Status {
     /// The number that the process ends with.

@@ -1,5 +1,5 @@
 //! The line on err of each status that has one.
-ghost use Rattle.std.specs.Prelude.{◌≡◌, IfOk, string_bytes};
+ghost use Rattle.std.specs.Prelude.{◌≡◌, ◌≤◌, IfOk, string_bytes};
 ghost use Rattle.link_traits.specs.Told.{Rose};
 ghost use Rattle.proxy_main.specs.Lines.{refusal_line, word_line, kind_name, recording_line, fault_name as name_of_fault, file_line};
 ghost use Rattle.proxy_main.specs.Endings.{Said};
@@ -32,7 +32,8 @@ pub fn file_text(alloc: Global, path: &str) -> Result<String, AllocError>
 
 /// Says a line. Where the sink fails it got a front of it.
 pub fn say<E: Sink>(err: &mut E, line: &str)
-    ensures { Said (Rose (E.faults err.old) (E.faults err.new)) (E.told err.old) (E.told err.new) line.now }
+    ensures said { Said (Rose (E.faults err.old) (E.faults err.new)) (E.told err.old) (E.told err.new) line.now }
+    ensures count { E.faults err.old ≤ E.faults err.new }
 {
     let _ = write_all(err, line.as_bytes());
 }

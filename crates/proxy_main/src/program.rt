@@ -1,10 +1,10 @@
 //! A whole run.
-ghost use Rattle.std.specs.Prelude.{◌≡◌, ◌⊎◌, None, map, string_bytes};
+ghost use Rattle.std.specs.Prelude.{◌≡◌, ◌⊎◌, true, None, map, string_bytes};
 ghost use Rattle.link_traits.specs.Told.{Rose, Part};
 ghost use Rattle.proxy_main.specs.Words.{reading};
-ghost use Rattle.proxy_main.specs.Answers.{answer_of, IsSettled, code_of, out_of};
-ghost use Rattle.proxy_main.specs.Loads.{IsDone};
-ghost use Rattle.proxy_main.specs.Endings.{Ends, Exactly, ExactlyOfFiles, IsFree};
+ghost use Rattle.proxy_main.specs.Answers.{answer_of, IsSettled, code_of, out_of, may_log};
+ghost use Rattle.proxy_main.specs.Loads.{IsDone, IsLogged};
+ghost use Rattle.proxy_main.specs.Endings.{Ends, ErrFront, Exactly, ExactlyOfFiles, IsFree};
 
 use crate::Status;
 use crate::stops::tell;
@@ -13,8 +13,9 @@ use link_traits::{Files, Sink};
 use std::alloc::Global;
 
 /// The program: reads the words, which are those after the program's name, then each file that
-/// they name, and does the work. What it gives out goes to `out`, and a line on what went wrong to
-/// `err`. Memory grows with the bytes of the files.
+/// they name, and does the work. What it gives out goes to `out`. Before that the log goes to `err`,
+/// where one is asked for, and a line on what went wrong follows it there. Memory grows with the
+/// bytes of the files.
 pub fn run<F: Files, O: Sink, E: Sink>(
     alloc: Global,
     words: &[String],
@@ -22,7 +23,7 @@ pub fn run<F: Files, O: Sink, E: Sink>(
     out: &mut O,
     err: &mut E,
 ) -> Status
-    // The run ends in one of five ways, each with its cause and with what out and err got.
+    // The run ends in one of six ways, each with its cause and with what out and err got.
     ensures ends { Ends (F.told files.old) (reading (map (λ w. string_bytes w) words.now)) (Rose (F.faults files.old) (F.faults files.new)) (Rose (O.faults out.old) (O.faults out.new)) (Rose (E.faults err.old) (E.faults err.new)) (O.told out.old) (O.told out.new) (E.told err.old) (E.told err.new) result.code }
 
     // 1 comes exactly where the words name nothing.
@@ -32,19 +33,26 @@ pub fn run<F: Files, O: Sink, E: Sink>(
     ensures policy { IsSettled (answer_of (map (λ w. string_bytes w) words.now) (F.told files.old)) → ExactlyOfFiles result.code 2 (code_of (answer_of (map (λ w. string_bytes w) words.now) (F.told files.old)) ≡ 2) }
     ensures recording { IsSettled (answer_of (map (λ w. string_bytes w) words.now) (F.told files.old)) → ExactlyOfFiles result.code 3 (code_of (answer_of (map (λ w. string_bytes w) words.now) (F.told files.old)) ≡ 3) }
 
-    // 4 comes only where the files failed, and 6 only where out did.
+    // 4 comes only where the files failed, and 6 only where out did, or where err did and there may
+    // be a log.
     ensures file { result.code ≡ 4 → Rose (F.faults files.old) (F.faults files.new) }
-    ensures sink { result.code ≡ 6 → Rose (O.faults out.old) (O.faults out.new) }
+    ensures sink { result.code ≡ 6 → Rose (O.faults out.old) (O.faults out.new) ⊎ ((may_log (F.told files.old) (reading (map (λ w. string_bytes w) words.now)) ≡ true) × Rose (E.faults err.old) (E.faults err.new)) }
 
-    // Unless a file, out or memory fails, the status is the answer's.
+    // Unless a file, out, err or memory fails, the status is the answer's.
     ensures complete { IsSettled (answer_of (map (λ w. string_bytes w) words.now) (F.told files.old)) → (result.code ≡ code_of (answer_of (map (λ w. string_bytes w) words.now) (F.told files.old))) ⊎ IsFree result.code }
 
-    // With 0 out got the whole output, and err got nothing.
-    ensures done { result.code ≡ 0 → IsDone (answer_of (map (λ w. string_bytes w) words.now) (F.told files.old)) (O.told out.old) (O.told out.new) × (E.told err.new ≡ E.told err.old) }
+    // With 0 out got the whole output, and err got the whole log and nothing else.
+    ensures done { result.code ≡ 0 → IsDone (answer_of (map (λ w. string_bytes w) words.now) (F.told files.old)) (O.told out.old) (O.told out.new) × IsLogged (F.told files.old) (reading (map (λ w. string_bytes w) words.now)) (E.told err.old) (E.told err.new) }
 
     // In any case out got a front of the output, and nothing with another status than 0 and 6.
     ensures front { IsSettled (answer_of (map (λ w. string_bytes w) words.now) (F.told files.old)) → Part (O.told out.old) (O.told out.new) (out_of (answer_of (map (λ w. string_bytes w) words.now) (F.told files.old))) }
     ensures nothing { (result.code ≡ 0) ⊎ ((result.code ≡ 6) ⊎ (O.told out.new ≡ O.told out.old)) }
+
+    // The log is first: out got nothing unless err has the whole log and nothing else.
+    ensures first { (O.told out.new ≡ O.told out.old) ⊎ IsLogged (F.told files.old) (reading (map (λ w. string_bytes w) words.now)) (E.told err.old) (E.told err.new) }
+
+    // In any case err got a front of the log, and then a front of the status's line.
+    ensures said { ErrFront (F.told files.old) (reading (map (λ w. string_bytes w) words.now)) (E.told err.old) (E.told err.new) result.code }
 {
     run_to_end(alloc, words, files, out, err)
 }
@@ -59,7 +67,7 @@ fn run_to_end<F: Files, O: Sink, E: Sink>(
 ) -> Status
     ensures { Ends (F.told files.old) (reading (map (λ w. string_bytes w) words.now)) (Rose (F.faults files.old) (F.faults files.new)) (Rose (O.faults out.old) (O.faults out.new)) (Rose (E.faults err.old) (E.faults err.new)) (O.told out.old) (O.told out.new) (E.told err.old) (E.told err.new) result.code }
 {
-    if let Err(stop) = work(alloc, words, files, out) {
+    if let Err(stop) = work(alloc, words, files, out, err) {
         return tell(alloc, stop, err);
     }
     Status { code: 0 }

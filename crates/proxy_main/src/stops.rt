@@ -12,19 +12,22 @@ use std::alloc::Global;
 
 /// Says why a run stopped, and gives its status.
 pub fn tell<E: Sink>(alloc: Global, stop: Stop<'_>, err: &mut E) -> Status
-    ensures { StopTold (Rose (E.faults err.old) (E.faults err.new)) (E.told err.old) (E.told err.new) result.code stop.entry }
+    ensures told { StopTold (Rose (E.faults err.old) (E.faults err.new)) (E.told err.old) (E.told err.new) result.code stop.entry }
+    ensures count { E.faults err.old ≤ E.faults err.new }
 {
     match stop {
         Stop::Refused(refusal) => tell_refusal(alloc, refusal, err),
         Stop::File(path) => tell_file(alloc, path, err),
-        Stop::Sink => Status { code: 6 },
+        Stop::Output => Status { code: 6 },
+        Stop::Log => Status { code: 6 },
         Stop::Memory => tell_memory(err),
     }
 }
 
 /// Says the line of a refusal.
 fn tell_refusal<E: Sink>(alloc: Global, refusal: Refusal, err: &mut E) -> Status
-    ensures { IsTold (refusal_code refusal) (refusal_line refusal) (Rose (E.faults err.old) (E.faults err.new)) (E.told err.old) (E.told err.new) result.code }
+    ensures told { IsTold (refusal_code refusal) (refusal_line refusal) (Rose (E.faults err.old) (E.faults err.new)) (E.told err.old) (E.told err.new) result.code }
+    ensures count { E.faults err.old ≤ E.faults err.new }
 {
     if let Ok(text) = refusal_text(alloc, refusal) {
         say(err, text.as_str());
@@ -37,7 +40,8 @@ fn tell_refusal<E: Sink>(alloc: Global, refusal: Refusal, err: &mut E) -> Status
 
 /// Says the line of a file that was not read.
 fn tell_file<E: Sink>(alloc: Global, path: &str, err: &mut E) -> Status
-    ensures { IsTold 4 (file_line path.now) (Rose (E.faults err.old) (E.faults err.new)) (E.told err.old) (E.told err.new) result.code }
+    ensures told { IsTold 4 (file_line path.now) (Rose (E.faults err.old) (E.faults err.new)) (E.told err.old) (E.told err.new) result.code }
+    ensures count { E.faults err.old ≤ E.faults err.new }
 {
     if let Ok(text) = file_text(alloc, path) {
         say(err, text.as_str());
@@ -50,6 +54,7 @@ fn tell_file<E: Sink>(alloc: Global, path: &str, err: &mut E) -> Status
 fn tell_memory<E: Sink>(err: &mut E) -> Status
     ensures code { result.code ≡ 8 }
     ensures said { Said (Rose (E.faults err.old) (E.faults err.new)) (E.told err.old) (E.told err.new) memory_line }
+    ensures count { E.faults err.old ≤ E.faults err.new }
 {
     say(err, "error: memory\n");
     Status { code: 8 }

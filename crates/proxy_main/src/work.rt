@@ -1,9 +1,9 @@
 //! The work that the words ask for.
-ghost use Rattle.std.specs.Prelude.{◌≡◌, Some, map, string_bytes, IfErr, OnOk};
+ghost use Rattle.std.specs.Prelude.{◌≡◌, ◌≤◌, Some, map, string_bytes, IfErr, OnOk};
 ghost use Rattle.link_traits.specs.Told.{Rose};
 ghost use Rattle.proxy_main.specs.Words.{reading, Replay};
 ghost use Rattle.proxy_main.specs.Answers.{answer_of, answer_to};
-ghost use Rattle.proxy_main.specs.Loads.{StopsBy, CausedBy, Keeps, IsDone};
+ghost use Rattle.proxy_main.specs.Loads.{StopsBy, CausedBy, Keeps, KeepsLog, IsDone, IsLogged};
 
 use crate::files::load;
 use crate::words::{ReplayWords, read_words};
@@ -13,42 +13,51 @@ use replay::{ReplayFault, replay};
 use std::alloc::Global;
 
 /// Reads the words and does what they ask for.
-pub fn work<'a, F: Files, O: Sink>(
+pub fn work<'a, F: Files, O: Sink, E: Sink>(
     alloc: Global,
     words: &'a [String],
     files: &mut F,
     out: &mut O,
+    err: &mut E,
 ) -> Result<(), Stop<'a>>
     ensures done { OnOk result (IsDone (answer_of (map (λ w. string_bytes w) words.now) (F.told files.old)) (O.told out.old) (O.told out.new)) }
+    ensures logged { OnOk result (IsLogged (F.told files.old) (reading (map (λ w. string_bytes w) words.now)) (E.told err.old) (E.told err.new)) }
     ensures stops { IfErr result (λ stop. StopsBy (F.told files.old) (reading (map (λ w. string_bytes w) words.now)) stop) }
-    ensures cause { IfErr result (λ stop. CausedBy (Rose (F.faults files.old) (F.faults files.new)) (Rose (O.faults out.old) (O.faults out.new)) stop) }
+    ensures cause { IfErr result (λ stop. CausedBy (Rose (F.faults files.old) (F.faults files.new)) (Rose (O.faults out.old) (O.faults out.new)) (Rose (E.faults err.old) (E.faults err.new)) stop) }
     ensures keeps { IfErr result (λ stop. Keeps (answer_of (map (λ w. string_bytes w) words.now) (F.told files.old)) (O.told out.old) (O.told out.new) stop) }
+    ensures log { IfErr result (λ stop. KeepsLog (F.told files.old) (reading (map (λ w. string_bytes w) words.now)) (E.told err.old) (E.told err.new) stop) }
+    ensures count { E.faults err.old ≤ E.faults err.new }
 {
     match read_words(words) {
         Some(ReplayWords { policy, recording }) => {
-            work_replay(alloc, policy, recording, files, out)
+            work_replay(alloc, policy, recording, files, out, err)
         }
         None => Err(Stop::Refused(Refusal::Usage)),
     }
 }
 
 /// Reads the files of a replay and plays it.
-fn work_replay<'a, F: Files, O: Sink>(
+fn work_replay<'a, F: Files, O: Sink, E: Sink>(
     alloc: Global,
     policy: &'a str,
     recording: &'a str,
     files: &mut F,
     out: &mut O,
+    err: &mut E,
 ) -> Result<(), Stop<'a>>
     ensures done { OnOk result (IsDone (answer_to (F.told files.old) (Some (Replay policy.now recording.now))) (O.told out.old) (O.told out.new)) }
+    ensures logged { OnOk result (IsLogged (F.told files.old) (Some (Replay policy.now recording.now)) (E.told err.old) (E.told err.new)) }
     ensures stops { IfErr result (λ stop. StopsBy (F.told files.old) (Some (Replay policy.now recording.now)) stop) }
-    ensures cause { IfErr result (λ stop. CausedBy (Rose (F.faults files.old) (F.faults files.new)) (Rose (O.faults out.old) (O.faults out.new)) stop) }
+    ensures cause { IfErr result (λ stop. CausedBy (Rose (F.faults files.old) (F.faults files.new)) (Rose (O.faults out.old) (O.faults out.new)) (Rose (E.faults err.old) (E.faults err.new)) stop) }
     ensures keeps { IfErr result (λ stop. Keeps (answer_to (F.told files.old) (Some (Replay policy.now recording.now))) (O.told out.old) (O.told out.new) stop) }
+    ensures log { IfErr result (λ stop. KeepsLog (F.told files.old) (Some (Replay policy.now recording.now)) (E.told err.old) (E.told err.new) stop) }
+    ensures count { E.faults err.old ≤ E.faults err.new }
 {
     match load(alloc, files, policy, recording) {
-        Ok(loaded) => match replay(alloc, &loaded.options, &loaded.recording, out) {
+        Ok(loaded) => match replay(alloc, &loaded.options, &loaded.recording, out, err) {
             Ok(()) => Ok(()),
-            Err(ReplayFault::Out) => Err(Stop::Sink),
+            Err(ReplayFault::Out) => Err(Stop::Output),
+            Err(ReplayFault::Err) => Err(Stop::Log),
             Err(ReplayFault::Memory) => Err(Stop::Memory),
         },
         Err(stop) => Err(stop),

@@ -1,0 +1,85 @@
+-- What a run's log may be.
+use Rattle.std.proofs.Common.{◌≡◌, ℕ, true, false, List, [], Option, None, Some, Result, Ok, Err, IfSome, refl, ap, sym, ◌∙◌}
+use Rattle.std.proofs.lemmas.Bool.{true≢false, cond-false}
+use Rattle.link_traits.specs.Told.{added, Part}
+use Rattle.link_traits.proofs.Parts.{part_none}
+use Rattle.policy_args.specs.Words.{PolicyOptions}
+use Rattle.recording.specs.Recording.{Recording}
+use Rattle.replay.specs.Output.{log_of_recording}
+use Rattle.proxy_main.specs.declared.Refusal.{Refusal}
+use Rattle.proxy_main.specs.Words.{Command, Replay}
+use Rattle.proxy_main.specs.Answers.{then_go, then_read, replayed, answer_to, Agrees, log_of, checked_policy, checked_recording, asks_for_log, may_ask_for_log, may_log, IsLog}
+use Rattle.proxy_main.specs.declared.Stop.{Stop}
+use Rattle.proxy_main.specs.declared.Stop.TheVariants as stop
+use Rattle.proxy_main.specs.Loads.{CausedBy, KeepsLog, IsLogged, IsLogFront}
+
+-- options that ask for no log give none
+not_asked : (o : PolicyOptions) (r : Recording) → o.log ≡ false → log_of_recording o r ≡ []
+unfolding log_of_recording
+not_asked o r is = cond-false o.log _ _ is
+
+-- the answer of a replay has a log only where it is asked for
+replay_unasked : (o : PolicyOptions) (recording : Result Recording Refusal) → o.log ≡ false → log_of (then_go recording (replayed o)) ≡ []
+unfolding replayed
+replay_unasked o (Ok r) is = not_asked o r is
+replay_unasked o (Err refusal) is = refl
+
+read_unasked : (o : PolicyOptions) (recording : Option (List ℕ)) → o.log ≡ false → log_of (then_read recording checked_recording (replayed o)) ≡ []
+read_unasked o None is = refl
+read_unasked o (Some bytes) is = replay_unasked o (checked_recording bytes) is
+
+checked_unasked : (policy : Result PolicyOptions Refusal) (recording : Option (List ℕ)) → asks_for_log policy ≡ false →
+    log_of (then_go policy (λ o. then_read recording checked_recording (replayed o))) ≡ []
+checked_unasked (Ok o) recording is = read_unasked o recording is
+checked_unasked (Err refusal) recording is = refl
+
+answer_unasked : (policy recording : Option (List ℕ)) → may_ask_for_log policy ≡ false →
+    log_of (then_read policy checked_policy (λ o. then_read recording checked_recording (replayed o))) ≡ []
+answer_unasked None recording is = refl
+answer_unasked (Some bytes) recording is = checked_unasked (checked_policy bytes) recording is
+
+unasked : (told : List ℕ → Option (List ℕ)) (command : Option Command) → may_log told command ≡ false → log_of (answer_to told command) ≡ []
+unasked told None is = refl
+unasked told (Some (Replay p r)) is = answer_unasked (told p) (told r) is
+
+-- nothing is a front of the log
+pub front_none : (told : List ℕ → Option (List ℕ)) (command : Option Command) (err new_err : Option (List ℕ)) → new_err ≡ err → IsLogFront told command err new_err
+front_none told command err new_err same =
+    (log_of (answer_to told command), record { settled = λ settled. refl; unasked = unasked told command }, part_none _ _ _ same)
+
+-- a run that stops before its work leaves err as it is
+pub log_early : (told : List ℕ → Option (List ℕ)) (command : Option Command) (files : Type 0) (err new_err : Option (List ℕ)) (s : Stop) → CausedBy files ⊥ ⊥ s → new_err ≡ err → KeepsLog told command err new_err s
+log_early told command files err new_err (stop.Refused refusal) cause same = same
+log_early told command files err new_err (stop.File path) cause same = same
+log_early told command files err new_err stop.Output cause same = absurd cause
+log_early told command files err new_err stop.Log cause same = absurd cause
+log_early told command files err new_err stop.Memory cause same = front_none told command err new_err same
+
+-- ---- the log of a recording that was played
+
+asks_where_told : (policy : Option (List ℕ)) (o : PolicyOptions) → IfSome policy (λ bytes. checked_policy bytes ≡ Ok o) → may_ask_for_log policy ≡ false → o.log ≡ false
+asks_where_told None o is none = absurd (true≢false none)
+asks_where_told (Some bytes) o is none = ap asks_for_log (sym is) ∙ none
+
+log_played : (told : List ℕ → Option (List ℕ)) (p r : List ℕ) (o : PolicyOptions) (recording : Recording) → Agrees (answer_to told (Some (Replay p r))) (replayed o recording) →
+    IfSome (told p) (λ bytes. checked_policy bytes ≡ Ok o) → IsLog told (Some (Replay p r)) (log_of_recording o recording)
+unfolding replayed
+log_played told p r o recording agrees is = record {
+  settled = λ settled. sym (ap log_of (agrees settled));
+  unasked = λ none. not_asked o recording (asks_where_told (told p) o is none);
+}
+
+pub logged_of : (told : List ℕ → Option (List ℕ)) (p r : List ℕ) (o : PolicyOptions) (recording : Recording) (err new_err : Option (List ℕ)) → Agrees (answer_to told (Some (Replay p r))) (replayed o recording) →
+    IfSome (told p) (λ bytes. checked_policy bytes ≡ Ok o) → new_err ≡ added (log_of_recording o recording) err → IsLogged told (Some (Replay p r)) err new_err
+logged_of told p r o recording err new_err agrees is got = (log_of_recording o recording, log_played told p r o recording agrees is, got)
+
+pub log_front_of : (told : List ℕ → Option (List ℕ)) (p r : List ℕ) (o : PolicyOptions) (recording : Recording) (err new_err : Option (List ℕ)) → Agrees (answer_to told (Some (Replay p r))) (replayed o recording) →
+    IfSome (told p) (λ bytes. checked_policy bytes ≡ Ok o) → Part err new_err (log_of_recording o recording) → IsLogFront told (Some (Replay p r)) err new_err
+log_front_of told p r o recording err new_err agrees is got = (log_of_recording o recording, log_played told p r o recording agrees is, got)
+
+asked_where_told : (policy : Option (List ℕ)) (o : PolicyOptions) → IfSome policy (λ bytes. checked_policy bytes ≡ Ok o) → o.log ≡ true → may_ask_for_log policy ≡ true
+asked_where_told None o is asked = refl
+asked_where_told (Some bytes) o is asked = ap asks_for_log is ∙ asked
+
+pub may_log_played : (told : List ℕ → Option (List ℕ)) (p r : List ℕ) (o : PolicyOptions) → IfSome (told p) (λ bytes. checked_policy bytes ≡ Ok o) → o.log ≡ true → may_log told (Some (Replay p r)) ≡ true
+may_log_played told p r o is asked = asked_where_told (told p) o is asked
