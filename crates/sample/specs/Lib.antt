@@ -1,0 +1,6 @@
+pub mod Sample
+pub mod Fronts
+pub mod Made
+pub mod Written
+pub mod Summary
+pub mod Playing

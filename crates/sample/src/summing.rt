@@ -1,0 +1,43 @@
+//! The summary of a sample.
+ghost use Rattle.std.specs.Prelude.{◌≡◌, ◌≤◌, IfOk, OnOk, IsErrOf, string_bytes};
+ghost use Rattle.link_traits.specs.Told.{added, Part, Rose};
+ghost use Rattle.replay.specs.Output.{history_of};
+ghost use Rattle.sample.specs.Sample.{sample as sample_of};
+ghost use Rattle.sample.specs.Summary.{sample_options, summary_of};
+
+use crate::generator::MOST_DRAWS;
+use crate::playing::count_sample;
+use crate::writing::SampleFault;
+use link_traits::{Sink, write_all};
+use std::alloc::{AllocError, Global};
+
+/// The line of a sample.
+#[tactic(auto, unfolding(crate::specs::Summary::summary_of))]
+fn summary_line(alloc: Global, n: u32, seed: u64) -> Result<String, AllocError>
+    requires { n ≤ MOST_DRAWS }
+    ensures { IfOk result (λ line. string_bytes line ≡ summary_of sample_options.policy (history_of sample_options (sample_of n seed))) }
+{
+    let counts = count_sample(alloc, n, seed)?;
+    counts.line(alloc)
+}
+
+/// Plays the sample of so many draws behind a seed under its policy, and writes one line: how many messages it has and what
+/// becomes of them, and how many bytes there are for either side. The recording isn't held: a message is made once the one
+/// before it was played. The line is written once all were.
+#[tactic(auto, using(link_traits::proofs::Parts::part_none))]
+pub fn summary<O: Sink>(alloc: Global, n: u32, seed: u64, out: &mut O) -> Result<(), SampleFault>
+    requires { n ≤ MOST_DRAWS }
+
+    // out gets the line: all of it, or a front where out fails, or nothing where memory is refused.
+    ensures ok { OnOk result (O.told out.new ≡ added (summary_of sample_options.policy (history_of sample_options (sample_of n seed))) (O.told out.old)) }
+    ensures part { Part (O.told out.old) (O.told out.new) (summary_of sample_options.policy (history_of sample_options (sample_of n seed))) }
+    ensures memory { IsErrOf result SampleFault.Memory → O.told out.new ≡ O.told out.old }
+
+    // out is named only where it failed.
+    ensures cause { IsErrOf result SampleFault.Out → Rose (O.faults out.old) (O.faults out.new) }
+    ensures count { O.faults out.old ≤ O.faults out.new }
+{
+    let line = summary_line(alloc, n, seed)?;
+    write_all(out, line.as_bytes())?;
+    Ok(())
+}
