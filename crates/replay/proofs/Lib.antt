@@ -2,3 +2,4 @@ pub mod Events
 pub mod Sides
 pub mod Records
 pub mod Logs
+pub mod Explanations

@@ -12,6 +12,7 @@ use Rattle.policy_view.specs.declared.Mode.{Mode}
 use Rattle.proxy_core.specs.Sessions.{SessionView, Holds, nothing}
 use Rattle.recording.specs.Recording.{Recording}
 use Rattle.replay.specs.Output.{mode_of, history_of, log_of_recording, events_of}
+use Rattle.replay.specs.Explained.{noting_as, with_log}
 
 log-append : (a b : List Note) → log 1 (a ++ b) ≡ log 1 a ++ log 1 b
 log-append a b = flat_map-append (log_line 1) a b
@@ -75,3 +76,14 @@ pub asked-is : (options : PolicyOptions) (r : Recording) (v : SessionView) → v
     Holds options.policy v (history options.policy v.mode (events_of r.events)) nothing → 0 < length v.notes → options.log ≡ true
 asked-is options r v mode holds some =
     ap (λ (m : Mode). m.notes) (sym mode) ∙ some-where-asked v.mode.notes (notes options.policy (history options.policy v.mode (events_of r.events))) (subst (λ ns. 0 < length ns) holds.noted some)
+
+-- and its notes are those of the history, where they are asked for
+asked-notes : (asked : Bool) (ns : List Note) → asked ≡ true → (if asked then ns else []) ≡ ns
+asked-notes asked ns is = ap (λ b. if b then ns else []) is
+
+pub noted-is : (options : PolicyOptions) (r : Recording) (v : SessionView) → v.mode ≡ mode_of options r →
+    Holds options.policy v (history options.policy v.mode (events_of r.events)) nothing → options.log ≡ true → v.notes ≡ notes options.policy (history_of (with_log options) r)
+noted-is options r v mode holds asked = holds.noted
+    ∙ ap (λ m. if m.notes then notes options.policy (history options.policy m (events_of r.events)) else []) mode
+    ∙ asked-notes options.log (notes options.policy (history_of options r)) asked
+    ∙ ap (λ asks. notes options.policy (history_of (noting_as asks options) r)) asked

@@ -6,19 +6,23 @@
 //! 18 says why the session ended; each is left out where there is nothing to say.
 //!
 //! Where the policy's words ask for a log, a line for each message of the session is written first,
-//! to a sink of its own.
+//! to a sink of its own. One message alone can be explained: its line, and the entry of the policy
+//! on which its decision rests.
 #![tactic(auto)]
 
+mod explaining;
 mod logging;
 mod playing;
 mod writing;
 
-ghost use Rattle.std.specs.Prelude.{◌≡◌, ◌≤◌, true, OnOk, IsErrOf};
+ghost use Rattle.std.specs.Prelude.{◌≡◌, ◌≤◌, ◌⊎◌, ℕ, true, List, Some, None, OnOk, IsErrOf, IfSome};
 ghost use Rattle.link_traits.specs.Told.{added, Rose, Part};
 ghost use Rattle.policy_args.specs.Seen.{options_seen};
 ghost use Rattle.recording.specs.Seen.{recording_seen, size};
 ghost use Rattle.replay.specs.Output.{output_of_recording, log_of_recording};
+ghost use Rattle.replay.specs.Explained.{explained};
 
+use explaining::{note_of, write_explanation};
 use link_traits::Sink;
 use logging::write_log;
 use playing::play;
@@ -80,10 +84,69 @@ pub fn replay<O: Sink, E: Sink>(
     ensures count { O.faults out.old ≤ O.faults out.new }
     ensures log_count { E.faults err.old ≤ E.faults err.new }
 {
-    let mut session = play(alloc, options, recording)?;
+    let mut session = play(alloc, options, recording, options.log)?;
     write_log(alloc, &mut session, err)?;
     if write_output(&mut session, out).is_err() {
         return Err(ReplayFault::Out);
     }
     Ok(())
+}
+
+/// Why nothing, or not all, was explained.
+#[derive(Clone, Copy, Debug, PartialEq, Eq)]
+pub enum ExplainFault {
+    /// No message of the recording has the number.
+    NoSuchMessage,
+    /// The explanation could not be written.
+    Out,
+    /// Memory was refused; also where the session ended so.
+    Memory,
+}
+
+impl From<AllocError> for ExplainFault {
+    ghost use Rattle.std.specs.Prelude.{◌≡◌};
+    ghost use Rattle.replay.specs.declared.ExplainFault.TheVariants.{Memory};
+
+    ghost from_gives = { λ _ e. e ≡ Memory };
+
+    fn from(_error: AllocError) -> ExplainFault {
+        ExplainFault::Memory
+    }
+}
+
+/// Plays a recording under the policy of the options, and writes what is to be said of its message
+/// of a number to `out`: the line of the message, as a log has it, and the line of the entry on
+/// which its decision rests, where it rests on one. The messages of both sides are counted together,
+/// from 1; the options need not ask for a log.
+#[tactic(auto, using(link_traits::proofs::Parts::part_none))]
+pub fn explain<O: Sink>(
+    alloc: Global,
+    options: &Options,
+    recording: &Recording,
+    number: u64,
+    out: &mut O,
+) -> Result<(), ExplainFault>
+    requires size { size (recording_seen recording.now).events ≤ RECORDING_LIMIT }
+
+    // out gets the explanation: all of it, or a front where out fails.
+    ensures ok { OnOk result ((bytes : List ℕ) × (explained (options_seen options.now) (recording_seen recording.now) number ≡ Some bytes) × (O.told out.new ≡ added bytes (O.told out.old))) }
+    ensures part { IfSome (explained (options_seen options.now) (recording_seen recording.now) number) (λ bytes. Part (O.told out.old) (O.told out.new) bytes) }
+
+    // There is no such message exactly where nothing is explained of the number, unless memory is refused.
+    ensures missing { IsErrOf result ExplainFault.NoSuchMessage → explained (options_seen options.now) (recording_seen recording.now) number ≡ None }
+    ensures none { explained (options_seen options.now) (recording_seen recording.now) number ≡ None → IsErrOf result ExplainFault.NoSuchMessage ⊎ IsErrOf result ExplainFault.Memory }
+
+    // Nothing is written unless there is such a message and both of its lines are made.
+    ensures unwritten { IsErrOf result ExplainFault.NoSuchMessage → O.told out.new ≡ O.told out.old }
+    ensures memory { IsErrOf result ExplainFault.Memory → O.told out.new ≡ O.told out.old }
+
+    // out is named only where it failed.
+    ensures cause { IsErrOf result ExplainFault.Out → Rose (O.faults out.old) (O.faults out.new) }
+    ensures count { O.faults out.old ≤ O.faults out.new }
+{
+    let mut session = play(alloc, options, recording, true)?;
+    match note_of(&mut session, number) {
+        Some(note) => write_explanation(alloc, &options.policy, &note, out),
+        None => Err(ExplainFault::NoSuchMessage),
+    }
 }

@@ -11,7 +11,7 @@ use proxy_core::Session;
 use std::alloc::Global;
 
 /// The number of a recording's session in its log.
-const SESSION: u32 = 1;
+pub const SESSION: u32 = 1;
 
 /// Writes the line of a note.
 #[tactic(auto, using(link_traits::proofs::Parts::part_none))]

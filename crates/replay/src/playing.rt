@@ -4,10 +4,12 @@ ghost use Rattle.explain_log.specs.Lines.{log};
 ghost use Rattle.policy_args.specs.Policy.{Policy as PolicyValue};
 ghost use Rattle.policy_args.specs.Seen.{options_seen};
 ghost use Rattle.policy_view.specs.History.{Event as SessionEvent, Bytes, Finished};
+ghost use Rattle.policy_view.specs.Notes.{notes};
 ghost use Rattle.proxy_core.specs.Sessions.{StandsFor, Taken, nothing, is_memory as ended_for_memory};
 ghost use Rattle.proxy_core.specs.Steps.{IsLight};
 ghost use Rattle.recording.specs.Seen.{recording_seen, seen, size, size_of};
-ghost use Rattle.replay.specs.Output.{event_of, events_of, side_of, output_of_recording, log_of_recording};
+ghost use Rattle.replay.specs.Output.{event_of, events_of, side_of, history_of, output_of_recording, log_of_recording};
+ghost use Rattle.replay.specs.Explained.{noting_as, with_log};
 ghost use Rattle.replay.specs.Waiting.{output_of};
 
 use policy_args::{Options, Policy};
@@ -72,18 +74,25 @@ fn is_memory(ended: Option<End>) -> bool
     }
 }
 
-/// The session of a recording, once all of its events were played. It is refused where memory is, in its midst too.
-pub fn play(alloc: Global, options: &Options, recording: &Recording) -> Result<Session, AllocError>
+/// The session of a recording, once all of its events were played; it makes notes where it is asked to, whatever the options say.
+/// It is refused where memory is, in its midst too.
+pub fn play(
+    alloc: Global,
+    options: &Options,
+    recording: &Recording,
+    noting: bool,
+) -> Result<Session, AllocError>
     requires size { size (recording_seen recording.now).events ≤ RECORDING_LIMIT }
-    ensures output { IfOk result (λ s. output_of s ≡ output_of_recording (options_seen options.now) (recording_seen recording.now)) }
-    ensures log { IfOk result (λ s. log 1 s.notes ≡ log_of_recording (options_seen options.now) (recording_seen recording.now)) }
-    ensures asked { IfOk result (λ s. 0 < length s.notes → options.now.log ≡ true) }
+    ensures output { IfOk result (λ s. output_of s ≡ output_of_recording (noting_as noting (options_seen options.now)) (recording_seen recording.now)) }
+    ensures log { IfOk result (λ s. log 1 s.notes ≡ log_of_recording (noting_as noting (options_seen options.now)) (recording_seen recording.now)) }
+    ensures noted { IfOk result (λ s. noting ≡ true → s.notes ≡ notes options.now.policy (history_of (with_log (options_seen options.now)) (recording_seen recording.now))) }
+    ensures asked { IfOk result (λ s. 0 < length s.notes → noting ≡ true) }
     ensures few { IfOk result (λ s. length s.bus_side + length s.client_side ≤ MOST_BYTES) }
 {
     let mode = Mode {
         auth: recording.auth,
         filter: options.filter,
-        notes: options.log,
+        notes: noting,
     };
     let mut session = Session::new(alloc, &options.policy, mode)?;
     play_events(&mut session, &options.policy, &recording.events);

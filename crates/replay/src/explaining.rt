@@ -1,0 +1,79 @@
+//! Explaining a message of a recording: the line of its note, and that of the entry on which its decision rests.
+ghost use Rattle.std.specs.Prelude.{◌≡◌, ◌≤◌, ◌⊎◌, ◌++◌, [], None, IsSome, OnOk, OnErr, IsErrOf, IfSome, List, ℕ, option_map, string_bytes, unwrap_or};
+ghost use Rattle.link_traits.specs.Told.{added, Rose, Part};
+ghost use Rattle.replay.specs.Explained.{note_at, explanation};
+
+use crate::ExplainFault;
+use crate::logging::SESSION;
+use explain_log::{entry_line, line};
+use link_traits::{Sink, SinkFault, write_all};
+use policy_args::Policy;
+use policy_view::Note;
+use proxy_core::Session;
+use std::alloc::Global;
+
+/// The note of a number, from 1, of those that wait.
+pub fn note_of(session: &mut Session, number: u64) -> Option<Note>
+    ensures { result ≡ note_at session.old.notes number }
+{
+    if number == 0 {
+        return None;
+    }
+    let mut before = number - 1;
+    while before > 0 {
+        if session.next_note().is_none() {
+            return None;
+        }
+        before -= 1;
+    }
+    session.next_note()
+}
+
+/// Writes the explanation of a note. Both lines are made before the first is written.
+#[tactic(auto, using(link_traits::proofs::Parts::part_none))]
+pub fn write_explanation<O: Sink>(
+    alloc: Global,
+    policy: &Policy,
+    note: &Note,
+    out: &mut O,
+) -> Result<(), ExplainFault>
+    ensures ok { OnOk result (O.told out.new ≡ added (explanation policy.now note.now) (O.told out.old)) }
+    ensures part { Part (O.told out.old) (O.told out.new) (explanation policy.now note.now) }
+    ensures memory { IsErrOf result ExplainFault.Memory → O.told out.new ≡ O.told out.old }
+    ensures found { IsErrOf result ExplainFault.NoSuchMessage → ⊥ }
+    ensures cause { IsErrOf result ExplainFault.Out → Rose (O.faults out.old) (O.faults out.new) }
+    ensures count { O.faults out.old ≤ O.faults out.new }
+{
+    let text = line(alloc, SESSION, note)?;
+    let entry = entry_line(alloc, policy, note)?;
+    if write_lines(text, entry, out).is_err() {
+        return Err(ExplainFault::Out);
+    }
+    Ok(())
+}
+
+/// Writes a line, and another behind it where there is one.
+#[tactic(auto, using(link_traits::proofs::Parts::part_first, link_traits::proofs::Parts::part_second, link_traits::proofs::Parts::then_all))]
+fn write_lines<O: Sink>(first: String, second: Option<String>, out: &mut O) -> Result<(), SinkFault>
+    ensures ok { OnOk result (O.told out.new ≡ added (string_bytes first ++ unwrap_or (option_map (λ text. string_bytes text) second) []) (O.told out.old)) }
+    ensures part { Part (O.told out.old) (O.told out.new) (string_bytes first ++ unwrap_or (option_map (λ text. string_bytes text) second) []) }
+    ensures cause { OnErr result (Rose (O.faults out.old) (O.faults out.new)) }
+    ensures count { O.faults out.old ≤ O.faults out.new }
+{
+    write_all(out, first.as_bytes())?;
+    write_second(second, out)
+}
+
+/// Writes a line where there is one.
+#[tactic(auto, using(link_traits::proofs::Parts::part_none))]
+fn write_second<O: Sink>(second: Option<String>, out: &mut O) -> Result<(), SinkFault>
+    ensures ok { OnOk result (O.told out.new ≡ added (unwrap_or (option_map (λ text. string_bytes text) second) []) (O.told out.old)) }
+    ensures part { Part (O.told out.old) (O.told out.new) (unwrap_or (option_map (λ text. string_bytes text) second) []) }
+    ensures cause { OnErr result (Rose (O.faults out.old) (O.faults out.new)) }
+    ensures count { O.faults out.old ≤ O.faults out.new }
+{
+    match second {
+        None => Ok(()),
+        Some(text) => write_all(out, text.as_bytes()),
+    }
+}
