@@ -22,6 +22,28 @@ replay policy - => 1 0 error: usage
 replay missing recording => 4 0 error: file missing
 replay policy missing => 4 0 error: file missing
 replay neither nor => 4 0 error: file neither
+replay policy recording 1 => 1 0 error: usage
+explain policy recording 1 => 9 0 error: no such message
+explain => 1 0 error: usage
+explain policy => 1 0 error: usage
+explain policy recording => 1 0 error: usage
+explain policy recording 1 more => 1 0 error: usage
+explain --policy recording 1 => 1 0 error: usage
+explain policy -recording 1 => 1 0 error: usage
+explain missing recording x => 1 0 error: usage
+explain missing recording 0 => 4 0 error: file missing
+explain policy missing 0 => 4 0 error: file missing
+sample => 1 0 error: usage
+sample 1 => 1 0 error: usage
+sample 1 2 3 => 1 0 error: usage
+sample 100001 1 => 1 0 error: usage
+sample 01 1 => 1 0 error: usage
+sample +1 1 => 1 0 error: usage
+sample x 1 => 1 0 error: usage
+sample 1 01 => 1 0 error: usage
+sample 1 x => 1 0 error: usage
+sample 1 -1 => 1 0 error: usage
+sample 1 18446744073709551616 => 1 0 error: usage
 ";
 
 /// A policy file and a recording, and the status, how many bytes are written, and the line.
@@ -65,7 +87,8 @@ fn told_replay(alloc: Global, policy: &[u8], recording: &[u8]) -> Result<String,
     told(alloc, &ended)
 }
 
-fn told(alloc: Global, ended: &Ended) -> Result<String, AllocError> {
+/// What a run ended with: the status, how many bytes are written, and the line.
+pub fn told(alloc: Global, ended: &Ended) -> Result<String, AllocError> {
     let line = line_of(str::from_utf8(&ended.err.bytes).unwrap_or("no text"));
     format!(in alloc; "{} {} {line}", ended.code, ended.out.bytes.len())
 }

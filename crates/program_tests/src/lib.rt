@@ -2,8 +2,12 @@
 #![tactic(auto)]
 
 #[cfg(test)]
+mod explaining;
+#[cfg(test)]
 mod files;
 #[cfg(test)]
 mod outside;
 #[cfg(test)]
 mod runs;
+#[cfg(test)]
+mod sampling;

@@ -15,7 +15,7 @@ fn output_without_room_is_cut_with_status_6(rt: HostRuntime) -> Result<(), Fail>
 }
 
 /// A recording of a call that wants no reply, and of the client's end.
-const DROPPED: &[u8] = b"DBPR\x01\0\
+pub const DROPPED: &[u8] = b"DBPR\x01\0\
 \0\x50\0\0\0l\x01\x01\x01\0\0\0\0\x0a\0\0\0\x40\0\0\0\
 \x01\x01o\0\x02\0\0\0/x\0\0\0\0\0\0\
 \x02\x01s\0\x07\0\0\0org.h.I\0\
@@ -24,7 +24,7 @@ const DROPPED: &[u8] = b"DBPR\x01\0\
 \x02\0\0\0\0";
 
 /// Its log under a filter that lets nothing be used.
-const LOG: &[u8] =
+pub const LOG: &[u8] =
     b"1 c 1 call serial=10 reply=- from=- dest=org.h.X path=/x iface=org.h.I member=M drop NotVisible 0\n";
 
 /// A replay of it with room for so many bytes of the log.

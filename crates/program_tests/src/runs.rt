@@ -58,9 +58,10 @@ pub fn file(alloc: Global, path: &str, bytes: &[u8]) -> Result<MemFile, AllocErr
     })
 }
 
-/// A replay of a recording under a policy, with room for so many bytes of output.
-pub fn replay(
+/// A run of words over the files `policy` and `recording`, with room for so many bytes of output.
+pub fn run_on(
     alloc: Global,
+    words: &str,
     policy: &[u8],
     recording: &[u8],
     room: usize,
@@ -68,5 +69,15 @@ pub fn replay(
     let mut files = Vec::new(alloc);
     files.push(file(alloc, "policy", policy)?)?;
     files.push(file(alloc, "recording", recording)?)?;
-    run_over(alloc, "replay policy recording", files, room)
+    run_over(alloc, words, files, room)
+}
+
+/// A replay of a recording under a policy, with room for so many bytes of output.
+pub fn replay(
+    alloc: Global,
+    policy: &[u8],
+    recording: &[u8],
+    room: usize,
+) -> Result<Ended, AllocError> {
+    run_on(alloc, "replay policy recording", policy, recording, room)
 }

@@ -9,13 +9,12 @@ use Rattle.recording.specs.declared.BadRecording.{BadRecording}
 use Rattle.recording.specs.declared.TheConstants.{RECORDING_LIMIT}
 use Rattle.recording.specs.Recording.{Recording, recording_of}
 use Rattle.proxy_main.specs.declared.Refusal.{Refusal}
-use Rattle.proxy_main.specs.declared.Refusal.TheVariants.{Usage, PolicyWord, PolicyTooLong, Recording as BadFile}
+use Rattle.proxy_main.specs.declared.Refusal.TheVariants.{PolicyWord, PolicyTooLong, Recording as BadFile}
 use Rattle.proxy_main.specs.declared.TheConstants.{POLICY_LIMIT}
 use Rattle.proxy_main.specs.declared.Stop.{Stop}
 use Rattle.proxy_main.specs.declared.Stop.TheVariants as stop
-use Rattle.proxy_main.specs.Answers.{Answer, Untold, Refused, then_go, then_read, options_in, checked_policy, checked_recording, or_refused, Agrees, IsSettled, without, answer_to}
-use Rattle.proxy_main.specs.Loads.{IsOfFile, IsOfWords, LoadStops, StopsBy}
-use Rattle.proxy_main.specs.Words.{Command, Replay}
+use Rattle.proxy_main.specs.Answers.{Answer, Untold, Refused, then_go, then_read, options_in, checked_policy, checked_recording, or_refused, Agrees, IsSettled, without, then_load}
+use Rattle.proxy_main.specs.Loads.{LoadStops, FilesStop}
 
 -- what was read is what is told
 pub read_told : {A : Type 0} (limit : ℕ) (told : Option (List ℕ)) (items : List ℕ) (check : List ℕ → Result A Refusal) (x : Result A Refusal) →
@@ -68,12 +67,6 @@ agrees-then a b c f g = λ settled. f settled ∙ g (subst IsSettled (f settled)
 without-path : (path : List ℕ) (told : List ℕ → Option (List ℕ)) → without path told path ≡ None
 without-path path told = ap (λ b. cond b None (told path)) (bytes_eq-refl path)
 
-of_words : (refusal : Refusal) (command : Option Command) → IsOfFile refusal → IsOfWords refusal command
-of_words Usage command is = absurd is
-of_words (PolicyWord bad) command is = tt
-of_words PolicyTooLong command is = tt
-of_words (BadFile fault) command is = tt
-
 untold-first : {A : Type 0} (t : Option (List ℕ)) (check : List ℕ → Result A Refusal) (go : A → Answer) → t ≡ None → then_read t check go ≡ Untold
 untold-first t check go e = ap (λ u. then_read u check go) e
 
@@ -84,20 +77,25 @@ untold-second true t check x go is none = refl
 untold-second false None check x go is none = refl
 untold-second false (Some bytes) check x go is none = ap (λ y. then_go y go) is ∙ none x
 
-pub stops_policy : (told : List ℕ → Option (List ℕ)) (p r : List ℕ) (s : Stop) → LoadStops checked_policy (told p) p s → StopsBy told (Some (Replay p r)) s
-stops_policy told p r (stop.Refused refusal) is = (read_err (told p) checked_policy refusal _ is.0, of_words refusal _ is.1)
+pub loaded_both : (told : List ℕ → Option (List ℕ)) (t : Option (List ℕ)) (p r : List ℕ) (o : PolicyOptions) (x : Recording) → IfSome (told p) (λ bytes. checked_policy bytes ≡ Ok o) → t ≡ told r →
+    IfSome t (λ bytes. checked_recording bytes ≡ Ok x) → (work : PolicyOptions → Recording → Answer) → Agrees (then_load told p r work) (work o x)
+loaded_both told t p r o x ok same is work =
+    agrees-then _ _ _ (read_ok (told p) checked_policy o _ ok) (read_ok (told r) checked_recording x (work o) (subst (λ u. IfSome u (λ bytes. checked_recording bytes ≡ Ok x)) same is))
+
+pub stops_policy : (told : List ℕ → Option (List ℕ)) (p r : List ℕ) (s : Stop) → LoadStops checked_policy (told p) p s → FilesStop told p r s
+stops_policy told p r (stop.Refused refusal) is = (λ work. read_err (told p) checked_policy refusal _ is.0, is.1)
 stops_policy told p r (stop.File path) is =
-    subst (λ q. answer_to (without q told) (Some (Replay p r)) ≡ Untold) (sym is) (untold-first _ checked_policy _ (without-path p told))
+    λ work. subst (λ q. then_load (without q told) p r work ≡ Untold) (sym is) (untold-first _ checked_policy _ (without-path p told))
 stops_policy told p r stop.Output is = absurd is
 stops_policy told p r stop.Log is = absurd is
 stops_policy told p r stop.Memory is = tt
 
 pub stops_recording : (told : List ℕ → Option (List ℕ)) (t : Option (List ℕ)) (p r : List ℕ) (o : PolicyOptions) (s : Stop) → IfSome (told p) (λ bytes. checked_policy bytes ≡ Ok o) → t ≡ told r →
-    LoadStops checked_recording t r s → StopsBy told (Some (Replay p r)) s
+    LoadStops checked_recording t r s → FilesStop told p r s
 stops_recording told t p r o (stop.Refused refusal) ok same is =
-    (agrees-then _ _ _ (read_ok (told p) checked_policy o _ ok) (read_err (told r) checked_recording refusal _ (subst (λ u. IfSome u (λ bytes. checked_recording bytes ≡ Err refusal)) same is.0)), of_words refusal _ is.1)
+    (λ work. agrees-then _ _ _ (read_ok (told p) checked_policy o _ ok) (read_err (told r) checked_recording refusal (work o) (subst (λ u. IfSome u (λ bytes. checked_recording bytes ≡ Err refusal)) same is.0)), is.1)
 stops_recording told t p r o (stop.File path) ok same is =
-    subst (λ q. answer_to (without q told) (Some (Replay p r)) ≡ Untold) (sym is)
+    λ work. subst (λ q. then_load (without q told) p r work ≡ Untold) (sym is)
     (untold-second (bytes_eq p r) (told p) checked_policy o _ ok (λ y. untold-first _ checked_recording _ (without-path r told)))
 stops_recording told t p r o stop.Output ok same is = absurd is
 stops_recording told t p r o stop.Log ok same is = absurd is

@@ -1,14 +1,15 @@
 -- What a run's log may be.
-use Rattle.std.proofs.Common.{◌≡◌, ℕ, true, false, List, [], Option, None, Some, Result, Ok, Err, IfSome, refl, ap, sym, ◌∙◌}
+use Rattle.std.proofs.Common.{◌≡◌, ℕ, true, false, List, [], Option, None, Some, Result, Ok, Err, IfSome, IfErr, OnOk, refl, ap, sym, ◌∙◌}
 use Rattle.std.proofs.lemmas.Bool.{true≢false, cond-false}
 use Rattle.link_traits.specs.Told.{added, Part}
-use Rattle.link_traits.proofs.Parts.{part_none}
+use Rattle.link_traits.proofs.Parts.{added-none, part_none}
 use Rattle.policy_args.specs.Words.{PolicyOptions}
 use Rattle.recording.specs.Recording.{Recording}
 use Rattle.replay.specs.Output.{log_of_recording}
+use Rattle.replay.specs.Explained.{explained}
 use Rattle.proxy_main.specs.declared.Refusal.{Refusal}
-use Rattle.proxy_main.specs.Words.{Command, Replay}
-use Rattle.proxy_main.specs.Answers.{then_go, then_read, replayed, answer_to, Agrees, log_of, checked_policy, checked_recording, asks_for_log, may_ask_for_log, may_log, IsLog}
+use Rattle.proxy_main.specs.Words.{Command, Replay, Explain, Sample}
+use Rattle.proxy_main.specs.Answers.{Answer, then_go, then_read, replayed, explaining, answer_to, Agrees, log_of, checked_policy, checked_recording, asks_for_log, may_ask_for_log, may_log, IsLog}
 use Rattle.proxy_main.specs.declared.Stop.{Stop}
 use Rattle.proxy_main.specs.declared.Stop.TheVariants as stop
 use Rattle.proxy_main.specs.Loads.{CausedBy, KeepsLog, IsLogged, IsLogFront}
@@ -38,9 +39,24 @@ answer_unasked : (policy recording : Option (List ℕ)) → may_ask_for_log poli
 answer_unasked None recording is = refl
 answer_unasked (Some bytes) recording is = checked_unasked (checked_policy bytes) recording is
 
+-- what is explained has none
+explaining_none : (o : Option (List ℕ)) → log_of (explaining o) ≡ []
+explaining_none None = refl
+explaining_none (Some bytes) = refl
+
+go_none : {A : Type 0} (x : Result A Refusal) (go : A → Answer) → ((y : A) → log_of (go y) ≡ []) → log_of (then_go x go) ≡ []
+go_none (Ok y) go none = none y
+go_none (Err refusal) go none = refl
+
+read_none : {A : Type 0} (t : Option (List ℕ)) (check : List ℕ → Result A Refusal) (go : A → Answer) → ((y : A) → log_of (go y) ≡ []) → log_of (then_read t check go) ≡ []
+read_none None check go none = refl
+read_none (Some bytes) check go none = go_none (check bytes) go none
+
 unasked : (told : List ℕ → Option (List ℕ)) (command : Option Command) → may_log told command ≡ false → log_of (answer_to told command) ≡ []
 unasked told None is = refl
 unasked told (Some (Replay p r)) is = answer_unasked (told p) (told r) is
+unasked told (Some (Explain p r number)) is = read_none (told p) checked_policy _ (λ o. read_none (told r) checked_recording _ (λ x. explaining_none (explained o x number)))
+unasked told (Some (Sample n seed)) is = refl
 
 -- nothing is a front of the log
 pub front_none : (told : List ℕ → Option (List ℕ)) (command : Option Command) (err new_err : Option (List ℕ)) → new_err ≡ err → IsLogFront told command err new_err
@@ -54,6 +70,29 @@ log_early told command files err new_err (stop.File path) cause same = same
 log_early told command files err new_err stop.Output cause same = absurd cause
 log_early told command files err new_err stop.Log cause same = absurd cause
 log_early told command files err new_err stop.Memory cause same = front_none told command err new_err same
+
+-- ---- a run that may have no log
+
+none_logged : (told : List ℕ → Option (List ℕ)) (command : Option Command) (err new_err : Option (List ℕ)) → may_log told command ≡ false → new_err ≡ err → IsLogged told command err new_err
+none_logged told command err new_err is same = ([], record { settled = λ settled. sym (unasked told command is); unasked = λ none. refl }, same ∙ sym (added-none err))
+
+none_kept : (told : List ℕ → Option (List ℕ)) (command : Option Command) (files out : Type 0) (err new_err : Option (List ℕ)) (s : Stop) → may_log told command ≡ false → CausedBy files out ⊥ s → new_err ≡ err →
+    KeepsLog told command err new_err s
+none_kept told command files out err new_err (stop.Refused refusal) is cause same = same
+none_kept told command files out err new_err (stop.File path) is cause same = same
+none_kept told command files out err new_err stop.Output is cause same = none_logged told command err new_err is same
+none_kept told command files out err new_err stop.Log is cause same = absurd cause
+none_kept told command files out err new_err stop.Memory is cause same = front_none told command err new_err same
+
+pub quiet_done : (result : Result (Unit {0}) Stop) (told : List ℕ → Option (List ℕ)) (command : Option Command) (err : Option (List ℕ)) → may_log told command ≡ false →
+    OnOk result (IsLogged told command err err)
+quiet_done (Ok done) told command err is = none_logged told command err err is refl
+quiet_done (Err stop) told command err is = tt
+
+pub quiet_stop : (result : Result (Unit {0}) Stop) (told : List ℕ → Option (List ℕ)) (command : Option Command) (files out : Type 0) (err new_err : Option (List ℕ)) → may_log told command ≡ false →
+    IfErr result (λ stop. CausedBy files out ⊥ stop) → new_err ≡ err → IfErr result (λ stop. KeepsLog told command err new_err stop)
+quiet_stop (Ok done) told command files out err new_err is cause same = tt
+quiet_stop (Err stop) told command files out err new_err is cause same = none_kept told command files out err new_err stop is cause same
 
 -- ---- the log of a recording that was played
 

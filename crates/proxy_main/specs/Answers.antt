@@ -5,11 +5,14 @@ use Rattle.std.specs.Prelude.{◌≡◌, ℕ, Bool, true, false, nat_lt, List, [
 use Rattle.policy_args.specs.declared.BadWord.{BadWord}
 use Rattle.policy_args.specs.Words.{PolicyOptions, options_of, words_in, ◌>>=◌}
 use Rattle.recording.specs.Recording.{Recording, recording_of}
-use Rattle.replay.specs.Output.{output_of_recording, log_of_recording}
+use Rattle.replay.specs.Output.{output_of_recording, log_of_recording, history_of}
+use Rattle.replay.specs.Explained.{explained}
+use Rattle.sample.specs.Sample.{sample}
+use Rattle.sample.specs.Summary.{sample_options, summary_of}
 use Rattle.proxy_main.specs.declared.Refusal.{Refusal}
-use Rattle.proxy_main.specs.declared.Refusal.TheVariants.{Usage, PolicyWord, PolicyTooLong, Recording as BadFile}
+use Rattle.proxy_main.specs.declared.Refusal.TheVariants.{Usage, PolicyWord, PolicyTooLong, Recording as BadFile, NoSuchMessage}
 use Rattle.proxy_main.specs.declared.TheConstants.{POLICY_LIMIT}
-use Rattle.proxy_main.specs.Words.{Command, Replay, reading}
+use Rattle.proxy_main.specs.Words.{Command, Replay, Explain, Sample, reading}
 
 pub data Answer : Type 0 where
   -- a file is needed of which nothing is told: the answer is not settled
@@ -53,10 +56,27 @@ checked_recording bytes = or_refused BadFile (recording_of bytes)
 unfoldable pub replayed : PolicyOptions → Recording → Answer
 replayed options recording = Wrote (output_of_recording options recording) (log_of_recording options recording)
 
+-- a message of that number is explained, where there is one
+abbrev pub explaining : Option (List ℕ) → Answer
+explaining None = Refused NoSuchMessage
+explaining (Some bytes) = Wrote bytes []
+
+abbrev pub explained_at : ℕ → PolicyOptions → Recording → Answer
+explained_at number options recording = explaining (explained options recording number)
+
+-- the sum of a sample's session
+abbrev pub sampled : ℕ → ℕ → Answer
+sampled n seed = Wrote (summary_of sample_options.policy (history_of sample_options (sample n seed))) []
+
+-- the policy file and then the recording are read and checked, before the work on both
+abbrev pub then_load : (List ℕ → Option (List ℕ)) → List ℕ → List ℕ → (PolicyOptions → Recording → Answer) → Answer
+then_load told policy recording work = then_read (told policy) checked_policy (λ options. then_read (told recording) checked_recording (λ events. work options events))
+
 abbrev pub answer_to : (List ℕ → Option (List ℕ)) → Option Command → Answer
 answer_to told None = Refused Usage
-answer_to told (Some (Replay policy recording)) =
-    then_read (told policy) checked_policy (λ options. then_read (told recording) checked_recording (λ events. replayed options events))
+answer_to told (Some (Replay policy recording)) = then_load told policy recording replayed
+answer_to told (Some (Explain policy recording number)) = then_load told policy recording (explained_at number)
+answer_to told (Some (Sample n seed)) = sampled n seed
 
 abbrev pub answer_of : List (List ℕ) → (List ℕ → Option (List ℕ)) → Answer
 answer_of words told = answer_to told (reading words)
@@ -79,6 +99,7 @@ refusal_code Usage = 1
 refusal_code (PolicyWord bad) = 2
 refusal_code PolicyTooLong = 2
 refusal_code (BadFile fault) = 3
+refusal_code NoSuchMessage = 9
 
 -- the status of an answer
 abbrev pub code_of : Answer → ℕ
@@ -109,10 +130,12 @@ abbrev pub may_ask_for_log : Option (List ℕ) → Bool
 may_ask_for_log None = true
 may_ask_for_log (Some bytes) = asks_for_log (checked_policy bytes)
 
--- whether a run may have a log, as far as the policy file is told
+-- whether a run may have a log, as far as the policy file is told: only a replay may
 abbrev pub may_log : (List ℕ → Option (List ℕ)) → Option Command → Bool
 may_log told None = false
 may_log told (Some (Replay policy recording)) = may_ask_for_log (told policy)
+may_log told (Some (Explain policy recording number)) = false
+may_log told (Some (Sample n seed)) = false
 
 -- a run's log is the answer's where that is settled, and empty where no log may be asked for
 pub record IsLog (told : List ℕ → Option (List ℕ)) (command : Option Command) (log : List ℕ) : Type 0 where

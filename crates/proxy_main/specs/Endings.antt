@@ -7,6 +7,7 @@
 --     4    a file could not be read
 --     6    the output or the log could not be written
 --     8    memory ran out
+--     9    the recording has no message of the number
 --
 -- The log is written before the output. A fault of err while a status's line is said changes no status: err got a front of that
 -- line. Only what is told of the files settles what they hold.

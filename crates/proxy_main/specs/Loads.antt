@@ -1,12 +1,14 @@
 -- What reading the files gives, and why a run stops before its work is done.
-use Rattle.std.specs.Prelude.{◌≡◌, ℕ, true, List, Option, None, Result, Ok, Err, IfSome}
+use Rattle.std.specs.Prelude.{◌≡◌, ℕ, true, List, Option, Some, None, Result, Ok, Err, IfSome}
 use Rattle.link_traits.specs.Told.{added, Part}
 use Rattle.proxy_main.specs.declared.Refusal.{Refusal}
-use Rattle.proxy_main.specs.declared.Refusal.TheVariants.{Usage, PolicyWord, PolicyTooLong, Recording}
+use Rattle.proxy_main.specs.declared.Refusal.TheVariants.{Usage, PolicyWord, PolicyTooLong, Recording, NoSuchMessage}
 use Rattle.proxy_main.specs.declared.Stop.{Stop}
 use Rattle.proxy_main.specs.declared.Stop.TheVariants.{Refused as Refuses, File, Output, Log, Memory}
-use Rattle.proxy_main.specs.Words.{Command}
-use Rattle.proxy_main.specs.Answers.{Answer, Untold, Refused, answer_to, Agrees, without, code_of, out_of, IsSettled, may_log, IsLog}
+use Rattle.proxy_main.specs.Words.{Command, Replay, Explain, Sample}
+use Rattle.policy_args.specs.Words.{PolicyOptions}
+use Rattle.recording.specs.Recording.{Recording as RecordingValue}
+use Rattle.proxy_main.specs.Answers.{Answer, Untold, Refused, then_load, answer_to, Agrees, without, code_of, out_of, IsSettled, may_log, IsLog}
 
 -- ---- one file
 
@@ -16,6 +18,7 @@ IsOfFile Usage = ⊥
 IsOfFile (PolicyWord bad) = Unit {0}
 IsOfFile PolicyTooLong = Unit {0}
 IsOfFile (Recording fault) = Unit {0}
+IsOfFile NoSuchMessage = ⊥
 
 -- the file at the path is why a run stops: its check refuses what is told of it, or it was not read
 abbrev pub LoadStops : {A : Type 0} → (List ℕ → Result A Refusal) → Option (List ℕ) → List ℕ → Stop → Type 0
@@ -30,14 +33,32 @@ abbrev pub Loads : {A X : Type 0} → (X → A) → (List ℕ → Result A Refus
 Loads view check told path (Ok x) = IfSome told (λ bytes. check bytes ≡ Ok (view x))
 Loads view check told path (Err stop) = LoadStops check told path stop
 
+-- ---- both files
+
+-- one of both files is why a run stops, whatever the work on them: what is told settles it so, or the file was not read
+abbrev pub FilesStop : (List ℕ → Option (List ℕ)) → List ℕ → List ℕ → Stop → Type 0
+FilesStop told policy recording (Refuses refusal) = ((work : PolicyOptions → RecordingValue → Answer) → Agrees (then_load told policy recording work) (Refused refusal)) × IsOfFile refusal
+FilesStop told policy recording (File path) = (work : PolicyOptions → RecordingValue → Answer) → then_load (without path.now told) policy recording work ≡ Untold
+FilesStop told policy recording Output = ⊥
+FilesStop told policy recording Log = ⊥
+FilesStop told policy recording Memory = Unit {0}
+
 -- ---- a whole run
 
--- the words are refused only where they name nothing
+-- the words ask for a message of a recording
+abbrev pub IsExplain : Option Command → Type 0
+IsExplain None = ⊥
+IsExplain (Some (Replay policy recording)) = ⊥
+IsExplain (Some (Explain policy recording number)) = Unit {0}
+IsExplain (Some (Sample n seed)) = ⊥
+
+-- the words are refused only where they name nothing, and a message's number only where they ask for a message
 abbrev pub IsOfWords : Refusal → Option Command → Type 0
 IsOfWords Usage command = command ≡ None
 IsOfWords (PolicyWord bad) command = Unit {0}
 IsOfWords PolicyTooLong command = Unit {0}
 IsOfWords (Recording fault) command = Unit {0}
+IsOfWords NoSuchMessage command = IsExplain command
 
 -- why a run stops: what is told settles it so, or a file failed without which nothing is settled, or the work had begun, with a
 -- log where it was that which failed

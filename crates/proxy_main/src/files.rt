@@ -1,13 +1,13 @@
 //! The files that the words name.
-ghost use Rattle.std.specs.Prelude.{◌≡◌, ◌≤◌, ◌<◌, ℕ, List, Some, Ok, Err, IfOk, IfErr, IfSome, length};
+ghost use Rattle.std.specs.Prelude.{◌≡◌, ◌≤◌, ◌<◌, ℕ, List, Ok, Err, IfOk, IfErr, IfSome, length};
 ghost use Rattle.link_traits.specs.Told.{Rose};
 ghost use Rattle.policy_args.specs.Gives.{Gives};
 ghost use Rattle.policy_args.specs.Seen.{options_seen};
-ghost use Rattle.recording.specs.Recording.{recording_of};
+ghost use Rattle.policy_args.specs.Words.{PolicyOptions};
+ghost use Rattle.recording.specs.Recording.{Recording as RecordingValue, recording_of};
 ghost use Rattle.recording.specs.Seen.{recording_seen, size};
-ghost use Rattle.proxy_main.specs.Words.{Replay};
-ghost use Rattle.proxy_main.specs.Answers.{options_in, checked_policy, checked_recording, answer_to, replayed, Agrees};
-ghost use Rattle.proxy_main.specs.Loads.{Loads, StopsBy, CausedBy};
+ghost use Rattle.proxy_main.specs.Answers.{Answer, options_in, checked_policy, checked_recording, then_load, Agrees};
+ghost use Rattle.proxy_main.specs.Loads.{Loads, FilesStop, CausedBy};
 
 use crate::{POLICY_LIMIT, Refusal, Stop};
 use link_traits::{FileFault, Files, read_whole};
@@ -15,7 +15,7 @@ use policy_args::{LineRefusal, Options, read_options, words_of};
 use recording::{BadRecording, RECORDING_LIMIT, Recording, RecordingKind, RecordingRefusal};
 use std::alloc::Global;
 
-/// What a replay works on.
+/// What a replay works on, and what a message is explained of.
 #[derive(Drop)]
 pub struct Loaded {
     pub options: Options,
@@ -29,10 +29,10 @@ pub fn load<'a, F: Files>(
     policy: &'a str,
     recording: &'a str,
 ) -> Result<Loaded, Stop<'a>>
-    ensures loaded { IfOk result (λ x. Agrees (answer_to (F.told files.old) (Some (Replay policy.now recording.now))) (replayed (options_seen x.options) (recording_seen x.recording))) }
+    ensures loaded { IfOk result (λ x. (work : PolicyOptions → RecordingValue → Answer) → Agrees (then_load (F.told files.old) policy.now recording.now work) (work (options_seen x.options) (recording_seen x.recording))) }
     ensures options { IfOk result (λ x. IfSome (F.told files.old policy.now) (λ bytes. checked_policy bytes ≡ Ok (options_seen x.options))) }
     ensures size { IfOk result (λ x. size (recording_seen x.recording).events ≤ RECORDING_LIMIT) }
-    ensures stops { IfErr result (λ stop. StopsBy (F.told files.old) (Some (Replay policy.now recording.now)) stop) }
+    ensures stops { IfErr result (λ stop. FilesStop (F.told files.old) policy.now recording.now stop) }
     ensures cause { IfErr result (λ stop. CausedBy (Rose (F.faults files.old) (F.faults files.new)) ⊥ ⊥ stop) }
     ensures count { F.faults files.old ≤ F.faults files.new }
 {

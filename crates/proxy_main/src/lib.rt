@@ -2,8 +2,10 @@
 //!
 //! `replay POLICY RECORDING` plays a recorded session under a policy, and writes what its sides get
 //! on the standard output. Where the policy asks for a log, that is written first, on the standard
-//! error. A run ends with a status, and with a line on the standard error where the status says that
-//! something is wrong.
+//! error. `explain POLICY RECORDING N` plays it too, and writes what was decided on its message of
+//! number N, and the entry of the policy on which that rests. `sample N SEED` plays a generated
+//! session, and sums it up. A run ends with a status, and with a line on the standard error where
+//! the status says that something is wrong.
 #![tactic(auto)]
 
 mod disk_files;
@@ -39,6 +41,8 @@ pub enum Refusal {
     /// The recording has this first fault, which may be that it has more than
     /// `recording::RECORDING_LIMIT` bytes.
     Recording(BadRecording),
+    /// The recording has no message of the number.
+    NoSuchMessage,
 }
 
 /// Why a run stops before its work is done.
@@ -60,10 +64,10 @@ pub(crate) enum Stop<'a> {
 ///
 /// 0: the whole log and the whole output were written. 1: the words name no command. 2: the policy
 /// file is refused. 3: the recording is refused. 4: a file was not read. 6: the output or the log was
-/// not written. 8: memory ran out.
+/// not written. 8: memory ran out. 9: the recording has no message of the number.
 #[derive(Clone, Copy, Debug, PartialEq, Eq)]
 pub struct Status {
     /// The number that the process ends with.
     pub code: u8,
-    ghost small: { code ≤ 8 },
+    ghost small: { code ≤ 9 },
 }

@@ -19,6 +19,7 @@ pub fn refusal_text(alloc: Global, refusal: Refusal) -> Result<String, AllocErro
         Refusal::PolicyWord(bad) => word_text(alloc, bad.index, name(bad.kind)),
         Refusal::PolicyTooLong => String::from_str(alloc, "error: policy file too long\n"),
         Refusal::Recording(fault) => recording_text(alloc, fault),
+        Refusal::NoSuchMessage => String::from_str(alloc, "error: no such message\n"),
     }
 }
 

@@ -33,6 +33,9 @@ pub fn run<F: Files, O: Sink, E: Sink>(
     ensures policy { IsSettled (answer_of (map (λ w. string_bytes w) words.now) (F.told files.old)) → ExactlyOfFiles result.code 2 (code_of (answer_of (map (λ w. string_bytes w) words.now) (F.told files.old)) ≡ 2) }
     ensures recording { IsSettled (answer_of (map (λ w. string_bytes w) words.now) (F.told files.old)) → ExactlyOfFiles result.code 3 (code_of (answer_of (map (λ w. string_bytes w) words.now) (F.told files.old)) ≡ 3) }
 
+    // 9 comes exactly where the recording has no message of the number.
+    ensures missing { IsSettled (answer_of (map (λ w. string_bytes w) words.now) (F.told files.old)) → ExactlyOfFiles result.code 9 (code_of (answer_of (map (λ w. string_bytes w) words.now) (F.told files.old)) ≡ 9) }
+
     // 4 comes only where the files failed, and 6 only where out did, or where err did and there may
     // be a log.
     ensures file { result.code ≡ 4 → Rose (F.faults files.old) (F.faults files.new) }

@@ -63,12 +63,13 @@ fn tell_memory<E: Sink>(err: &mut E) -> Status
 /// The status of a refusal.
 fn code(refusal: Refusal) -> u8
     ensures code { result ≡ refusal_code refusal }
-    ensures small { result ≤ 8 }
+    ensures small { result ≤ 9 }
 {
     match refusal {
         Refusal::Usage => 1,
         Refusal::PolicyWord(_) => 2,
         Refusal::PolicyTooLong => 2,
         Refusal::Recording(_) => 3,
+        Refusal::NoSuchMessage => 9,
     }
 }

@@ -1,15 +1,16 @@
 //! The work that the words ask for.
-ghost use Rattle.std.specs.Prelude.{◌≡◌, ◌≤◌, Some, map, string_bytes, IfErr, OnOk};
+ghost use Rattle.std.specs.Prelude.{◌≡◌, ◌≤◌, ℕ, List, Option, Some, map, string_bytes, IfErr, OnOk};
 ghost use Rattle.link_traits.specs.Told.{Rose};
-ghost use Rattle.proxy_main.specs.Words.{reading, Replay};
-ghost use Rattle.proxy_main.specs.Answers.{answer_of, answer_to};
+ghost use Rattle.proxy_main.specs.Words.{reading, Replay, Explain, Sample};
+ghost use Rattle.proxy_main.specs.Answers.{answer_of, answer_to, sampled};
 ghost use Rattle.proxy_main.specs.Loads.{StopsBy, CausedBy, Keeps, KeepsLog, IsDone, IsLogged};
 
 use crate::files::load;
-use crate::words::{ReplayWords, read_words};
+use crate::words::{CommandWords, read_words};
 use crate::{Refusal, Stop};
 use link_traits::{Files, Sink};
-use replay::{ReplayFault, replay};
+use replay::{ExplainFault, ReplayFault, explain, replay};
+use sample::{MOST_DRAWS, SampleFault, summary};
 use std::alloc::Global;
 
 /// Reads the words and does what they ask for.
@@ -29,9 +30,17 @@ pub fn work<'a, F: Files, O: Sink, E: Sink>(
     ensures count { E.faults err.old ≤ E.faults err.new }
 {
     match read_words(words) {
-        Some(ReplayWords { policy, recording }) => {
+        Some(CommandWords::Replay { policy, recording }) => {
             work_replay(alloc, policy, recording, files, out, err)
         }
+        Some(
+            CommandWords::Explain {
+                policy,
+                recording,
+                number,
+            },
+        ) => work_explain(alloc, policy, recording, number, files, out),
+        Some(CommandWords::Sample { draws, seed }) => work_sample(alloc, draws, seed, out),
         None => Err(Stop::Refused(Refusal::Usage)),
     }
 }
@@ -61,5 +70,50 @@ fn work_replay<'a, F: Files, O: Sink, E: Sink>(
             Err(ReplayFault::Memory) => Err(Stop::Memory),
         },
         Err(stop) => Err(stop),
+    }
+}
+
+/// Reads the files of a recording and explains one of its messages. It has no log.
+fn work_explain<'a, F: Files, O: Sink>(
+    alloc: Global,
+    policy: &'a str,
+    recording: &'a str,
+    number: u64,
+    files: &mut F,
+    out: &mut O,
+) -> Result<(), Stop<'a>>
+    ensures done { OnOk result (IsDone (answer_to (F.told files.old) (Some (Explain policy.now recording.now number))) (O.told out.old) (O.told out.new)) }
+    ensures stops { IfErr result (λ stop. StopsBy (F.told files.old) (Some (Explain policy.now recording.now number)) stop) }
+    ensures cause { IfErr result (λ stop. CausedBy (Rose (F.faults files.old) (F.faults files.new)) (Rose (O.faults out.old) (O.faults out.new)) ⊥ stop) }
+    ensures keeps { IfErr result (λ stop. Keeps (answer_to (F.told files.old) (Some (Explain policy.now recording.now number))) (O.told out.old) (O.told out.new) stop) }
+{
+    match load(alloc, files, policy, recording) {
+        Ok(loaded) => match explain(alloc, &loaded.options, &loaded.recording, number, out) {
+            Ok(()) => Ok(()),
+            Err(ExplainFault::NoSuchMessage) => Err(Stop::Refused(Refusal::NoSuchMessage)),
+            Err(ExplainFault::Out) => Err(Stop::Output),
+            Err(ExplainFault::Memory) => Err(Stop::Memory),
+        },
+        Err(stop) => Err(stop),
+    }
+}
+
+/// Plays a sample and sums it up. It reads no file, and has no log.
+fn work_sample<'a, O: Sink>(
+    alloc: Global,
+    draws: u32,
+    seed: u64,
+    out: &mut O,
+) -> Result<(), Stop<'a>>
+    requires { draws ≤ MOST_DRAWS }
+    ensures done { OnOk result (IsDone (sampled draws seed) (O.told out.old) (O.told out.new)) }
+    ensures stops { IfErr result (λ stop. (told : List ℕ → Option (List ℕ)) → StopsBy told (Some (Sample draws seed)) stop) }
+    ensures cause { IfErr result (λ stop. CausedBy ⊥ (Rose (O.faults out.old) (O.faults out.new)) ⊥ stop) }
+    ensures keeps { IfErr result (λ stop. Keeps (sampled draws seed) (O.told out.old) (O.told out.new) stop) }
+{
+    match summary(alloc, draws, seed, out) {
+        Ok(()) => Ok(()),
+        Err(SampleFault::Out) => Err(Stop::Output),
+        Err(SampleFault::Memory) => Err(Stop::Memory),
     }
 }
