@@ -1,0 +1,225 @@
+//! The queue: sealed parts in front, and behind them the bytes that were joined last.
+ghost use Rattle.std.specs.Prelude.{◌≡◌, ◌≤◌, ◌<◌, ◌+◌, ◌==◌, ◌++◌, ◌^◌, List, ℕ, [], OnOk, OnErr, IsTrue, All, false, take, drop, length};
+ghost use Rattle.std.specs.List.{concat};
+ghost use Rattle.std.specs.VecDeque.{deque_capacity, deque_len};
+
+use bytes::{Bytes, BytesMut};
+use std::alloc::{AllocError, Global};
+use std::collections::VecDeque;
+use std::marker::Model;
+use std::mem;
+
+/// A piece of at most so many bytes is joined to those before it: copying it costs less than a write of its own.
+const SHORT: usize = 4096;
+
+/// When so many bytes were joined they are sealed, so that what was written of them is freed.
+const LONG: usize = 65_536;
+
+/// A queue without bytes keeps the memory of at most so many.
+const KEPT: usize = 4096;
+
+/// So many bytes are sealed at most, which keeps the number of all bytes below 2^64.
+const MOST_SEALED: u64 = 9_223_372_036_854_775_808;
+
+/// Bytes that wait, from the first on.
+///
+/// ```text
+///   sealed parts                       joined
+/// +----------+-------------+--------+ +-----------+------+
+/// |          |             |        | |           | room |
+/// +----------+-------------+--------+ +-----------+------+
+///   ^ front                                       ^ push
+/// ```
+#[derive(Drop)]
+pub struct OutQueue {
+    parts: VecDeque<Bytes>,
+    /// How many bytes the parts have.
+    sealed: u64,
+    joined: BytesMut,
+    alloc: Global,
+}
+
+impl Model for OutQueue {
+    ghost use Rattle.std.specs.Prelude.{◌≡◌, ◌≤◌, ◌<◌, ◌++◌, ◌^◌, ℕ, List, All, length};
+    ghost use Rattle.std.specs.List.{concat};
+
+    ghost Value = { List ℕ };
+
+    ghost view = { λ q. concat q.parts.items ++ q.joined.items };
+
+    ghost invariant = { λ q. (q.sealed ≡ length (concat q.parts.items)) × (q.sealed ≤ 2 ^ 63) × All (λ part. 0 < length part) q.parts.items };
+}
+
+impl OutQueue {
+    /// A queue without bytes. It takes no memory.
+    pub fn new(alloc: Global) -> OutQueue
+        ensures { result ≡ [] }
+    {
+        OutQueue {
+            parts: VecDeque::new(alloc),
+            sealed: 0,
+            joined: BytesMut::new(alloc),
+            alloc,
+        }
+    }
+
+    /// How many bytes wait.
+    pub fn len(&self) -> u64
+        ensures { result ≡ length self.now }
+    {
+        self.sealed + self.joined.len() as u64
+    }
+
+    /// Whether no bytes wait.
+    pub fn is_empty(&self) -> bool
+        ensures { result ≡ (length self.now == 0) }
+    {
+        self.len() == 0
+    }
+
+    /// The first bytes that wait, as many as lie together: none only where none wait.
+    pub fn front(&self) -> &[u8]
+        ensures front { (rest : List ℕ) × (result.now ++ rest ≡ self.now) }
+        ensures some { length result.now ≡ 0 → self.now ≡ [] }
+    {
+        match self.parts.front() {
+            Some(part) => part.as_slice(),
+            None => self.joined.as_slice(),
+        }
+    }
+
+    /// Puts bytes behind the others. Long ones aren't copied.
+    pub fn push(&mut self, bytes: Bytes) -> Result<(), AllocError>
+        ensures ok { OnOk result (self.new ≡ self.old ++ bytes) }
+        ensures err { OnErr result (self.new ≡ self.old) }
+    {
+        if bytes.len() <= SHORT {
+            return self.push_slice(bytes.as_slice());
+        }
+        let all = self.len();
+        let len = bytes.len() as u64;
+        if all > MOST_SEALED - len || !seal(self.alloc, &mut self.parts, &mut self.joined) {
+            return self.push_slice(bytes.as_slice());
+        }
+        self.parts.push_back_reserved(bytes);
+        self.sealed = all + len;
+        Ok(())
+    }
+
+    /// Puts a copy of bytes behind the others.
+    pub fn push_slice(&mut self, bytes: &[u8]) -> Result<(), AllocError>
+        ensures ok { OnOk result (self.new ≡ self.old ++ bytes.now) }
+        ensures err { OnErr result (self.new ≡ self.old) }
+    {
+        self.seal_long();
+        self.joined.extend_from_slice(bytes)
+    }
+
+    /// Puts a copy of bytes behind the others, with four others in the place of those from a place on.
+    pub fn push_with(
+        &mut self,
+        bytes: &[u8],
+        place: usize,
+        others: [u8; 4],
+    ) -> Result<(), AllocError>
+        requires { place + 4 ≤ length bytes.now }
+        ensures ok { OnOk result (self.new ≡ self.old ++ (take place bytes.now ++ others ++ drop (place + 4) bytes.now)) }
+        ensures err { OnErr result (self.new ≡ self.old) }
+    {
+        self.seal_long();
+        self.joined.reserve(bytes.len())?;
+        let (front, _) = bytes.split_at(place);
+        let (_, rest) = bytes.split_at(place + 4);
+        self.joined.extend_reserved(front);
+        self.joined.extend_reserved(&others);
+        self.joined.extend_reserved(rest);
+        Ok(())
+    }
+
+    /// The first bytes were taken. It takes no memory.
+    pub fn took(&mut self, n: usize)
+        requires { n ≤ length self.old }
+        ensures { self.new ≡ drop n self.old }
+    {
+        let mut left = n;
+        while left > 0 {
+            left -= self.take_front(left);
+        }
+        self.release();
+    }
+
+    /// Takes bytes of the front, at most so many, and answers how many.
+    fn take_front(&mut self, most: usize) -> usize
+        requires some { 0 < most }
+        requires fits { most ≤ length self.old }
+        ensures progress { 0 < result }
+        ensures within { result ≤ most }
+        ensures rest { self.new ≡ drop result self.old }
+    {
+        let Some(mut part) = self.parts.pop_front() else {
+            self.joined.advance(most);
+            return most;
+        };
+        let taken = most.min(part.len());
+        part.advance(taken);
+        if !part.is_empty() {
+            self.parts.push_front_reserved(part);
+        }
+        self.sealed -= taken as u64;
+        taken
+    }
+
+    /// Frees what a queue without bytes doesn't keep.
+    fn release(&mut self)
+        ensures { self.new ≡ self.old }
+    {
+        if !self.is_empty() {
+            return;
+        }
+        self.joined.clear();
+        if self.joined.capacity() > KEPT {
+            self.joined = BytesMut::new(self.alloc);
+        }
+        if self.parts.capacity() > KEPT / 64 {
+            self.parts = VecDeque::new(self.alloc);
+        }
+    }
+
+    /// Seals what was joined where it is long, if memory allows that; else it goes on growing.
+    fn seal_long(&mut self)
+        ensures { self.new ≡ self.old }
+    {
+        if self.joined.len() < LONG {
+            return;
+        }
+        let all = self.len();
+        if all <= MOST_SEALED && seal(self.alloc, &mut self.parts, &mut self.joined) {
+            self.sealed = all;
+        }
+    }
+}
+
+/// Makes a part of what was joined, where it is something, and room for one part more. It answers whether it could.
+fn seal(alloc: Global, parts: &mut VecDeque<Bytes>, joined: &mut BytesMut) -> bool
+    ensures sealed { IsTrue result → (joined.new.items ≡ []) × (concat parts.new.items ≡ concat parts.old.items ++ joined.old.items) }
+    ensures room { IsTrue result → deque_len parts.new < deque_capacity parts.new }
+    ensures some { All (λ part. 0 < length part) parts.old.items → All (λ part. 0 < length part) parts.new.items }
+    ensures kept { result ≡ false → (joined.new.items ≡ joined.old.items) × (parts.new.items ≡ parts.old.items) }
+{
+    if parts.reserve(2).is_err() {
+        return false;
+    }
+    if joined.is_empty() {
+        return true;
+    }
+    match mem::replace(joined, BytesMut::new(alloc)).freeze() {
+        Ok(part) => {
+            parts.push_back_reserved(part);
+            true
+        }
+        Err(refused) => {
+            *joined = refused.value;
+            false
+        }
+    }
+}
