@@ -14,9 +14,8 @@ use dbus_header::{Malformed, decode};
 use std::alloc::{AllocError, Global};
 use std::marker::Model;
 
-/// So many bytes at least are given from one buffer before what is left moves to another: moves are rare, and a
-/// stream that has given a large message doesn't keep its memory.
-const RENEWAL: usize = 65_536;
+/// A stream that waits keeps the memory of at most so many bytes beside those of a message that hasn't come whole.
+const KEPT: usize = 4096;
 
 /// A stream of messages: pieces come in by `push`, and messages are taken by `next`.
 ///
@@ -87,12 +86,20 @@ fn take_message(alloc: Global, bytes: &mut BytesMut, state: State) -> Result<Nex
     Ok(Next::Whole(frame))
 }
 
-/// Moves what is left into a buffer of its own, where more was given from the old one than has to be copied. Where
-/// memory is short the old buffer serves on. It returns how many bytes were given from the buffer that stands now.
+/// Frees the memory of what was given, where that is more than is kept and more than has to be copied. Where memory is
+/// short the old buffer serves on. It returns how many bytes were given from the buffer that stands now.
 fn renew(alloc: Global, bytes: &mut BytesMut, given: usize) -> usize
     ensures { bytes.new.items ≡ bytes.old.items }
 {
-    if given < RENEWAL || given < bytes.len() {
+    if bytes.is_empty() {
+        bytes.clear();
+        if bytes.capacity() > KEPT {
+            *bytes = BytesMut::new(alloc);
+        }
+        return 0;
+    }
+    let beside = given.saturating_add(bytes.capacity() - bytes.len());
+    if beside <= KEPT || given < bytes.len() {
         return given;
     }
     match BytesMut::copy_from_slice(alloc, bytes.as_slice()) {
@@ -166,9 +173,10 @@ impl Framer {
         self.state = state;
         let next = take_message(self.alloc, &mut self.bytes, state)?;
         self.state = state.after(&next);
-        if let Next::Whole(frame) = &next {
-            let given = self.given.saturating_add(frame.len());
-            self.given = renew(self.alloc, &mut self.bytes, given);
+        match &next {
+            Next::Whole(frame) => self.given = self.given.saturating_add(frame.len()),
+            Next::Rest => self.given = renew(self.alloc, &mut self.bytes, self.given),
+            Next::Bad(_) => {}
         }
         Ok(next)
     }
