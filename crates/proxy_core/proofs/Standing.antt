@@ -25,7 +25,7 @@ use Rattle.sasl_watch.proofs.Followed.{client-starts, client-pushed, bus-starts,
 use Rattle.policy_args.specs.Policy.{Policy}
 use Rattle.policy_view.specs.Sent.{Exchange, answered, call_at, nothing_before, owed}
 use Rattle.policy_view.specs.Past.{Item, Line, Msg, Ended, History, past}
-use Rattle.policy_view.specs.History.{Event, Bytes, Finished, longest_stream, whole_stream, stream, lines, content, messages_in, found, fault, taken_of, is_over, brought, end_if, fault_end, new_in, finished, is_built_piece, arrived, followed_by, followed_by_all, history}
+use Rattle.policy_view.specs.History.{Event, Bytes, Finished, Stopped, longest_stream, whole_stream, stream, lines, content, messages_in, found, fault, taken_of, is_over, brought, end_if, fault_end, new_in, finished, is_built_piece, arrived, followed_by, followed_by_all, history}
 use Rattle.policy_view.specs.Notes.{Note, notes, notes_made, numbered}
 use Rattle.policy_view.specs.Laws.{IsPrefixOf}
 use Rattle.policy_view.specs.Outputs.{bus_bytes, client_bytes}
@@ -696,13 +696,15 @@ refused_stands policy expected old new events taken event refused same stands =
       is = append_assoc taken waits (f.rest ++ g.rest) ∙ ap (λ (w : List _). taken ++ w) (sym (append_assoc waits f.rest g.rest) ∙ ap (λ (w : List _). w ++ g.rest) f.is) ∙ sym (append_assoc taken all g.rest) ∙ g.is;
     }
 
--- a side's stream ended
-pub finish_stands : (policy : Policy) (view : SessionView) (events : List Event) (taken : Taken) (side : Side) →
-    view.ended ≡ None → StandsFor policy view events taken → StandsFor policy (ended_by (finished side) view) (Finished side ∷ events) taken
-unfolding history arrived followed_by_all
-finish_stands policy view events taken side runs stands =
-    let h : Holds policy (ended_by (finished side) view) (history policy view.mode (Finished side ∷ events)) taken =
-    end_followed policy view (history policy view.mode events) taken (finished side) runs (stands.holds (ap is_memory runs)) in
+-- an event that only brings an End, of a session that runs
+closed_stands : (policy : Policy) (view : SessionView) (events : List Event) (taken : Taken) (event : Event) (end : End) →
+    arrived view.mode events event ≡ Ended end ∷ [] → view.ended ≡ None → StandsFor policy view events taken →
+    StandsFor policy (ended_by end view) (event ∷ events) taken
+unfolding history followed_by_all
+closed_stands policy view events taken event end brings runs stands =
+    let h : Holds policy (ended_by end view) (history policy view.mode (event ∷ events)) taken =
+    subst (λ (items : List Item). Holds policy (ended_by end view) (followed_by_all policy (history policy view.mode events) items) taken) (sym brings)
+    (end_followed policy view (history policy view.mode events) taken end runs (stands.holds (ap is_memory runs))) in
     record {
       bus_front = record { rest = []; is = append-nil (taken.bus_side ++ view.bus_side) ∙ h.for_bus };
       client_front = record { rest = []; is = append-nil (taken.client_side ++ view.client_side) ∙ h.for_client };
@@ -710,6 +712,36 @@ finish_stands policy view events taken side runs stands =
       holds = λ e. h;
       follows = λ e. cc;
     }
+
+-- and of any session: an earlier End stays
+end_stands : (policy : Policy) (view : SessionView) (events : List Event) (taken : Taken) (event : Event) (end stays : End) →
+    arrived view.mode events event ≡ Ended end ∷ [] → (view.ended ≡ None → stays ≡ end) → ((e : End) → view.ended ≡ Some e → stays ≡ e) →
+    StandsFor policy view events taken → StandsFor policy (ended_by stays view) (event ∷ events) taken
+end_stands policy view events taken event end stays brings first last stands = by view.ended refl
+  where
+    by : (o : Option End) → view.ended ≡ o → StandsFor policy (ended_by stays view) (event ∷ events) taken
+    by None runs =
+        subst (λ (e : End). StandsFor policy (ended_by e view) (event ∷ events) taken) (sym (first runs))
+        (closed_stands policy view events taken event end brings runs stands)
+    by (Some e) was =
+        let same : view ≡ ended_by stays view = ap (λ (o : Option End). record view { ended = o }) (was ∙ ap Some (sym (last e was))) in
+        subst (λ (v : SessionView). StandsFor policy v (event ∷ events) taken) same (ended_stands policy view events taken event e was stands)
+
+-- a side's stream ended
+pub finish_stands : (policy : Policy) (view : SessionView) (events : List Event) (taken : Taken) (side : Side) (stays : End) →
+    (view.ended ≡ None → stays ≡ finished side) → ((e : End) → view.ended ≡ Some e → stays ≡ e) →
+    StandsFor policy view events taken → StandsFor policy (ended_by stays view) (Finished side ∷ events) taken
+unfolding arrived
+finish_stands policy view events taken side stays first last stands =
+    end_stands policy view events taken (Finished side) (finished side) stays refl first last stands
+
+-- the session was stopped
+pub stop_stands : (policy : Policy) (view : SessionView) (events : List Event) (taken : Taken) (end stays : End) →
+    (view.ended ≡ None → stays ≡ end) → ((e : End) → view.ended ≡ Some e → stays ≡ e) →
+    StandsFor policy view events taken → StandsFor policy (ended_by stays view) (Stopped end ∷ events) taken
+unfolding arrived
+stop_stands policy view events taken end stays first last stands =
+    end_stands policy view events taken (Stopped end) end stays refl first last stands
 
 -- ---- a feed
 

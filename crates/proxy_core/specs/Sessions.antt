@@ -109,6 +109,22 @@ is_memory (Some BusConnect) = false
 is_memory (Some LogFault) = false
 is_memory (Some NotBuilt) = false
 
+-- the Ends for which a session is stopped: a link or the log failed, or memory was refused for a connect or for a line
+abbrev pub is_from_outside : End → Bool
+is_from_outside (ClientMalformed fault) = false
+is_from_outside (BusMalformed fault) = false
+is_from_outside ClientEnd = false
+is_from_outside BusEnd = false
+is_from_outside SerialsSpent = false
+is_from_outside Memory = true
+is_from_outside ClientRead = true
+is_from_outside ClientWrite = true
+is_from_outside BusRead = true
+is_from_outside BusWrite = true
+is_from_outside BusConnect = true
+is_from_outside LogFault = true
+is_from_outside NotBuilt = false
+
 -- what was taken and then what waits is what a history gives either side, and the notes are its notes where the session
 -- makes any; and the session's End is the history's
 pub record Holds (policy : Policy) (view : SessionView) (items : History) (taken : Taken) : Type 0 where

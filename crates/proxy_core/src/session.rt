@@ -1,11 +1,12 @@
 //! The session: pieces of either side's stream are taken, line by line and then message by message.
-ghost use Rattle.std.specs.Prelude.{◌≡◌, ◌≤◌, ◌<◌, ◌+◌, ◌^◌, ◌∷◌, ◌++◌, ℕ, List, [], Some, None, IfOk, IfNone, IfSome, OnOk, OnErr, length, take, drop, option_to_list};
-ghost use Rattle.policy_view.specs.History.{Event, Bytes, Finished, finished as finished_by, malformed as malformed_by, longest_stream, most_sent};
+ghost use Rattle.std.specs.Prelude.{◌≡◌, ◌≤◌, ◌<◌, ◌+◌, ◌^◌, ◌∷◌, ◌++◌, ℕ, List, [], Some, None, true, IfOk, IfNone, IfSome, OnOk, OnErr, length, take, drop, option_to_list};
+ghost use Rattle.policy_view.specs.History.{Event, Bytes, Finished, Stopped, finished as finished_by, malformed as malformed_by, longest_stream, most_sent};
 ghost use Rattle.policy_view.specs.Notes.{Note as NoteValue};
 ghost use Rattle.policy_view.specs.declared.End.{End as SessionEnd};
+ghost use Rattle.policy_view.specs.declared.End.TheVariants.{ClientEnd, BusEnd};
 ghost use Rattle.policy_args.specs.Policy.{Policy as PolicyValue};
 ghost use Rattle.proxy_core.specs.Streams.{InMessages, is_in_lines as in_lines, pushed};
-ghost use Rattle.proxy_core.specs.Sessions.{StandsFor, Taken, nothing, at_start, stream_of, answer_of, IsFront};
+ghost use Rattle.proxy_core.specs.Sessions.{StandsFor, Taken, nothing, at_start, stream_of, answer_of, is_from_outside, IsFront};
 ghost use Rattle.proxy_core.specs.Messages.{ended_by};
 ghost use Rattle.proxy_core.specs.Steps.{with_stream, with_left, step_of, drained, with_bytes, with_piece, Took, Stepped, IsLight, weight};
 ghost use Rattle.proxy_core.specs.Seen.{Given};
@@ -17,8 +18,8 @@ mod sending;
 
 use crate::bus_stream::BusStream;
 use crate::client_stream::ClientStream;
-use crate::queue::Queue;
 use dbus_framing::Next;
+use out_queue::OutQueue;
 use own_calls::after_hello_len;
 use policy_args::Policy;
 use policy_view::{End, Fault, Mode, Note, Side};
@@ -39,8 +40,8 @@ pub const MOST_OWN_BYTES: u64 = 60_161_266;
 #[derive(Drop)]
 pub struct Session {
     mode: Mode,
-    to_bus: Queue,
-    to_client: Queue,
+    to_bus: OutQueue,
+    to_client: OutQueue,
     ended: Option<End>,
     client: ClientStream,
     bus: BusStream,
@@ -111,8 +112,8 @@ impl Session {
         let _most = after_hello_len(policy);
         Ok(Session {
             mode,
-            to_bus: Queue::new(alloc),
-            to_client: Queue::new(alloc),
+            to_bus: OutQueue::new(alloc),
+            to_client: OutQueue::new(alloc),
             ended: None,
             client: ClientStream::new(alloc, mode.auth),
             bus: BusStream::new(alloc, mode.auth),
@@ -154,18 +155,32 @@ impl Session {
     pub fn client_ended(&mut self) -> End
         ensures stands { (policy : PolicyValue) (events : List Event) (taken : Taken) → StandsFor policy self.old events taken → StandsFor policy self.new (Finished Side.Client ∷ events) taken }
         ensures answer { self.new ≡ ended_by result self.old }
+        ensures first { self.old.ended ≡ None → result ≡ ClientEnd }
         ensures last { (end : SessionEnd) → self.old.ended ≡ Some end → result ≡ end }
     {
-        self.end_of(Side::Client)
+        self.end_first(End::ClientEnd)
     }
 
     /// The bus's stream ended. Answers the session's End, which is an earlier one where there was one.
     pub fn bus_ended(&mut self) -> End
         ensures stands { (policy : PolicyValue) (events : List Event) (taken : Taken) → StandsFor policy self.old events taken → StandsFor policy self.new (Finished Side.Bus ∷ events) taken }
         ensures answer { self.new ≡ ended_by result self.old }
+        ensures first { self.old.ended ≡ None → result ≡ BusEnd }
         ensures last { (end : SessionEnd) → self.old.ended ≡ Some end → result ≡ end }
     {
-        self.end_of(Side::Bus)
+        self.end_first(End::BusEnd)
+    }
+
+    /// The session is stopped for what happened to its links or to the log. Answers the session's End, which is an earlier one
+    /// where there was one.
+    pub fn stop(&mut self, end: End) -> End
+        requires { is_from_outside end ≡ true }
+        ensures stands { (policy : PolicyValue) (events : List Event) (taken : Taken) → StandsFor policy self.old events taken → StandsFor policy self.new (Stopped end ∷ events) taken }
+        ensures answer { self.new ≡ ended_by result self.old }
+        ensures first { self.old.ended ≡ None → result ≡ end }
+        ensures last { (earlier : SessionEnd) → self.old.ended ≡ Some earlier → result ≡ earlier }
+    {
+        self.end_first(end)
     }
 
     /// Bytes that wait for the bus, from the first on.
@@ -173,7 +188,7 @@ impl Session {
         ensures front { IsFront result.now self.now.bus_side }
         ensures all { length result.now ≡ 0 → self.now.bus_side ≡ [] }
     {
-        self.to_bus.waiting()
+        self.to_bus.front()
     }
 
     /// Bytes that wait for the client, from the first on.
@@ -181,21 +196,21 @@ impl Session {
         ensures front { IsFront result.now self.now.client_side }
         ensures all { length result.now ≡ 0 → self.now.client_side ≡ [] }
     {
-        self.to_client.waiting()
+        self.to_client.front()
     }
 
     /// How many bytes wait for the bus.
     pub fn bus_waits(&self) -> u64
         ensures { result ≡ length self.now.bus_side }
     {
-        self.to_bus.waiting().len() as u64
+        self.to_bus.len()
     }
 
     /// How many bytes wait for the client.
     pub fn client_waits(&self) -> u64
         ensures { result ≡ length self.now.client_side }
     {
-        self.to_client.waiting().len() as u64
+        self.to_client.len()
     }
 
     /// The bus was given the first bytes that waited for it.
@@ -411,16 +426,15 @@ impl Session {
         }
     }
 
-    /// A side's stream ended.
-    fn end_of(&mut self, side: Side) -> End
-        ensures stands { (policy : PolicyValue) (events : List Event) (taken : Taken) → StandsFor policy self.old events taken → StandsFor policy self.new (Finished side ∷ events) taken }
+    /// Ends the session, unless it has ended. Answers its End.
+    fn end_first(&mut self, end: End) -> End
         ensures answer { self.new ≡ ended_by result self.old }
-        ensures last { (end : SessionEnd) → self.old.ended ≡ Some end → result ≡ end }
+        ensures first { self.old.ended ≡ None → result ≡ end }
+        ensures last { (earlier : SessionEnd) → self.old.ended ≡ Some earlier → result ≡ earlier }
     {
         match self.ended {
-            Some(end) => end,
+            Some(earlier) => earlier,
             None => {
-                let end = finished(side);
                 self.end_with(end);
                 end
             }

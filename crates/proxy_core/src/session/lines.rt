@@ -31,7 +31,7 @@ impl Session {
     fn send_nul(&mut self) -> bool
         ensures { Did (record self.old { bus_side = self.old.bus_side ++ 0 ∷ [] }) self.old self.new result }
     {
-        let done = self.to_bus.push(b"\0");
+        let done = self.to_bus.push_slice(b"\0");
         self.goes_on(done)
     }
 
@@ -41,7 +41,7 @@ impl Session {
         ensures err { OnErr result (self.new ≡ self.old) }
     {
         let out = for_bus(self.alloc, line)?;
-        self.to_bus.push(out.as_slice())
+        self.to_bus.push(out)
     }
 
     /// A line of the client goes to the bus.
@@ -70,7 +70,7 @@ impl Session {
     fn show_line(&mut self, line: &Bytes) -> bool
         ensures { Did (record self.old { client_side = self.old.client_side ++ line.now }) self.old self.new result }
     {
-        let done = self.to_client.push(line.as_slice());
+        let done = self.to_client.push_slice(line.as_slice());
         self.goes_on(done)
     }
 

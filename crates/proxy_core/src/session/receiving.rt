@@ -16,6 +16,7 @@ ghost use Rattle.verdicts.specs.Kept.{expected_at};
 
 use super::Session;
 use crate::facts::{is_covered, returned_id, returned_names, unique};
+use crate::queue::{push_cut, push_reply, push_whole};
 use bytes::BytesMut;
 use dbus_header::Message;
 use dbus_values::Texts;
@@ -171,13 +172,23 @@ impl Session {
         ensures err { OnErr result (self.new ≡ self.old) }
     {
         match showing {
-            Showing::Whole => self.to_client.push_whole(message),
-            Showing::Reply(serial) => self.to_client.push_reply(message, serial),
-            Showing::Cut(serial) => self
-                .to_client
-                .push_cut(policy, &self.tracker, message, serial),
+            Showing::Whole => push_whole(&mut self.to_client, message),
+            Showing::Reply(serial) => push_reply(&mut self.to_client, message, serial),
+            Showing::Cut(serial) => push_cut(
+                self.alloc,
+                &mut self.to_client,
+                policy,
+                &self.tracker,
+                message,
+                serial,
+            ),
             Showing::Instead { order, reply, what } => {
-                self.to_client.push(answer_in_place(order, reply, message.serial, what).as_slice())
+                self.to_client.push_slice(answer_in_place(
+                    order,
+                    reply,
+                    message.serial,
+                    what,
+                ).as_slice())
             }
             Showing::Hide(_) => Ok(()),
         }
@@ -198,7 +209,7 @@ impl Session {
             &mut self.serials,
             &mut self.ledger,
         )?;
-        self.to_bus.push(calls.as_slice())
+        self.to_bus.push(calls.freeze()?)
     }
 
     /// The owners of those names of a list are asked for that the policy lets ask for, where serials are left for all.

@@ -11,7 +11,7 @@ ghost use Rattle.policy_view.specs.Notes.{message_in};
 ghost use Rattle.proxy_core.specs.Steps.{TookMessage};
 
 use super::Session;
-use crate::queue::put_message;
+use crate::queue::{push_message, with_serial};
 use crate::requests::{expected, is_hello};
 use bytes::BytesMut;
 use dbus_header::{Instead, Message};
@@ -43,7 +43,7 @@ impl Session {
         ensures err { OnErr result (KeepsSides self.old self.new) }
     {
         self.expect_answer(message, serial)?;
-        self.to_bus.push_message(message, serial)
+        push_message(&mut self.to_bus, message, serial)
     }
 
     /// A ping goes to the bus in the call's place with the serial that was given last, and the client is to be answered
@@ -59,7 +59,7 @@ impl Session {
             what,
         };
         self.ledger.expect(serial, expected)?;
-        self.to_bus.push(&ping(serial))
+        self.to_bus.push_slice(&ping(serial))
     }
 
     /// A reply to a call of the bus is no longer owed.
@@ -114,8 +114,7 @@ impl Session {
             unreachable!()
         };
         self.expect_answer(message, serial)?;
-        let mut calls = BytesMut::new(self.alloc);
-        put_message(&mut calls, message, serial)?;
+        let mut calls = with_serial(self.alloc, message, serial)?;
         after_hello(
             self.alloc,
             &mut calls,
@@ -134,7 +133,7 @@ impl Session {
         ensures err { OnErr result (KeepsSides self.old self.new) }
     {
         let calls = self.greeting(policy, message)?;
-        self.to_bus.push(calls.as_slice())?;
+        self.to_bus.push(calls.freeze()?)?;
         self.greeted = true;
         Ok(())
     }

@@ -10,6 +10,6 @@ returns-clause-ok c =
     let names = map (λ n. n.now) c.args.names.now in
     on_ok c.push.result _ _ (λ is.
     owners_view _ names c.push.new.self c.after_names.new.serials c.after_names.new.ledger
-    (is ∙ ap (λ w. c.self.inside.to_bus ++ w) (c.as_slice.ensures ∙ c.in_ok-after_names.ensures.bytes ∙ ap (λ w. w ++ spelled_from (c.self.inside.serials + 1) (map OwnOwner names)) c.new-calls.ensures.items))
+    (is ∙ ap (λ w. c.self.inside.to_bus ++ w) (c.in_ok-freeze.ensures.ok ∙ c.in_ok-after_names.ensures.bytes ∙ ap (λ w. w ++ spelled_from (c.self.inside.serials + 1) (map OwnOwner names)) c.new-calls.ensures.items))
     c.in_ok-after_names.ensures.serials c.in_ok-after_names.ensures.ledger
     ∙ ap (with_sent (map OwnOwner names)) c.self.view_is) c.push.ensures.ok

@@ -1,0 +1,7 @@
+use Rattle.policy_view.specs.declared.Side.TheVariants.{Bus}
+use Rattle.proxy_core.proofs.Standing.{finish_stands}
+use Rattle.proxy_core.proofs.session.Session.bus_ended.Goals as goal
+
+pub returns-clause-stands : goal.returns-clause-stands
+returns-clause-stands c = λ policy events taken stands.
+    rw c.end_first.ensures.answer (finish_stands policy c.args.self.now events taken Bus c.end_first.result c.end_first.ensures.first c.end_first.ensures.last stands)
