@@ -11,19 +11,23 @@
 #![tactic(auto)]
 
 mod explaining;
+mod listing;
 mod logging;
 mod playing;
 mod writing;
 
-ghost use Rattle.std.specs.Prelude.{◌≡◌, ◌≤◌, ◌⊎◌, ℕ, true, List, Some, None, OnOk, IsErrOf, IfSome};
+ghost use Rattle.std.specs.Prelude.{◌≡◌, ◌≤◌, ◌⊎◌, ℕ, true, List, Some, None, IfOk, OnOk, IsErrOf, IfSome};
 ghost use Rattle.link_traits.specs.Told.{added, Rose, Part};
 ghost use Rattle.policy_args.specs.Seen.{options_seen};
 ghost use Rattle.recording.specs.Seen.{recording_seen, size};
-ghost use Rattle.replay.specs.Output.{output_of_recording, log_of_recording};
-ghost use Rattle.replay.specs.Explained.{explained};
+ghost use Rattle.policy_view.specs.Notes.{notes as notes_of};
+ghost use Rattle.replay.specs.Output.{history_of, output_of_recording, log_of_recording};
+ghost use Rattle.replay.specs.Explained.{explained, with_log};
 
 use explaining::{note_of, write_explanation};
 use link_traits::Sink;
+pub use listing::NoteList;
+use listing::waiting_notes;
 use logging::write_log;
 use playing::play;
 use policy_args::Options;
@@ -86,10 +90,25 @@ pub fn replay<O: Sink, E: Sink>(
 {
     let mut session = play(alloc, options, recording, options.log)?;
     write_log(alloc, &mut session, err)?;
-    if write_output(&mut session, out).is_err() {
-        return Err(ReplayFault::Out);
+    match write_output(&mut session, out) {
+        Ok(()) => Ok(()),
+        Err(_) => Err(ReplayFault::Out),
     }
-    Ok(())
+}
+
+/// What was decided on each message of a recording under the policy of the options, in the order of the messages, whether the
+/// options ask for a log or not. Without the filter there are no messages. Refused where memory is; also where the session
+/// ended so.
+pub fn notes(
+    alloc: Global,
+    options: &Options,
+    recording: &Recording,
+) -> Result<NoteList, AllocError>
+    requires size { size (recording_seen recording.now).events ≤ RECORDING_LIMIT }
+    ensures { IfOk result (λ list. list ≡ notes_of options.now.policy (history_of (with_log (options_seen options.now)) (recording_seen recording.now))) }
+{
+    let mut session = play(alloc, options, recording, true)?;
+    waiting_notes(alloc, &mut session)
 }
 
 /// Why nothing, or not all, was explained.

@@ -55,7 +55,8 @@ pub fn told_note(alloc: Global, note: Option<Note>) -> Result<String, AllocError
     }
 }
 
-fn told_parts(alloc: Global, note: &Note) -> Result<String, AllocError> {
+/// What is told of a note.
+pub fn told_parts(alloc: Global, note: &Note) -> Result<String, AllocError> {
     let (number, side, decision) = (note.number(), note.side(), note.decision());
     let (message, length) = (note.message(), note.frame().len());
     format!(in alloc;

@@ -1,9 +1,10 @@
 //! What a replay writes of a recording.
+use crate::notes::told_parts;
 use crate::texts::options_of;
 use link_traits::MemSink;
 use policy_args::Options;
 use recording::{RecordingRefusal, read};
-use replay::{ReplayFault, replay};
+use replay::{ReplayFault, notes, replay};
 use std::alloc::{AllocError, Global};
 use std::test::Fail;
 use test_tables::{plain, text_of, wrong_row};
@@ -25,6 +26,28 @@ const REPLAYS: &str = "\
 --filter,--log 256 DBPR%01~~@~~~l%01~%01~~~~%04%03%02%01,~~~%01%01o~%01~~~/~~~~~~~%03%01s~%01~~~M~~~~~~~%06%01s~%03~~~a.b~~~~~ => Ok(()) [%10x~~~l%01~%01~~~~%01~~~e~~~%01%01o~%01~~~/~~~~~~~%02%01s~%19~~~org.freedesktop.DBus.Peer~~~~~~~%03%01s~%04~~~Ping~~~~%06%01s~%14~~~org.freedesktop.DBus~~~~] 0 108
 --filter,--log 0 DBPR%01~%02~~~~ => Err(Out) [] 1 0
 ";
+
+/// The words of a policy and the bytes of a recording, and its notes. In each but the last the client calls `a.b`, and the bus
+/// answers.
+const LISTED: &str = "\
+--filter,--talk=a.b DBPR%01~~@~~~l%01~%01~~~~%04%03%02%01,~~~%01%01o~%01~~~/~~~~~~~%03%01s~%01~~~M~~~~~~~%06%01s~%03~~~a.b~~~~~%01(~~~l%02%01%01~~~~%09~~~%18~~~%07%01s~%04~~~:1.7~~~~%05%01u~%01~~~ => 1 Client 1 16909060 64 Judged(Pass); 2 Bus 2 9 40 Shown(Reply(16909060)); \n\
+--talk=a.b DBPR%01~~@~~~l%01~%01~~~~%04%03%02%01,~~~%01%01o~%01~~~/~~~~~~~%03%01s~%01~~~M~~~~~~~%06%01s~%03~~~a.b~~~~~ => \n\
+--filter DBPR%01~%02~~~~ => \n";
+
+fn told_notes(alloc: Global, row: &str) -> Result<String, AllocError> {
+    let (policy, file) = row.split_once(' ').unwrap_or((row, ""));
+    told_notes_under(alloc, &options_of(alloc, policy)?, &plain(alloc, file)?)
+}
+
+fn told_notes_under(alloc: Global, options: &Options, file: &[u8]) -> Result<String, AllocError> {
+    let mut told = String::new(alloc);
+    if let Ok(recording) = read(alloc, file) {
+        for note in notes(alloc, options, &recording)?.as_slice() {
+            told.push_str(&told_parts(alloc, note)?)?;
+        }
+    }
+    Ok(told)
+}
 
 fn told_replay(alloc: Global, row: &str) -> Result<String, AllocError> {
     let (policy, row) = row.split_once(' ').unwrap_or((row, ""));
@@ -69,6 +92,12 @@ fn told_output(
 ) -> Result<String, AllocError> {
     let written = text_of(alloc, &out.bytes)?;
     format!(in alloc; "{answer:?} [{written}] {} {}", out.faults, err.bytes.len())
+}
+
+#[test]
+fn tells_what_was_decided_on_each_message(rt: HostRuntime) -> Result<(), Fail> {
+    assert_eq!(rt; wrong_row(rt.alloc(), LISTED, &told_notes)?, None);
+    Ok(())
 }
 
 #[test]

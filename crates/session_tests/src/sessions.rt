@@ -17,6 +17,9 @@ const SESSIONS: &str = "\
 --filter; client call; bus return => - 120 0; - 120 140; None
 --filter; client_ended; bus_ended; client call => ClientEnd 0 0; ClientEnd 0 0; ClientEnd 0 0; Some(ClientEnd)
 --filter; bus_ended; client_ended => BusEnd 0 0; BusEnd 0 0; Some(BusEnd)
+--filter,--talk=org.a.T; client call; stopped_by_log; client call; stopped_by_memory; bus_ended; took_bus 80 => - 80 0; LogFault 80 0; LogFault 80 0; LogFault 80 0; LogFault 80 0; - 0 0; Some(LogFault)
+--filter; stopped_by_memory; client call => Memory 0 0; Memory 0 0; Some(Memory)
+--filter; client_ended; stopped_by_log => ClientEnd 0 0; ClientEnd 0 0; Some(ClientEnd)
 --filter; client return => - 0 0; None
 --filter,--talk=org.a.T; bytes call; bytes call; bytes call; client ones cut=15 => - 80 0; - 160 0; - 240 0; - 240 0; None
 --filter,--talk=org.a.T; bytes call; client ones cut=15; client ones cut=1 => - 80 0; - 80 0; ClientMalformed(Message(Malformed { kind: ByteOrder, at: 0 })) 80 0; Some(ClientMalformed(Message(Malformed { kind: ByteOrder, at: 0 })))
@@ -167,6 +170,8 @@ fn end_of(
         "bytes" => feed_each(session, policy, bytes).err(),
         "client_ended" => Some(session.client_ended()),
         "bus_ended" => Some(session.bus_ended()),
+        "stopped_by_log" => Some(session.stop(End::LogFault)),
+        "stopped_by_memory" => Some(session.stop(End::Memory)),
         "took_bus" => {
             let count = session.bus_waits().min(count.parse().unwrap_or(0));
             session.took_bus(count as usize);
