@@ -1,12 +1,25 @@
-//! What a program asks of the outside: files that are read whole, and sinks that bytes are written
-//! to. Both are traits, so that what stands above them is the same over a disk and in memory.
+//! What a program asks of the outside: files that are read whole, sinks that bytes are written to, the links of a proxy's
+//! sessions, and gates that jobs pass. All are traits, so that what stands above them is the same over a disk and sockets and
+//! in memory.
 //!
-//! What the outside holds is said by `told`, as far as it is known: what is told in memory is all of
-//! it, and a disk tells nothing. A count of faults says when the outside failed.
+//! What files and sinks hold is said by `told`, as far as it is known: what is told in memory is all of it, and a disk tells
+//! nothing. Of links the journal is told in the same way: what the net's calls answered. Counts of faults say when the outside
+//! failed.
 #![tactic(auto)]
 
+pub mod gates;
+pub mod links;
+pub mod mem_net;
 pub mod memory;
 pub mod outside;
+pub mod scripts;
+pub mod tables;
+mod transcripts;
 
+pub use gates::{Gate, OpenGate};
+pub use links::{Accepted, Call, Count, Got, Link, Net, NetFault, Ready, Side, Took, Wishes};
+pub use mem_net::MemNet;
 pub use memory::{MemFile, MemFiles, MemSink};
 pub use outside::{FileFault, Files, Sink, SinkFault, read_whole, write_all};
+pub use scripts::{Exception, Script};
+pub use tables::LinkTable;

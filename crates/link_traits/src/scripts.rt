@@ -1,0 +1,394 @@
+//! What happens at a net in memory.
+//!
+//! A script has steps, in the order in which they happen: clients arrive, bytes come, links end. Beside them stands what goes
+//! otherwise: the first, the second or a later call of a kind fails, is refused memory or isn't ready, and a link takes no more
+//! than so many bytes, in each write or in all.
+ghost use Rattle.std.specs.Prelude.{◌≡◌, ◌≢◌, ◌≤◌, ◌<◌, ◌+◌, ◌++◌, ◌∷◌, ◌↔◌, [], ℕ, false, length, IfSome, IfNone, Contains, IsTrue, OnOk, OnErr};
+ghost use Rattle.link_traits.specs.Scripts.{IsWished, hint_of, comes_on as is_of, is_end, ends_next, step_of};
+
+use crate::links::{Link, Ready};
+use crate::tables::{LinkTable, is_same};
+use std::alloc::{AllocError, Global};
+
+/// A call that answers otherwise than by the steps, told by its place among the calls of its kind on the net, from 1.
+///
+/// A call that fails or is refused memory takes and gives nothing, and is done. One that isn't ready leaves what there is to a
+/// later call, for which it is named again.
+#[derive(Clone, Copy, Debug, PartialEq, Eq)]
+pub enum Exception {
+    ListenFails(u64),
+    ListenRefused(u64),
+    WaitFails(u64),
+    AcceptFails(u64),
+    AcceptRefused(u64),
+    AcceptNotReady(u64),
+    ConnectFails(u64),
+    ConnectRefused(u64),
+    ReadFails(u64),
+    ReadNotReady(u64),
+    WriteFails(u64),
+    WriteNotReady(u64),
+}
+
+/// What happens.
+#[derive(Clone, Copy)]
+enum Event {
+    /// A client arrives at a listener.
+    Arrival(u32),
+    /// The bytes of the script between two places come on a link.
+    Piece(Link, usize, usize),
+    /// A link ends.
+    End(Link),
+    /// A link that wasn't ready to be written is.
+    Room(Link),
+    /// Nothing more: it was taken.
+    Over,
+}
+
+/// An event, and whether a wait named it. It is named again where a call left some of it.
+#[derive(Clone, Copy)]
+struct Step {
+    event: Event,
+    named: bool,
+}
+
+/// A link that takes at most so many bytes a write.
+#[derive(Clone, Copy)]
+struct Pace {
+    link: Link,
+    most: usize,
+}
+
+/// A link that takes so many bytes more, and then fails.
+#[derive(Clone, Copy)]
+struct Limit {
+    link: Link,
+    left: usize,
+}
+
+/// What comes of a link.
+#[derive(Clone, Copy)]
+pub enum Coming {
+    Bytes(usize),
+    End,
+    Nothing,
+}
+
+/// What happens at a net in memory. It is made step by step, and then given to the net.
+#[derive(Drop)]
+pub struct Script {
+    bytes: Vec<u8>,
+    steps: Vec<Step>,
+    exceptions: Vec<Exception>,
+    paces: Vec<Pace>,
+    limits: Vec<Limit>,
+}
+
+impl Script {
+    /// Nothing happens, and nothing goes otherwise.
+    pub fn new(alloc: Global) -> Script {
+        Script {
+            bytes: Vec::new(alloc),
+            steps: Vec::new(alloc),
+            exceptions: Vec::new(alloc),
+            paces: Vec::new(alloc),
+            limits: Vec::new(alloc),
+        }
+    }
+
+    fn add(&mut self, event: Event) -> Result<(), AllocError>
+        ensures ok { OnOk result (self.new.steps.items ≡ self.old.steps.items ++ step_of event ∷ []) }
+        ensures err { OnErr result (self.new.steps.items ≡ self.old.steps.items) }
+        ensures bytes { self.new.bytes.items ≡ self.old.bytes.items }
+    {
+        self.steps.push(Step {
+            event,
+            named: false,
+        })?;
+        Ok(())
+    }
+
+    /// Then a client arrives at a listener.
+    pub fn arrival(&mut self, listener: u32) -> Result<(), AllocError>
+        ensures ok { OnOk result (self.new.steps.items ≡ self.old.steps.items ++ step_of (Event.Arrival listener) ∷ []) }
+        ensures err { OnErr result (self.new.steps.items ≡ self.old.steps.items) }
+    {
+        self.add(Event::Arrival(listener))
+    }
+
+    /// Then a piece comes on a link. Each piece is read by itself. One without bytes is none.
+    pub fn piece(&mut self, link: Link, bytes: &[u8]) -> Result<(), AllocError>
+        ensures ok { OnOk result (self.new.bytes.items ≡ self.old.bytes.items ++ bytes.now) }
+        ensures err { OnErr result (self.new.steps.items ≡ self.old.steps.items) }
+    {
+        if bytes.is_empty() {
+            return Ok(());
+        }
+        let from = self.bytes.len();
+        self.bytes.extend_from_slice(bytes)?;
+        let end = self.bytes.len();
+        self.add(Event::Piece(link, from, end))
+    }
+
+    /// Then a link ends.
+    pub fn end(&mut self, link: Link) -> Result<(), AllocError>
+        ensures ok { OnOk result (self.new.steps.items ≡ self.old.steps.items ++ step_of (Event.End link) ∷ []) }
+        ensures err { OnErr result (self.new.steps.items ≡ self.old.steps.items) }
+    {
+        self.add(Event::End(link))
+    }
+
+    /// A call answers otherwise.
+    pub fn except(&mut self, exception: Exception) -> Result<(), AllocError>
+        ensures ok { OnOk result (self.new.exceptions.items ≡ self.old.exceptions.items ++ exception ∷ []) }
+        ensures err { OnErr result (self.new.exceptions.items ≡ self.old.exceptions.items) }
+    {
+        self.exceptions.push(exception)?;
+        Ok(())
+    }
+
+    /// A link takes at most so many bytes a write. One that takes none is never ready to be written.
+    pub fn pace(&mut self, link: Link, most: usize) -> Result<(), AllocError> {
+        self.paces.push(Pace { link, most })?;
+        Ok(())
+    }
+
+    /// A link takes so many bytes in all, and then each write of it fails.
+    pub fn limit(&mut self, link: Link, bytes: usize) -> Result<(), AllocError> {
+        self.limits.push(Limit { link, left: bytes })?;
+        Ok(())
+    }
+
+    /// Takes the memory for what is added while it runs: a step for each exception.
+    pub(crate) fn reserve(&mut self) -> Result<(), AllocError> {
+        self.steps.reserve(self.exceptions.len())
+    }
+
+    /// Whether a call answers otherwise.
+    pub(crate) fn has(&self, exception: Exception) -> bool
+        ensures { IsTrue result ↔ Contains self.now.exceptions.items exception }
+    {
+        for other in &self.exceptions {
+            if *other == exception {
+                return true;
+            }
+        }
+        false
+    }
+
+    /// How many bytes a link takes a write.
+    fn pace_of(&self, link: Link) -> usize {
+        for pace in &self.paces {
+            if is_same(pace.link, link) {
+                return pace.most;
+            }
+        }
+        usize::MAX
+    }
+
+    /// How many bytes the next write may take on a link, or `None` where it is to fail.
+    pub(crate) fn room_of(&self, link: Link) -> Option<usize> {
+        let most = self.pace_of(link);
+        for limit in &self.limits {
+            if is_same(limit.link, link) {
+                return if limit.left == 0 {
+                    None
+                } else {
+                    Some(most.min(limit.left))
+                };
+            }
+        }
+        Some(most)
+    }
+
+    /// A write on a link took so many bytes.
+    pub(crate) fn took(&mut self, link: Link, bytes: usize) {
+        for place in 0..self.limits.len() {
+            let limit = self.limits[place];
+            if is_same(limit.link, link) {
+                let left = limit.left.saturating_sub(bytes);
+                self.limits[place] = Limit { link, left };
+            }
+        }
+    }
+
+    /// A link that wasn't ready to be written is ready again, once all else was named. It takes no memory where `reserve` took it.
+    pub(crate) fn again(&mut self, link: Link) {
+        let _ = self.steps.push(Step {
+            event: Event::Room(link),
+            named: false,
+        });
+    }
+
+    /// What is named next: the first that wasn't named yet, and for which there is a wish.
+    pub(crate) fn next(&mut self, table: &LinkTable) -> Option<Ready>
+        ensures { IfSome result (IsWished table.now) }
+    {
+        for place in 0..self.steps.len() {
+            let step = self.steps[place];
+            if !step.named && is_wished(table, step.event) {
+                self.steps[place].named = true;
+                return hint(step.event);
+            }
+        }
+        None
+    }
+
+    /// The place of the first client that arrived at a listener and wasn't taken.
+    fn arrival_at(&self, listener: u32) -> Option<usize>
+        ensures { IfSome result (λ place. place < length self.now.steps.items) }
+    {
+        for place in 0..self.steps.len() {
+            if let Event::Arrival(at) = self.steps[place].event
+                && at == listener
+            {
+                return Some(place);
+            }
+        }
+        None
+    }
+
+    /// Takes a client that arrived at a listener, and answers whether there was one.
+    pub(crate) fn take_arrival(&mut self, listener: u32) -> bool {
+        match self.arrival_at(listener) {
+            Some(place) => {
+                self.steps[place].event = Event::Over;
+                true
+            }
+            None => false,
+        }
+    }
+
+    /// The first arrival at a listener is named again.
+    pub(crate) fn name_arrival_again(&mut self, listener: u32) {
+        if let Some(place) = self.arrival_at(listener) {
+            self.steps[place].named = false;
+        }
+    }
+
+    /// What comes next on a link, and its place.
+    fn next_on(&self, link: Link) -> Option<(usize, Event)>
+        ensures some { IfSome result (λ next. (next.0 < length self.now.steps.items) × (is_end next.1 ≡ ends_next link self.now.steps.items)) }
+        ensures none { IfNone result (ends_next link self.now.steps.items ≡ false) }
+    {
+        let mut place = 0;
+        let mut rest = self.steps.as_slice();
+        while let [step, after @ ..] = rest {
+            if comes_on(step.event, link) {
+                return Some((place, step.event));
+            }
+            place += 1;
+            rest = after;
+        }
+        None
+    }
+
+    /// What comes next on a link is named again.
+    pub(crate) fn name_again(&mut self, link: Link) {
+        if let Some((place, _)) = self.next_on(link) {
+            self.steps[place].named = false;
+        }
+    }
+
+    /// Reads the front of what comes next on a link, at most so many bytes of a piece. The end of a link stays next.
+    pub(crate) fn read(&mut self, link: Link, into: &mut [u8], most: usize) -> Coming
+        ensures end { (result ≡ Coming.End) ↔ IsTrue (ends_next link self.old.steps.items) }
+        ensures within { (n : ℕ) → result ≡ Coming.Bytes n → n ≤ length into.new }
+        ensures room { (n : ℕ) → result ≡ Coming.Bytes n → n ≤ most }
+        ensures progress { (n : ℕ) → result ≡ Coming.Bytes n → 0 < length into.new → 0 < most → 0 < n }
+    {
+        match self.next_on(link) {
+            Some((place, Event::Piece(at, from, end))) => {
+                self.read_piece(place, at, from, end, into, most)
+            }
+            Some((_, Event::End(_))) => Coming::End,
+            Some((_, Event::Arrival(_) | Event::Room(_) | Event::Over)) => Coming::Nothing,
+            None => Coming::Nothing,
+        }
+    }
+
+    /// Reads the front of the bytes between two places, which come at a step, and leaves the rest to it.
+    fn read_piece(
+        &mut self,
+        place: usize,
+        link: Link,
+        from: usize,
+        end: usize,
+        into: &mut [u8],
+        most: usize,
+    ) -> Coming
+        requires { place < length self.old.steps.items }
+        ensures end { result ≢ Coming.End }
+        ensures within { (n : ℕ) → result ≡ Coming.Bytes n → n ≤ length into.new }
+        ensures room { (n : ℕ) → result ≡ Coming.Bytes n → n ≤ most }
+        ensures progress { (n : ℕ) → result ≡ Coming.Bytes n → 0 < length into.new → 0 < most → 0 < n }
+    {
+        let Some(piece) = self.bytes.get(from..end) else {
+            return Coming::Nothing;
+        };
+        if piece.is_empty() {
+            return Coming::Nothing;
+        }
+        let n = piece.len().min(into.len()).min(most);
+        into[..n].copy_from_slice(&piece[..n]);
+        self.steps[place] = rest_of(link, from + n, end);
+        Coming::Bytes(n)
+    }
+}
+
+/// Whether an event is bytes or the end of a link.
+fn comes_on(event: Event, link: Link) -> bool
+    ensures { result ≡ is_of event link }
+{
+    match event {
+        Event::Piece(at, _, _) => is_same(at, link),
+        Event::End(at) => is_same(at, link),
+        Event::Arrival(_) => false,
+        Event::Room(_) => false,
+        Event::Over => false,
+    }
+}
+
+/// The step for what is left of a piece.
+fn rest_of(link: Link, from: usize, end: usize) -> Step {
+    let event = if from < end {
+        Event::Piece(link, from, end)
+    } else {
+        Event::Over
+    };
+    Step {
+        event,
+        named: false,
+    }
+}
+
+/// Whether there is a listener, or a link with the wish, that an event may be named for.
+fn is_wished(table: &LinkTable, event: Event) -> bool
+    ensures { IsTrue result → IfSome (hint_of event) (IsWished table.now) }
+{
+    match event {
+        Event::Arrival(listener) => (listener as usize) < table.listeners.len(),
+        Event::Piece(link, _, _) | Event::End(link) => match table.wishes(link) {
+            Some(wishes) => wishes.read,
+            None => false,
+        },
+        Event::Room(link) => match table.wishes(link) {
+            Some(wishes) => wishes.write,
+            None => false,
+        },
+        Event::Over => false,
+    }
+}
+
+/// What is named for an event.
+fn hint(event: Event) -> Option<Ready>
+    ensures { result ≡ hint_of event }
+{
+    match event {
+        Event::Arrival(listener) => Some(Ready::Listener(listener)),
+        Event::Piece(link, _, _) => Some(Ready::Link(link)),
+        Event::End(link) => Some(Ready::Link(link)),
+        Event::Room(link) => Some(Ready::Link(link)),
+        Event::Over => None,
+    }
+}

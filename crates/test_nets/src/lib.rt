@@ -1,0 +1,6 @@
+//! For tests: nets in memory that are made of texts.
+#![tactic(auto)]
+
+mod scripted;
+
+pub use scripted::{link_of, name_of, net_of};
