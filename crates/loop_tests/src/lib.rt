@@ -1,0 +1,7 @@
+//! Tests of the server of a proxy line, over a net in memory.
+#![tactic(auto)]
+
+#[cfg(test)]
+mod served;
+#[cfg(test)]
+mod servers;

@@ -1,0 +1,236 @@
+-- A session that was served stands for the journal with what its turn added, and its log is exact.
+use Rattle.std.proofs.Common.{ℕ, ◌≡◌, ◌⊎◌, inl, inr, Bool, true, false, ◌||◌, is_some, List, [], ◌∷◌, ◌++◌, Option, Some, None, if◌then◌else◌, refl, ap, ap₂, ◌∙◌, sym, subst, append-nil, append_assoc}
+use Rattle.explain_log.specs.Lines.{log}
+use Rattle.link_traits.specs.Journals.{Journal, written}
+use Rattle.link_traits.specs.Views.{NetView}
+use Rattle.link_traits.specs.Answers.{client_link, bus_link}
+use Rattle.link_traits.specs.declared.links.Side.{Side}
+use Rattle.link_traits.specs.declared.links.Link.{Link}
+use Rattle.policy_args.specs.Policy.{Policy}
+use Rattle.policy_view.specs.declared.End.{End}
+use Rattle.policy_view.specs.declared.Mode.{Mode}
+use Rattle.policy_view.specs.History.{Event, Stopped, history}
+use Rattle.policy_view.specs.Notes.{Note, notes, notes_made}
+use Rattle.proxy_core.specs.Sessions.{SessionView, Taken, StandsFor, IsFront, is_memory}
+use Rattle.proxy_loop.specs.declared.serving.Running.{Running}
+use Rattle.proxy_loop.specs.Sinks.{SinkView}
+use Rattle.proxy_loop.specs.Sessions.{Holds, IsWithStop, events_of, taken_of}
+use Rattle.proxy_loop.specs.Works.{Moves, more_taken}
+use Rattle.proxy_loop.specs.Logging.{stop_events}
+use Rattle.proxy_loop.specs.Runs.{ReadsAndLogs, Logged, ServedStands, log_of}
+use Rattle.proxy_loop.proofs.Holding.{wrote_append, events_append}
+use Rattle.proxy_loop.proofs.Stopping.{AllStops, stops_append, both_stop}
+use Rattle.proxy_loop.proofs.Logged.{log-append}
+use Rattle.proxy_loop.proofs.Prefixes.{taken_front, stops_given, notes_ended}
+
+pub still_some : (old new : Option End) → ((end : End) → old ≡ Some end → new ≡ Some end) → is_some old ≡ true → is_some new ≡ true
+still_some None new h e = cc
+still_some (Some end) new h e = ap (λ (o : Option End). is_some o) (h end refl)
+
+pub still_none : (old new : Option End) → ((end : End) → old ≡ Some end → new ≡ Some end) → new ≡ None → old ≡ None
+still_none None new h e = refl
+still_none (Some end) new h e = let s : new ≡ Some end = h end refl in cc
+
+with_stop_grow : (put : Bool) (more events told : List Event) → (put ≡ true → AllStops more) → IsWithStop put events told → IsWithStop put (more ++ events) (more ++ told)
+with_stop_grow false more events told stops e = ap (λ (l : List Event). more ++ l) e
+with_stop_grow true more events told stops s = (
+  more ++ s.0,
+  s.1,
+  s.2,
+  ap (λ (l : List Event). more ++ l) s.3 ∙ sym (append_assoc more s.0 s.1),
+  ap (λ (l : List Event). more ++ l) s.4 ∙ sym (append_assoc more s.0 (Stopped s.2 ∷ s.1)),
+  stops_append more s.0 (stops refl) s.5,
+)
+
+-- a session that goes by some entries stands for the journal with them
+pub holds_moved : (policy : Policy) (n : ℕ) (old new : SessionView) (added was : Journal) → Moves policy n old new added →
+    ((end : End) → old.ended ≡ Some end → new.ended ≡ Some end) → (is_some old.ended ≡ true → AllStops (events_of n added)) → Holds policy n old was → Holds policy n new (added ++ was)
+holds_moved policy n old new added was moves kept stops h = record {
+  put = h.put;
+  events = events_of n added ++ h.events;
+  notes = h.notes;
+  told = subst (λ (l : List Event). IsWithStop h.put (events_of n added ++ h.events) l) (sym (events_append n added was))
+      (with_stop_grow h.put (events_of n added) h.events (events_of n was) (λ e. stops (h.over e)) h.told);
+  over = λ e. still_some old.ended new.ended kept (h.over e);
+  stands = subst (λ (t : Taken). StandsFor policy new (events_of n added ++ h.events) t)
+      (ap₂ (λ (x y : List ℕ). record { bus_side = x; client_side = y; notes = h.notes }) (sym (wrote_append (bus_link n) added was)) (sym (wrote_append (client_link n) added was)))
+      (moves.each h.events (taken_of n h.notes was) h.stands);
+}
+
+not_put : (put : Bool) (ended : Option End) → (put ≡ true → is_some ended ≡ true) → ended ≡ None → put ≡ false
+not_put false ended h e = refl
+not_put true ended h e = let t : is_some ended ≡ true = h refl in let f : is_some ended ≡ false = ap (λ (o : Option End). is_some o) e in cc
+
+not_idle : (idle : Bool) (stop : Option End) (end : End) → (idle ≡ true → stop ≡ None) → stop ≡ Some end → idle ≡ false
+not_idle false stop end h e = refl
+not_idle true stop end h e = let n : stop ≡ None = h refl in cc
+
+runs_by : (ended : Option End) (full : Bool) → is_some ended || full ≡ false → ended ≡ None
+runs_by None full e = refl
+runs_by (Some end) full e = cc
+
+pub idle_by : (ended : Option End) (full : Bool) → is_some ended ≡ true → is_some ended || full ≡ true
+idle_by None full e = cc
+idle_by (Some end) full e = refl
+
+no_stop_in : (put : Bool) (events told : List Event) → put ≡ false → IsWithStop put events told → events ≡ told
+no_stop_in false events told e s = s
+no_stop_in true events told e s = cc
+
+made_all : (mode : Mode) (policy : Policy) (events : List Event) → mode.notes ≡ true → notes_made mode policy (history policy mode events) ≡ notes policy (history policy mode events)
+made_all mode policy events e = ap (λ (b : Bool). if b then notes policy (history policy mode events) else []) e
+
+-- all notes of a session that runs, where none is left
+exact_notes : (policy : Policy) (n : ℕ) (session : SessionView) (journal : Journal) (h : Holds policy n session journal) →
+    session.ended ≡ None → session.mode.notes ≡ true → session.notes ≡ [] → notes policy (history policy session.mode (events_of n journal)) ≡ h.notes
+exact_notes policy n session journal h e k none =
+    let same : h.events ≡ events_of n journal = no_stop_in h.put h.events (events_of n journal) (not_put h.put session.ended h.over e) h.told in
+    let items : h.notes ++ session.notes ≡ notes_made session.mode policy (history policy session.mode h.events) = (h.stands.holds (ap is_memory e)).noted in
+    let plain : h.notes ++ [] ≡ notes policy (history policy session.mode h.events) =
+    ap (λ (l : List Note). h.notes ++ l) (sym none) ∙ items ∙ made_all session.mode policy h.events k in
+    ap (λ (es : List Event). notes policy (history policy session.mode es)) (sym same) ∙ sym plain ∙ append-nil h.notes
+
+-- what was taken is the beginning of all notes
+first_notes : (policy : Policy) (n : ℕ) (session : SessionView) (journal : Journal) (h : Holds policy n session journal) → session.mode.notes ≡ true →
+    IsFront h.notes (notes policy (history policy session.mode (events_of n journal)))
+first_notes policy n session journal h k =
+    taken_front policy session.mode (notes policy) (notes_ended policy) h.put h.events (events_of n journal)
+    h.notes session.notes h.told
+    (subst (λ (l : List Note). IsFront (h.notes ++ session.notes) l) (made_all session.mode policy h.events k) h.stands.notes_front)
+
+module _ (policy : Policy) (logs : Bool) (n : ℕ) (side : Side) (full : Bool) (s0 s1 s3 : SessionView) (r1 r2 : Running) (v1 v2 : NetView) (l0 l1 : SinkView)
+    (reads : ReadsAndLogs policy logs n side (is_some s1.ended || full) r1 r2 v1 v2 l0 l1)
+    (was early late : Journal) (before : Moves policy n s0 reads.fed early) (after : Moves policy n r2.session s3 late)
+    (first_end : (end : End) → s0.ended ≡ Some end → s1.ended ≡ Some end) (read_end : (end : End) → s1.ended ≡ Some end → reads.fed.ended ≡ Some end)
+    (last_end : (end : End) → r2.session.ended ≡ Some end → s3.ended ≡ Some end) (h : Holds policy n s0 was)
+    (early_stops : is_some s0.ended ≡ true → AllStops (events_of n early)) (late_stops : AllStops (events_of n late)) where
+  all_end : (end : End) → s0.ended ≡ Some end → s3.ended ≡ Some end
+  all_end end e = last_end end (reads.end end (read_end end (first_end end e)))
+
+  events_now : List Event
+  events_now = events_of n late ++ (stop_events reads.stop ++ (events_of n early ++ h.events))
+
+  told_now : events_of n ((late ++ early) ++ was) ≡ events_of n late ++ (events_of n early ++ events_of n was)
+  told_now = events_append n (late ++ early) was ∙ ap (λ (l : List Event). l ++ events_of n was) (events_append n late early)
+      ∙ append_assoc (events_of n late) (events_of n early) (events_of n was)
+
+  words_now : (link : Link) → (written link was ++ written link early) ++ written link late ≡ written link ((late ++ early) ++ was)
+  words_now link = append_assoc (written link was) (written link early) (written link late)
+      ∙ ap (λ (l : List ℕ). written link was ++ l) (sym (wrote_append link late early)) ∙ sym (wrote_append link (late ++ early) was)
+
+  stands_now : StandsFor policy s3 (events_of n late ++ (stop_events reads.stop ++ (events_of n early ++ h.events))) (taken_of n (h.notes ++ reads.taken) ((late ++ early) ++ was))
+  stands_now =
+      subst (λ (t : Taken). StandsFor policy s3 (events_of n late ++ (stop_events reads.stop ++ (events_of n early ++ h.events))) t)
+      (ap₂ (λ (x y : List ℕ). record { bus_side = x; client_side = y; notes = h.notes ++ reads.taken }) (words_now (bus_link n)) (words_now (client_link n)))
+      (after.each (stop_events reads.stop ++ (events_of n early ++ h.events)) (record (more_taken n early (taken_of n h.notes was)) { notes = h.notes ++ reads.taken })
+      (reads.stands policy (events_of n early ++ h.events) (more_taken n early (taken_of n h.notes was)) (before.each h.events (taken_of n h.notes was) h.stands)))
+
+  holds_by : (stop : Option End) → reads.stop ≡ stop →
+      (p : Bool) × IsWithStop p (events_of n late ++ (stop_events stop ++ (events_of n early ++ h.events))) (events_of n ((late ++ early) ++ was)) × (p ≡ true → is_some s3.ended ≡ true)
+  holds_by None e = (
+    h.put,
+    subst (λ (l : List Event). IsWithStop h.put (events_of n late ++ (events_of n early ++ h.events)) l) (sym told_now)
+        (with_stop_grow h.put (events_of n late) (events_of n early ++ h.events) (events_of n early ++ events_of n was) (λ e. late_stops)
+        (with_stop_grow h.put (events_of n early) h.events (events_of n was) (λ e. early_stops (h.over e)) h.told)),
+    λ p. still_some s0.ended s3.ended all_end (h.over p),
+  )
+  holds_by (Some end) e =
+      let runs : s1.ended ≡ None = runs_by s1.ended full (not_idle (is_some s1.ended || full) reads.stop end reads.still e) in
+      let ran : s0.ended ≡ None = still_none s0.ended s1.ended first_end runs in
+      let same : h.events ≡ events_of n was = no_stop_in h.put h.events (events_of n was) (not_put h.put s0.ended h.over ran) h.told in (
+        true,
+        (
+          events_of n late,
+          events_of n early ++ h.events,
+          end,
+          told_now ∙ ap (λ (l : List Event). events_of n late ++ (events_of n early ++ l)) (sym same),
+          refl,
+          late_stops,
+        ),
+        λ p. still_some r2.session.ended s3.ended last_end (reads.stopped end e),
+      )
+
+  pub holds_now : Holds policy n s3 ((late ++ early) ++ was)
+  holds_now = let w = holds_by reads.stop refl in record {
+    put = w.0;
+    events = events_of n late ++ (stop_events reads.stop ++ (events_of n early ++ h.events));
+    notes = h.notes ++ reads.taken;
+    told = w.1;
+    over = w.2;
+    stands = stands_now;
+  }
+
+  more_lines : (xs : List Note) → log n ((h.notes ++ reads.taken) ++ xs) ≡ log n h.notes ++ (reads.lines ++ (reads.rest ++ log n xs))
+  more_lines xs = log-append n (h.notes ++ reads.taken) xs
+      ∙ ap (λ (l : List ℕ). l ++ log n xs) (log-append n h.notes reads.taken ∙ ap (λ (l : List ℕ). log n h.notes ++ l) reads.is)
+      ∙ append_assoc (log n h.notes) (reads.lines ++ reads.rest) (log n xs)
+      ∙ ap (λ (l : List ℕ). log n h.notes ++ l) (append_assoc reads.lines reads.rest (log n xs))
+
+  module _ (mode : s3.mode ≡ s0.mode) (kept : s0.mode.notes ≡ true) (none_before : s0.ended ≡ None → s0.notes ≡ []) (none_after : s3.ended ≡ None → s3.notes ≡ []) where
+    keeps : s3.mode.notes ≡ true
+    keeps = ap (λ (m : Mode). m.notes) mode ∙ kept
+
+    all_before : s0.ended ≡ None → log_of policy s3.mode n was ≡ log n h.notes
+    unfolding log_of
+    all_before e = ap (λ (m : Mode). log n (notes policy (history policy m (events_of n was)))) mode
+        ∙ ap (log n) (exact_notes policy n s0 was h e kept (none_before e))
+
+    first_now : IsFront (h.notes ++ reads.taken) (notes policy (history policy s3.mode (events_of n ((late ++ early) ++ was))))
+    unfolding holds_now
+    first_now = first_notes policy n s3 ((late ++ early) ++ was) holds_now keeps
+
+    all_after : log_of policy s3.mode n ((late ++ early) ++ was) ≡ log n h.notes ++ (reads.lines ++ (reads.rest ++ log n first_now.rest))
+    unfolding log_of
+    all_after = ap (log n) (sym first_now.is) ∙ more_lines first_now.rest
+
+    exact_after : s3.ended ≡ None → log_of policy s3.mode n ((late ++ early) ++ was) ≡ log n h.notes ++ (reads.lines ++ reads.rest)
+    unfolding log_of holds_now
+    exact_after e = ap (log n) (exact_notes policy n s3 ((late ++ early) ++ was) holds_now e keeps (none_after e))
+        ∙ log-append n h.notes reads.taken ∙ ap (λ (l : List ℕ). log n h.notes ++ l) reads.is
+
+    -- behind an End nothing is read, and there is no new note
+    unchanged : is_some s0.ended ≡ true → log_of policy s3.mode n ((late ++ early) ++ was) ≡ log_of policy s3.mode n was
+    unfolding log_of
+    unchanged e =
+        ap (λ (es : List Event). log n (notes policy (history policy s3.mode es))) (events_append n (late ++ early) was)
+        ∙ ap (log n) (stops_given policy s3.mode (notes policy) (notes_ended policy) (events_of n (late ++ early)) (events_of n was)
+        (both_stop n late early late_stops (early_stops e)))
+
+    cut_now : (reads.rest ≡ []) ⊎ (is_some r2.session.ended ≡ true) → (reads.rest ≡ []) ⊎ (is_some s3.ended ≡ true)
+    cut_now (inl e) = inl e
+    cut_now (inr e) = inr (still_some r2.session.ended s3.ended last_end e)
+
+    pub logged_now : (o0 o3 : Option End) → s0.ended ≡ o0 → s3.ended ≡ o3 → Logged policy n s3 was ((late ++ early) ++ was) l0 l1
+    logged_now None None e f = record {
+      lines = reads.lines;
+      rest = reads.rest;
+      appends = reads.appends;
+      is = exact_after f ∙ ap (λ (l : List ℕ). l ++ (reads.lines ++ reads.rest)) (sym (all_before e));
+      cut = cut_now reads.cut;
+    }
+    logged_now None (Some end) e f = record {
+      lines = reads.lines;
+      rest = reads.rest ++ log n first_now.rest;
+      appends = reads.appends;
+      is = all_after ∙ ap (λ (l : List ℕ). l ++ (reads.lines ++ (reads.rest ++ log n first_now.rest))) (sym (all_before e));
+      cut = inr (ap (λ (o : Option End). is_some o) f);
+    }
+    logged_now (Some end) o3 e f =
+        let ended : is_some s0.ended ≡ true = ap (λ (o : Option End). is_some o) e in
+        let none : reads.lines ≡ [] = reads.unread (idle_by s1.ended full (still_some s0.ended s1.ended first_end ended)) in
+        record {
+          lines = reads.lines;
+          rest = [];
+          appends = reads.appends;
+          is = unchanged ended ∙ sym (append-nil (log_of policy s3.mode n was)) ∙ ap (λ (l : List ℕ). log_of policy s3.mode n was ++ (l ++ [])) (sym none);
+          cut = inl refl;
+        }
+
+  pub served_stands : s0.mode.notes ≡ logs → s3.mode ≡ s0.mode → (s0.mode.notes ≡ true → s0.ended ≡ None → s0.notes ≡ []) → (s3.mode.notes ≡ true → s3.ended ≡ None → s3.notes ≡ []) →
+      ServedStands policy logs n s3 was ((late ++ early) ++ was) l0 l1
+  served_stands is same none_before none_after = record {
+    holds = holds_now;
+    logged = λ e.
+        let kept : s0.mode.notes ≡ true = is ∙ e in
+        logged_now same kept (none_before kept) (none_after (ap (λ (m : Mode). m.notes) same ∙ kept)) s0.ended s3.ended refl refl;
+  }

@@ -1,0 +1,7 @@
+use Rattle.proxy_loop.proofs.link_work.stop_read.Goals as goal
+
+pub returns-in-Client-clause-stands : goal.returns-in-Client-clause-stands
+returns-in-Client-clause-stands c = rw c.in-Client.is c.stop.ensures.stands
+
+pub returns-in-Bus-clause-stands : goal.returns-in-Bus-clause-stands
+returns-in-Bus-clause-stands c = rw c.in-Bus.is c.stop-in-Bus.ensures.stands

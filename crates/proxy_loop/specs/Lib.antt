@@ -1,0 +1,12 @@
+pub mod Sinks
+pub mod Sessions
+pub mod Kinds
+pub mod Works
+pub mod Writing
+pub mod Logging
+pub mod Runs
+pub mod Tables
+pub mod Turns
+pub mod Servers
+pub mod Listening
+pub mod LineServers

@@ -1,0 +1,177 @@
+-- A session with the states of its links, and what a turn does for it.
+use Rattle.std.specs.Prelude.{ℕ, ◌≡◌, ◌≤◌, ◌⊎◌, Bool, true, false, not, List, [], ◌++◌, Option, Some, None, is_some, nat_eq, ◌&&◌, ◌||◌}
+use Rattle.explain_log.specs.Lines.{log}
+use Rattle.link_traits.specs.Journals.{Journal, written}
+use Rattle.link_traits.specs.Views.{NetView}
+use Rattle.link_traits.specs.Answers.{client_link, bus_link}
+use Rattle.link_traits.specs.Entries.{not_ready}
+use Rattle.link_traits.specs.declared.links.Side.{Side}
+use Rattle.link_traits.specs.declared.links.Side.TheVariants.{Client, Bus}
+use Rattle.link_traits.specs.declared.links.Link.{Link}
+use Rattle.link_traits.specs.declared.links.Call.TheVariants.{Write}
+use Rattle.link_traits.specs.declared.links.Count.{Count}
+use Rattle.policy_args.specs.Policy.{Policy}
+use Rattle.policy_view.specs.declared.Mode.{Mode}
+use Rattle.policy_view.specs.declared.End.{End}
+use Rattle.policy_view.specs.History.{Event, history}
+use Rattle.policy_view.specs.Notes.{Note, notes}
+use Rattle.proxy_core.specs.Sessions.{SessionView, Taken, StandsFor}
+use Rattle.proxy_loop.specs.declared.serving.Running.{Running}
+use Rattle.proxy_loop.specs.Sinks.{SinkView, Appends}
+use Rattle.proxy_loop.specs.Sessions.{Holds, events_of}
+use Rattle.proxy_loop.specs.Kinds.{writes_of, all_are, some_of, gone_by, last_write}
+use Rattle.proxy_loop.specs.Works.{Only, Goes, Stood, Cause, OneRead, IsDrained, link_at, is_full, ShutBoth}
+use Rattle.proxy_loop.specs.Logging.{stop_events, IsLogEnd, Logs}
+
+-- To a link that is gone nothing more is written: then an End stands. While a session that makes notes runs, none is left.
+pub record Sound (running : Running) : Type 0 where
+  pub client : running.client.gone ≡ true → is_some running.session.ended ≡ true
+  pub bus : running.bus.gone ≡ true → is_some running.session.ended ≡ true
+  pub notes : running.session.mode.notes ≡ true → running.session.ended ≡ None → running.session.notes ≡ []
+
+-- the same session under the same block
+pub record KeepsPlace (old new : Running) : Type 0 where
+  pub number : new.number ≡ old.number
+  pub block : new.block ≡ old.block
+
+-- the same links shut
+pub record KeepsShut (old new : Running) : Type 0 where
+  pub client : new.client.shut ≡ old.client.shut
+  pub bus : new.bus.shut ≡ old.bus.shut
+
+-- the wishes of all links of other sessions are as before
+pub record KeepsSessions (n : ℕ) (old new : NetView) : Type 0 where
+  pub each : (link : Link) → nat_eq n link.session ≡ false → new.wishes link ≡ old.wishes link
+
+-- a session is over when it has ended and both its links are shut
+abbrev pub is_over : Running → Bool
+is_over running = is_some running.session.ended && (running.client.shut && running.bus.shut)
+
+-- ---- the parts of a turn
+
+-- What was written to both links of a session: what waited was taken from the front of each queue, until nothing waited,
+-- or a write failed or wasn't ready. A failed write ends the session.
+pub record WroteBoth (n : ℕ) (old new : Running) (added : Journal) : Type 0 where
+  pub all : all_are (writes_of n) added ≡ true
+  pub client_took : old.session.client_side ≡ written (client_link n) added ++ new.session.client_side
+  pub bus_took : old.session.bus_side ≡ written (bus_link n) added ++ new.session.bus_side
+  pub client_gone : new.client.gone ≡ (some_of (gone_by (client_link n)) added || old.client.gone)
+  pub bus_gone : new.bus.gone ≡ (some_of (gone_by (bus_link n)) added || old.bus.gone)
+  pub ended : is_some new.session.ended ≡ (is_some old.session.ended || (some_of (gone_by (client_link n)) added || some_of (gone_by (bus_link n)) added))
+  pub client_drained : IsDrained (client_link n) new.session.client_side (new.client.gone || new.client.shut) added
+  pub bus_drained : IsDrained (bus_link n) new.session.bus_side (new.bus.gone || new.bus.shut) added
+
+abbrev pub pick_side : Side → Bool → Bool → Bool
+pick_side Client client bus = client
+pick_side Bus client bus = bus
+
+-- one link of a session was read
+pub record Reads (policy : Policy) (n : ℕ) (side : Side) (old new : Running) (before after : NetView) : Type 0 where
+  pub gone : Bool
+  pub goes : Goes (Only policy) n old.session new.session before after (OneRead (link_at n side) gone)
+  pub client_gone : new.client.gone ≡ pick_side side gone old.client.gone
+  pub bus_gone : new.bus.gone ≡ pick_side side old.bus.gone gone
+  pub client : new.client.gone ≡ true → is_some new.session.ended ≡ true
+  pub bus : new.bus.gone ≡ true → is_some new.session.ended ≡ true
+
+-- the notes are logged, where there is a log
+abbrev pub LogsIf : Bool → ℕ → SessionView → SessionView → SinkView → SinkView → Type 0
+LogsIf true n old new before after = Logs n old new before after
+LogsIf false n old new before after = (new ≡ old) × (after ≡ before)
+
+-- one read, unless nothing is to be read
+abbrev pub ReadUnless : Bool → Link → Journal → Type 0
+ReadUnless true link added = added ≡ []
+ReadUnless false link added = (is_last : Bool) × OneRead link is_last added
+
+-- the read of a turn, and what it does to the states of the links
+pub record ReadPart (n : ℕ) (side : Side) (idle : Bool) (old new : Running) (added : Journal) : Type 0 where
+  pub once : ReadUnless idle (link_at n side) added
+  pub client_gone : new.client.gone ≡ (some_of (gone_by (client_link n)) added || old.client.gone)
+  pub bus_gone : new.bus.gone ≡ (some_of (gone_by (bus_link n)) added || old.bus.gone)
+
+-- The read of a turn and the lines of the new notes: the session is first fed; then notes are taken, and their lines written,
+-- or a part of these, and then an End stands.
+pub record ReadsAndLogs (policy : Policy) (logs : Bool) (n : ℕ) (side : Side) (idle : Bool) (old new : Running) (before after : NetView) (first last : SinkView) : Type 0 where
+  pub fed : SessionView
+  pub goes : Goes (Only policy) n old.session fed before after (ReadPart n side idle old new)
+  pub taken : List Note
+  pub lines : List ℕ
+  pub rest : List ℕ
+  pub stop : Option End
+  pub still : idle ≡ true → stop ≡ None
+  pub unread : idle ≡ true → lines ≡ []
+  pub stands : (p : Policy) (events : List Event) (was : Taken) → StandsFor p fed events was →
+      StandsFor p new.session (stop_events stop ++ events) (record was { notes = was.notes ++ taken })
+  pub is : log n taken ≡ lines ++ rest
+  pub appends : Appends first last lines
+  pub counts : first.faults ≤ last.faults
+  pub cut : (rest ≡ []) ⊎ (is_some new.session.ended ≡ true)
+  pub end : (end : End) → fed.ended ≡ Some end → new.session.ended ≡ Some end
+  pub stopped : (end : End) → stop ≡ Some end → is_some new.session.ended ≡ true
+  pub cause : (end : End) → new.session.ended ≡ Some end → (fed.ended ≡ Some end) ⊎ IsLogEnd end first last
+  pub mode : new.session.mode ≡ fed.mode
+  pub unlogged : logs ≡ false → last ≡ first
+
+-- nothing waits, or the link is shut, or its last write in this turn wasn't ready
+abbrev pub IsDone : Link → List ℕ → Bool → Journal → Type 0
+IsDone link queue shut added = (queue ≡ []) ⊎ (shut ≡ true) ⊎ (last_write link added ≡ Some (not_ready (Write link)))
+
+-- What a turn does for a session on one of whose links something is ready: it writes to both links, reads that link exactly
+-- once unless the session has ended by then or too much waits for the other side, writes again, and shuts links.
+pub record Served (n : ℕ) (side : Side) (old new : Running) (added : Journal) : Type 0 where
+  pub mid : SessionView
+  pub first : Journal
+  pub reads : Journal
+  pub second : Journal
+  pub shuts : Journal
+  pub is : added ≡ shuts ++ (second ++ (reads ++ first))
+  pub first_writes : all_are (writes_of n) first ≡ true
+  pub client_took : old.session.client_side ≡ written (client_link n) first ++ mid.client_side
+  pub bus_took : old.session.bus_side ≡ written (bus_link n) first ++ mid.bus_side
+  pub client_drained : IsDrained (client_link n) mid.client_side ((some_of (gone_by (client_link n)) first || old.client.gone) || old.client.shut) first
+  pub bus_drained : IsDrained (bus_link n) mid.bus_side ((some_of (gone_by (bus_link n)) first || old.bus.gone) || old.bus.shut) first
+  pub mid_ended : is_some mid.ended ≡ (is_some old.session.ended || (some_of (gone_by (client_link n)) first || some_of (gone_by (bus_link n)) first))
+  pub once : ReadUnless (is_some mid.ended || is_full side mid) (link_at n side) reads
+  pub second_writes : all_are (writes_of n) second ≡ true
+  pub shut : ShutBoth n (not old.client.shut && new.client.shut) (not old.bus.shut && new.bus.shut) shuts
+  pub client_gone : new.client.gone ≡ (some_of (gone_by (client_link n)) added || old.client.gone)
+  pub bus_gone : new.bus.gone ≡ (some_of (gone_by (bus_link n)) added || old.bus.gone)
+  pub client_done : IsDone (client_link n) new.session.client_side new.client.shut added
+  pub bus_done : IsDone (bus_link n) new.session.bus_side new.bus.shut added
+
+-- ---- what is known after it
+
+-- the lines of all notes of a session, by the journal
+unfoldable pub log_of : Policy → Mode → ℕ → Journal → List ℕ
+log_of policy mode n journal = log n (notes policy (history policy mode (events_of n journal)))
+
+-- the log got the lines of the session's new notes in order, or a part of these, and then the session has an End
+pub record Logged (policy : Policy) (n : ℕ) (new : SessionView) (first last : Journal) (before after : SinkView) : Type 0 where
+  pub lines : List ℕ
+  pub rest : List ℕ
+  pub appends : Appends before after lines
+  pub is : log_of policy new.mode n last ≡ log_of policy new.mode n first ++ (lines ++ rest)
+  pub cut : (rest ≡ []) ⊎ (is_some new.ended ≡ true)
+
+-- a session that stood for the journal before stands for the one after, and the log is exact
+pub record ServedStands (policy : Policy) (logs : Bool) (n : ℕ) (new : SessionView) (first last : Journal) (before after : SinkView) : Type 0 where
+  pub holds : Holds policy n new last
+  pub logged : logs ≡ true → Logged policy n new first last before after
+
+-- what shows why a session has an End: the count that rose, of its link or of the log; an End of the session's own needs none
+abbrev pub CauseOf : ℕ → End → NetView → NetView → SinkView → SinkView → Type 0
+CauseOf n end before after first last = Cause n end before after ⊎ IsLogEnd end first last
+
+-- The whole work of a turn for one session.
+pub record Serving (policy : Policy) (logs : Bool) (n : ℕ) (side : Side) (old new : Running) (before after : NetView) (first last : SinkView) : Type 0 where
+  pub told : (now : Journal) → after.journal ≡ Some now → (was : Journal) × (before.journal ≡ Some was)
+      × (added : Journal) × (now ≡ added ++ was) × Served n side old new added
+      × (Holds policy n old.session was → ServedStands policy logs n new.session was now first last)
+  pub counts : (count : Count) → before.counts count ≤ after.counts count
+  pub log_counts : first.faults ≤ last.faults
+  pub stood : Stood policy new.session
+  pub end : (end : End) → old.session.ended ≡ Some end → new.session.ended ≡ Some end
+  pub cause : (end : End) → new.session.ended ≡ Some end → (old.session.ended ≡ Some end) ⊎ CauseOf n end before after first last
+  pub mode : new.session.mode ≡ old.session.mode
+  pub unlogged : logs ≡ false → last ≡ first
