@@ -16,23 +16,21 @@ play policy recording => 1 0 error: usage
 replay => 1 0 error: usage
 replay policy => 1 0 error: usage
 replay policy recording more => 1 0 error: usage
-replay --policy recording => 1 0 error: usage
-replay policy - => 1 0 error: usage
---help => 1 0 error: usage
+replay policy recording 1 => 1 0 error: usage
 replay missing recording => 4 0 error: file missing
 replay policy missing => 4 0 error: file missing
 replay neither nor => 4 0 error: file neither
-replay policy recording 1 => 1 0 error: usage
+replay help recording => 4 0 error: file help
+replay  recording => 4 0 error: file 
 explain policy recording 1 => 9 0 error: no such message
 explain => 1 0 error: usage
 explain policy => 1 0 error: usage
 explain policy recording => 1 0 error: usage
 explain policy recording 1 more => 1 0 error: usage
-explain --policy recording 1 => 1 0 error: usage
-explain policy -recording 1 => 1 0 error: usage
 explain missing recording x => 1 0 error: usage
 explain missing recording 0 => 4 0 error: file missing
 explain policy missing 0 => 4 0 error: file missing
+sample 3 1 => 0 77 
 sample => 1 0 error: usage
 sample 1 => 1 0 error: usage
 sample 1 2 3 => 1 0 error: usage
@@ -44,6 +42,57 @@ sample 1 01 => 1 0 error: usage
 sample 1 x => 1 0 error: usage
 sample 1 -1 => 1 0 error: usage
 sample 1 18446744073709551616 => 1 0 error: usage
+";
+
+/// Words with dashes, and the same: a word that begins with a dash is no word of a tool, unless it is a dash alone or stands behind `--`.
+const DASHES: &str = "\
+replay --policy recording => 1 0 error: usage
+replay -policy recording => 1 0 error: usage
+replay policy -recording => 1 0 error: usage
+replay policy recording -h => 1 0 error: usage
+replay policy recording --help => 1 0 error: usage
+replay -h => 1 0 error: usage
+replay --help => 1 0 error: usage
+replay --version => 1 0 error: usage
+replay policy - => 4 0 error: file -
+replay - recording => 4 0 error: file -
+replay -- policy recording => 0 0 
+replay policy -- recording => 0 0 
+replay policy recording -- => 0 0 
+replay -- policy => 1 0 error: usage
+replay -- policy recording more => 1 0 error: usage
+replay -- -policy recording => 4 0 error: file -policy
+replay policy -- --recording => 4 0 error: file --recording
+replay -- policy -- => 4 0 error: file --
+-- replay policy recording => 1 0 error: usage
+explain --policy recording 1 => 1 0 error: usage
+explain policy -recording 1 => 1 0 error: usage
+explain policy recording -1 => 1 0 error: usage
+explain policy recording -- -1 => 1 0 error: usage
+explain policy recording -- 1 => 9 0 error: no such message
+explain - recording 0 => 4 0 error: file -
+explain --help => 1 0 error: usage
+sample - 1 => 1 0 error: usage
+sample 1 -h => 1 0 error: usage
+sample --version => 1 0 error: usage
+sample -- 3 1 => 0 77 
+";
+
+/// Words that ask for a text, and the same.
+const ALONE: &str = "\
+--version => 0 16 
+--version more => 1 0 error: usage
+--version --help => 1 0 error: usage
+--help more => 1 0 error: usage
+--help --version => 1 0 error: usage
+--help= => 1 0 error: usage
+--Help => 1 0 error: usage
+-- => 1 0 error: usage
+-- --help => 1 0 error: usage
+-h => 1 0 error: usage
+-V => 1 0 error: usage
+help => 1 0 error: usage
+version => 1 0 error: usage
 ";
 
 /// A policy file and a recording, and the status, how many bytes are written, and the line.
@@ -103,7 +152,9 @@ fn line_of(text: &str) -> &str {
 
 #[test]
 fn words_of_another_form_are_usage(rt: HostRuntime) -> Result<(), Fail> {
-    assert_eq!(rt; wrong_row(rt.alloc(), WORDS, &told_words)?, None);
+    for table in [WORDS, DASHES, ALONE] {
+        assert_eq!(rt; wrong_row(rt.alloc(), table, &told_words)?, None);
+    }
     Ok(())
 }
 

@@ -11,3 +11,5 @@ mod outside;
 mod runs;
 #[cfg(test)]
 mod sampling;
+#[cfg(test)]
+mod texts;

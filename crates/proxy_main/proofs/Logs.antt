@@ -8,7 +8,7 @@ use Rattle.recording.specs.Recording.{Recording}
 use Rattle.replay.specs.Output.{log_of_recording}
 use Rattle.replay.specs.Explained.{explained}
 use Rattle.proxy_main.specs.declared.Refusal.{Refusal}
-use Rattle.proxy_main.specs.Words.{Command, Replay, Explain, Sample}
+use Rattle.proxy_main.specs.Words.{Command, Replay, Explain, Sample, Help, Version}
 use Rattle.proxy_main.specs.Answers.{Answer, then_go, then_read, replayed, explaining, answer_to, Agrees, log_of, checked_policy, checked_recording, asks_for_log, may_ask_for_log, may_log, IsLog}
 use Rattle.proxy_main.specs.declared.Stop.{Stop}
 use Rattle.proxy_main.specs.declared.Stop.TheVariants as stop
@@ -57,6 +57,8 @@ unasked told None is = refl
 unasked told (Some (Replay p r)) is = answer_unasked (told p) (told r) is
 unasked told (Some (Explain p r number)) is = read_none (told p) checked_policy _ (λ o. read_none (told r) checked_recording _ (λ x. explaining_none (explained o x number)))
 unasked told (Some (Sample n seed)) is = refl
+unasked told (Some Help) is = refl
+unasked told (Some Version) is = refl
 
 -- nothing is a front of the log
 pub front_none : (told : List ℕ → Option (List ℕ)) (command : Option Command) (err new_err : Option (List ℕ)) → new_err ≡ err → IsLogFront told command err new_err

@@ -1,7 +1,7 @@
 -- What a run answers, by its words and by what is told of the files.
 --
 -- The files are read in the order of the words, and each is read and checked before the next. The first fault is the answer.
-use Rattle.std.specs.Prelude.{◌≡◌, ℕ, Bool, true, false, nat_lt, List, [], length, Option, Some, None, Result, Ok, Err, bytes_eq, if◌then◌else◌}
+use Rattle.std.specs.Prelude.{◌≡◌, ℕ, Bool, true, false, nat_lt, List, [], ◌++◌, length, codes, Option, Some, None, Result, Ok, Err, bytes_eq, if◌then◌else◌}
 use Rattle.policy_args.specs.declared.BadWord.{BadWord}
 use Rattle.policy_args.specs.Words.{PolicyOptions, options_of, words_in, ◌>>=◌}
 use Rattle.recording.specs.Recording.{Recording, recording_of}
@@ -12,7 +12,8 @@ use Rattle.sample.specs.Summary.{sample_options, summary_of}
 use Rattle.proxy_main.specs.declared.Refusal.{Refusal}
 use Rattle.proxy_main.specs.declared.Refusal.TheVariants.{Usage, PolicyWord, PolicyTooLong, Recording as BadFile, NoSuchMessage}
 use Rattle.proxy_main.specs.declared.TheConstants.{POLICY_LIMIT}
-use Rattle.proxy_main.specs.Words.{Command, Replay, Explain, Sample, reading}
+use Rattle.proxy_main.specs.declared.texts.TheConstants.{HELP, VERSION}
+use Rattle.proxy_main.specs.Words.{Command, Replay, Explain, Sample, Help, Version, reading}
 
 pub data Answer : Type 0 where
   -- a file is needed of which nothing is told: the answer is not settled
@@ -68,6 +69,10 @@ explained_at number options recording = explaining (explained options recording 
 abbrev pub sampled : ℕ → ℕ → Answer
 sampled n seed = Wrote (summary_of sample_options.policy (history_of sample_options (sample n seed))) []
 
+-- the program's name and version
+abbrev pub version_line : List ℕ
+version_line = codes "zamtigarn " ++ VERSION.now ++ codes "\n"
+
 -- the policy file and then the recording are read and checked, before the work on both
 abbrev pub then_load : (List ℕ → Option (List ℕ)) → List ℕ → List ℕ → (PolicyOptions → Recording → Answer) → Answer
 then_load told policy recording work = then_read (told policy) checked_policy (λ options. then_read (told recording) checked_recording (λ events. work options events))
@@ -77,6 +82,8 @@ answer_to told None = Refused Usage
 answer_to told (Some (Replay policy recording)) = then_load told policy recording replayed
 answer_to told (Some (Explain policy recording number)) = then_load told policy recording (explained_at number)
 answer_to told (Some (Sample n seed)) = sampled n seed
+answer_to told (Some Help) = Wrote HELP.now []
+answer_to told (Some Version) = Wrote version_line []
 
 abbrev pub answer_of : List (List ℕ) → (List ℕ → Option (List ℕ)) → Answer
 answer_of words told = answer_to told (reading words)
@@ -136,6 +143,8 @@ may_log told None = false
 may_log told (Some (Replay policy recording)) = may_ask_for_log (told policy)
 may_log told (Some (Explain policy recording number)) = false
 may_log told (Some (Sample n seed)) = false
+may_log told (Some Help) = false
+may_log told (Some Version) = false
 
 -- a run's log is the answer's where that is settled, and empty where no log may be asked for
 pub record IsLog (told : List ℕ → Option (List ℕ)) (command : Option Command) (log : List ℕ) : Type 0 where

@@ -5,7 +5,7 @@ use Rattle.proxy_main.specs.declared.Refusal.{Refusal}
 use Rattle.proxy_main.specs.declared.Refusal.TheVariants.{Usage, PolicyWord, PolicyTooLong, Recording, NoSuchMessage}
 use Rattle.proxy_main.specs.declared.Stop.{Stop}
 use Rattle.proxy_main.specs.declared.Stop.TheVariants.{Refused as Refuses, File, Output, Log, Memory}
-use Rattle.proxy_main.specs.Words.{Command, Replay, Explain, Sample}
+use Rattle.proxy_main.specs.Words.{Command, Replay, Explain, Sample, Help, Version}
 use Rattle.policy_args.specs.Words.{PolicyOptions}
 use Rattle.recording.specs.Recording.{Recording as RecordingValue}
 use Rattle.proxy_main.specs.Answers.{Answer, Untold, Refused, then_load, answer_to, Agrees, without, code_of, out_of, IsSettled, may_log, IsLog}
@@ -51,6 +51,8 @@ IsExplain None = ⊥
 IsExplain (Some (Replay policy recording)) = ⊥
 IsExplain (Some (Explain policy recording number)) = Unit {0}
 IsExplain (Some (Sample n seed)) = ⊥
+IsExplain (Some Help) = ⊥
+IsExplain (Some Version) = ⊥
 
 -- the words are refused only where they name nothing, and a message's number only where they ask for a message
 abbrev pub IsOfWords : Refusal → Option Command → Type 0

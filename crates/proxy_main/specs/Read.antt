@@ -5,19 +5,23 @@ use Rattle.std.specs.List.{list_all}
 use Rattle.policy_args.specs.ProxyLine.{digits_worth}
 use Rattle.proxy_main.specs.declared.words.CommandWords.{CommandWords}
 use Rattle.proxy_main.specs.declared.words.CommandWords.TheVariants as words
-use Rattle.proxy_main.specs.Words.{Command, Replay, Explain, Sample, most_draws}
+use Rattle.proxy_main.specs.Words.{Command, Replay, Explain, Sample, Help, Version, most_draws}
 
 -- the command that they name
 abbrev pub command_of : CommandWords → Command
 command_of (words.Replay policy recording) = Replay policy.now recording.now
 command_of (words.Explain policy recording number) = Explain policy.now recording.now number
 command_of (words.Sample n seed) = Sample n seed
+command_of words.Help = Help
+command_of words.Version = Version
 
 -- a sample has no more draws than it may have
 abbrev pub HasFewDraws : CommandWords → Type 0
 HasFewDraws (words.Replay policy recording) = Unit {0}
 HasFewDraws (words.Explain policy recording number) = Unit {0}
 HasFewDraws (words.Sample n seed) = n ≤ most_draws
+HasFewDraws words.Help = Unit {0}
+HasFewDraws words.Version = Unit {0}
 
 -- what digits are worth, where that is so much at most
 abbrev pub worth_within : ℕ → List ℕ → Option ℕ

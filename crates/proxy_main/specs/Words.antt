@@ -3,11 +3,15 @@
 --     replay POLICY RECORDING       plays the recording of one file under the policy of another
 --     explain POLICY RECORDING N    tells what was decided there on the recording's message of number N, from 1, and by which entry
 --     sample N SEED                 plays a sample of N draws from a seed, and sums it up
+--     --help                        writes what the program can do
+--     --version                     writes its version
 --
--- POLICY and RECORDING are paths, which do not begin with a dash. Each number is decimal, in digits alone and with no zero in front of
--- others: the N of a sample is at most 100,000, and any other number is below 2^64. Words of any other form name nothing.
-use Rattle.std.specs.Prelude.{ℕ, ◌-◌, ◌^◌, ◌==◌, nat_le, Bool, true, not, ◌&&◌, List, [], ◌∷◌, Option, Some, None, option_map, codes, bytes_eq, if◌then◌else◌}
+-- The words of a tool are those that its command takes. POLICY and RECORDING are paths. Each number is decimal, in digits alone and with
+-- no zero in front of others: the N of a sample is at most 100,000, and any other number is below 2^64. Words of any other form name
+-- nothing.
+use Rattle.std.specs.Prelude.{ℕ, ◌-◌, ◌^◌, nat_le, List, [], ◌∷◌, Option, Some, None, option_map, codes, bytes_eq, if◌then◌else◌}
 use Rattle.policy_args.specs.ProxyLine.{number_of}
+use Rattle.tool_words.specs.Tools.{taken, replay_places, explain_places, sample_places}
 
 pub data Command : Type 0 where
   -- the paths of the policy file and of the recording
@@ -16,11 +20,10 @@ pub data Command : Type 0 where
   Explain : List ℕ → List ℕ → ℕ → Command
   -- how many draws, and the seed
   Sample : ℕ → ℕ → Command
-
--- a word that may be a path: it does not begin with a dash
-abbrev pub is_operand : List ℕ → Bool
-is_operand [] = true
-is_operand (c ∷ word) = not (c == 45)
+  -- what the program can do
+  Help : Command
+  -- its version
+  Version : Command
 
 -- ---- numbers
 
@@ -38,33 +41,44 @@ greatest = 2 ^ 64 - 1
 abbrev pub most_draws : ℕ
 most_draws = 100000
 
--- ---- commands
+-- ---- commands, by the words that a tool's command takes
 
-abbrev pub replay_of : List ℕ → List ℕ → List ℕ → Option Command
-replay_of tool policy recording =
-    if bytes_eq tool (codes "replay") && is_operand policy && is_operand recording then Some (Replay policy recording) else None
+abbrev pub replay_of : Option (List (List ℕ)) → Option Command
+replay_of (Some (policy ∷ recording ∷ [])) = Some (Replay policy recording)
+replay_of taken = None
 
-abbrev pub explain_of : List ℕ → List ℕ → List ℕ → List ℕ → Option Command
-explain_of tool policy recording number =
-    if bytes_eq tool (codes "explain") && is_operand policy && is_operand recording then option_map (Explain policy recording) (number_within greatest number) else None
+abbrev pub explain_of : Option (List (List ℕ)) → Option Command
+explain_of (Some (policy ∷ recording ∷ number ∷ [])) = option_map (Explain policy recording) (number_within greatest number)
+explain_of taken = None
 
 abbrev pub sample_by : Option ℕ → Option ℕ → Option Command
 sample_by None seed = None
 sample_by (Some n) None = None
 sample_by (Some n) (Some seed) = Some (Sample n seed)
 
-abbrev pub sample_of : List ℕ → List ℕ → Option Command
-sample_of n seed = sample_by (number_within most_draws n) (number_within greatest seed)
+abbrev pub sample_of : Option (List (List ℕ)) → Option Command
+sample_of (Some (n ∷ seed ∷ [])) = sample_by (number_within most_draws n) (number_within greatest seed)
+sample_of taken = None
 
--- a word with two behind it
-abbrev pub of_three : List ℕ → List ℕ → List ℕ → Option Command
-of_three tool first second = if bytes_eq tool (codes "sample") then sample_of first second else replay_of tool first second
+-- a word that stands alone
+abbrev pub text_of : List ℕ → Option Command
+text_of word =
+    if bytes_eq word (codes "--help") then Some Help
+    else (if bytes_eq word (codes "--version") then Some Version else None)
+
+abbrev pub alone_of : List (List ℕ) → Option Command
+alone_of (word ∷ []) = text_of word
+alone_of words = None
+
+-- all words, by the first of them
+abbrev pub named_by : List ℕ → List (List ℕ) → Option Command
+named_by tool words =
+    if bytes_eq tool (codes "replay") then replay_of (taken (codes "replay") replay_places words)
+    else (if bytes_eq tool (codes "explain") then explain_of (taken (codes "explain") explain_places words)
+    else (if bytes_eq tool (codes "sample") then sample_of (taken (codes "sample") sample_places words)
+    else alone_of words))
 
 -- the command that the words name, where they name one
 abbrev pub reading : List (List ℕ) → Option Command
 reading [] = None
-reading (tool ∷ []) = None
-reading (tool ∷ first ∷ []) = None
-reading (tool ∷ first ∷ second ∷ []) = of_three tool first second
-reading (tool ∷ policy ∷ recording ∷ number ∷ []) = explain_of tool policy recording number
-reading (tool ∷ policy ∷ recording ∷ number ∷ more ∷ words) = None
+reading (tool ∷ words) = named_by tool (tool ∷ words)

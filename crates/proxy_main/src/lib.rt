@@ -4,8 +4,8 @@
 //! on the standard output. Where the policy asks for a log, that is written first, on the standard
 //! error. `explain POLICY RECORDING N` plays it too, and writes what was decided on its message of
 //! number N, and the entry of the policy on which that rests. `sample N SEED` plays a generated
-//! session, and sums it up. A run ends with a status, and with a line on the standard error where
-//! the status says that something is wrong.
+//! session, and sums it up. `--help` and `--version` write what they say. A run ends with a status,
+//! and with a line on the standard error where the status says that something is wrong.
 #![tactic(auto)]
 
 mod disk_files;
@@ -14,6 +14,7 @@ mod lines;
 mod program;
 mod std_sink;
 mod stops;
+mod texts;
 mod words;
 mod work;
 
@@ -24,6 +25,7 @@ use policy_args::BadWord;
 pub use program::run;
 use recording::BadRecording;
 pub use std_sink::StdSink;
+pub use texts::{HELP, VERSION};
 
 /// The most bytes that a policy file may have, 16 MiB: far more than the 65,535 entries of a
 /// policy take, and little beside the memory of a program.

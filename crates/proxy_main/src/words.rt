@@ -1,10 +1,15 @@
 //! The words of the command line.
-ghost use Rattle.std.specs.Prelude.{◌≡◌, ◌≤◌, map, option_map, string_bytes, IfSome};
+ghost use Rattle.std.specs.Prelude.{◌≡◌, ◌≤◌, [], ◌∷◌, map, option_map, string_bytes, codes, IfOk, IfSome};
 ghost use Rattle.policy_args.specs.ProxyLine.{has_leading_zero as begins_with_zero};
-ghost use Rattle.proxy_main.specs.Words.{reading, is_operand as is_operand_word, replay_of, explain_of, sample_of, of_three, number_within};
+ghost use Rattle.tool_words.specs.Tools.{taken, replay_places, explain_places, sample_places};
+ghost use Rattle.proxy_main.specs.Words.{reading, named_by, alone_of, text_of, replay_of, explain_of, sample_of, number_within};
 ghost use Rattle.proxy_main.specs.Read.{command_of, HasFewDraws, worth_within};
 
 use sample::MOST_DRAWS;
+use std::alloc::{AllocError, Global};
+use tool_words::{
+    ExplainWords, ReplayWords, SampleWords, explain_words, replay_words, sample_words,
+};
 
 /// The words of a command.
 #[derive(Clone, Copy)]
@@ -25,81 +30,103 @@ pub enum CommandWords<'a> {
         draws: u32,
         seed: u64,
     },
+    /// What the program can do.
+    Help,
+    /// Its version.
+    Version,
 }
 
 /// The words' reading, where they name a command.
-pub fn read_words(words: &[String]) -> Option<CommandWords<'_>>
-    ensures words { option_map command_of result ≡ reading (map (λ w. string_bytes w) words.now) }
+pub fn read_words(alloc: Global, words: &[String]) -> Result<Option<CommandWords<'_>>, AllocError>
+    ensures words { IfOk result (λ r. option_map command_of r ≡ reading (map (λ w. string_bytes w) words.now)) }
+    ensures few { IfOk result (λ r. IfSome r HasFewDraws) }
+{
+    match words {
+        [tool, ..] => read_tool(alloc, tool, words),
+        [] => Ok(None),
+    }
+}
+
+/// The reading of all words, by the first of them.
+fn read_tool<'a>(
+    alloc: Global,
+    tool: &str,
+    words: &'a [String],
+) -> Result<Option<CommandWords<'a>>, AllocError>
+    ensures words { IfOk result (λ r. option_map command_of r ≡ named_by tool.now (map (λ w. string_bytes w) words.now)) }
+    ensures few { IfOk result (λ r. IfSome r HasFewDraws) }
+{
+    if tool == "replay" {
+        return Ok(read_replay(replay_words(alloc, words)?));
+    }
+    if tool == "explain" {
+        return Ok(read_explain(explain_words(alloc, words)?));
+    }
+    if tool == "sample" {
+        return Ok(read_sample(sample_words(alloc, words)?));
+    }
+    Ok(read_alone(words))
+}
+
+/// The reading of the words of `replay`.
+fn read_replay<'a>(words: Option<ReplayWords<'a>>) -> Option<CommandWords<'a>>
+    ensures words { option_map command_of result ≡ replay_of (option_map (λ w. w.policy.now ∷ w.recording.now ∷ []) words.entry) }
+    ensures few { IfSome result HasFewDraws }
+{
+    let words = words?;
+    Some(CommandWords::Replay {
+        policy: words.policy,
+        recording: words.recording,
+    })
+}
+
+/// The reading of the words of `explain`.
+fn read_explain<'a>(words: Option<ExplainWords<'a>>) -> Option<CommandWords<'a>>
+    ensures words { option_map command_of result ≡ explain_of (option_map (λ w. w.policy.now ∷ w.recording.now ∷ w.number.now ∷ []) words.entry) }
+    ensures few { IfSome result HasFewDraws }
+{
+    let words = words?;
+    Some(CommandWords::Explain {
+        policy: words.policy,
+        recording: words.recording,
+        number: read_number(words.number, u64::MAX)?,
+    })
+}
+
+/// The reading of the words of `sample`.
+fn read_sample<'a>(words: Option<SampleWords<'_>>) -> Option<CommandWords<'a>>
+    ensures words { option_map command_of result ≡ sample_of (option_map (λ w. w.draws.now ∷ w.seed.now ∷ []) words.entry) }
+    ensures few { IfSome result HasFewDraws }
+{
+    let words = words?;
+    let draws = read_number(words.draws, MOST_DRAWS as u64)? as u32;
+    let seed = read_number(words.seed, u64::MAX)?;
+    Some(CommandWords::Sample { draws, seed })
+}
+
+/// The reading of a word that stands alone.
+fn read_alone<'a>(words: &[String]) -> Option<CommandWords<'a>>
+    ensures words { option_map command_of result ≡ alone_of (map (λ w. string_bytes w) words.now) }
     ensures few { IfSome result HasFewDraws }
 {
     match words {
-        [tool, first, second] => three_words(tool, first, second),
-        [tool, policy, recording, number] => explain_words(tool, policy, recording, number),
+        [word] => read_text(word),
         _ => None,
     }
 }
 
-/// The reading of three words.
-fn three_words<'a>(tool: &str, first: &'a str, second: &'a str) -> Option<CommandWords<'a>>
-    ensures words { option_map command_of result ≡ of_three tool.now first.now second.now }
+/// The reading of a word that asks for a text.
+fn read_text<'a>(word: &str) -> Option<CommandWords<'a>>
+    ensures words { option_map command_of result ≡ text_of word.now }
     ensures few { IfSome result HasFewDraws }
 {
-    if tool == "sample" {
-        return sample_words(first, second);
+    if word == "--help" {
+        return Some(CommandWords::Help);
     }
-    replay_words(tool, first, second)
-}
-
-/// The reading of the words of a replay.
-fn replay_words<'a>(tool: &str, policy: &'a str, recording: &'a str) -> Option<CommandWords<'a>>
-    ensures words { option_map command_of result ≡ replay_of tool.now policy.now recording.now }
-    ensures few { IfSome result HasFewDraws }
-{
-    if tool == "replay" && is_operand(policy) && is_operand(recording) {
-        return Some(CommandWords::Replay { policy, recording });
+    if word == "--version" {
+        return Some(CommandWords::Version);
     }
     None
-}
-
-/// The reading of four words.
-fn explain_words<'a>(
-    tool: &str,
-    policy: &'a str,
-    recording: &'a str,
-    number: &str,
-) -> Option<CommandWords<'a>>
-    ensures words { option_map command_of result ≡ explain_of tool.now policy.now recording.now number.now }
-    ensures few { IfSome result HasFewDraws }
-{
-    if tool == "explain" && is_operand(policy) && is_operand(recording) {
-        let number = read_number(number, u64::MAX)?;
-        return Some(CommandWords::Explain {
-            policy,
-            recording,
-            number,
-        });
-    }
-    None
-}
-
-/// The reading of the two words of a sample.
-fn sample_words<'a>(draws: &str, seed: &str) -> Option<CommandWords<'a>>
-    ensures words { option_map command_of result ≡ sample_of draws.now seed.now }
-    ensures few { IfSome result HasFewDraws }
-{
-    let draws = read_number(draws, MOST_DRAWS as u64)? as u32;
-    let seed = read_number(seed, u64::MAX)?;
-    Some(CommandWords::Sample { draws, seed })
-}
-
-/// Whether a word may be a path.
-fn is_operand(word: &str) -> bool
-    ensures { result ≡ is_operand_word word.now }
-{
-    match word.as_bytes() {
-        [first, ..] => *first != b'-',
-        [] => true,
-    }
 }
 
 /// The decimal number of a word, where it is so much at most. Zeros in front are refused.

@@ -1,0 +1,121 @@
+//! What the program says of itself.
+use crate::runs::run_over;
+use policy_args::read_options;
+use proxy_main::{HELP, VERSION};
+use std::alloc::{AllocError, Global};
+use std::test::Fail;
+use tool_words::{explain_words, replay_words, sample_words};
+
+/// Each option of a policy file, as the help shows it, and a word of it.
+const OPTIONS: [(&str, &str); 7] = [
+    ("--filter", "--filter"),
+    ("--log", "--log"),
+    ("--see=NAME", "--see=org.a.B"),
+    ("--talk=NAME", "--talk=org.a.B.*"),
+    ("--own=NAME", "--own=org.a.B"),
+    ("--call=NAME=RULE", "--call=org.a.B=org.a.I.*@/p"),
+    ("--broadcast=NAME=RULE", "--broadcast=org.a.B=*"),
+];
+
+/// Each tool with its words, and what else the program is asked for.
+const TOOLS: [&str; 5] = [
+    "replay POLICY RECORDING",
+    "explain POLICY RECORDING N",
+    "sample N SEED",
+    "--help",
+    "--version",
+];
+
+/// Each status.
+const STATUSES: [u8; 8] = [0, 1, 2, 3, 4, 6, 8, 9];
+
+/// How many lines of the help begin so.
+fn lines_with(start: &str) -> usize {
+    let mut lines = 0usize;
+    for line in HELP.lines() {
+        if line.starts_with(start) {
+            lines = lines.saturating_add(1);
+        }
+    }
+    lines
+}
+
+fn split(alloc: Global, text: &str) -> Result<Vec<String>, AllocError> {
+    let mut words = Vec::new(alloc);
+    for word in text.split(' ') {
+        words.push(String::from_str(alloc, word)?)?;
+    }
+    Ok(words)
+}
+
+/// Whether these are words of the tool that the first of them names.
+fn is_taken(alloc: Global, words: &[String]) -> Result<bool, AllocError> {
+    Ok(match words {
+        [tool, ..] if tool.as_str() == "replay" => replay_words(alloc, words)?.is_some(),
+        [tool, ..] if tool.as_str() == "explain" => explain_words(alloc, words)?.is_some(),
+        [tool, ..] if tool.as_str() == "sample" => sample_words(alloc, words)?.is_some(),
+        [tool] => tool.starts_with("--"),
+        _ => false,
+    })
+}
+
+/// Whether these words write the text, and a front of it with status 6 where out has room for no more.
+fn is_written(alloc: Global, words: &str, text: &str) -> Result<bool, AllocError> {
+    let ended = run_over(alloc, words, Vec::new(alloc), text.len())?;
+    Ok(
+        ended.code == 0
+            && ended.err.bytes.is_empty()
+            && ended.out.bytes.as_slice() == text.as_bytes()
+            && is_cut(alloc, words, text)?,
+    )
+}
+
+fn is_cut(alloc: Global, words: &str, text: &str) -> Result<bool, AllocError> {
+    for room in 0..text.len() {
+        let ended = run_over(alloc, words, Vec::new(alloc), room)?;
+        if ended.code != 6
+            || !ended.err.bytes.is_empty()
+            || ended.out.bytes.as_slice() != &text.as_bytes()[..room]
+        {
+            return Ok(false);
+        }
+    }
+    Ok(true)
+}
+
+#[test]
+fn help_and_version_are_written(rt: HostRuntime) -> Result<(), Fail> {
+    assert!(rt; is_written(rt.alloc(), "--help", HELP)?);
+    let version = format!(in rt.alloc(); "zamtigarn {VERSION}\n")?;
+    assert_eq!(rt; version.as_str(), "zamtigarn 0.1.0\n");
+    assert!(rt; is_written(rt.alloc(), "--version", version.as_str())?);
+    Ok(())
+}
+
+#[test]
+fn help_tells_each_option_of_a_policy(rt: HostRuntime) -> Result<(), Fail> {
+    for (shown, word) in OPTIONS {
+        let start = format!(in rt.alloc(); "  {shown} ")?;
+        assert_eq!(rt; lines_with(start.as_str()), 1);
+        let words = split(rt.alloc(), word)?;
+        assert!(rt; read_options(rt.alloc(), &words).is_ok());
+    }
+    assert_eq!(rt; lines_with("  --"), OPTIONS.len());
+    Ok(())
+}
+
+#[test]
+fn help_tells_each_tool_and_each_status(rt: HostRuntime) -> Result<(), Fail> {
+    for tool in TOOLS {
+        let start = format!(in rt.alloc(); "  zamtigarn {tool} ")?;
+        assert_eq!(rt; lines_with(start.as_str()), 1);
+        let words = split(rt.alloc(), tool)?;
+        assert!(rt; is_taken(rt.alloc(), &words)?);
+    }
+    assert_eq!(rt; lines_with("  zamtigarn "), TOOLS.len());
+    for status in STATUSES {
+        let start = format!(in rt.alloc(); "  {status}  ")?;
+        assert_eq!(rt; lines_with(start.as_str()), 1);
+    }
+    Ok(())
+}

@@ -1,0 +1,6 @@
+mod Parsing
+mod WordKinds
+mod Walking
+mod OneWordEach
+mod Examples
+pub mod OnLiterals

@@ -1,0 +1,61 @@
+-- What a parse of words comes to.
+use Rattle.std.proofs.Common.{◌≡◌, ◌∙◌, ◌&&◌, Bool, true, false, IsTrue, ◌↔◌, List, [], ◌∷◌, Option, None, Result, Ok, Err, IfOk, ap, refl, sym, inl, inr, subst, codes}
+use Rattle.std.proofs.lemmas.Bool.{true≢false, false≢true}
+use Rattle.std.proofs.lemmas.Result.{IfOk-weaker}
+use Rattle.clap.specs.Words.{App, Text, HasKind, HasMatchesOf, FailsBy, Kinds, fault_of, found_of, is_simple, is_simple_and_free, kind_of, matches_of, rows_of}
+use Rattle.clap.specs.declared.error.Error.{Error}
+use Rattle.clap.specs.declared.error.kind.ErrorKind.TheVariants.{OutOfMemory}
+use Rattle.clap.specs.declared.parser.matches.ArgMatches.{ArgMatches}
+use Rattle.clap.proofs.OnLiterals.{clap_on_literals}
+use Rattle.tool_words.specs.Tools.{Parses, command_of, replay_places, explain_places, sample_places, taken, unless_faulty, words_at}
+
+-- ---- the commands are simple
+
+pub replay_is_simple : is_simple_and_free (command_of (codes "replay") replay_places) ≡ true
+unfolding clap_on_literals
+replay_is_simple = refl
+
+pub explain_is_simple : is_simple_and_free (command_of (codes "explain") explain_places) ≡ true
+unfolding clap_on_literals
+explain_is_simple = refl
+
+pub sample_is_simple : is_simple_and_free (command_of (codes "sample") sample_places) ≡ true
+unfolding clap_on_literals
+sample_is_simple = refl
+
+-- ---- what a parse gives
+
+left_of : (a b : Bool) → a && b ≡ true → a ≡ true
+left_of true b both = refl
+left_of false b both = both
+
+-- what the parse of a simple command gives
+pub parsed : (name : Text) (places words : List Text) (command : App) (parse : Result ArgMatches Error) → command ≡ command_of name places
+    → is_simple_and_free (command_of name places) ≡ true
+    → (is_simple_and_free command ≡ true → FailsBy (fault_of command words) parse)
+    → IfOk parse (HasMatchesOf command words) → Parses name places words parse
+parsed name places words command parse is simple fails finds =
+    let same : is_simple_and_free command ≡ true = ap is_simple_and_free is ∙ simple in
+    record {
+      fails = subst (λ (a : App). FailsBy (fault_of a words) parse) is (fails same);
+      finds = IfOk-weaker parse _ _ (λ m h. (h (left_of (is_simple command) _ same)).0 ∙ ap (λ (a : App). matches_of a words) is) finds;
+    }
+
+none_found : (kinds : Kinds) (found : Option (List Text)) (e : Error) → HasKind kinds e → (kind_of e ≡ OutOfMemory → ⊥) → None ≡ unless_faulty kinds found
+none_found [] found e (inl memory) other = absurd (other memory)
+none_found [] found e (inr among) other = absurd among
+none_found (kind ∷ kinds) found e h other = refl
+
+-- where a parse fails for another cause than memory, the command doesn't take the words
+pub not_taken : (name : Text) (places words : List Text) (e : Error) (is_memory : Bool) → Parses name places words (Err e) → IsTrue is_memory ↔ (kind_of e ≡ OutOfMemory) → is_memory ≡ false
+    → None ≡ taken name places words
+unfolding taken
+not_taken name places words e true parse means is = absurd (true≢false is)
+not_taken name places words e false parse means is = none_found _ _ e parse.fails (λ memory. false≢true (means.1 memory))
+
+-- where a parse doesn't fail, the command takes the words, and they stand where it found them
+pub is_taken : (name : Text) (places words : List Text) (m : ArgMatches) (found : Option (List Text)) → Parses name places words (Ok m) → found ≡ words_at places (rows_of (found_of m))
+    → found ≡ taken name places words
+unfolding taken
+is_taken name places words m found parse is = is ∙ (ap (words_at places) parse.finds
+    ∙ ap (λ (kinds : Kinds). unless_faulty kinds (words_at places (matches_of (command_of name places) words))) (sym parse.fails))

@@ -1,0 +1,12 @@
+use Rattle.std.proofs.Common.{ap₂, codes, ◌≡◌, ◌∙◌}
+use Rattle.clap.specs.Words.{app_of, with_rule}
+use Rattle.tool_words.specs.Tools.{command_of, sample_places}
+use Rattle.tool_words.proofs.Parsing.{sample_is_simple, parsed}
+use Rattle.tool_words.proofs.sample_matches.Goals as goal
+
+pub returns : goal.returns
+returns c =
+    let command_is : app_of c.in_ok-command.command ≡ command_of (codes "sample") sample_places = c.in_ok-command.ensures.shape c.place-seed.ensures.local
+    ∙ ap₂ with_rule (c.in_ok-arg.ensures.shape c.place-draws.ensures.local
+    ∙ ap₂ with_rule c.new.ensures.app c.place-draws.ensures.rule) c.place-seed.ensures.rule in
+    parsed (codes "sample") sample_places _ (app_of c.in_ok-command.command) _ command_is sample_is_simple c.try_get_matches_from.ensures.kinds c.try_get_matches_from.ensures.matches
