@@ -180,4 +180,17 @@ impl Framer {
         }
         Ok(next)
     }
+
+    /// Gives all bytes that came and weren't given yet, whatever they hold: nothing is left. None is copied. An error says
+    /// that memory ran out; then nothing changes.
+    pub fn left(&mut self) -> Result<Bytes, AllocError>
+        ensures bytes { IfOk result (λ bytes. bytes ≡ self.old) }
+        ensures ok { OnOk result (self.new ≡ []) }
+        ensures err { OnErr result (self.new ≡ self.old) }
+    {
+        let left = self.bytes.freeze_to(self.bytes.len())?;
+        self.state = State::AwaitsHead;
+        self.given = renew(self.alloc, &mut self.bytes, self.given);
+        Ok(left)
+    }
 }
