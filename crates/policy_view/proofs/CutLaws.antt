@@ -1,22 +1,23 @@
 -- Where a stream is cut into pieces changes nothing.
-use Rattle.std.proofs.Common.{ℕ, zero, suc, ◌≡◌, ◌+◌, ◌-◌, ◌<◌, ◌≤◌, Bool, true, false, cond, List, [], ◌∷◌, ◌++◌, length, take, nat_le, Option, Some, None, refl, ap, ◌∙◌, sym, arith, append_assoc, append-nil, length-append}
-use Rattle.std.specs.Prelude.{◌||◌, nat_lt, min}
+use Rattle.std.proofs.Common.{ℕ, zero, suc, ◌≡◌, ◌+◌, ◌-◌, ◌<◌, ◌≤◌, Bool, true, false, cond, List, [], ◌∷◌, ◌++◌, length, take, nat_le, Option, Some, None, refl, ap, ◌∙◌, sym, arith, append_assoc, append-nil, length-append, inl, inr}
+use Rattle.std.specs.Prelude.{◌⊎◌, nat_lt, min}
 use Rattle.std.proofs.lemmas.List.{length-take}
 use Rattle.std.proofs.lemmas.Bool.{ltb-true, ltb-false, lt-ltb}
 use Rattle.std.proofs.lemmas.Bool.Decides.{nat_tests}
-use Rattle.dbus_names.specs.Names.{is_empty}
 use Rattle.policy_args.specs.Policy.{Policy}
 use Rattle.policy_view.specs.Sent.{Past}
+use Rattle.policy_view.specs.Laws.{GivesTheSame}
 use Rattle.policy_view.specs.Past.{Item, Ended, History, past, due}
-use Rattle.policy_view.specs.History.{Event, Bytes, Finished, Stopped, longest_stream, whole_stream, stream, fault as fault_in, malformed, found, taken_of, new_in, fault_end, brought, end_if, is_over, finished, arrived, end_of, placed, followed_by, followed_unless, followed_by_all, history, most_sent}
+use Rattle.policy_view.specs.History.{Event, Bytes, Finished, Stopped, longest_stream, whole_stream, stream, fault as fault_in, malformed, found, raw, raw_in, content, raw_item, taken_of, new_in, fault_end, brought, end_if, is_over, finished, arrived, end_of, placed, followed_by, followed_unless, followed_by_all, history, most_sent}
 use Rattle.policy_view.specs.declared.Fault.{Fault}
 use Rattle.policy_view.specs.declared.Mode.{Mode}
 use Rattle.policy_view.specs.declared.End.{End}
-use Rattle.policy_view.specs.declared.End.TheVariants.{SerialsSpent, NotBuilt}
+use Rattle.policy_view.specs.declared.End.TheVariants.{SerialsSpent}
 use Rattle.policy_view.specs.declared.Side.{Side}
 use Rattle.policy_view.specs.declared.Side.TheVariants.{Client, Bus}
 use Rattle.policy_view.proofs.PastLaws.{ended_all}
-use Rattle.policy_view.proofs.Streams.{grows, stays, stream_more, bus_stream, client_stream, found_by, fault_by}
+use Rattle.policy_view.proofs.Alike.{all_like, raw_pieces, same_gives, then_gives}
+use Rattle.policy_view.proofs.Streams.{Grown, grows, stays, stream_more, bus_stream, client_stream, found_by, raw_by, fault_by}
 
 -- ---- items one after the other
 
@@ -91,19 +92,33 @@ stream_same side one two same = ap (take longest_stream) (same side)
 found_same : (mode : Mode) (side : Side) (one two : List Event) → SameStreams one two → found mode side one ≡ found mode side two
 found_same mode side one two same = found_by mode side one two (stream_same Client one two same) (stream_same Bus one two same)
 
+raw_same : (mode : Mode) (side : Side) (one two : List Event) → SameStreams one two → raw mode side one ≡ raw mode side two
+raw_same mode side one two same = raw_by mode side one two (stream_same Client one two same) (stream_same Bus one two same)
+
 fault_same : (mode : Mode) (side : Side) (one two : List Event) → SameStreams one two → fault_in mode side one ≡ fault_in mode side two
 fault_same mode side one two same = fault_by mode side one two (stream_same Client one two same) (stream_same Bus one two same)
 
 -- where a second piece adds nothing to its side's stream
-own_same : (mode : Mode) (side : Side) (events : List Event) (first second : List ℕ) → stream side (Bytes side second ∷ Bytes side first ∷ events) ≡ stream side (Bytes side first ∷ events)
-    → (found mode side (Bytes side second ∷ Bytes side first ∷ events) ≡ found mode side (Bytes side first ∷ events))
-    × (fault_in mode side (Bytes side second ∷ Bytes side first ∷ events) ≡ fault_in mode side (Bytes side first ∷ events))
-own_same mode Client events first second e =
-    let other = bus_stream (Bytes Client first ∷ events) second in
-    (found_by mode Client (Bytes Client second ∷ Bytes Client first ∷ events) (Bytes Client first ∷ events) e other, fault_by mode Client (Bytes Client second ∷ Bytes Client first ∷ events) (Bytes Client first ∷ events) e other)
-own_same mode Bus events first second e =
-    let other = client_stream (Bytes Bus first ∷ events) second in
-    (found_by mode Bus (Bytes Bus second ∷ Bytes Bus first ∷ events) (Bytes Bus first ∷ events) other e, fault_by mode Bus (Bytes Bus second ∷ Bytes Bus first ∷ events) (Bytes Bus first ∷ events) other e)
+record Unchanged (mode : Mode) (side : Side) (one two : List Event) : Type 0 where
+  found_is : found mode side two ≡ found mode side one
+  raw_is : raw mode side two ≡ raw mode side one
+  fault_is : fault_in mode side two ≡ fault_in mode side one
+
+own_same : (mode : Mode) (side : Side) (events : List Event) (piece : List ℕ) → stream side (Bytes side piece ∷ events) ≡ stream side events → Unchanged mode side events (Bytes side piece ∷ events)
+own_same mode Client events piece e =
+    let other = bus_stream events piece in
+    record {
+      found_is = found_by mode Client (Bytes Client piece ∷ events) events e other;
+      raw_is = raw_by mode Client (Bytes Client piece ∷ events) events e other;
+      fault_is = fault_by mode Client (Bytes Client piece ∷ events) events e other;
+    }
+own_same mode Bus events piece e =
+    let other = client_stream events piece in
+    record {
+      found_is = found_by mode Bus (Bytes Bus piece ∷ events) events other e;
+      raw_is = raw_by mode Bus (Bytes Bus piece ∷ events) events other e;
+      fault_is = fault_by mode Bus (Bytes Bus piece ∷ events) events other e;
+    }
 
 cut_streams : (side : Side) (events : List Event) (first second : List ℕ) → SameStreams (Bytes side second ∷ Bytes side first ∷ events) (Bytes side (first ++ second) ∷ events)
 cut_streams Client events first second Client = append_assoc (whole_stream Client events) first second
@@ -121,9 +136,127 @@ streams_same one two (Finished side) same Bus = same Bus
 streams_same one two (Stopped end) same Client = same Client
 streams_same one two (Stopped end) same Bus = same Bus
 
+-- ---- what follows a history, in two parts
+
+parts : (policy : Policy) (h : History) (xs ys zs : List Item) → followed_by_all policy h (xs ++ (ys ++ zs)) ≡ followed_by_all policy (followed_by_all policy (followed_by_all policy h xs) ys) zs
+parts policy h xs ys zs = all_append policy h xs (ys ++ zs) ∙ all_append policy (followed_by_all policy h xs) ys zs
+
+none_followed : (policy : Policy) (h : History) → followed_by_all policy h [] ≡ h
+unfolding followed_by_all
+none_followed policy h = refl
+
+-- nothing follows an End
+ended_then : (policy : Policy) (h : History) (end : End) (one other after : List Item) → followed_by_all policy h (Ended end ∷ one) ≡ followed_by_all policy (followed_by_all policy h (Ended end ∷ other)) after
+ended_then policy h end one other after = end_last policy h [] one end ∙ sym (end_stays policy h [] other after end)
+
+-- lines and messages, bytes at which nobody looks, and an End
+abbrev three : Side → List Item → List ℕ → Option Fault → Bool → List Item
+three side items bytes f over = items ++ (raw_item side bytes ++ (fault_end side f ++ end_if over (finished side)))
+
+brought_three : (mode : Mode) (side : Side) (events : List Event) (piece : List ℕ) (items : List Item) (bytes : List ℕ)
+    → found mode side (Bytes side piece ∷ events) ≡ found mode side events ++ items → raw mode side (Bytes side piece ∷ events) ≡ raw mode side events ++ bytes
+    → brought mode side events piece ≡ three side items bytes (fault_in mode side (Bytes side piece ∷ events)) (is_over side events piece)
+brought_three mode side events piece items bytes found_is raw_is =
+    rw (found_is, raw_is, new_last (found mode side events) items, new_last (raw mode side events) bytes)
+    (append_assoc (items ++ raw_item side bytes) (fault_end side (fault_in mode side (Bytes side piece ∷ events))) (end_if (is_over side events piece) (finished side))
+    ∙ append_assoc items (raw_item side bytes) (fault_end side (fault_in mode side (Bytes side piece ∷ events)) ++ end_if (is_over side events piece) (finished side)))
+
 -- ---- a piece in two pieces
 
-module _ (policy : Policy) (mode : Mode) (before : History) (side : Side) (events : List Event) (first second : List ℕ) where
+-- how far two histories are alike, where those that are the same are, and the same items follow both alike
+record IsLikeness (policy : Policy) (Like : History → History → Type 0) : Type 0 where
+  same : (h k : History) → h ≡ k → Like h k
+  chained : (a b c : History) → Like a b → Like b c → Like a c
+  followed : (items : List Item) (h k : History) → Like h k → Like (followed_by_all policy h items) (followed_by_all policy k items)
+
+-- bytes in two pieces are like those in one
+abbrev InPieces : Policy → (History → History → Type 0) → Side → List ℕ → List ℕ → Type 0
+InPieces policy Like side x y = (h : History) → Like (followed_by_all policy h (raw_item side (x ++ y))) (followed_by_all policy (followed_by_all policy h (raw_item side x)) (raw_item side y))
+
+module _ (policy : Policy) (Like : History → History → Type 0) (like : IsLikeness policy Like) where
+  -- over the parts of what arrives: the items r and s, the bytes x and y, the faults f and g, and whether the stream is
+  -- over its limit with the first piece (o), the second (p), both in one (q)
+  cut_three : (h : History) (r s : List Item) (side : Side) (x y : List ℕ) (f g : Option Fault) (o p q : Bool)
+      → ((z : Fault) → f ≡ Some z → (s ≡ []) × (y ≡ []) × (g ≡ Some z))
+      → (f ≡ None → o ≡ true → (s ≡ []) × (y ≡ []) × (g ≡ None) × (q ≡ true))
+      → (o ≡ false → q ≡ p) → (x ≡ []) ⊎ (s ≡ []) → InPieces policy Like side x y
+      → Like (followed_by_all policy h (three side (r ++ s) (x ++ y) g q)) (followed_by_all policy (followed_by_all policy h (three side r x f o)) (three side s y g p))
+  cut_three h r s side x y (Some z) g o p q k l m n pieces =
+      let e = k z refl in
+      let start = followed_by_all policy (followed_by_all policy h r) (raw_item side x) in
+      like.same _ _ (
+      ap (λ (t : List Item). followed_by_all policy h (three side (r ++ t) (x ++ y) g q)) e.0
+      ∙ ap (λ (t : List ℕ). followed_by_all policy h (three side (r ++ []) (x ++ t) g q)) e.1
+      ∙ ap (λ (t : List Item). followed_by_all policy h (t ++ (raw_item side (x ++ []) ++ (fault_end side g ++ end_if q (finished side))))) (append-nil r)
+      ∙ ap (λ (t : List ℕ). followed_by_all policy h (r ++ (raw_item side t ++ (fault_end side g ++ end_if q (finished side))))) (append-nil x)
+      ∙ ap (λ (t : Option Fault). followed_by_all policy h (three side r x t q)) e.2
+      ∙ parts policy h r (raw_item side x) (Ended (malformed side z) ∷ end_if q (finished side))
+      ∙ ended_then policy start (malformed side z) (end_if q (finished side)) (end_if o (finished side)) (three side s y g p)
+      ∙ sym (ap (λ (t : History). followed_by_all policy t (three side s y g p)) (parts policy h r (raw_item side x) (Ended (malformed side z) ∷ end_if o (finished side))))
+      )
+  cut_three h r s side x y None g true p q k l m n pieces =
+      let e = l refl refl in
+      let start = followed_by_all policy (followed_by_all policy h r) (raw_item side x) in
+      like.same _ _ (
+      ap (λ (t : List Item). followed_by_all policy h (three side (r ++ t) (x ++ y) g q)) e.0
+      ∙ ap (λ (t : List ℕ). followed_by_all policy h (three side (r ++ []) (x ++ t) g q)) e.1
+      ∙ ap (λ (t : List Item). followed_by_all policy h (t ++ (raw_item side (x ++ []) ++ (fault_end side g ++ end_if q (finished side))))) (append-nil r)
+      ∙ ap (λ (t : List ℕ). followed_by_all policy h (r ++ (raw_item side t ++ (fault_end side g ++ end_if q (finished side))))) (append-nil x)
+      ∙ ap (λ (t : Option Fault). followed_by_all policy h (three side r x t q)) e.2
+      ∙ ap (λ (t : Bool). followed_by_all policy h (three side r x None t)) e.3
+      ∙ parts policy h r (raw_item side x) (Ended (finished side) ∷ [])
+      ∙ ended_then policy start (finished side) [] [] (three side s y g p)
+      ∙ sym (ap (λ (t : History). followed_by_all policy t (three side s y g p)) (parts policy h r (raw_item side x) (Ended (finished side) ∷ [])))
+      )
+  cut_three h r s side x y None g false p q k l m n pieces = go n
+    where
+      last : List Item
+      last = fault_end side g ++ end_if p (finished side)
+
+      over : three side (r ++ s) (x ++ y) g q ≡ three side (r ++ s) (x ++ y) g p
+      over = ap (three side (r ++ s) (x ++ y) g) (m refl)
+
+      -- the cut one, in its parts
+      second : followed_by_all policy (followed_by_all policy h (three side r x None false)) (three side s y g p)
+          ≡ followed_by_all policy (followed_by_all policy (followed_by_all policy (followed_by_all policy (followed_by_all policy h r) (raw_item side x)) s) (raw_item side y)) last
+      second =
+          ap (λ (t : History). followed_by_all policy t (three side s y g p)) (ap (λ (t : List Item). followed_by_all policy h (r ++ t)) (append-nil (raw_item side x)) ∙ all_append policy h r (raw_item side x))
+          ∙ parts policy (followed_by_all policy (followed_by_all policy h r) (raw_item side x)) s (raw_item side y) last
+
+      whole : followed_by_all policy h (three side (r ++ s) (x ++ y) g q) ≡ followed_by_all policy (followed_by_all policy (followed_by_all policy (followed_by_all policy h r) s) (raw_item side (x ++ y))) last
+      whole = ap (followed_by_all policy h) over ∙ parts policy h (r ++ s) (raw_item side (x ++ y)) last
+          ∙ ap (λ (t : History). followed_by_all policy (followed_by_all policy t (raw_item side (x ++ y))) last) (all_append policy h r s)
+
+      go : (x ≡ []) ⊎ (s ≡ []) → Like (followed_by_all policy h (three side (r ++ s) (x ++ y) g q)) (followed_by_all policy (followed_by_all policy h (three side r x None false)) (three side s y g p))
+      go (inl e) = like.same _ _ (
+          whole
+          ∙ ap (λ (t : List ℕ). followed_by_all policy (followed_by_all policy (followed_by_all policy (followed_by_all policy h r) s) (raw_item side (t ++ y))) last) e
+          ∙ sym (second ∙ ap (λ (t : List ℕ). followed_by_all policy (followed_by_all policy (followed_by_all policy (followed_by_all policy (followed_by_all policy h r) (raw_item side t)) s) (raw_item side y)) last) e ∙ none_raw)
+          )
+        where
+          none_raw : followed_by_all policy (followed_by_all policy (followed_by_all policy (followed_by_all policy (followed_by_all policy h r) []) s) (raw_item side y)) last
+              ≡ followed_by_all policy (followed_by_all policy (followed_by_all policy (followed_by_all policy h r) s) (raw_item side y)) last
+          none_raw = ap (λ (t : History). followed_by_all policy (followed_by_all policy (followed_by_all policy t s) (raw_item side y)) last) (none_followed policy (followed_by_all policy h r))
+      go (inr e) =
+          let start = followed_by_all policy h r in
+          like.chained _ _ _ (like.same _ _ (whole ∙ ap (λ (t : List Item). followed_by_all policy (followed_by_all policy (followed_by_all policy start t) (raw_item side (x ++ y))) last) e ∙ ap (λ (t : History). followed_by_all policy (followed_by_all policy t (raw_item side (x ++ y))) last) (none_followed policy start)))
+          (like.chained _ _ _ (like.followed last _ _ (pieces start))
+          (like.same _ _ (sym (second ∙ ap (λ (t : List Item). followed_by_all policy (followed_by_all policy (followed_by_all policy (followed_by_all policy start (raw_item side x)) t) (raw_item side y)) last) e
+          ∙ ap (λ (t : History). followed_by_all policy (followed_by_all policy t (raw_item side y)) last) (none_followed policy (followed_by_all policy start (raw_item side x)))))))
+
+nothing_left : (xs ys : List ℕ) → xs ++ ys ≡ [] → ys ≡ []
+nothing_left [] ys e = e
+nothing_left (x ∷ xs) ys e = absurd cc
+
+-- nothing is added to a list that stays the same
+none_added : {A : Type 0} (xs ys : List A) → xs ++ ys ≡ xs → ys ≡ []
+none_added xs ys e = sym (new_last xs ys) ∙ ap (new_in xs) e ∙ ap (new_in xs) (sym (append-nil xs)) ∙ new_last xs []
+
+ap_or : {A B C : Type 0} → (A → C) → A ⊎ B → C ⊎ B
+ap_or f (inl a) = inl (f a)
+ap_or f (inr b) = inr b
+
+module _ (policy : Policy) (mode : Mode) (side : Side) (events : List Event) (first second : List ℕ) where
   abbrev once : List Event
   once = Bytes side first ∷ events
 
@@ -139,55 +272,6 @@ module _ (policy : Policy) (mode : Mode) (before : History) (side : Side) (event
     where
       fits : (n k : ℕ) → length (take longest_stream (whole_stream side es)) ≡ min n k → length (take longest_stream (whole_stream side es)) ≤ n
       fits n k h = grind (arith, nat_tests, h)
-
-  -- the items that each piece brings
-  abbrev new_first : List Item
-  new_first = new_in (found mode side events) (found mode side once)
-
-  abbrev new_second : List Item
-  new_second = new_in (found mode side once) (found mode side twice)
-
-  abbrev new_joined : List Item
-  new_joined = new_in (found mode side events) (found mode side joined)
-
-  same : SameStreams twice joined
-  same = cut_streams side events first second
-
-  same_found : found mode side twice ≡ found mode side joined
-  same_found = found_same mode side twice joined same
-
-  same_fault : fault_in mode side twice ≡ fault_in mode side joined
-  same_fault = fault_same mode side twice joined same
-
-  new_both : new_in (found mode side events) (found mode side joined) ≡ new_in (found mode side events) (found mode side once) ++ new_in (found mode side once) (found mode side twice)
-  new_both =
-      let one = (grows mode side events first).items in
-      let two = (grows mode side once second).items in
-      let first_is : found mode side once ≡ found mode side events ++ one = (grows mode side events first).found_is in
-      let twice_is : found mode side twice ≡ (found mode side events ++ one) ++ two = (grows mode side once second).found_is ∙ ap (λ (xs : List Item). xs ++ two) first_is in
-      ap (new_in (found mode side events)) (sym same_found ∙ twice_is)
-      ∙ new_twice (found mode side events) one two
-      ∙ ap (λ (xs : List Item). new_in (found mode side events) xs ++ new_in xs ((found mode side events ++ one) ++ two)) (sym first_is)
-      ∙ ap (λ (xs : List Item). new_in (found mode side events) (found mode side once) ++ new_in (found mode side once) xs) (sym twice_is)
-
-  -- ---- the first piece has a fault
-
-  abbrev over_first : Bool
-  over_first = is_over side events first
-
-  fault_cut : (f : Fault) → fault_in mode side once ≡ Some f →
-      followed_by_all policy (followed_by_all policy before (brought mode side events first)) (brought mode side once second) ≡ followed_by_all policy before (brought mode side events (first ++ second))
-  fault_cut f e =
-      let s = stays mode side once second f e in
-      let found_is : found mode side joined ≡ found mode side once = sym same_found ∙ s.found_is in
-      let fault_is : fault_in mode side joined ≡ Some f = sym same_fault ∙ s.fault_is in
-      ap (λ (o : Option Fault). followed_by_all policy (followed_by_all policy before (new_first ++ fault_end side o ++ end_if over_first (finished side))) (brought mode side once second)) e
-      ∙ ap (λ (xs : List Item). followed_by_all policy (followed_by_all policy before xs) (brought mode side once second)) (append_assoc new_first (Ended (malformed side f) ∷ []) (end_if over_first (finished side)))
-      ∙ end_stays policy before new_first (end_if over_first (finished side)) (brought mode side once second) (malformed side f)
-      ∙ sym (end_last policy before new_first (end_if (is_over side events (first ++ second)) (finished side)) (malformed side f))
-      ∙ ap (followed_by_all policy before) (sym (append_assoc new_first (Ended (malformed side f) ∷ []) (end_if (is_over side events (first ++ second)) (finished side))))
-      ∙ ap (λ (o : Option Fault). followed_by_all policy before (new_first ++ fault_end side o ++ end_if (is_over side events (first ++ second)) (finished side))) (sym fault_is)
-      ∙ ap (λ (xs : List Item). followed_by_all policy before (new_in (found mode side events) xs ++ fault_end side (fault_in mode side joined) ++ end_if (is_over side events (first ++ second)) (finished side))) (sym found_is)
 
   -- ---- the first piece reaches the stream's limit
 
@@ -221,19 +305,7 @@ module _ (policy : Policy) (mode : Mode) (before : History) (side : Side) (event
       let long = ltb-true longest_stream (length (stream side events) + length first) e in
       lt-ltb longest_stream (length (stream side events) + length (first ++ second)) (omega (arith, l, long))
 
-  full_cut : is_over side events first ≡ true →
-      followed_by_all policy (followed_by_all policy before (brought mode side events first)) (brought mode side once second) ≡ followed_by_all policy before (brought mode side events (first ++ second))
-  full_cut e =
-      let unmoved = own_same mode side events first second (full_same e) in
-      let found_is : found mode side joined ≡ found mode side once = sym same_found ∙ unmoved.0 in
-      let fault_is : fault_in mode side joined ≡ fault_in mode side once = sym same_fault ∙ unmoved.1 in
-      ap (λ (b : Bool). followed_by_all policy (followed_by_all policy before (new_first ++ fault_end side (fault_in mode side once) ++ end_if b (finished side))) (brought mode side once second)) e
-      ∙ end_stays policy before (new_first ++ fault_end side (fault_in mode side once)) [] (brought mode side once second) (finished side)
-      ∙ ap (λ (xs : List Item). followed_by_all policy before (new_in (found mode side events) xs ++ fault_end side (fault_in mode side once) ++ Ended (finished side) ∷ [])) (sym found_is)
-      ∙ ap (λ (o : Option Fault). followed_by_all policy before (new_joined ++ fault_end side o ++ Ended (finished side) ∷ [])) (sym fault_is)
-      ∙ ap (λ (b : Bool). followed_by_all policy before (new_joined ++ fault_end side (fault_in mode side joined) ++ end_if b (finished side))) (sym (over_both e))
-
-  -- ---- and where it does neither
+  -- ---- and where it doesn't
 
   room_len : nat_lt longest_stream (length (stream side events) + length first) ≡ false → length (stream side once) ≡ length (stream side events) + length first
   unfolding taken_of
@@ -249,76 +321,123 @@ module _ (policy : Policy) (mode : Mode) (before : History) (side : Side) (event
       let same : length (stream side once) + length second ≡ length (stream side events) + length (first ++ second) = omega (arith, l, r) in
       ap (nat_lt longest_stream) same
 
-  plain_cut : fault_in mode side once ≡ None → is_over side events first ≡ false →
-      followed_by_all policy (followed_by_all policy before (brought mode side events first)) (brought mode side once second) ≡ followed_by_all policy before (brought mode side events (first ++ second))
-  plain_cut sound e =
-      let ends = fault_end side (fault_in mode side twice) in
-      let over = end_if (is_over side once second) (finished side) in
-      ap (λ (o : Option Fault). followed_by_all policy (followed_by_all policy before (new_first ++ fault_end side o ++ end_if (is_over side events first) (finished side))) (brought mode side once second)) sound
-      ∙ ap (λ (b : Bool). followed_by_all policy (followed_by_all policy before (new_first ++ [] ++ end_if b (finished side))) (brought mode side once second)) e
-      ∙ ap (λ (xs : List Item). followed_by_all policy (followed_by_all policy before xs) (brought mode side once second)) (append-nil (new_first ++ []) ∙ append-nil new_first)
-      ∙ sym (all_append policy before new_first (new_second ++ ends ++ over))
-      ∙ ap (followed_by_all policy before) (ap (λ (xs : List Item). new_first ++ xs) (append_assoc new_second ends over) ∙ sym (append_assoc new_first new_second (ends ++ over)) ∙ sym (append_assoc (new_first ++ new_second) ends over))
-      ∙ ap (λ (xs : List Item). followed_by_all policy before (xs ++ ends ++ over)) (sym new_both)
-      ∙ ap (λ (o : Option Fault). followed_by_all policy before (new_joined ++ fault_end side o ++ over)) same_fault
-      ∙ ap (λ (b : Bool). followed_by_all policy before (new_joined ++ fault_end side (fault_in mode side joined) ++ end_if b (finished side))) (same_over (sym over_is ∙ e))
+  same_streams : SameStreams twice joined
+  same_streams = cut_streams side events first second
 
-  brought_cut : followed_by_all policy (followed_by_all policy before (brought mode side events first)) (brought mode side once second) ≡ followed_by_all policy before (brought mode side events (first ++ second))
-  brought_cut = by (fault_in mode side once) refl (is_over side events first) refl
-    where
-      by : (o : Option Fault) → fault_in mode side once ≡ o → (b : Bool) → is_over side events first ≡ b
-          → followed_by_all policy (followed_by_all policy before (brought mode side events first)) (brought mode side once second) ≡ followed_by_all policy before (brought mode side events (first ++ second))
-      by (Some f) e b o = fault_cut f e
-      by None e true o = full_cut o
-      by None e false o = plain_cut e o
+  abbrev grown_first : Grown mode side events first
+  grown_first = grows mode side events first
 
--- ---- the history
+  abbrev grown_second : Grown mode side (Bytes side first ∷ events) second
+  grown_second = grows mode side (Bytes side first ∷ events) second
+
+  found_both : found mode side joined ≡ found mode side events ++ ((grows mode side events first).items ++ (grows mode side (Bytes side first ∷ events) second).items)
+  found_both =
+      sym (found_same mode side twice joined same_streams)
+      ∙ grown_second.found_is
+      ∙ ap (λ (t : List Item). t ++ grown_second.items) grown_first.found_is
+      ∙ append_assoc (found mode side events) grown_first.items grown_second.items
+
+  raw_both : raw mode side joined ≡ raw mode side events ++ ((grows mode side events first).bytes ++ (grows mode side (Bytes side first ∷ events) second).bytes)
+  raw_both =
+      sym (raw_same mode side twice joined same_streams)
+      ∙ grown_second.raw_is
+      ∙ ap (λ (t : List ℕ). t ++ grown_second.bytes) grown_first.raw_is
+      ∙ append_assoc (raw mode side events) grown_first.bytes grown_second.bytes
+
+  joined_three : brought mode side events (first ++ second) ≡ three side ((grows mode side events first).items ++ (grows mode side (Bytes side first ∷ events) second).items) ((grows mode side events first).bytes ++ (grows mode side (Bytes side first ∷ events) second).bytes) (fault_in mode side twice) (is_over side events (first ++ second))
+  joined_three =
+      brought_three mode side events (first ++ second) (grown_first.items ++ grown_second.items) (grown_first.bytes ++ grown_second.bytes) found_both raw_both
+      ∙ ap (λ (o : Option Fault). three side (grown_first.items ++ grown_second.items) (grown_first.bytes ++ grown_second.bytes) o (is_over side events (first ++ second))) (sym (fault_same mode side twice joined same_streams))
+
+  after_fault : (f : Fault) → fault_in mode side once ≡ Some f → ((grows mode side once second).items ≡ []) × ((grows mode side once second).bytes ≡ []) × (fault_in mode side twice ≡ Some f)
+  after_fault f e =
+      let s = stays mode side once second f e in
+      (none_added (found mode side once) grown_second.items (sym grown_second.found_is ∙ s.found_is), none_added (raw mode side once) grown_second.bytes (sym grown_second.raw_is ∙ s.raw_is), s.fault_is)
+
+  after_full : fault_in mode side once ≡ None → is_over side events first ≡ true
+      → ((grows mode side once second).items ≡ []) × ((grows mode side once second).bytes ≡ []) × (fault_in mode side twice ≡ None) × (is_over side events (first ++ second) ≡ true)
+  after_full e o =
+      let u = own_same mode side once second (full_same o) in
+      (none_added (found mode side once) grown_second.items (sym grown_second.found_is ∙ u.found_is), none_added (raw mode side once) grown_second.bytes (sym grown_second.raw_is ∙ u.raw_is), u.fault_is ∙ e, over_both o)
+
+  in_room : is_over side events first ≡ false → is_over side events (first ++ second) ≡ is_over side once second
+  in_room o = sym (same_over (sym over_is ∙ o))
+
+  in_order : ((grows mode side events first).bytes ≡ []) ⊎ ((grows mode side once second).items ≡ [])
+  in_order = ap_or (λ e. nothing_left (raw mode side events) grown_first.bytes (sym grown_first.raw_is ∙ e)) grown_second.in_order
+
+  module _ (Like : History → History → Type 0) (like : IsLikeness policy Like) (pieces : InPieces policy Like side (grows mode side events first).bytes (grows mode side (Bytes side first ∷ events) second).bytes) where
+    cut_here : Like (history policy mode (Bytes side (first ++ second) ∷ events)) (history policy mode (Bytes side second ∷ Bytes side first ∷ events))
+    unfolding history arrived
+    cut_here =
+        let h = history policy mode events in
+        like.chained _ _ _ (like.same _ _ (ap (followed_by_all policy h) joined_three))
+        (like.chained _ _ _ (cut_three policy Like like h grown_first.items grown_second.items side grown_first.bytes grown_second.bytes (fault_in mode side once) (fault_in mode side twice) (is_over side events first) (is_over side once second) (is_over side events (first ++ second)) after_fault after_full in_room in_order pieces)
+        (like.same _ _ (sym (
+        ap (λ (xs : List Item). followed_by_all policy (followed_by_all policy h xs) (brought mode side once second)) (brought_three mode side events first grown_first.items grown_first.bytes grown_first.found_is grown_first.raw_is)
+        ∙ ap (followed_by_all policy (followed_by_all policy h (three side grown_first.items grown_first.bytes (fault_in mode side once) (is_over side events first)))) (brought_three mode side once second grown_second.items grown_second.bytes grown_second.found_is grown_second.raw_is)
+        ))))
+
+-- ---- and what comes later
 
 arrived_same : (mode : Mode) (one two : List Event) (event : Event) → SameStreams one two → arrived mode one event ≡ arrived mode two event
-unfolding arrived is_over taken_of
+unfolding arrived is_over
 arrived_same mode one two (Bytes side piece) same =
     let more = streams_same one two (Bytes side piece) same in
     rw (
       stream_same side one two same,
       found_same mode side one two same,
       found_same mode side (Bytes side piece ∷ one) (Bytes side piece ∷ two) more,
+      raw_same mode side one two same,
+      raw_same mode side (Bytes side piece ∷ one) (Bytes side piece ∷ two) more,
       fault_same mode side (Bytes side piece ∷ one) (Bytes side piece ∷ two) more,
     )
     refl
 arrived_same mode one two (Finished side) same = refl
 arrived_same mode one two (Stopped end) same = refl
 
-later_same : (policy : Policy) (mode : Mode) (later one two : List Event) → SameStreams one two → history policy mode one ≡ history policy mode two
-    → (history policy mode (later ++ one) ≡ history policy mode (later ++ two)) × SameStreams (later ++ one) (later ++ two)
+later_like : (policy : Policy) (mode : Mode) (Like : History → History → Type 0) → IsLikeness policy Like → (later one two : List Event) → SameStreams one two → Like (history policy mode one) (history policy mode two)
+    → Like (history policy mode (later ++ one)) (history policy mode (later ++ two)) × SameStreams (later ++ one) (later ++ two)
 unfolding history
-later_same policy mode [] one two same e = (e, same)
-later_same policy mode (event ∷ later) one two same e =
-    let before = later_same policy mode later one two same e in (
-      ap (λ (h : History). followed_by_all policy h (arrived mode (later ++ one) event)) before.0
-          ∙ ap (followed_by_all policy (history policy mode (later ++ two))) (arrived_same mode (later ++ one) (later ++ two) event before.1),
+later_like policy mode Like like [] one two same e = (e, same)
+later_like policy mode Like like (event ∷ later) one two same e =
+    let before = later_like policy mode Like like later one two same e in (
+      like.chained _ _ _ (like.followed (arrived mode (later ++ one) event) _ _ before.0)
+          (like.same _ _ (ap (followed_by_all policy (history policy mode (later ++ two))) (arrived_same mode (later ++ one) (later ++ two) event before.1))),
       streams_same (later ++ one) (later ++ two) event before.1,
     )
 
--- pieces of a session that filters messages
-arrived_built : (mode : Mode) (events : List Event) (side : Side) (piece : List ℕ) → mode.filter ≡ true → arrived mode events (Bytes side piece) ≡ brought mode side events piece
-unfolding arrived
-arrived_built mode events side piece e =
-    ap (λ (b : Bool). cond (is_empty (taken_of side events piece) || b) (brought mode side events piece) (Ended NotBuilt ∷ [])) e ∙ by (is_empty (taken_of side events piece))
-  where
-    by : (b : Bool) → cond (b || true) (brought mode side events piece) (Ended NotBuilt ∷ []) ≡ brought mode side events piece
-    by true = refl
-    by false = refl
+-- ---- the same history
 
-cut_here : (policy : Policy) (mode : Mode) (side : Side) (events : List Event) (first second : List ℕ) → mode.filter ≡ true
-    → history policy mode (Bytes side second ∷ Bytes side first ∷ events) ≡ history policy mode (Bytes side (first ++ second) ∷ events)
-unfolding history
-cut_here policy mode side events first second e =
-    ap (followed_by_all policy (followed_by_all policy (history policy mode events) (arrived mode events (Bytes side first)))) (arrived_built mode (Bytes side first ∷ events) side second e)
-    ∙ ap (λ (xs : List Item). followed_by_all policy (followed_by_all policy (history policy mode events) xs) (brought mode side (Bytes side first ∷ events) second)) (arrived_built mode events side first e)
-    ∙ brought_cut policy mode (history policy mode events) side events first second
-    ∙ ap (followed_by_all policy (history policy mode events)) (sym (arrived_built mode events side (first ++ second) e))
+the_same : (policy : Policy) → IsLikeness policy (λ (h k : History). h ≡ k)
+the_same policy = record { same = λ h k e. e; chained = λ a b c e f. e ∙ f; followed = λ items h k e. ap (λ (t : History). followed_by_all policy t items) e }
+
+-- with a filter nobody's bytes go on unseen
+none_raw : (mode : Mode) (side : Side) (events : List Event) → mode.filter ≡ true → raw mode side events ≡ []
+unfolding raw
+none_raw mode side events e = ap (λ (b : Bool). raw_in b (content mode side events)) e
+
+filtered_pieces : (policy : Policy) (mode : Mode) (side : Side) (events : List Event) (piece y : List ℕ) → mode.filter ≡ true → InPieces policy (λ (h k : History). h ≡ k) side (grows mode side events piece).bytes y
+filtered_pieces policy mode side events piece y filters = λ h.
+    let x = (grows mode side events piece).bytes in
+    let none : x ≡ [] = nothing_left (raw mode side events) x (sym (grows mode side events piece).raw_is ∙ none_raw mode side (Bytes side piece ∷ events) filters) in
+    ap (λ (t : List ℕ). followed_by_all policy h (raw_item side (t ++ y))) none
+    ∙ ap (λ (t : History). followed_by_all policy t (raw_item side y)) (sym (none_followed policy h))
+    ∙ ap (λ (t : List ℕ). followed_by_all policy (followed_by_all policy h (raw_item side t)) (raw_item side y)) (sym none)
 
 pub any_cut : (policy : Policy) (mode : Mode) (later events : List Event) (side : Side) (first second : List ℕ) → mode.filter ≡ true
     → history policy mode (later ++ Bytes side second ∷ Bytes side first ∷ events) ≡ history policy mode (later ++ Bytes side (first ++ second) ∷ events)
 any_cut policy mode later events side first second e =
-    (later_same policy mode later (Bytes side second ∷ Bytes side first ∷ events) (Bytes side (first ++ second) ∷ events) (cut_streams side events first second) (cut_here policy mode side events first second e)).0
+    (later_like policy mode (λ (h k : History). h ≡ k) (the_same policy) later (Bytes side second ∷ Bytes side first ∷ events) (Bytes side (first ++ second) ∷ events) (cut_streams side events first second)
+    (sym (cut_here policy mode side events first second (λ (h k : History). h ≡ k) (the_same policy) (filtered_pieces policy mode side events first (grows mode side (Bytes side first ∷ events) second).bytes e)))).0
+
+-- ---- and with a filter or without, what the history gives
+
+alike : (policy : Policy) → IsLikeness policy (GivesTheSame policy)
+alike policy = record { same = same_gives policy; chained = then_gives policy; followed = all_like policy }
+
+pub any_cut_gives : (policy : Policy) (mode : Mode) (later events : List Event) (side : Side) (first second : List ℕ)
+    → GivesTheSame policy (history policy mode (later ++ Bytes side (first ++ second) ∷ events)) (history policy mode (later ++ Bytes side second ∷ Bytes side first ∷ events))
+any_cut_gives policy mode later events side first second =
+    (later_like policy mode (GivesTheSame policy) (alike policy) later (Bytes side (first ++ second) ∷ events) (Bytes side second ∷ Bytes side first ∷ events) (λ s. sym (cut_streams side events first second s))
+    (cut_here policy mode side events first second (GivesTheSame policy) (alike policy) (λ h. raw_pieces policy h side (grows mode side events first).bytes (grows mode side (Bytes side first ∷ events) second).bytes))).0

@@ -1,7 +1,7 @@
 -- A history grows at its front, and the bytes that it gives out at their end.
-use Rattle.std.proofs.Common.{◌≡◌, ℕ, ◌+◌, List, [], ◌∷◌, ◌++◌, Option, Some, None, refl, ap, ◌∙◌, sym, append_assoc, append-nil}
+use Rattle.std.proofs.Common.{◌≡◌, ℕ, List, [], ◌∷◌, ◌++◌, Option, Some, None, refl, ap, ◌∙◌, sym, append_assoc, append-nil}
 use Rattle.policy_args.specs.Policy.{Policy}
-use Rattle.policy_view.specs.Past.{Item, Line, Msg, Ended, History, past}
+use Rattle.policy_view.specs.Past.{Item, Line, Msg, Raw, Ended, History, past}
 use Rattle.policy_view.specs.Sent.{Past}
 use Rattle.policy_view.specs.History.{Event, history, end_of, followed_by, followed_unless, followed_by_all, placed, arrived}
 use Rattle.policy_view.specs.Outputs.{bus_bytes, client_bytes, to_bus, to_client}
@@ -51,6 +51,7 @@ client_grows policy before (item ∷ added) =
 noted_more : (policy : Policy) (before : Past) (item : Item) (so_far : List Note × ℕ) → IsPrefixOf so_far.0 (with_note_of policy before item so_far).0
 noted_more policy before (Msg side m) so_far = (_, refl)
 noted_more policy before (Line side bytes) so_far = ([], append-nil so_far.0)
+noted_more policy before (Raw side bytes) so_far = ([], append-nil so_far.0)
 noted_more policy before (Ended end) so_far = ([], append-nil so_far.0)
 
 prefix_on : {A : Type 0} (one two three : List A) → IsPrefixOf one two → IsPrefixOf two three → IsPrefixOf one three

@@ -2,5 +2,16 @@ pub mod Frames
 pub mod Growth
 pub mod PastLaws
 pub mod Streams
+pub mod Alike
 pub mod CutLaws
 pub mod RepliesLaws
+pub mod Covered
+pub mod Decisions
+pub mod EachItem
+pub mod Filtered
+pub mod Worlds
+pub mod VisibleExamples
+pub mod CutNames
+pub mod Sound
+pub mod ElementLaws
+pub mod Differences

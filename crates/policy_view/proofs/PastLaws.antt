@@ -8,7 +8,7 @@ use Rattle.dbus_header.specs.Message.{reply_serial}
 use Rattle.policy_args.specs.Policy.{Policy}
 use Rattle.policy_view.specs.Sent.{Past, nothing_before}
 use Rattle.dbus_header.specs.Kinds.{Kind, Call, Return, Error, Signal, Other, kind_of}
-use Rattle.policy_view.specs.Past.{Item, Line, Msg, Ended, History, past, after, due, used_by, used_at, place_used}
+use Rattle.policy_view.specs.Past.{Item, Line, Msg, Raw, Ended, History, past, after, due, used_by, used_at, place_used}
 use Rattle.policy_view.specs.History.{Event, history, end_of, arrived, placed, followed_by, followed_unless, followed_by_all, most_sent}
 use Rattle.policy_view.specs.declared.Side.TheVariants.{Client, Bus}
 use Rattle.policy_view.specs.declared.End.{End}
@@ -59,6 +59,7 @@ used_sent policy (Msg Bus m ∷ before) r e =
     (used_at_sent (length (past policy before).told.sent) (kind_of m) (reply_serial m)) r e in
     rw length-append (omega (arith, h))
 used_sent policy (Line side bytes ∷ before) r e = used_sent policy before r e
+used_sent policy (Raw side bytes ∷ before) r e = used_sent policy before r e
 used_sent policy (Ended end ∷ before) r e = used_sent policy before r e
 
 -- what an item causes is sent
@@ -67,6 +68,7 @@ unfolding after due
 sent_after policy past (Msg Client m) = refl
 sent_after policy past (Msg Bus m) = refl
 sent_after policy past (Line side bytes) = sym (append-nil past.told.sent)
+sent_after policy past (Raw side bytes) = sym (append-nil past.told.sent)
 sent_after policy past (Ended end) = sym (append-nil past.told.sent)
 
 -- within the serials

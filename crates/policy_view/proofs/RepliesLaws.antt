@@ -10,7 +10,7 @@ use Rattle.policy_args.specs.Policy.{Policy}
 use Rattle.policy_view.specs.Knowledge.{knowledge}
 use Rattle.policy_view.specs.Sent.{Exchange, Told, is_same, nothing_before, owed, same_text}
 use Rattle.policy_view.specs.Verdicts.{ClientRole, OfUnknownType, Reply, Broadcast, SignalTo, StandardBusCall, OtherBusCall, BusCall, CallTo, client_role, reply_to, verdict, verdict_at}
-use Rattle.policy_view.specs.Past.{Line, Msg, Ended, History, after, called_at, judged, past, replied_on, role}
+use Rattle.policy_view.specs.Past.{Line, Msg, Raw, Ended, History, after, called_at, judged, past, replied_on, role}
 use Rattle.policy_view.specs.declared.Side.TheVariants.{Client, Bus}
 use Rattle.policy_view.specs.declared.Verdict.{Verdict}
 use Rattle.policy_view.specs.declared.Verdict.TheVariants.{Pass, Ping, Drop}
@@ -82,4 +82,5 @@ replied_within policy (Msg Bus m ∷ before) e =
     let more = times_append e told.called (called_at m (role (past policy before) m)) in
     omega (arith, h, more)
 replied_within policy (Line side bytes ∷ before) e = replied_within policy before e
+replied_within policy (Raw side bytes ∷ before) e = replied_within policy before e
 replied_within policy (Ended end ∷ before) e = replied_within policy before e

@@ -1,21 +1,20 @@
 -- The events of a session and the history that they make.
-use Rattle.std.specs.Prelude.{ℕ, ◌+◌, ◌-◌, nat_lt, nat_le, Bool, ◌||◌, List, [], ◌∷◌, ◌++◌, length, map, take, drop, if◌then◌else◌, Option, Some, None}
+use Rattle.std.specs.Prelude.{ℕ, ◌+◌, ◌-◌, nat_lt, nat_le, Bool, List, [], ◌∷◌, ◌++◌, length, map, take, drop, if◌then◌else◌, Option, Some, None}
 use Rattle.dbus_header.specs.declared.Malformed.{Malformed}
 use Rattle.dbus_header.specs.Message.{Message}
 use Rattle.sasl_watch.specs.Lines.{client_lines, has_begun, after_begin, asked, client_fault, bus_lines, after_lines, bus_fault}
 use Rattle.sasl_watch.specs.declared.LineFault.{LineFault}
 use Rattle.dbus_header.specs.Stream.{messages, bad}
 use Rattle.policy_args.specs.Policy.{Policy}
-use Rattle.dbus_names.specs.Names.{is_empty}
 use Rattle.policy_view.specs.Sent.{Past}
-use Rattle.policy_view.specs.Past.{Item, Line, Msg, Ended, History, past, due}
+use Rattle.policy_view.specs.Past.{Item, Line, Msg, Raw, Ended, History, past, due}
 use Rattle.policy_view.specs.declared.Mode.{Mode}
 use Rattle.policy_view.specs.declared.Side.{Side}
 use Rattle.policy_view.specs.declared.Side.TheVariants.{Client, Bus}
 use Rattle.policy_view.specs.declared.Fault.{Fault}
 use Rattle.policy_view.specs.declared.Fault.TheVariants.{Line as OfLine, Message as OfMessage}
 use Rattle.policy_view.specs.declared.End.{End}
-use Rattle.policy_view.specs.declared.End.TheVariants.{ClientMalformed, BusMalformed, ClientEnd, BusEnd, SerialsSpent, NotBuilt}
+use Rattle.policy_view.specs.declared.End.TheVariants.{ClientMalformed, BusMalformed, ClientEnd, BusEnd, SerialsSpent}
 
 -- what happens to a session; events are kept newest first, as items are
 pub data Event : Type 0 where
@@ -40,7 +39,7 @@ whole_stream side (_ ∷ events) = whole_stream side events
 unfoldable pub stream : Side → List Event → List ℕ
 stream side events = take longest_stream (whole_stream side events)
 
--- ---- a side's stream in lines and messages
+-- ---- a side's stream in lines, and in messages where these are filtered
 
 -- the whole lines of a side: the client's up to BEGIN, and so many of the bus's as the client asked for
 unfoldable pub lines : Mode → Side → List Event → List (List ℕ)
@@ -57,13 +56,26 @@ content mode Bus events =
     then (if has_begun (stream Client events) then Some (after_lines (asked (stream Client events)) (stream Bus events)) else None)
     else Some (stream Bus events)
 
-abbrev pub messages_in : Option (List ℕ) → List Message
-messages_in None = []
-messages_in (Some bytes) = messages bytes
+-- the messages of that, where messages are filtered
+abbrev pub messages_in : Bool → Option (List ℕ) → List Message
+messages_in filter None = []
+messages_in filter (Some bytes) = if filter then messages bytes else []
+
+abbrev pub bytes_in : Option (List ℕ) → List ℕ
+bytes_in None = []
+bytes_in (Some bytes) = bytes
+
+-- and where they aren't, its bytes, at which nobody looks
+abbrev pub raw_in : Bool → Option (List ℕ) → List ℕ
+raw_in filter content = if filter then [] else bytes_in content
 
 -- the lines and then the messages of a side's whole stream
 unfoldable pub found : Mode → Side → List Event → List Item
-found mode side events = map (Line side) (lines mode side events) ++ map (Msg side) (messages_in (content mode side events))
+found mode side events = map (Line side) (lines mode side events) ++ map (Msg side) (messages_in mode.filter (content mode side events))
+
+-- the bytes that stand in the place of messages where these aren't filtered
+unfoldable pub raw : Mode → Side → List Event → List ℕ
+raw mode side events = raw_in mode.filter (content mode side events)
 
 -- ---- its first fault
 
@@ -82,17 +94,17 @@ line_fault mode Bus events =
     then fault_of_line (bus_fault (asked (stream Client events)) (has_begun (stream Client events)) (stream Bus events))
     else None
 
-abbrev pub fault_in : Option (List ℕ) → Option Fault
-fault_in None = None
-fault_in (Some bytes) = fault_of (bad bytes)
+abbrev pub fault_in : Bool → Option (List ℕ) → Option Fault
+fault_in filter None = None
+fault_in filter (Some bytes) = if filter then fault_of (bad bytes) else None
 
 abbrev pub first_fault : Option Fault → Option Fault → Option Fault
 first_fault None later = later
 first_fault (Some f) later = Some f
 
--- what is wrong with a side's stream
+-- what is wrong with a side's stream: with its lines, and with its messages where these are filtered
 unfoldable pub fault : Mode → Side → List Event → Option Fault
-fault mode side events = first_fault (line_fault mode side events) (fault_in (content mode side events))
+fault mode side events = first_fault (line_fault mode side events) (fault_in mode.filter (content mode side events))
 
 abbrev pub malformed : Side → Fault → End
 malformed Client = ClientMalformed
@@ -105,6 +117,11 @@ finished Bus = BusEnd
 abbrev pub fault_end : Side → Option Fault → List Item
 fault_end side None = []
 fault_end side (Some f) = Ended (malformed side f) ∷ []
+
+-- bytes at which nobody looks, as one item where there are any
+abbrev pub raw_item : Side → List ℕ → List Item
+raw_item side [] = []
+raw_item side (byte ∷ bytes) = Raw side (byte ∷ bytes) ∷ []
 
 -- what is new in a list that has grown
 abbrev pub new_in : {A : Type 0} → List A → List A → List A
@@ -121,24 +138,19 @@ end_if b end = if b then Ended end ∷ [] else []
 unfoldable pub taken_of : Side → List Event → List ℕ → List ℕ
 taken_of side events piece = take (longest_stream - length (stream side events)) piece
 
--- ---- what is built so far
-
--- Pieces are built in a session that filters messages.
-abbrev pub is_built_piece : Mode → List ℕ → Bool
-is_built_piece mode piece = is_empty piece || mode.filter
-
 -- ---- the history
 
 -- the items that a piece brings, in order: those that its side's whole stream has beyond those of before
 abbrev pub brought : Mode → Side → List Event → List ℕ → List Item
 brought mode side events piece =
     new_in (found mode side events) (found mode side (Bytes side piece ∷ events))
+    ++ raw_item side (new_in (raw mode side events) (raw mode side (Bytes side piece ∷ events)))
     ++ fault_end side (fault mode side (Bytes side piece ∷ events))
     ++ end_if (is_over side events piece) (finished side)
 
--- the items that an event brings; a piece that isn't built has End 13 in their place
+-- the items that an event brings
 unfoldable pub arrived : Mode → List Event → Event → List Item
-arrived mode events (Bytes side piece) = if is_built_piece mode (taken_of side events piece) then brought mode side events piece else Ended NotBuilt ∷ []
+arrived mode events (Bytes side piece) = brought mode side events piece
 arrived mode events (Finished side) = Ended (finished side) ∷ []
 arrived mode events (Stopped end) = Ended end ∷ []
 
@@ -153,6 +165,7 @@ end_of [] = None
 end_of (Ended end ∷ before) = Some end
 end_of (Line side bytes ∷ before) = end_of before
 end_of (Msg side m ∷ before) = end_of before
+end_of (Raw side bytes ∷ before) = end_of before
 
 -- nothing follows an End
 abbrev pub followed_unless : Option End → Policy → History → Item → History

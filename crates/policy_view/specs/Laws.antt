@@ -1,11 +1,16 @@
 -- The laws of histories, as statements.
-use Rattle.std.specs.Prelude.{◌≡◌, List, ◌++◌}
+use Rattle.std.specs.Prelude.{◌≡◌, IsTrue, List, ◌++◌}
+use Rattle.dbus_header.specs.Message.{Message, reply_serial}
 use Rattle.policy_args.specs.Policy.{Policy}
-use Rattle.policy_view.specs.Past.{History}
-use Rattle.policy_view.specs.History.{Event, history}
-use Rattle.policy_view.specs.Outputs.{bus_bytes, client_bytes}
-use Rattle.policy_view.specs.Notes.{notes}
+use Rattle.policy_view.specs.Sent.{Exchange, Past, answered, owed}
+use Rattle.policy_view.specs.Shown.{shown}
+use Rattle.policy_view.specs.Past.{Msg, History, due, judged, past}
+use Rattle.policy_view.specs.History.{Event, end_of, history}
+use Rattle.policy_view.specs.Outputs.{bus_bytes, client_bytes, seen_in, sent}
+use Rattle.policy_view.specs.Notes.{notes, numbered}
+use Rattle.policy_view.specs.Visible.{part}
 use Rattle.policy_view.specs.declared.Mode.{Mode}
+use Rattle.policy_view.specs.declared.Side.TheVariants.{Client, Bus}
 
 abbrev pub IsPrefixOf : {A : Type 0} → List A → List A → Type 0
 IsPrefixOf {A = A} xs ys = (rest : List A) × (xs ++ rest ≡ ys)
@@ -16,3 +21,41 @@ pub record OnlyGrows (policy : Policy) (mode : Mode) (more events : List Event) 
   pub to_bus : IsPrefixOf (bus_bytes policy (history policy mode events)) (bus_bytes policy (history policy mode (more ++ events)))
   pub to_client : IsPrefixOf (client_bytes policy (history policy mode events)) (client_bytes policy (history policy mode (more ++ events)))
   pub noted : IsPrefixOf (notes policy (history policy mode events)) (notes policy (history policy mode (more ++ events)))
+
+-- the same bytes for either side, the same notes, all that the items told, and the same End
+pub record GivesTheSame (policy : Policy) (one other : History) : Type 0 where
+  pub to_bus : bus_bytes policy one ≡ bus_bytes policy other
+  pub to_client : client_bytes policy one ≡ client_bytes policy other
+  pub noted : numbered policy one ≡ numbered policy other
+  pub told : past policy one ≡ past policy other
+  pub end_is : end_of one ≡ end_of other
+
+-- pasts with the same facts and the same sent messages, in which the same replies are owed
+pub record KnowTheSame (one other : Past) : Type 0 where
+  pub facts : one.told.facts ≡ other.told.facts
+  pub sent : one.told.sent ≡ other.told.sent
+  pub owed : (to : Exchange) → owed one.told to ≡ owed other.told to
+
+-- every message gets the same: the client's by itself, and the bus's where it answers the same
+pub record DecideTheSame (policy : Policy) (one other : Past) : Type 0 where
+  pub verdicts : (m : Message) → judged policy one.told m ≡ judged policy other.told m
+  pub client_due : (m : Message) → due policy one (Msg Client m) ≡ due policy other (Msg Client m)
+  pub showings : (m : Message) → answered one (reply_serial m) ≡ answered other (reply_serial m) → shown policy one m ≡ shown policy other m
+  pub bus_due : (m : Message) → answered one (reply_serial m) ≡ answered other (reply_serial m) → due policy one (Msg Bus m) ≡ due policy other (Msg Bus m)
+
+-- two histories give out the same, and all on which a verdict rests is the same
+pub record SameOnBothSides (policy : Policy) (one other : History) : Type 0 where
+  pub sent : sent policy one ≡ sent policy other
+  pub seen : seen_in policy one ≡ seen_in policy other
+  pub to_bus : bus_bytes policy one ≡ bus_bytes policy other
+  pub to_client : client_bytes policy one ≡ client_bytes policy other
+  pub ended : end_of one ≡ end_of other
+  pub known : KnowTheSame (past policy one) (past policy other)
+
+-- where the visible parts of two histories of sessions that filter are the same, both give out the same: what the
+-- policy hides, wherever it came in either, changes nothing
+abbrev pub HiddenChangesNothing : Policy → Mode → Mode → List Event → List Event → Type 0
+HiddenChangesNothing policy one_mode other_mode one other =
+    IsTrue one_mode.filter → IsTrue other_mode.filter →
+    part policy (history policy one_mode one) ≡ part policy (history policy other_mode other) →
+    SameOnBothSides policy (history policy one_mode one) (history policy other_mode other)

@@ -8,4 +8,6 @@ pub mod Past
 pub mod History
 pub mod Outputs
 pub mod Notes
+pub mod Visible
+pub mod Elements
 pub mod Laws

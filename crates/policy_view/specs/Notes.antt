@@ -6,7 +6,7 @@ use Rattle.policy_args.specs.Policy.{Policy}
 use Rattle.policy_view.specs.Own.{ping}
 use Rattle.policy_view.specs.Sent.{Past}
 use Rattle.policy_view.specs.Shown.{shown}
-use Rattle.policy_view.specs.Past.{Item, Line, Msg, Ended, History, past, judged}
+use Rattle.policy_view.specs.Past.{Item, Line, Msg, Raw, Ended, History, past, judged}
 use Rattle.policy_view.specs.declared.Mode.{Mode}
 use Rattle.policy_view.specs.declared.Side.{Side}
 use Rattle.policy_view.specs.declared.Side.TheVariants.{Client, Bus}
@@ -29,11 +29,12 @@ abbrev pub decision_on : Policy → Past → Side → Message → Decision
 decision_on policy before Client m = Judged (judged policy before.told m)
 decision_on policy before Bus m = Shown (shown policy before m)
 
--- the notes so far and their number, with the note of one more item: a message has one, a line and an End have none
+-- the notes so far and their number, with the note of one more item: a message has one, and nothing else has
 abbrev pub with_note_of : Policy → Past → Item → List Note × ℕ → List Note × ℕ
 with_note_of policy before (Msg side m) so_far =
     (so_far.0 ++ record { number = so_far.1 + 1; side = side; frame = spell m; decision = decision_on policy before side m } ∷ [], so_far.1 + 1)
 with_note_of policy before (Line side bytes) so_far = so_far
+with_note_of policy before (Raw side bytes) so_far = so_far
 with_note_of policy before (Ended end) so_far = so_far
 
 -- the notes of a history and their number

@@ -5,7 +5,7 @@ use Rattle.policy_args.specs.Policy.{Policy}
 use Rattle.policy_args.specs.declared.fact.Fact.{Fact}
 use Rattle.policy_view.specs.Sent.{Sent, Past, spelled_from}
 use Rattle.policy_view.specs.Shown.{seen}
-use Rattle.policy_view.specs.Past.{Item, Line, Msg, Ended, History, past, due}
+use Rattle.policy_view.specs.Past.{Item, Line, Msg, Raw, Ended, History, past, due}
 use Rattle.policy_view.specs.declared.Side.TheVariants.{Client, Bus}
 use Rattle.sasl_watch.specs.Lines.{for_bus}
 
@@ -16,11 +16,13 @@ sent policy items = (past policy items).told.sent
 abbrev pub facts : Policy → History → List Fact
 facts policy items = (past policy items).told.facts
 
--- the bytes for the bus that an item makes: a line of the client, or the due messages, numbered on
+-- the bytes for the bus that an item makes: a line of the client, the due messages, numbered on, or the client's bytes as they came
 unfoldable pub to_bus : Policy → Past → Item → List ℕ
 to_bus policy before (Line Client bytes) = for_bus bytes
 to_bus policy before (Line Bus bytes) = []
 to_bus policy before (Msg side m) = spelled_from (length before.told.sent + 1) (due policy before (Msg side m))
+to_bus policy before (Raw Client bytes) = bytes
+to_bus policy before (Raw Bus bytes) = []
 to_bus policy before (Ended end) = []
 
 unfoldable pub bus_bytes : Policy → History → List ℕ
@@ -37,11 +39,13 @@ unfoldable pub seen_in : Policy → History → List Message
 seen_in policy [] = []
 seen_in policy (item ∷ before) = seen_in policy before ++ seen_of policy (past policy before) item
 
--- the bytes for the client that an item makes: a line of the bus, or the messages that are shown
+-- the bytes for the client that an item makes: a line of the bus, the messages that are shown, or the bus's bytes as they came
 unfoldable pub to_client : Policy → Past → Item → List ℕ
 to_client policy before (Line Client bytes) = []
 to_client policy before (Line Bus bytes) = bytes
 to_client policy before (Msg side m) = flat_map spell (seen_of policy before (Msg side m))
+to_client policy before (Raw Client bytes) = []
+to_client policy before (Raw Bus bytes) = bytes
 to_client policy before (Ended end) = []
 
 unfoldable pub client_bytes : Policy → History → List ℕ

@@ -19,10 +19,11 @@ use Rattle.policy_view.specs.declared.Verdict.{Verdict}
 use Rattle.policy_view.specs.declared.Verdict.TheVariants.{Pass, Ping, Drop}
 use Rattle.policy_view.specs.declared.End.{End}
 
--- what a session's history holds: lines of the authentication protocol, messages, and the End
+-- what a session's history holds: lines of the authentication protocol, messages, bytes that nobody looks at, and the End
 pub data Item : Type 0 where
   Line : (side : Side) (bytes : List ℕ) → Item
   Msg : (side : Side) (message : Message) → Item
+  Raw : (side : Side) (bytes : List ℕ) → Item
   Ended : (end : End) → Item
 
 -- Items and events are kept newest first: `item ∷ before` is an item and what stands before it.
@@ -159,6 +160,7 @@ after policy (Msg Client m) before =
 after policy (Msg Bus m) before =
     record { told = with_bus policy m (role before m) before.told; used = before.used ++ used_by before m }
 after policy (Line side bytes) before = before
+after policy (Raw side bytes) before = before
 after policy (Ended end) before = before
 
 -- the past of a history
@@ -171,4 +173,5 @@ unfoldable pub due : Policy → Past → Item → List Sent
 due policy before (Msg Client m) = due_on policy (has_greeted before.told.sent) m (judged policy before.told m)
 due policy before (Msg Bus m) = due_at policy m (role before m)
 due policy before (Line side bytes) = []
+due policy before (Raw side bytes) = []
 due policy before (Ended end) = []

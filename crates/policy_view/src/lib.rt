@@ -3,11 +3,15 @@
 #![tactic(auto)]
 
 mod note;
+mod visible;
 
 ghost use Rattle.std.specs.Prelude.{◌≡◌, ℕ, ◌∷◌, ◌++◌, ◌&&◌, not, List, IsTrue};
+ghost use Rattle.std.specs.List.{AllByRecursion};
 ghost use Rattle.policy_args.specs.Policy.{Policy};
+ghost use Rattle.policy_view.specs.Elements.{BringsBytes, DifferAsGiven, TellThePart};
 ghost use Rattle.policy_view.specs.History.{Event, Bytes, history};
-ghost use Rattle.policy_view.specs.Laws.{OnlyGrows};
+ghost use Rattle.policy_view.specs.Laws.{DecideTheSame, GivesTheSame, HiddenChangesNothing, KnowTheSame, OnlyGrows};
+ghost use Rattle.policy_view.specs.Sent.{Past};
 ghost use Rattle.policy_view.specs.declared.Mode.{Mode as SessionMode};
 ghost use Rattle.policy_view.specs.declared.Side.{Side as StreamSide};
 
@@ -15,6 +19,7 @@ use dbus_header::{Instead, Malformed};
 use dbus_values::Order;
 pub use note::{Note, message_of};
 use sasl_watch::LineFault;
+pub use visible::{NameList, Visible};
 
 /// A side of a session.
 #[derive(Clone, Copy, Debug, PartialEq, Eq)]
@@ -146,8 +151,6 @@ pub enum End {
     BusConnect,
     /// The log could not be written.
     LogFault,
-    /// Bytes came of a session that doesn't filter messages, which isn't built yet.
-    NotBuilt,
 }
 
 /// With more events, what either side was given stands, and only more follows it.
@@ -160,4 +163,37 @@ pub fn bytes_only_grow()
 /// same End.
 pub fn cuts_change_nothing()
     ensures { (policy : Policy) (mode : SessionMode) (later earlier : List Event) (side : StreamSide) (first second : List ℕ) → IsTrue mode.filter → history policy mode (later ++ Bytes side second ∷ Bytes side first ∷ earlier) ≡ history policy mode (later ++ Bytes side (first ++ second) ∷ earlier) }
+{}
+
+/// With a filter or without, where a stream is taken in two pieces or in one makes no difference to what either side is
+/// given, to the notes and to the End, whatever comes before and after. Without a filter the two histories differ in how
+/// the bytes are cut at which nobody looks.
+pub fn cuts_change_no_bytes()
+    ensures { (policy : Policy) (mode : SessionMode) (later earlier : List Event) (side : StreamSide) (first second : List ℕ) → GivesTheSame policy (history policy mode (later ++ Bytes side (first ++ second) ∷ earlier)) (history policy mode (later ++ Bytes side second ∷ Bytes side first ∷ earlier)) }
+{}
+
+/// Pasts with the same facts, the same sent messages and the same owed replies decide the same: each message of the client
+/// gets the same verdict and causes the same messages, and each of the bus that answers the same is shown as the same and
+/// causes the same.
+pub fn decisions_rest_on_what_is_known()
+    ensures { (policy : Policy) (one other : Past) → KnowTheSame one other → DecideTheSame policy one other }
+{}
+
+/// What the policy hides from the client changes nothing. Where the visible parts of the histories of two sessions that
+/// filter messages are equal, they sent the bus the same messages and showed the client the same, gave both the same bytes
+/// and had the same End, and know the same, whatever was hidden in either.
+pub fn what_is_hidden_changes_nothing()
+    ensures { (policy : Policy) (one_mode other_mode : SessionMode) (one other : List Event) → HiddenChangesNothing policy one_mode other_mode one other }
+{}
+
+/// Where the events bring bytes, the elements of their history's visible part as they are given, messages by their frames,
+/// and its End tell the whole visible part.
+pub fn elements_tell_the_part()
+    ensures { (policy : Policy) (mode : SessionMode) (events : List Event) → AllByRecursion BringsBytes events → TellThePart policy (history policy mode events) }
+{}
+
+/// Where the events bring bytes, the visible parts of two histories are equal where what is given of their elements and
+/// their Ends are, and else they differ first at the place at which these do.
+pub fn parts_differ_as_given()
+    ensures { (policy : Policy) (one_mode other_mode : SessionMode) (one other : List Event) → AllByRecursion BringsBytes one → AllByRecursion BringsBytes other → DifferAsGiven policy (history policy one_mode one) (history policy other_mode other) }
 {}

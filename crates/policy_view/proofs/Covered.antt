@@ -1,0 +1,92 @@
+-- A name that an entry covers is seen, so a hidden owner change tells nothing.
+use Rattle.std.proofs.Common.{◌≡◌, Bool, true, false, ◌||◌, ◌&&◌, if◌then◌else◌, List, [], ◌∷◌, ◌++◌, Option, Some, None, refl, ◌⊎◌, inl, inr}
+use Rattle.std.specs.List.{list_any}
+use Rattle.dbus_names.specs.Names.{is_bus, is_unique, is_well_known}
+use Rattle.dbus_names.specs.Texts.{Text}
+use Rattle.name_patterns.specs.Patterns.{covers}
+use Rattle.policy_args.specs.Levels.{level_of, level_of_id}
+use Rattle.policy_args.specs.Policy.{Policy, at_least, given_by, granted, greater, level}
+use Rattle.policy_args.specs.declared.Level.{Level}
+use Rattle.policy_args.specs.declared.Level.TheVariants.{None as Hidden, See, Talk, Own}
+use Rattle.policy_args.specs.declared.entry.Entry.{Entry}
+use Rattle.policy_args.specs.declared.entry.Grant.{Grant}
+use Rattle.policy_args.specs.declared.entry.Grant.TheVariants.{See as to_see, Talk as to_talk, Own as to_own, Call as to_call, Broadcast as to_broadcast}
+use Rattle.policy_args.specs.declared.fact.Fact.{Fact}
+use Rattle.policy_args.specs.declared.fact.Fact.TheVariants.{Owned}
+use Rattle.policy_view.specs.Knowledge.{knowledge}
+use Rattle.policy_view.specs.Past.{fact_of, if_unique, is_covered, owners_of}
+use Rattle.policy_view.specs.Sent.{Told}
+use Rattle.policy_view.specs.Shown.{on_owner_change}
+use Rattle.policy_view.specs.declared.Reason.{Reason}
+use Rattle.policy_view.specs.declared.Reason.TheVariants.{BadArgument, NameHidden}
+use Rattle.policy_view.specs.declared.Showing.TheVariants.{Whole, Hide}
+
+grant_seen : (g : Grant) → at_least See (given_by g) ≡ true
+grant_seen to_see = refl
+grant_seen to_talk = refl
+grant_seen to_own = refl
+grant_seen (to_call rule) = refl
+grant_seen (to_broadcast rule) = refl
+
+seen_left : (a b : Level) → at_least See a ≡ true → at_least See (greater a b) ≡ true
+seen_left Hidden b h = absurd cc
+seen_left See Hidden h = refl
+seen_left See See h = refl
+seen_left See Talk h = refl
+seen_left See Own h = refl
+seen_left Talk Hidden h = refl
+seen_left Talk See h = refl
+seen_left Talk Talk h = refl
+seen_left Talk Own h = refl
+seen_left Own Hidden h = refl
+seen_left Own See h = refl
+seen_left Own Talk h = refl
+seen_left Own Own h = refl
+
+seen_beside_talk : (b : Level) → at_least See (greater Talk b) ≡ true
+seen_beside_talk b = seen_left Talk b refl
+
+abbrev covers_it : Text → Entry → Bool
+covers_it name e = covers e.pattern name
+
+granted_seen : (es : List Entry) (name : Text) → list_any (covers_it name) es ≡ true → at_least See (granted es name) ≡ true
+granted_seen [] name h = absurd cc
+granted_seen (e ∷ es) name h = by (covers e.pattern name) (granted_seen es name) h
+  where
+    by : (b : Bool) → (list_any (covers_it name) es ≡ true → at_least See (granted es name) ≡ true) → (b || list_any (covers_it name) es) ≡ true
+        → at_least See (if b then greater (given_by e.grant) (granted es name) else granted es name) ≡ true
+    by true rest h = seen_left (given_by e.grant) (granted es name) (grant_seen e.grant)
+    by false rest h = rest h
+
+level_seen : (policy : Policy) (name : Text) → list_any (covers_it name) policy.entries ≡ true → at_least See (level policy name) ≡ true
+unfolding level
+level_seen policy name h = by (is_bus name)
+  where
+    by : (b : Bool) → at_least See (if b then greater Talk (granted policy.entries name) else granted policy.entries name) ≡ true
+    by true = seen_beside_talk (granted policy.entries name)
+    by false = granted_seen policy.entries name h
+
+pub covered_seen : (policy : Policy) (facts : List Fact) (name : Text) → is_covered policy name ≡ true → at_least See (level_of policy facts name) ≡ true
+unfolding level_of
+covered_seen policy facts name h = by (is_well_known name) h
+  where
+    by : (b : Bool) → (b && list_any (covers_it name) policy.entries) ≡ true → at_least See (if b then level policy name else (if is_unique name then level_of_id policy facts name else Hidden)) ≡ true
+    by true h = level_seen policy name h
+    by false h = absurd cc
+
+-- an owner change is shown whole, or it tells nothing
+pub change_cases : (policy : Policy) (told : Told) (texts : Option (Text × Text × Text)) → (on_owner_change (knowledge policy told) texts ≡ Whole)
+    ⊎ ((reason : Reason) × (on_owner_change (knowledge policy told) texts ≡ Hide reason) × (owners_of policy texts ≡ []))
+unfolding knowledge
+change_cases policy told None = inr (BadArgument, refl, refl)
+change_cases policy told (Some texts) = by (at_least See (level_of policy told.facts texts.0)) refl
+  where
+    nothing : (b : Bool) → is_covered policy texts.0 ≡ b → at_least See (level_of policy told.facts texts.0) ≡ false
+        → (if b then fact_of (Owned texts.0) (if_unique (Some texts.1)) ++ fact_of (Owned texts.0) (if_unique (Some texts.2)) else []) ≡ []
+    nothing true e h = absurd (let s : at_least See (level_of policy told.facts texts.0) ≡ true = covered_seen policy told.facts texts.0 e in cc)
+    nothing false e h = refl
+
+    by : (b : Bool) → at_least See (level_of policy told.facts texts.0) ≡ b → ((if b then Whole else Hide NameHidden) ≡ Whole)
+        ⊎ ((reason : Reason) × ((if b then Whole else Hide NameHidden) ≡ Hide reason) × (owners_of policy (Some texts) ≡ []))
+    by true e = inl refl
+    by false e = inr (NameHidden, refl, nothing (is_covered policy texts.0) refl e)
