@@ -15,7 +15,7 @@ use Rattle.policy_args.specs.declared.Level.{Level}
 use Rattle.policy_args.specs.declared.Level.TheVariants.{None as Hidden, See, Talk, Own}
 use Rattle.policy_view.specs.Knowledge.{Knowledge, knowledge}
 use Rattle.policy_view.specs.Notes.{Note, decision_on, numbered, with_note_of}
-use Rattle.policy_view.specs.Past.{Item, Line, Msg, Ended, judged, past}
+use Rattle.policy_view.specs.Past.{Item, Line, Msg, Raw, Ended, judged, past}
 use Rattle.policy_view.specs.Sent.{Past, Told, answered}
 use Rattle.policy_view.specs.Shown.{BusRole, NoRole, Unexpected, MatchAnswer, OwnerAnswer, NamesAnswer, PingAnswer, NameList, HelloAnswer, OtherAnswer, CallIn, OwnerChange, SignalIn, BroadcastIn, bus_role, may_broadcast, on_names, on_owner_change, showing, showing_at, shown}
 use Rattle.policy_view.specs.Verdicts.{ClientRole, OfUnknownType, Reply, Broadcast, SignalTo, StandardBusCall, OtherBusCall, BusCall, CallTo, Demand, Free, OnText, Unlisted, TextDemand, NoEavesdrop, SeenOwner, SeenName, Startable, Ownable, client_role, demand_of, entry_passes, first_or_0, on_argument, on_bus_call, on_call, on_ruled_call, on_seen_call, on_signal, on_start, on_text, refused, rules_calls, text_or_empty, verdict, verdict_at}
@@ -189,6 +189,7 @@ notes_of_one policy before (Msg side m) so_far all =
     let note : Note = record { number = so_far.1 + 1; side = side; frame = spell m; decision = decision_on policy before side m } in
     All-append (SpeaksOf policy) so_far.0 (note ∷ []) all (All-cons (SpeaksOf policy) note [] (within_speaks policy note (decision_within policy before side m)) (search rules))
 notes_of_one policy before (Line side bytes) so_far all = all
+notes_of_one policy before (Raw side bytes) so_far all = all
 notes_of_one policy before (Ended end) so_far all = all
 
 pub all_speak : (policy : Policy) (items : List Item) → SpeakOf policy items

@@ -1,4 +1,4 @@
--- Lines and messages taken from the front of a stream, one and then many.
+-- Lines and messages taken from the front of a stream, one and then many; bytes that go on as they came.
 use Rattle.std.proofs.Common.{ℕ, zero, suc, ◌≡◌, ◌+◌, ◌-◌, ◌*◌, ◌≤◌, ◌<◌, Bool, true, false, cond, List, [], ◌∷◌, ◌++◌, length, Option, Some, None, refl, ap, ◌∙◌, sym, subst, arith, length-append, inl, inr}
 use Rattle.std.specs.Prelude.{◌==◌, is_none, is_some, not}
 use Rattle.dbus_names.specs.Names.{is_empty}
@@ -17,14 +17,14 @@ use Rattle.policy_view.specs.declared.Fault.TheVariants.{Message as OfMessage}
 use Rattle.policy_view.specs.declared.Side.{Side}
 use Rattle.policy_view.specs.declared.Side.TheVariants.{Client, Bus}
 use Rattle.policy_view.specs.declared.End.{End}
-use Rattle.policy_view.specs.declared.End.TheVariants.{Memory, NotBuilt}
+use Rattle.policy_view.specs.declared.End.TheVariants.{Memory}
 use Rattle.proxy_core.specs.Streams.{StreamView, Phase, InLines, InMessages, pushed, GaveMessage}
 use Rattle.proxy_core.specs.Sessions.{SessionView, stream_of, IsFront}
 use Rattle.proxy_core.specs.Messages.{ended_by, with_noted_message, KeepsSides}
-use Rattle.proxy_core.specs.Steps.{with_stream, with_left, with_fault, and_runs, with_front, step_at, step_of, more_if, drained, with_more, with_bytes, TookMessage, IsRefused, Took, Stepped, own_to_come, weight, IsLight}
-use Rattle.proxy_core.proofs.Keeping.{Grows, grows_none, grows_then, noted_kept}
+use Rattle.proxy_core.specs.Steps.{with_stream, with_left, with_fault, and_runs, with_front, with_raw, raw_step, step_at, step_of, more_if, drained, with_more, with_bytes, TookMessage, IsRefused, Took, Stepped, Did, own_to_come, weight, IsLight}
+use Rattle.proxy_core.proofs.Keeping.{Grows, grows_none, grows_then, bus_grows, client_grows, noted_kept}
 use Rattle.proxy_core.proofs.Weights.{noted_light}
-use Rattle.proxy_core.proofs.LineSteps.{line_grows, line_runs}
+use Rattle.proxy_core.proofs.LineSteps.{line_grows, line_runs, did_light}
 
 -- ---- the rest of a side's stream
 
@@ -85,6 +85,26 @@ left_weighs policy Bus left n view e = by _ _ _ _ _ e
 no_more : (new mid n : ℕ) → new ≡ mid → new ≤ mid + n
 no_more new mid n e = omega arith
 
+-- ---- bytes at which nobody looks
+
+raw_grows : (side : Side) (bytes : List ℕ) (view : SessionView) → Grows view (with_raw side bytes view)
+raw_grows Client bytes view = bus_grows view bytes
+raw_grows Bus bytes view = client_grows view bytes
+
+left_raw_grows : (side : Side) (view : SessionView) → Grows view (raw_step side view).0
+left_raw_grows side view = left_grows side [] view (with_raw side (left_of side view) (with_left side [] view)) (raw_grows side (left_of side view) (with_left side [] view))
+
+-- they weigh less when they wait than when they came
+raw_weighs : (policy : Policy) (side : Side) (view : SessionView) → weight policy (raw_step side view).0 ≤ weight policy view
+raw_weighs policy Client view = by _ _ _ _ _ _ (length-append view.bus_side view.client.left)
+  where
+    by : (bus_then bus client left other own : ℕ) → bus_then ≡ bus + left → bus_then + client + 19 * (0 + other) + own ≤ bus + client + 19 * (left + other) + own
+    by bus_then bus client left other own e = omega arith
+raw_weighs policy Bus view = by _ _ _ _ _ _ (length-append view.client_side view.bus.left)
+  where
+    by : (client_then bus client left other own : ℕ) → client_then ≡ client + left → bus + client_then + 19 * (other + 0) + own ≤ bus + client + 19 * (other + left) + own
+    by client_then bus client left other own e = omega arith
+
 -- ---- the message in front
 
 module _ (policy : Policy) (side : Side) where
@@ -99,9 +119,13 @@ module _ (policy : Policy) (side : Side) where
   front_grows None view = fault_grows (fault (left_of side view)) view
   front_grows (Some x) view = left_grows side x.1 view (after x.0 x.1 view) (noted_kept policy side x.0 (with_left side x.1 view)).grows
 
+  behind_grows : (filter : Bool) (view : SessionView) → Grows view (cond filter (with_front policy side (front (left_of side view)) view) (raw_step side view)).0
+  behind_grows true view = front_grows (front (left_of side view)) view
+  behind_grows false view = left_raw_grows side view
+
   at_grows : (p : Phase) (view : SessionView) → Grows view (step_at policy side p view).0
   at_grows (InLines place told) view = line_grows side place told policy view
-  at_grows InMessages view = front_grows (front (left_of side view)) view
+  at_grows InMessages view = behind_grows view.mode.filter view
 
   step_grows : (view : SessionView) → Grows view (step_of policy side view).0
   step_grows view = at_grows (stream_of side view).phase view
@@ -114,22 +138,36 @@ module _ (policy : Policy) (side : Side) where
   either_runs None view e = absurd cc
   either_runs (Some x) view e = none_ended (after x.0 x.1 view).ended e
 
+  behind_runs : (filter : Bool) (view : SessionView) → (cond filter (with_front policy side (front (left_of side view)) view) (raw_step side view)).1 ≡ true
+      → (cond filter (with_front policy side (front (left_of side view)) view) (raw_step side view)).0.ended ≡ None
+  behind_runs true view e = either_runs (front (left_of side view)) view e
+  behind_runs false view e = absurd cc
+
   at_runs : (p : Phase) (view : SessionView) → view.ended ≡ None → (step_at policy side p view).1 ≡ true → (step_at policy side p view).0.ended ≡ None
   at_runs (InLines place told) view runs e = line_runs side place told policy view runs e
-  at_runs InMessages view runs e = either_runs (front (left_of side view)) view e
+  at_runs InMessages view runs e = behind_runs view.mode.filter view e
 
   pub step_runs : (view : SessionView) → view.ended ≡ None → (step_of policy side view).1 ≡ true → (step_of policy side view).0.ended ≡ None
   step_runs view runs e = at_runs (stream_of side view).phase view runs e
 
-  -- while messages come
-  pub message_step : (view : SessionView) → (stream_of side view).phase ≡ InMessages → step_of policy side view ≡ with_front policy side (front (left_of side view)) view
-  message_step view e = ap (λ (p : Phase). step_at policy side p view) e
+  -- behind the lines
+  behind_step : (view : SessionView) (filter : Bool) → (stream_of side view).phase ≡ InMessages → view.mode.filter ≡ filter
+      → step_of policy side view ≡ cond filter (with_front policy side (front (left_of side view)) view) (raw_step side view)
+  behind_step view filter e f = ap (λ (p : Phase). step_at policy side p view) e ∙ ap (λ (b : Bool). cond b (with_front policy side (front (left_of side view)) view) (raw_step side view)) f
 
-  step_is : (view : SessionView) (m : Message) (left : List ℕ) → (stream_of side view).phase ≡ InMessages → front (left_of side view) ≡ Some (m, left) → step_of policy side view ≡ and_runs (after m left view)
+  -- while messages come that are filtered
+  pub record InMessagesNow (view : SessionView) : Type 0 where
+    pub phase : (stream_of side view).phase ≡ InMessages
+    pub filters : view.mode.filter ≡ true
+
+  pub message_step : (view : SessionView) → InMessagesNow view → step_of policy side view ≡ with_front policy side (front (left_of side view)) view
+  message_step view p = behind_step view true p.phase p.filters
+
+  step_is : (view : SessionView) (m : Message) (left : List ℕ) → InMessagesNow view → front (left_of side view) ≡ Some (m, left) → step_of policy side view ≡ and_runs (after m left view)
   step_is view m left p e = message_step view p ∙ ap (λ (o : Option (Message × List ℕ)). with_front policy side o view) e
 
   -- a whole message is taken
-  pub whole_step : (old mid new : SessionView) (frame left : List ℕ) (m : Message) → old.ended ≡ None → (stream_of side old).phase ≡ InMessages → Takes (left_of side old) frame left m → mid ≡ with_left side left old
+  pub whole_step : (old mid new : SessionView) (frame left : List ℕ) (m : Message) → old.ended ≡ None → InMessagesNow old → Takes (left_of side old) frame left m → mid ≡ with_left side left old
       → TookMessage (with_noted_message policy side m mid) mid new → Stepped (step_of policy side old) old new (is_none new.ended)
   whole_step old mid new frame left m runs p t is (inl done) =
       let new_is : new ≡ after m left old = done ∙ ap (λ (v : SessionView). with_noted_message policy side m v) is in
@@ -179,7 +217,7 @@ module _ (policy : Policy) (side : Side) where
 
   -- ---- what else stands in front
 
-  pub bad_step : (old mid new : SessionView) (left : List ℕ) (f : Malformed) → (stream_of side old).phase ≡ InMessages → front (left_of side old) ≡ None → fault (left_of side old) ≡ Some f → left ≡ left_of side old → mid ≡ with_left side left old
+  pub bad_step : (old mid new : SessionView) (left : List ℕ) (f : Malformed) → InMessagesNow old → front (left_of side old) ≡ None → fault (left_of side old) ≡ Some f → left ≡ left_of side old → mid ≡ with_left side left old
       → new ≡ ended_by (malformed side (OfMessage f)) mid → Stepped (step_of policy side old) old new false
   bad_step old mid new left f p none wrong same is e =
       let mid_is : mid ≡ old = is ∙ ap (λ (xs : List ℕ). with_left side xs old) same ∙ same_left side old in
@@ -231,6 +269,54 @@ module _ (policy : Policy) (side : Side) where
       later true = drained_grows n (step_of policy side view).0
       later false = grows_none (step_of policy side view).0
 
+-- ---- all that is left goes on
+
+module _ (policy : Policy) (side : Side) (old mid new : SessionView) (bytes : List ℕ) (goes : Bool) (mid_is : mid ≡ with_left side [] old) (bytes_are : bytes ≡ left_of side old) (did : Did (with_raw side bytes mid) mid new goes) where
+  target_is : with_raw side bytes mid ≡ (raw_step side old).0
+  target_is = ap (λ (v : SessionView). with_raw side bytes v) mid_is ∙ ap (λ (xs : List ℕ). with_raw side xs (with_left side [] old)) bytes_are
+
+  pub raw_stepped : old.ended ≡ None → (stream_of side old).phase ≡ InMessages → old.mode.filter ≡ false → Stepped (step_of policy side old) old new false
+  raw_stepped runs phase filters = subst (λ (x : SessionView × Bool). Stepped x old new false) (sym (behind_step policy side old false phase filters)) (by did)
+    where
+      by : Did (with_raw side bytes mid) mid new goes → Stepped (raw_step side old) old new false
+      by (inl done) = inl (done.0 ∙ target_is, refl)
+      by (inr cut) = inr (
+        record {
+          running = runs;
+          ended = cut.0.ended;
+          mode = cut.0.mode ∙ ap (λ (v : SessionView). v.mode) mid_is ∙ left_mode side [] old;
+          for_bus = subst (λ (v : SessionView). IsFront new.bus_side v.bus_side) target_is cut.0.for_bus;
+          for_client = subst (λ (v : SessionView). IsFront new.client_side v.client_side) target_is cut.0.for_client;
+          noted = subst (λ (v : SessionView). IsFront new.notes v.notes) target_is cut.0.noted;
+        },
+        refl,
+      )
+
+  pub raw_light : IsLight policy 0 old new
+  raw_light =
+      did_light policy old mid new (with_raw side bytes mid) goes did (ap (λ (v : SessionView). v.mode) mid_is ∙ left_mode side [] old)
+      (raw_mode side ∙ ap (λ (v : SessionView). v.mode) mid_is ∙ left_mode side [] old)
+      (ap length (raw_client side))
+      (ap length (raw_bus side))
+      (raw_greeted side)
+      (subst (λ (v : SessionView). weight policy v ≤ weight policy old) (sym target_is) (raw_weighs policy side old))
+    where
+      raw_mode : (s : Side) → (with_raw s bytes mid).mode ≡ mid.mode
+      raw_mode Client = refl
+      raw_mode Bus = refl
+
+      raw_client : (s : Side) → (with_raw s bytes mid).client.left ≡ mid.client.left
+      raw_client Client = refl
+      raw_client Bus = refl
+
+      raw_bus : (s : Side) → (with_raw s bytes mid).bus.left ≡ mid.bus.left
+      raw_bus Client = refl
+      raw_bus Bus = refl
+
+      raw_greeted : (s : Side) → (with_raw s bytes mid).greeted ≡ mid.greeted
+      raw_greeted Client = refl
+      raw_greeted Bus = refl
+
 -- ---- what a side's stream gave
 
 pub given_client : (view v : SessionView) (side : Side) (next : Next) (new : StreamView) → side ≡ Client → view ≡ v → GaveMessage view.client next new → Given side v next (record view { client = new })
@@ -243,7 +329,7 @@ given_bus view v side next new is same gave = subst (λ (s : Side). Given s v ne
 
 -- ---- by what stands in front
 
-module _ (policy : Policy) (side : Side) (old : SessionView) (runs : old.ended ≡ None) where
+module _ (policy : Policy) (side : Side) (old : SessionView) (runs : old.ended ≡ None) (filters : old.mode.filter ≡ true) where
   abbrev Kept : List ℕ → SessionView → SessionView → Type 0
   Kept frame mid new = (m : Message) → Valid m → frame ≡ spell m → TookMessage (with_noted_message policy side m mid) mid new
 
@@ -254,7 +340,7 @@ module _ (policy : Policy) (side : Side) (old : SessionView) (runs : old.ended �
   whole_taken next mid new frame e g took =
       let h : Given side old (Whole frame) mid = subst (λ (n : Next). Given side old n mid) e g in
       let t = h.gives.given in
-      whole_step policy side old mid new frame h.gives.left t.0 runs h.gives.before t.1 (with_given h.is h.gives.is) (took t.0 t.1.valid t.1.spelled)
+      whole_step policy side old mid new frame h.gives.left t.0 runs (record { phase = h.gives.before; filters = filters }) t.1 (with_given h.is h.gives.is) (took t.0 t.1.valid t.1.spelled)
 
   pub whole_weighs : (next : Next) (mid new : SessionView) (frame : List ℕ) → next ≡ Whole frame → Given side old next mid → Kept frame mid new → IsLight policy 0 old new
   whole_weighs next mid new frame e g took =
@@ -266,7 +352,7 @@ module _ (policy : Policy) (side : Side) (old : SessionView) (runs : old.ended �
   bad_taken next mid new f end e g wrong is =
       let h : Given side old (Bad f) mid = subst (λ (n : Next). Given side old n mid) e g in
       let t = h.gives.given in
-      bad_step policy side old mid new h.gives.left f h.gives.before (fault_front (left_of side old) f t.0) t.0 t.1 (with_given h.is h.gives.is) (is ∙ ap (λ (x : End). ended_by x mid) wrong)
+      bad_step policy side old mid new h.gives.left f (record { phase = h.gives.before; filters = filters }) (fault_front (left_of side old) f t.0) t.0 t.1 (with_given h.is h.gives.is) (is ∙ ap (λ (x : End). ended_by x mid) wrong)
 
 pub runs_by : (o p : Option End) (b : Bool) → is_some o ≡ not b → o ≡ p → b ≡ is_none p
 runs_by None p b e f = flip b e ∙ ap is_none f
@@ -317,27 +403,25 @@ module _ (policy : Policy) (side : Side) (bytes : List ℕ) where
       let behind : SessionView = with_stream side (pushed bytes (stream_of side view)) view in
       pushed_grows side (pushed bytes (stream_of side view)) view (with_more policy side bytes view) (drained_grows policy side (length (left_of side view ++ bytes) + 2) behind)
 
-  built_grows : (none built : Bool) (view : SessionView) → Grows view (cond none view (cond built (with_more policy side bytes view) (ended_by NotBuilt view)))
-  built_grows true built view = grows_none view
-  built_grows false true view = more_grows view
-  built_grows false false view = grows_none view
+  bytes_grow : (none : Bool) (view : SessionView) → Grows view (cond none view (with_more policy side bytes view))
+  bytes_grow true view = grows_none view
+  bytes_grow false view = more_grows view
 
   -- memory was refused before anything was looked at
   pub bytes_refused : (old mid new : SessionView) → old.ended ≡ None → mid ≡ old → new ≡ ended_by Memory mid → Took (with_bytes policy side bytes old) old new
   bytes_refused old mid new runs same e =
-      inr (refused_first (with_bytes policy side bytes old) old new runs (e ∙ ap (ended_by Memory) same) (built_grows (is_empty bytes) old.mode.filter old))
+      inr (refused_first (with_bytes policy side bytes old) old new runs (e ∙ ap (ended_by Memory) same) (bytes_grow (is_empty bytes) old))
 
   -- and those that came are taken
-  pub bytes_taken : (old mid new : SessionView) (most : ℕ) → (length bytes == 0) ≡ false → old.mode.filter ≡ true → mid ≡ with_stream side (pushed bytes (stream_of side old)) old → most ≡ length (left_of side mid) + 2
+  pub bytes_taken : (old mid new : SessionView) (most : ℕ) → (length bytes == 0) ≡ false → mid ≡ with_stream side (pushed bytes (stream_of side old)) old → most ≡ length (left_of side mid) + 2
       → Took (drained policy side most mid) mid new → Took (with_bytes policy side bytes old) old new
-  bytes_taken old mid new most some filters is enough took =
+  bytes_taken old mid new most some is enough took =
       let first : SessionView = with_stream side (pushed bytes (stream_of side old)) old in
       let most_is : most ≡ length (left_of side old ++ bytes) + 2 = enough ∙ ap (λ (v : SessionView). length (left_of side v) + 2) is ∙ ap (λ (xs : List ℕ). length xs + 2) (pushed_left side (pushed bytes (stream_of side old)) old) in
       let all : drained policy side most mid ≡ with_bytes policy side bytes old =
       ap (λ (v : SessionView). drained policy side most v) is
       ∙ ap (λ (n : ℕ). drained policy side n first) most_is
-      ∙ ap (λ (b : Bool). cond b (with_more policy side bytes old) (ended_by NotBuilt old)) (sym filters)
-      ∙ ap (λ (b : Bool). cond b old (cond old.mode.filter (with_more policy side bytes old) (ended_by NotBuilt old))) (sym (not_empty_by bytes some)) in
+      ∙ ap (λ (b : Bool). cond b old (with_more policy side bytes old)) (sym (not_empty_by bytes some)) in
       took_from (drained policy side most mid) (with_bytes policy side bytes old) old mid new all (ap (λ (v : SessionView). v.ended) is ∙ pushed_ended side (pushed bytes (stream_of side old)) old)
       (ap (λ (v : SessionView). v.mode) is ∙ pushed_mode side (pushed bytes (stream_of side old)) old)
       took

@@ -1,6 +1,6 @@
 -- What a session holds when all that stands in front of a side's stream was taken.
-use Rattle.std.proofs.Common.{ℕ, zero, suc, ◌≡◌, ◌+◌, ◌-◌, ◌<◌, nat_le, Bool, true, false, cond, List, [], ◌∷◌, ◌++◌, length, Option, Some, None, refl, ap, ◌∙◌, sym, subst, arith, append-nil, append_assoc, length-append}
-use Rattle.std.specs.Prelude.{◌==◌, ◌||◌, not, is_none}
+use Rattle.std.proofs.Common.{ℕ, zero, suc, ◌≡◌, ◌+◌, ◌-◌, ◌<◌, nat_le, Bool, true, false, cond, List, [], ◌∷◌, ◌++◌, length, Option, Some, None, refl, ap, ◌∙◌, sym, subst, arith, append-nil, append_assoc, length-append, inl, inr}
+use Rattle.std.specs.Prelude.{◌==◌, ◌||◌, ◌⊎◌, not, is_none}
 use Rattle.std.proofs.lemmas.Bool.{eqb-true, eq-eqb, ne_eqb}
 use Rattle.std.proofs.lemmas.Bool.Decides.{nat_tests}
 use Rattle.std.proofs.Math.Bool.{or-true}
@@ -18,8 +18,8 @@ use Rattle.sasl_watch.specs.Watching.{client_ahead, bus_ahead}
 use Rattle.sasl_watch.specs.declared.LineFault.{LineFault}
 use Rattle.sasl_watch.specs.declared.LineKind.TheVariants.{EarlyBus}
 use Rattle.policy_args.specs.Policy.{Policy}
-use Rattle.policy_view.specs.Past.{Item, Line, Msg, Ended, History, past, after, due}
-use Rattle.policy_view.specs.History.{Event, stream, lines, content, found, fault, line_fault, fault_of, fault_of_line, fault_end, malformed, new_in, end_of, followed_by, followed_unless, followed_by_all, most_sent}
+use Rattle.policy_view.specs.Past.{Item, Line, Msg, Raw, Ended, History, past, after, due}
+use Rattle.policy_view.specs.History.{Event, stream, lines, content, raw_item, fault, line_fault, fault_of, fault_of_line, fault_end, malformed, new_in, end_of, followed_by, followed_unless, followed_by_all, most_sent}
 use Rattle.policy_view.specs.Notes.{numbered}
 use Rattle.policy_view.specs.Outputs.{bus_bytes, client_bytes, to_bus, to_client}
 use Rattle.policy_view.specs.declared.Fault.{Fault}
@@ -30,13 +30,13 @@ use Rattle.policy_view.specs.declared.Side.{Side}
 use Rattle.policy_view.specs.declared.Side.TheVariants.{Client, Bus}
 use Rattle.policy_view.proofs.CutLaws.{new_last}
 use Rattle.proxy_core.specs.Streams.{StreamView, Phase, InLines, InMessages, is_in_lines}
-use Rattle.proxy_core.specs.Sessions.{SessionView, Taken, Holds, stream_of, lines_in, StandsAt}
+use Rattle.proxy_core.specs.Sessions.{SessionView, Taken, Holds, stream_of, lines_in, AllGiven, StandsAt}
 use Rattle.proxy_core.specs.Messages.{ended_by, with_noted_message}
-use Rattle.proxy_core.specs.Steps.{with_stream, with_left, behind_line, in_messages, begun_if, asks, with_client_line, with_bus_line, with_line_fault, with_lines, with_all_answered, unanswered, has_begun, line_step, with_fault, with_front, step_at, more_if, drained}
+use Rattle.proxy_core.specs.Steps.{with_stream, with_left, behind_line, in_messages, begun_if, asks, with_client_line, with_bus_line, with_line_fault, with_lines, with_all_answered, unanswered, has_begun, line_step, with_fault, with_front, with_raw, raw_step, step_at, more_if, drained}
 use Rattle.proxy_core.proofs.Placing.{followed, placed_itself, ended_holds}
 use Rattle.proxy_core.proofs.Keeping.{IsKept, noted_kept}
 use Rattle.proxy_core.proofs.LineCuts.{sound_at, behind, ClientGoes, client_goes, BusGoes, bus_goes}
-use Rattle.proxy_core.proofs.Going.{Goes, GoesAt, GoesInLines, GoesInMessages, Stops, Begins, begins, messages_stop, messages_stand, message_goes, client_stops, client_stands, client_line_goes, begin_goes, bus_stops, bus_stands, bus_line_goes, early_stops, none_stops, done_goes}
+use Rattle.proxy_core.proofs.Going.{Goes, GoesAt, GoesInLines, GoesInMessages, GoesRaw, Stops, Begins, begins, reached, messages_stop, messages_stand, message_goes, raw_stops, raw_stands, client_stops, client_stands, client_line_goes, begin_goes, bus_stops, bus_stands, bus_line_goes, early_stops, none_stops, done_goes}
 
 -- ---- an End in its place
 
@@ -120,9 +120,48 @@ bus_line_holds policy view items taken l s runs h =
       knows = λ e. let k = h.knows e in record { count = k.count; fits = k.fits; greeted = k.greeted; stand = k.stand };
     })
 
+-- ---- bytes at which nobody looks, in their place
+
+raw_room : (policy : Policy) (view : SessionView) (items : History) (taken : Taken) (side : Side) (bytes : List ℕ) → view.ended ≡ None → Holds policy view items taken → followed_by policy items (Raw side bytes) ≡ Raw side bytes ∷ items
+unfolding due
+raw_room policy view items taken side bytes runs h =
+    let fits = (h.knows runs).fits in
+    let room : nat_le (length (past policy items).told.sent + 0) most_sent ≡ true = grind (arith, nat_tests, fits) in
+    followed policy items (Raw side bytes) (sym h.end_is ∙ runs) ∙ ap (λ (i : Item). i ∷ items) (placed_itself policy (past policy items) (Raw side bytes) room)
+
+raw_holds : (policy : Policy) (view : SessionView) (items : History) (taken : Taken) (side : Side) (bytes : List ℕ) → Holds policy view items taken → Holds policy (with_raw side bytes view) (Raw side bytes ∷ items) taken
+unfolding bus_bytes client_bytes to_bus to_client past after numbered
+raw_holds policy view items taken Client bytes h = record {
+  for_bus = sym (append_assoc taken.bus_side view.bus_side bytes) ∙ ap (λ (w : List ℕ). w ++ bytes) h.for_bus;
+  for_client = h.for_client ∙ sym (append-nil (client_bytes policy items));
+  end_is = h.end_is;
+  noted = h.noted;
+  count = h.count;
+  knows = λ e. let k = h.knows e in record { count = k.count; fits = k.fits; greeted = k.greeted; stand = k.stand };
+}
+raw_holds policy view items taken Bus bytes h = record {
+  for_bus = h.for_bus ∙ sym (append-nil (bus_bytes policy items));
+  for_client = sym (append_assoc taken.client_side view.client_side bytes) ∙ ap (λ (w : List ℕ). w ++ bytes) h.for_client;
+  end_is = h.end_is;
+  noted = h.noted;
+  count = h.count;
+  knows = λ e. let k = h.knows e in record { count = k.count; fits = k.fits; greeted = k.greeted; stand = k.stand };
+}
+
+no_raw : (side : Side) (view : SessionView) → view ≡ with_raw side [] view
+no_raw Client view = ap (λ (xs : List ℕ). record view { bus_side = xs }) (sym (append-nil view.bus_side))
+no_raw Bus view = ap (λ (xs : List ℕ). record view { client_side = xs }) (sym (append-nil view.client_side))
+
+-- where there are any
+raw_item_holds : (policy : Policy) (view : SessionView) (items : History) (taken : Taken) (side : Side) (bytes : List ℕ) → view.ended ≡ None → Holds policy view items taken → Holds policy (with_raw side bytes view) (followed_by_all policy items (raw_item side bytes)) taken
+unfolding followed_by_all
+raw_item_holds policy view items taken side [] runs h = subst (λ (v : SessionView). Holds policy v items taken) (no_raw side view) h
+raw_item_holds policy view items taken side (byte ∷ bytes) runs h =
+    subst (λ (i : History). Holds policy (with_raw side (byte ∷ bytes) view) i taken) (sym (raw_room policy view items taken side (byte ∷ bytes) runs h)) (raw_holds policy view items taken side (byte ∷ bytes) h)
+
 -- ---- new items
 
-new_none : {A : Type 0} (xs : List A) → new_in xs xs ≡ []
+pub new_none : {A : Type 0} (xs : List A) → new_in xs xs ≡ []
 new_none [] = refl
 new_none (x ∷ xs) = new_none xs
 
@@ -134,8 +173,8 @@ Steps policy taken = (side : Side) (view : SessionView) (items : History) (m : M
     → Holds policy (with_noted_message policy side m view) (followed_by policy items (Msg side m)) taken
 
 -- the session holds what its side's stream has beyond these items, and its fault; where it runs, all was taken
-pub record Final (policy : Policy) (taken : Taken) (mode : Mode) (side : Side) (events : List Event) (items : History) (given : List Item) (new : SessionView) : Type 0 where
-  pub holds : Holds policy new (followed_by_all policy items (new_in given (found mode side events) ++ fault_end side (fault mode side events))) taken
+pub record Final (policy : Policy) (taken : Taken) (mode : Mode) (side : Side) (gone : List ℕ) (events : List Event) (items : History) (given : List Item) (new : SessionView) : Type 0 where
+  pub holds : Holds policy new (followed_by_all policy items (new_in given (reached mode side gone events) ++ fault_end side (fault mode side events))) taken
   pub stands : new.ended ≡ None → StandsAt mode side events (stream_of side new).phase (stream_of side new).left
   pub counts : new.ended ≡ None → mode.auth ≡ true → (stream_of side new).lines ≡ lines_in side mode events
   pub sound : new.ended ≡ None → fault mode side events ≡ None
@@ -158,12 +197,12 @@ phase_weight InMessages = 0
 abbrev pub weight : StreamView → ℕ
 weight s = length s.left + phase_weight s.phase
 
-module _ (policy : Policy) (taken : Taken) (mode : Mode) (side : Side) (events : List Event) where
+module _ (policy : Policy) (taken : Taken) (mode : Mode) (side : Side) (gone : List ℕ) (events : List Event) where
   abbrev Last : History → List Item → SessionView → Type 0
-  Last items given new = Final policy taken mode side events items given new
+  Last items given new = Final policy taken mode side gone events items given new
 
   -- nothing more stands in front
-  pub none_last : (view : SessionView) (items : History) (given : List Item) → Holds policy view items taken → Stops mode side events given None
+  pub none_last : (view : SessionView) (items : History) (given : List Item) → Holds policy view items taken → Stops mode side gone events given None
       → StandsAt mode side events (stream_of side view).phase (stream_of side view).left → (mode.auth ≡ true → (stream_of side view).lines ≡ lines_in side mode events) → AreBytes (stream_of side view).left → Last items given view
   unfolding followed_by_all
   none_last view items given h stop stands counts are = record {
@@ -176,7 +215,7 @@ module _ (policy : Policy) (taken : Taken) (mode : Mode) (side : Side) (events :
   }
 
   -- a fault stands in front
-  fault_last : (view : SessionView) (items : History) (given : List Item) (f : Fault) → view.ended ≡ None → Holds policy view items taken → Stops mode side events given (Some f) → Last items given (ended_by (malformed side f) view)
+  fault_last : (view : SessionView) (items : History) (given : List Item) (f : Fault) → view.ended ≡ None → Holds policy view items taken → Stops mode side gone events given (Some f) → Last items given (ended_by (malformed side f) view)
   unfolding followed_by_all
   fault_last view items given f runs h stop = record {
     holds = subst (λ (xs : List Item). Holds policy (ended_by (malformed side f) view) (followed_by_all policy items xs) taken)
@@ -188,13 +227,13 @@ module _ (policy : Policy) (taken : Taken) (mode : Mode) (side : Side) (events :
     bytes = λ r. absurd cc;
   }
 
-  new_item : (given : List Item) (item : Item) → Begins (given ++ item ∷ []) (found mode side events) → new_in given (found mode side events) ≡ item ∷ new_in (given ++ item ∷ []) (found mode side events)
+  new_item : (given : List Item) (item : Item) → Begins (given ++ item ∷ []) (reached mode side gone events) → new_in given (reached mode side gone events) ≡ item ∷ new_in (given ++ item ∷ []) (reached mode side gone events)
   new_item given item (more, e) =
       ap (new_in given) (e ∙ append_assoc given (item ∷ []) more) ∙ new_last given (item ∷ more)
       ∙ ap (λ (xs : List Item). item ∷ xs) (sym (ap (new_in (given ++ item ∷ [])) e ∙ new_last (given ++ item ∷ []) more))
 
   -- an item is taken, and then the others
-  item_last : (items : History) (given : List Item) (item : Item) (new : SessionView) → Begins (given ++ item ∷ []) (found mode side events) → Last (followed_by policy items item) (given ++ item ∷ []) new → Last items given new
+  item_last : (items : History) (given : List Item) (item : Item) (new : SessionView) → Begins (given ++ item ∷ []) (reached mode side gone events) → Last (followed_by policy items item) (given ++ item ∷ []) new → Last items given new
   unfolding followed_by_all
   item_last items given item new begin f = record {
     holds = subst (λ (xs : List Item). Holds policy new (followed_by_all policy items (xs ++ fault_end side (fault mode side events))) taken) (sym (new_item given item begin)) f.holds;
@@ -205,19 +244,19 @@ module _ (policy : Policy) (taken : Taken) (mode : Mode) (side : Side) (events :
   }
 
   -- where the session ended, the others have no effect
-  ended_last : (items : History) (given : List Item) (item : Item) (new : SessionView) (end : End) → Begins (given ++ item ∷ []) (found mode side events) → new.ended ≡ Some end → Holds policy new (followed_by policy items item) taken → Last items given new
+  ended_last : (items : History) (given : List Item) (item : Item) (new : SessionView) (end : End) → Begins (given ++ item ∷ []) (reached mode side gone events) → new.ended ≡ Some end → Holds policy new (followed_by policy items item) taken → Last items given new
   ended_last items given item new end begin e h =
       item_last items given item new begin (record {
-        holds = subst (λ (i : History). Holds policy new i taken) (sym (ignored policy (followed_by policy items item) (new_in (given ++ item ∷ []) (found mode side events) ++ fault_end side (fault mode side events)) end (sym h.end_is ∙ e))) h;
+        holds = subst (λ (i : History). Holds policy new i taken) (sym (ignored policy (followed_by policy items item) (new_in (given ++ item ∷ []) (reached mode side gone events) ++ fault_end side (fault mode side events)) end (sym h.end_is ∙ e))) h;
         stands = λ r. absurd (let none : Some end ≡ None = sym e ∙ r in cc);
         counts = λ r. absurd (let none : Some end ≡ None = sym e ∙ r in cc);
         sound = λ r. absurd (let none : Some end ≡ None = sym e ∙ r in cc);
         bytes = λ r. absurd (let none : Some end ≡ None = sym e ∙ r in cc);
       })
 
-abbrev Others : Policy → Taken → Mode → Side → List Event → ℕ → Type 0
-Others policy taken mode side events n = (view : SessionView) (items : History) (given : List Item) → weight (stream_of side view) < n → view.ended ≡ None → Goes mode side events (stream_of side view) given
-    → Holds policy view items taken → AreBytes (stream_of side view).left → KnowsOther mode side events view → Final policy taken mode side events items given (drained policy side n view)
+abbrev Others : Policy → Taken → Mode → Side → List ℕ → List Event → ℕ → Type 0
+Others policy taken mode side gone events n = (view : SessionView) (items : History) (given : List Item) → weight (stream_of side view) < n → view.ended ≡ None → view.mode ≡ mode → Goes mode side gone events (stream_of side view) given
+    → Holds policy view items taken → AreBytes (stream_of side view).left → KnowsOther mode side events view → Final policy taken mode side gone events items given (drained policy side n view)
 
 -- ---- the client's lines
 
@@ -233,10 +272,10 @@ asks_other place l e pos = asks_by place l false e ∙ ap (λ (x : Bool). cond (
 asks_begin : (place : ℕ) (l : List ℕ) → is_begin l ≡ true → asks place l ≡ 0
 asks_begin place l e = asks_by place l true e ∙ ap (λ (x : Bool). cond x 0 1) (or-true (place == 0))
 
-module _ (policy : Policy) (taken : Taken) (mode : Mode) (events : List Event) (n : ℕ) (view : SessionView) (place : ℕ) (items : History) (given : List Item) (runs : view.ended ≡ None) (at : view.client.phase ≡ InLines place None)
-    (g : GoesInLines mode Client events view.client place None given) (h : Holds policy view items taken) (are : AreBytes view.client.left) (short : length view.client.left + 1 < suc n) (others : Others policy taken mode Client events n) where
+module _ (policy : Policy) (taken : Taken) (mode : Mode) (gone : List ℕ) (events : List Event) (n : ℕ) (view : SessionView) (place : ℕ) (items : History) (given : List Item) (runs : view.ended ≡ None) (moded : view.mode ≡ mode) (at : view.client.phase ≡ InLines place None)
+    (g : GoesInLines mode Client gone events view.client place None given) (h : Holds policy view items taken) (are : AreBytes view.client.left) (short : length view.client.left + 1 < suc n) (others : Others policy taken mode Client gone events n) where
   abbrev ClientLast : SessionView → Type 0
-  ClientLast new = Final policy taken mode Client events items given new
+  ClientLast new = Final policy taken mode Client gone events items given new
 
   client_line_last : (l : List ℕ) → ClientGoes (stream Client events) g.given place view.client.left l → ClientLast (drained policy Client n (with_client_line place l view))
   client_line_last l c = by (is_begin l) refl
@@ -252,35 +291,35 @@ module _ (policy : Policy) (taken : Taken) (mode : Mode) (events : List Event) (
           let s : StreamView = record view.client { phase = InLines (place + length l) None; left = (behind place view.client.left l).left; lines = view.client.lines + asks place l } in
           let v : SessionView = record view { bus_side = view.bus_side ++ for_bus l; client = s } in
           let is : with_client_line place l view ≡ v = ap (λ (b : Bool). record view { bus_side = view.bus_side ++ for_bus l; client = begun_if b (behind_line place l (asks place l) view.client) }) e in
-          let goes = client_line_goes mode events view.client place given g l (asks place l) c e (asks_first place l e) (asks_other place l e) in
+          let goes = client_line_goes mode gone events view.client place given g l (asks place l) c e (asks_first place l e) (asks_other place l e) in
           subst (λ (x : SessionView). ClientLast (drained policy Client n x)) (sym is)
-          (item_last policy taken mode Client events items given (Line Client l) (drained policy Client n v) (begins mode Client events (InLines (place + length l) None) s (given ++ Line Client l ∷ []) goes)
-          (others v (followed_by policy items (Line Client l)) (given ++ Line Client l ∷ []) (omega (arith, rest_short, short)) runs goes (client_line_holds policy view items taken l s runs h) rest_bytes tt))
+          (item_last policy taken mode Client gone events items given (Line Client l) (drained policy Client n v) (begins mode Client gone events (InLines (place + length l) None) s (given ++ Line Client l ∷ []) goes)
+          (others v (followed_by policy items (Line Client l)) (given ++ Line Client l ∷ []) (omega (arith, rest_short, short)) runs moded goes (client_line_holds policy view items taken l s runs h) rest_bytes tt))
       by true e =
           let s : StreamView = record view.client { phase = InMessages; left = (behind place view.client.left l).left; lines = view.client.lines + 0 } in
           let v : SessionView = record view { bus_side = view.bus_side ++ for_bus l; client = s } in
           let is : with_client_line place l view ≡ v =
           ap (λ (b : Bool). record view { bus_side = view.bus_side ++ for_bus l; client = begun_if b (behind_line place l (asks place l) view.client) }) e
           ∙ ap (λ (k : ℕ). record view { bus_side = view.bus_side ++ for_bus l; client = in_messages (behind_line place l k view.client) }) (asks_begin place l e) in
-          let goes = begin_goes mode events view.client place given g l c e in
+          let goes = begin_goes mode gone events view.client place given g l c e in
           subst (λ (x : SessionView). ClientLast (drained policy Client n x)) (sym is)
-          (item_last policy taken mode Client events items given (Line Client l) (drained policy Client n v) (begins mode Client events InMessages s (given ++ Line Client l ∷ []) goes)
-          (others v (followed_by policy items (Line Client l)) (given ++ Line Client l ∷ []) (omega (arith, rest_short, short)) runs goes (client_line_holds policy view items taken l s runs h) rest_bytes tt))
+          (item_last policy taken mode Client gone events items given (Line Client l) (drained policy Client n v) (begins mode Client gone events InMessages s (given ++ Line Client l ∷ []) goes)
+          (others v (followed_by policy items (Line Client l)) (given ++ Line Client l ∷ []) (omega (arith, rest_short, short)) runs moded goes (client_line_holds policy view items taken l s runs h) rest_bytes tt))
 
   client_lines_last : (ls : List (List ℕ)) (o : Option LineFault) → (client_ahead (sound_at place view.client.left)).lines ≡ ls → (client_ahead (sound_at place view.client.left)).fault ≡ o → ClientLast (more_if (with_lines Client place ls o view) (drained policy Client n))
   client_lines_last [] None e f =
-      let t = client_stands mode events view.client place given g e f in
-      none_last policy taken mode Client events view items given h (client_stops mode events view.client place given g e None f) (subst (λ (p : Phase). StandsAt mode Client events p view.client.left) (sym at) t.0) (λ a. t.1) are
+      let t = client_stands mode gone events view.client place given g e f in
+      none_last policy taken mode Client gone events view items given h (client_stops mode gone events view.client place given g e None f) (subst (λ (p : Phase). StandsAt mode Client events p view.client.left) (sym at) t.0) (λ a. t.1) are
   client_lines_last [] (Some x) e f =
-      fault_last policy taken mode Client events (with_stream Client (record view.client { phase = InLines place (Some x) }) view) items given (OfLine x) runs (stream_holds policy view items taken Client (record view.client { phase = InLines place (Some x) }) h) (client_stops mode events view.client place given g e (Some x) f)
+      fault_last policy taken mode Client gone events (with_stream Client (record view.client { phase = InLines place (Some x) }) view) items given (OfLine x) runs (stream_holds policy view items taken Client (record view.client { phase = InLines place (Some x) }) h) (client_stops mode gone events view.client place given g e (Some x) f)
   client_lines_last (l ∷ ls) o e f = client_line_last l (client_goes (stream Client events) g.given place view.client.left l ls g.follows e)
 
 -- ---- the bus's lines
 
-module _ (policy : Policy) (taken : Taken) (mode : Mode) (events : List Event) (n : ℕ) (view : SessionView) (place : ℕ) (items : History) (given : List Item) (runs : view.ended ≡ None) (at : view.bus.phase ≡ InLines place None)
-    (g : GoesInLines mode Bus events view.bus place None given) (h : Holds policy view items taken) (are : AreBytes view.bus.left) (short : length view.bus.left + 1 < suc n) (knows : KnowsClient mode events view.client) (others : Others policy taken mode Bus events n) where
+module _ (policy : Policy) (taken : Taken) (mode : Mode) (gone : List ℕ) (events : List Event) (n : ℕ) (view : SessionView) (place : ℕ) (items : History) (given : List Item) (runs : view.ended ≡ None) (moded : view.mode ≡ mode) (at : view.bus.phase ≡ InLines place None)
+    (g : GoesInLines mode Bus gone events view.bus place None given) (h : Holds policy view items taken) (are : AreBytes view.bus.left) (short : length view.bus.left + 1 < suc n) (knows : KnowsClient mode events view.client) (others : Others policy taken mode Bus gone events n) where
   abbrev BusLast : SessionView → Type 0
-  BusLast new = Final policy taken mode Bus events items given new
+  BusLast new = Final policy taken mode Bus gone events items given new
 
   abbrev all_asked : ℕ
   all_asked = asked (stream Client events)
@@ -292,20 +331,20 @@ module _ (policy : Policy) (taken : Taken) (mode : Mode) (events : List Event) (
   bus_line_last l c =
       let s : StreamView = record view.bus { phase = InLines (place + length l) None; left = (behind place view.bus.left l).left; lines = view.bus.lines + 1 } in
       let v : SessionView = record view { client_side = view.client_side ++ l; bus = s } in
-      let goes = bus_line_goes mode events view.bus place given g l c in
+      let goes = bus_line_goes mode gone events view.bus place given g l c in
       let parts : length view.bus.left ≡ length l + length (behind place view.bus.left l).left = ap length c.parts ∙ length-append l (behind place view.bus.left l).left in
       let some = c.some in
-      item_last policy taken mode Bus events items given (Line Bus l) (drained policy Bus n v) (begins mode Bus events (InLines (place + length l) None) s (given ++ Line Bus l ∷ []) goes)
-      (others v (followed_by policy items (Line Bus l)) (given ++ Line Bus l ∷ []) (omega (arith, parts, some, short)) runs goes (bus_line_holds policy view items taken l s runs h)
+      item_last policy taken mode Bus gone events items given (Line Bus l) (drained policy Bus n v) (begins mode Bus gone events (InLines (place + length l) None) s (given ++ Line Bus l ∷ []) goes)
+      (others v (followed_by policy items (Line Bus l)) (given ++ Line Bus l ∷ []) (omega (arith, parts, some, short)) runs moded goes (bus_line_holds policy view items taken l s runs h)
       (AreBytes-behind l (behind place view.bus.left l).left (subst AreBytes c.parts are)) knows)
 
   bus_lines_last : 0 < all_asked - length g.given → (ls : List (List ℕ)) (o : Option LineFault) → (bus_ahead (sound_at place view.bus.left)).lines ≡ ls → (bus_ahead (sound_at place view.bus.left)).fault ≡ o
       → BusLast (more_if (with_lines Bus place ls o view) (drained policy Bus n))
   bus_lines_last pos [] None e f =
-      let t = bus_stands mode events view.bus place given g pos e f in
-      none_last policy taken mode Bus events view items given h (bus_stops mode events view.bus place given g pos e None f) (subst (λ (p : Phase). StandsAt mode Bus events p view.bus.left) (sym at) t.0) (λ a. t.1) are
+      let t = bus_stands mode gone events view.bus place given g pos e f in
+      none_last policy taken mode Bus gone events view items given h (bus_stops mode gone events view.bus place given g pos e None f) (subst (λ (p : Phase). StandsAt mode Bus events p view.bus.left) (sym at) t.0) (λ a. t.1) are
   bus_lines_last pos [] (Some x) e f =
-      fault_last policy taken mode Bus events (with_stream Bus (record view.bus { phase = InLines place (Some x) }) view) items given (OfLine x) runs (stream_holds policy view items taken Bus (record view.bus { phase = InLines place (Some x) }) h) (bus_stops mode events view.bus place given g pos e (Some x) f)
+      fault_last policy taken mode Bus gone events (with_stream Bus (record view.bus { phase = InLines place (Some x) }) view) items given (OfLine x) runs (stream_holds policy view items taken Bus (record view.bus { phase = InLines place (Some x) }) h) (bus_stops mode gone events view.bus place given g pos e (Some x) f)
   bus_lines_last pos (l ∷ ls) o e f = bus_line_last l (bus_goes (stream Bus events) g.given all_asked (begins_in (stream Client events)) place view.bus.left g.counts.1 g.follows l ls pos e)
 
   -- all lines were answered
@@ -313,15 +352,15 @@ module _ (policy : Policy) (taken : Taken) (mode : Mode) (events : List Event) (
       → BusLast (more_if (cond begun (record view { bus = in_messages view.bus }, true) (with_line_fault Bus place (cond (is_empty left) None (Some (record { kind = EarlyBus; at = place }))) view, false)) (drained policy Bus n))
   all_answered_last none true b left l =
       let v : SessionView = record view { bus = in_messages view.bus } in
-      others v items given (omega (arith, short)) runs (done_goes mode events view.bus place given g none (sym (knows.begun g.auth) ∙ b)) (stream_holds policy view items taken Bus (in_messages view.bus) h) are knows
+      others v items given (omega (arith, short)) runs moded (done_goes mode gone events view.bus place given g none (sym (knows.begun g.auth) ∙ b)) (stream_holds policy view items taken Bus (in_messages view.bus) h) are knows
   all_answered_last none false b [] l =
-      let t = none_stops mode events view.bus place given g none (sym (knows.begun g.auth) ∙ b) l in
-      none_last policy taken mode Bus events view items given h t.0 (subst (λ (p : Phase). StandsAt mode Bus events p view.bus.left) (sym at) t.1) (λ a. t.2) are
+      let t = none_stops mode gone events view.bus place given g none (sym (knows.begun g.auth) ∙ b) l in
+      none_last policy taken mode Bus gone events view items given h t.0 (subst (λ (p : Phase). StandsAt mode Bus events p view.bus.left) (sym at) t.1) (λ a. t.2) are
   all_answered_last none false b (x ∷ xs) l =
       let some : 0 < length view.bus.left = subst (λ (w : List ℕ). 0 < length w) (sym l) (omega arith) in
       let f : LineFault = record { kind = EarlyBus; at = place } in
-      fault_last policy taken mode Bus events (with_stream Bus (record view.bus { phase = InLines place (Some f) }) view) items given (OfLine f) runs (stream_holds policy view items taken Bus (record view.bus { phase = InLines place (Some f) }) h)
-      (early_stops mode events view.bus place given g none (sym (knows.begun g.auth) ∙ b) some)
+      fault_last policy taken mode Bus gone events (with_stream Bus (record view.bus { phase = InLines place (Some f) }) view) items given (OfLine f) runs (stream_holds policy view items taken Bus (record view.bus { phase = InLines place (Some f) }) h)
+      (early_stops mode gone events view.bus place given g none (sym (knows.begun g.auth) ∙ b) some)
 
   bus_step_last : BusLast (more_if (line_step Bus place view) (drained policy Bus n))
   bus_step_last = by (unanswered view == 0) refl
@@ -343,11 +382,11 @@ pub stream_runs : (s : Side) (x : StreamView) (v : SessionView) → (with_stream
 stream_runs Client x v = refl
 stream_runs Bus x v = refl
 
-module _ (policy : Policy) (taken : Taken) (steps : Steps policy taken) (mode : Mode) (side : Side) (events : List Event) (n : ℕ) (view : SessionView) (items : History) (given : List Item) (runs : view.ended ≡ None) (at : (stream_of side view).phase ≡ InMessages)
+module _ (policy : Policy) (taken : Taken) (steps : Steps policy taken) (mode : Mode) (side : Side) (gone : List ℕ) (events : List Event) (n : ℕ) (view : SessionView) (items : History) (given : List Item) (runs : view.ended ≡ None) (moded : view.mode ≡ mode) (at : (stream_of side view).phase ≡ InMessages)
     (g : GoesInMessages mode side events (stream_of side view) given) (h : Holds policy view items taken) (are : AreBytes (stream_of side view).left) (short : length (stream_of side view).left < suc n) (knows : KnowsOther mode side events view) (lines_sound : line_fault mode side events ≡ None)
-    (others : Others policy taken mode side events n) where
+    (others : Others policy taken mode side gone events n) where
   abbrev MessageLast : SessionView → Type 0
-  MessageLast new = Final policy taken mode side events items given new
+  MessageLast new = Final policy taken mode side gone events items given new
 
   abbrev left_now : List ℕ
   left_now = (stream_of side view).left
@@ -360,6 +399,10 @@ module _ (policy : Policy) (taken : Taken) (steps : Steps policy taken) (mode : 
   kept_other Client x old new kept knows = tt
   kept_other Bus x old new kept knows = subst (λ (c : StreamView). KnowsClient mode events c) (sym kept.client) knows
 
+  mode_behind : (s : Side) (left : List ℕ) (v : SessionView) → (with_left s left v).mode ≡ v.mode
+  mode_behind Client left v = refl
+  mode_behind Bus left v = refl
+
   abbrev behind_message : Message → List ℕ → SessionView
   behind_message m left = with_noted_message policy side m (with_left side left view)
 
@@ -368,80 +411,133 @@ module _ (policy : Policy) (taken : Taken) (steps : Steps policy taken) (mode : 
   message_last m left e o ended =
       let is = front-is left_now m left are e in
       let s : StreamView = record (stream_of side view) { left = left } in
-      let goes = message_goes mode side events (stream_of side view) given g m left e in
+      let goes = message_goes mode side gone events (stream_of side view) given g m left e in
       let held = steps side (with_stream side s view) items m (stream_runs side s view ∙ runs) (stream_holds policy view items taken side s h) is.0 in
       let kept = noted_kept policy side m (with_stream side s view) in
       let same : stream_of side (behind_message m left) ≡ s = kept_stream side (with_stream side s view) (behind_message m left) kept ∙ same_stream side s view in
-      let begin = begins mode side events InMessages s (given ++ Msg side m ∷ []) goes in
+      let begin = begins mode side gone events InMessages s (given ++ Msg side m ∷ []) (inl goes) in
       let less = front-shorter left_now m left e in
       by o ended s goes held kept same begin less (AreBytes-behind (spell m) left (subst AreBytes is.1 are))
     where
       by : (o : Option End) → (behind_message m left).ended ≡ o → (s : StreamView) → GoesInMessages mode side events (record (stream_of side view) { left = left }) (given ++ Msg side m ∷ []) → Holds policy (behind_message m left) (followed_by policy items (Msg side m)) taken
-          → IsKept (with_left side left view) (behind_message m left) → stream_of side (behind_message m left) ≡ record (stream_of side view) { left = left } → Begins (given ++ Msg side m ∷ []) (found mode side events) → length left < length left_now → AreBytes left
+          → IsKept (with_left side left view) (behind_message m left) → stream_of side (behind_message m left) ≡ record (stream_of side view) { left = left } → Begins (given ++ Msg side m ∷ []) (reached mode side gone events) → length left < length left_now → AreBytes left
           → MessageLast (more_if (behind_message m left, is_none o) (drained policy side n))
-      by (Some end) ended s goes held kept same begin less behind = ended_last policy taken mode side events items given (Msg side m) (behind_message m left) end begin ended held
+      by (Some end) ended s goes held kept same begin less behind = ended_last policy taken mode side gone events items given (Msg side m) (behind_message m left) end begin ended held
       by None ended s goes held kept same begin less behind =
           let now : StreamView = record (stream_of side view) { left = left } in
-          let goes_now : Goes mode side events now (given ++ Msg side m ∷ []) = subst (λ (p : Phase). GoesAt mode side events p now (given ++ Msg side m ∷ [])) (sym at) goes in
+          let goes_now : Goes mode side gone events now (given ++ Msg side m ∷ []) = subst (λ (p : Phase). GoesAt mode side gone events p now (given ++ Msg side m ∷ [])) (sym at) (inl goes) in
           let light : weight now < n = subst (λ (p : Phase). length left + phase_weight p < n) (sym at) (omega (arith, less, short)) in
-          item_last policy taken mode side events items given (Msg side m) (drained policy side n (behind_message m left)) begin
-          (others (behind_message m left) (followed_by policy items (Msg side m)) (given ++ Msg side m ∷ []) (subst (λ (x : StreamView). weight x < n) (sym same) light) ended
-          (subst (λ (x : StreamView). Goes mode side events x (given ++ Msg side m ∷ [])) (sym same) goes_now) held (subst (λ (x : StreamView). AreBytes x.left) (sym same) behind)
+          item_last policy taken mode side gone events items given (Msg side m) (drained policy side n (behind_message m left)) begin
+          (others (behind_message m left) (followed_by policy items (Msg side m)) (given ++ Msg side m ∷ []) (subst (λ (x : StreamView). weight x < n) (sym same) light) ended (kept.mode ∙ mode_behind side left view ∙ moded)
+          (subst (λ (x : StreamView). Goes mode side gone events x (given ++ Msg side m ∷ [])) (sym same) goes_now) held (subst (λ (x : StreamView). AreBytes x.left) (sym same) behind)
           (kept_other side now view (behind_message m left) kept knows))
 
   no_message_last : front left_now ≡ None → (f : Option Malformed) → message_fault left_now ≡ f → MessageLast (with_fault side f view)
   no_message_last e None f =
-      let stop = messages_stop mode side events (stream_of side view) given g lines_sound e in
-      none_last policy taken mode side events view items given h (record { found_is = stop.found_is; fault_is = stop.fault_is ∙ ap fault_of f })
-      (subst (λ (p : Phase). StandsAt mode side events p left_now) (sym at) (messages_stand mode side events (stream_of side view) given g e)) g.counts are
+      let stop = messages_stop mode side gone events (stream_of side view) given g lines_sound e in
+      none_last policy taken mode side gone events view items given h (record { found_is = stop.found_is; fault_is = stop.fault_is ∙ ap fault_of f })
+      (subst (λ (p : Phase). StandsAt mode side events p left_now) (sym at) (messages_stand mode side gone events (stream_of side view) given g e)) g.counts are
   no_message_last e (Some x) f =
-      let stop = messages_stop mode side events (stream_of side view) given g lines_sound e in
-      fault_last policy taken mode side events view items given (OfMessage x) runs h (record { found_is = stop.found_is; fault_is = stop.fault_is ∙ ap fault_of f })
+      let stop = messages_stop mode side gone events (stream_of side view) given g lines_sound e in
+      fault_last policy taken mode side gone events view items given (OfMessage x) runs h (record { found_is = stop.found_is; fault_is = stop.fault_is ∙ ap fault_of f })
 
   messages_last : (o : Option (Message × List ℕ)) → front left_now ≡ o → MessageLast (more_if (with_front policy side o view) (drained policy side n))
   messages_last None e = no_message_last e (message_fault left_now) refl
   messages_last (Some x) e = message_last x.0 x.1 e (behind_message x.0 x.1).ended refl
 
+-- ---- where messages aren't filtered
+
+module _ (policy : Policy) (taken : Taken) (mode : Mode) (side : Side) (gone : List ℕ) (events : List Event) (view : SessionView) (items : History) (given : List Item) (runs : view.ended ≡ None) (at : (stream_of side view).phase ≡ InMessages)
+    (g : GoesRaw mode side gone events (stream_of side view) given) (h : Holds policy view items taken) (lines_sound : line_fault mode side events ≡ None) where
+  abbrev bytes_left : List ℕ
+  bytes_left = (stream_of side view).left
+
+  abbrev without_left : SessionView
+  without_left = with_left side [] view
+
+  raw_stream : (s : Side) (bytes : List ℕ) (v : SessionView) → stream_of s (with_raw s bytes v) ≡ stream_of s v
+  raw_stream Client bytes v = refl
+  raw_stream Bus bytes v = refl
+
+  none_are : AreBytes []
+  none_are i = omega arith
+
+  stream_is : stream_of side (with_raw side bytes_left without_left) ≡ record (stream_of side view) { left = [] }
+  stream_is = raw_stream side (stream_of side view).left (with_left side [] view) ∙ same_stream side (record (stream_of side view) { left = [] }) view
+
+  new_raw : new_in given (reached mode side gone events) ++ fault_end side (fault mode side events) ≡ raw_item side (stream_of side view).left
+  new_raw =
+      let stop = raw_stops mode side gone events (stream_of side view) given g lines_sound in
+      ap (λ (xs : List Item). new_in given xs ++ fault_end side (fault mode side events)) stop.found_is
+      ∙ ap (λ (xs : List Item). xs ++ fault_end side (fault mode side events)) (new_last given (raw_item side (stream_of side view).left))
+      ∙ ap (λ (o : Option Fault). raw_item side (stream_of side view).left ++ fault_end side o) stop.fault_is
+      ∙ append-nil (raw_item side (stream_of side view).left)
+
+  raw_last : Final policy taken mode side gone events items given (raw_step side view).0
+  raw_last = record {
+    holds = subst (λ (xs : List Item). Holds policy (raw_step side view).0 (followed_by_all policy items xs) taken) (sym new_raw)
+        (raw_item_holds policy without_left items taken side bytes_left (stream_runs side (record (stream_of side view) { left = [] }) view ∙ runs) (stream_holds policy view items taken side (record (stream_of side view) { left = [] }) h));
+    stands = λ r.
+        subst (λ (x : StreamView). StandsAt mode side events x.phase x.left) (sym stream_is)
+        (subst (λ (p : Phase). StandsAt mode side events p []) (sym at) (raw_stands mode side gone events (stream_of side view) given g));
+    counts = λ r a. ap (λ (x : StreamView). x.lines) stream_is ∙ g.counts a;
+    sound = λ r. (raw_stops mode side gone events (stream_of side view) given g lines_sound).fault_is;
+    bytes = λ r. subst (λ (x : StreamView). AreBytes x.left) (sym stream_is) none_are;
+  }
+
 -- ---- all of it
 
 -- behind a side's lines there is no fault in them
-lines_are_sound : (mode : Mode) (side : Side) (events : List Event) (s : StreamView) (given : List Item) → GoesInMessages mode side events s given → line_fault mode side events ≡ None
+lines_are_sound : (mode : Mode) (side : Side) (events : List Event) (bytes : List ℕ) → content mode side events ≡ Some bytes → AllGiven mode side events → line_fault mode side events ≡ None
 unfolding lines content
-lines_are_sound mode Client events s given g = by mode.auth g.content_is
+lines_are_sound mode Client events bytes is all = by mode.auth is
   where
-    by : (b : Bool) → cond b (cond (begins_in (stream Client events)) (Some (after_begin (stream Client events))) None) (Some (stream Client events)) ≡ Some g.bytes → cond b (fault_of_line (client_fault (stream Client events))) None ≡ None
+    by : (b : Bool) → cond b (cond (begins_in (stream Client events)) (Some (after_begin (stream Client events))) None) (Some (stream Client events)) ≡ Some bytes → cond b (fault_of_line (client_fault (stream Client events))) None ≡ None
     by false e = refl
     by true e = seen (begins_in (stream Client events)) refl e
       where
-        seen : (d : Bool) → begins_in (stream Client events) ≡ d → cond d (Some (after_begin (stream Client events))) None ≡ Some g.bytes → fault_of_line (client_fault (stream Client events)) ≡ None
+        seen : (d : Bool) → begins_in (stream Client events) ≡ d → cond d (Some (after_begin (stream Client events))) None ≡ Some bytes → fault_of_line (client_fault (stream Client events)) ≡ None
         seen false k e = absurd cc
         seen true k e = ap (λ (d : Bool). fault_of_line (cond d None (client_cut (stream Client events)).fault)) k
-lines_are_sound mode Bus events s given g = by mode.auth refl g.content_is g.all
+lines_are_sound mode Bus events bytes is all = by mode.auth refl is all
   where
     n : ℕ
     n = asked (stream Client events)
 
-    by : (b : Bool) → mode.auth ≡ b → cond b (cond (begins_in (stream Client events)) (Some (after_lines (asked (stream Client events)) (stream Bus events))) None) (Some (stream Bus events)) ≡ Some g.bytes
+    by : (b : Bool) → mode.auth ≡ b → cond b (cond (begins_in (stream Client events)) (Some (after_lines (asked (stream Client events)) (stream Bus events))) None) (Some (stream Bus events)) ≡ Some bytes
         → (b ≡ true → length (cond b (bus_lines (asked (stream Client events)) (stream Bus events)) []) ≡ asked (stream Client events))
         → cond b (fault_of_line (bus_fault (asked (stream Client events)) (begins_in (stream Client events)) (stream Bus events))) None ≡ None
     by false a e all = refl
     by true a e all = seen (begins_in (stream Client events)) refl e
       where
-        seen : (d : Bool) → begins_in (stream Client events) ≡ d → cond d (Some (after_lines (asked (stream Client events)) (stream Bus events))) None ≡ Some g.bytes
+        seen : (d : Bool) → begins_in (stream Client events) ≡ d → cond d (Some (after_lines (asked (stream Client events)) (stream Bus events))) None ≡ Some bytes
             → fault_of_line (bus_fault (asked (stream Client events)) d (stream Bus events)) ≡ None
         seen false k e = absurd cc
         seen true k e = ap fault_of_line (no_bus_fault (asked (stream Client events)) (stream Bus events) (all refl))
 
-module _ (policy : Policy) (taken : Taken) (steps : Steps policy taken) (mode : Mode) (events : List Event) where
-  at_last : (side : Side) (n : ℕ) (view : SessionView) (items : History) (given : List Item) → view.ended ≡ None → (p : Phase) → (stream_of side view).phase ≡ p → length (stream_of side view).left + phase_weight p < suc n → GoesAt mode side events p (stream_of side view) given
-      → Holds policy view items taken → AreBytes (stream_of side view).left → KnowsOther mode side events view → Others policy taken mode side events n → Final policy taken mode side events items given (more_if (step_at policy side p view) (drained policy side n))
-  at_last Client n view items given runs (InLines place None) at short g h are knows others =
-      client_lines_last policy taken mode events n view place items given runs at g h are short others (client_ahead (sound_at place view.client.left)).lines (client_ahead (sound_at place view.client.left)).fault refl refl
-  at_last Bus n view items given runs (InLines place None) at short g h are knows others = bus_step_last policy taken mode events n view place items given runs at g h are short knows others
-  at_last side n view items given runs (InLines place (Some f)) at short g h are knows others = absurd (let e : Some f ≡ None = g.quiet in cc)
-  at_last side n view items given runs InMessages at short g h are knows others =
-      messages_last policy taken steps mode side events n view items given runs at g h are (omega (arith, short)) knows (lines_are_sound mode side events (stream_of side view) given g) others (front (stream_of side view).left) refl
+module _ (policy : Policy) (taken : Taken) (steps : Steps policy taken) (mode : Mode) (gone : List ℕ) (events : List Event) where
+  -- messages, or bytes at which nobody looks
+  behind_last : (side : Side) (n : ℕ) (view : SessionView) (items : History) (given : List Item) → view.ended ≡ None → view.mode ≡ mode → (stream_of side view).phase ≡ InMessages → length (stream_of side view).left < suc n
+      → GoesInMessages mode side events (stream_of side view) given ⊎ GoesRaw mode side gone events (stream_of side view) given → Holds policy view items taken → AreBytes (stream_of side view).left → KnowsOther mode side events view
+      → Others policy taken mode side gone events n → (filter : Bool) → mode.filter ≡ filter
+      → Final policy taken mode side gone events items given (more_if (cond filter (with_front policy side (front (stream_of side view).left) view) (raw_step side view)) (drained policy side n))
+  behind_last side n view items given runs moded at short (inl g) h are knows others true f =
+      messages_last policy taken steps mode side gone events n view items given runs moded at g h are short knows (lines_are_sound mode side events g.bytes g.content_is g.all) others (front (stream_of side view).left) refl
+  behind_last side n view items given runs moded at short (inr g) h are knows others true f = absurd (let e : true ≡ false = sym f ∙ g.unfiltered in cc)
+  behind_last side n view items given runs moded at short (inl g) h are knows others false f = absurd (let e : false ≡ true = sym f ∙ g.filters in cc)
+  behind_last side n view items given runs moded at short (inr g) h are knows others false f =
+      raw_last policy taken mode side gone events view items given runs at g h (lines_are_sound mode side events g.bytes g.content_is g.all)
 
-  pub drained_last : (side : Side) (n : ℕ) → Others policy taken mode side events n
-  drained_last side zero view items given short runs g h are knows = absurd (omega (arith, short))
-  drained_last side (suc n) view items given short runs g h are knows = at_last side n view items given runs (stream_of side view).phase refl short g h are knows (drained_last side n)
+  at_last : (side : Side) (n : ℕ) (view : SessionView) (items : History) (given : List Item) → view.ended ≡ None → view.mode ≡ mode → (p : Phase) → (stream_of side view).phase ≡ p → length (stream_of side view).left + phase_weight p < suc n
+      → GoesAt mode side gone events p (stream_of side view) given → Holds policy view items taken → AreBytes (stream_of side view).left → KnowsOther mode side events view → Others policy taken mode side gone events n
+      → Final policy taken mode side gone events items given (more_if (step_at policy side p view) (drained policy side n))
+  at_last Client n view items given runs moded (InLines place None) at short g h are knows others =
+      client_lines_last policy taken mode gone events n view place items given runs moded at g h are short others (client_ahead (sound_at place view.client.left)).lines (client_ahead (sound_at place view.client.left)).fault refl refl
+  at_last Bus n view items given runs moded (InLines place None) at short g h are knows others = bus_step_last policy taken mode gone events n view place items given runs moded at g h are short knows others
+  at_last side n view items given runs moded (InLines place (Some f)) at short g h are knows others = absurd (let e : Some f ≡ None = g.quiet in cc)
+  at_last side n view items given runs moded InMessages at short g h are knows others =
+      behind_last side n view items given runs moded at (omega (arith, short)) g h are knows others view.mode.filter (ap (λ (m : Mode). m.filter) (sym moded))
+
+  pub drained_last : (side : Side) (n : ℕ) → Others policy taken mode side gone events n
+  drained_last side zero view items given short runs moded g h are knows = absurd (omega (arith, short))
+  drained_last side (suc n) view items given short runs moded g h are knows = at_last side n view items given runs moded (stream_of side view).phase refl short g h are knows (drained_last side n)

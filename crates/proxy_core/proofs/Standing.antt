@@ -1,6 +1,6 @@
 -- A session that stands for events, and one event more.
 use Rattle.std.proofs.Common.{ℕ, zero, suc, ◌≡◌, ◌+◌, ◌-◌, ◌<◌, ◌≤◌, Bool, true, false, cond, List, [], ◌∷◌, ◌++◌, length, take, map, Option, Some, None, refl, ap, ◌∙◌, sym, subst, arith, append-nil, append_assoc, length-append, inl, inr}
-use Rattle.std.specs.Prelude.{◌||◌, ◌==◌, not, nat_lt, min}
+use Rattle.std.specs.Prelude.{◌==◌, ◌⊎◌, not, nat_lt, min}
 use Rattle.std.specs.FinMap.{empty, get-empty}
 use Rattle.std.specs.Cmp.Lexicographic.{slice_cmp}
 use Rattle.std.specs.List.{list_any}
@@ -25,39 +25,44 @@ use Rattle.sasl_watch.proofs.Followed.{client-starts, client-pushed, bus-starts,
 use Rattle.policy_args.specs.Policy.{Policy}
 use Rattle.policy_view.specs.Sent.{Exchange, answered, call_at, nothing_before, owed}
 use Rattle.policy_view.specs.Past.{Item, Line, Msg, Ended, History, past}
-use Rattle.policy_view.specs.History.{Event, Bytes, Finished, Stopped, longest_stream, whole_stream, stream, lines, content, messages_in, found, fault, taken_of, is_over, brought, end_if, fault_end, new_in, finished, is_built_piece, arrived, followed_by, followed_by_all, history}
+use Rattle.policy_view.specs.History.{Event, Bytes, Finished, Stopped, longest_stream, whole_stream, stream, lines, content, messages_in, bytes_in, raw_in, found, raw, raw_item, fault, taken_of, is_over, end_if, fault_end, new_in, finished, arrived, followed_by, followed_by_all, history}
 use Rattle.policy_view.specs.Notes.{Note, notes, notes_made, numbered}
 use Rattle.policy_view.specs.Laws.{IsPrefixOf}
 use Rattle.policy_view.specs.Outputs.{bus_bytes, client_bytes}
 use Rattle.policy_view.specs.declared.Mode.{Mode}
 use Rattle.policy_view.specs.declared.End.{End}
-use Rattle.policy_view.specs.declared.End.TheVariants.{NotBuilt, Memory}
+use Rattle.policy_view.specs.declared.End.TheVariants.{Memory}
 use Rattle.policy_view.specs.declared.Side.{Side}
 use Rattle.policy_view.specs.declared.Side.TheVariants.{Client, Bus}
 use Rattle.policy_view.proofs.Growth.{only_grows}
 use Rattle.policy_view.proofs.PastLaws.{ended_is_final}
-use Rattle.policy_view.proofs.Streams.{stream_more, bus_stream, client_stream, apart, lines_by, content_by, found_by, fault_by, client_by, content_more, BusKept, bus_kept}
-use Rattle.policy_view.proofs.CutLaws.{all_append}
+use Rattle.policy_view.proofs.Streams.{stream_more, bus_stream, client_stream, apart, grows, lines_by, content_by, found_by, raw_by, fault_by, client_by, content_more, BusKept, bus_kept}
+use Rattle.policy_view.proofs.CutLaws.{all_append, new_last}
 use Rattle.proxy_core.specs.Streams.{StreamView, Phase, InLines, InMessages, is_in_lines, new_stream, pushed, watch_at}
-use Rattle.proxy_core.specs.Sessions.{SessionView, Taken, Holds, Follows, FollowsStream, FollowsLines, StandsAt, AllGiven, lines_in, StandsFor, IsFront, at_start, nothing, stream_of, is_memory, nothing_expected}
+use Rattle.proxy_core.specs.Sessions.{SessionView, Taken, Holds, Follows, FollowsStream, FollowsLines, StandsAt, AllGiven, lines_in, rest_of, StandsFor, IsFront, at_start, nothing, stream_of, is_memory, nothing_expected}
 use Rattle.dbus_names.specs.Texts.{Text}
 use Rattle.reply_ledger.proofs.Counting.{none-count}
 use Rattle.unique_names.proofs.Learned.{start-taught}
 use Rattle.verdicts.specs.Kept.{expected_at, owed_by, owed_to}
 use Rattle.verdicts.proofs.KnowledgeLaws.{CoversNoUniqueName}
 use Rattle.proxy_core.specs.Messages.{ended_by}
-use Rattle.proxy_core.specs.Steps.{with_stream, with_left, behind_line, in_messages, begun_if, asks, with_line_fault, with_lines, with_all_answered, unanswered, has_begun, with_fault, with_front, step_at, step_of, more_if, drained, end_unless, closed_if, room_of, with_piece, IsRefused, Took}
+use Rattle.proxy_core.specs.Steps.{with_stream, with_left, behind_line, in_messages, begun_if, asks, with_line_fault, with_lines, with_all_answered, unanswered, has_begun, with_fault, with_front, with_raw, raw_step, step_at, step_of, more_if, drained, end_unless, closed_if, room_of, with_piece, IsRefused, Took}
 use Rattle.proxy_core.proofs.Keeping.{IsKept, noted_kept}
 use Rattle.proxy_core.proofs.Noting.{noted_holds}
-use Rattle.proxy_core.proofs.Going.{Counts, Goes, GoesAt}
-use Rattle.proxy_core.proofs.Driven.{Steps, Final, KnowsClient, KnowsOther, phase_weight, weight, none_last, drained_last, end_followed, end_ignored, stream_holds, same_stream, stream_runs}
+use Rattle.proxy_core.proofs.Going.{Counts, Goes, GoesAt, GoesInMessages, GoesRaw, reached, quiet_raw, quiet_messages}
+use Rattle.proxy_core.proofs.Driven.{Steps, Final, KnowsClient, KnowsOther, phase_weight, weight, none_last, drained_last, end_followed, end_ignored, new_none, stream_holds, same_stream, stream_runs}
 use Rattle.dbus_header.specs.Malformed.{front}
 
 -- ---- the start
 
+none_rest : (b : Bool) → [] ≡ rest_of b []
+unfolding split
+none_rest true = refl
+none_rest false = refl
+
 stream_starts : (mode : Mode) (side : Side) → FollowsStream mode side [] (new_stream mode.auth)
 unfolding stream lines content fault split message_fault
-stream_starts mode side = record { came = came side; stands = stands mode.auth refl side; counts = λ a. counts mode.auth side; sound = sound mode.auth side; bytes = λ i. omega arith }
+stream_starts mode side = record { came = came side; stands = stands mode.auth refl side; counts = λ a. counts mode.auth side; sound = sound mode.auth mode.filter side; bytes = λ i. omega arith }
   where
     came : (s : Side) → 0 ≡ length (stream s [])
     came Client = refl
@@ -66,8 +71,8 @@ stream_starts mode side = record { came = came side; stands = stands mode.auth r
     stands : (b : Bool) → mode.auth ≡ b → (s : Side) → StandsAt mode s [] (new_stream mode.auth).phase []
     stands true a Client = rw a (refl, refl, client-starts, refl)
     stands true a Bus = rw a (refl, refl, bus-starts, refl)
-    stands false a Client = rw a ([], refl, refl, tt)
-    stands false a Bus = rw a ([], refl, refl, λ e. absurd cc)
+    stands false a Client = rw a ([], refl, none_rest mode.filter, tt)
+    stands false a Bus = rw a ([], refl, none_rest mode.filter, λ e. absurd cc)
 
     counts : (b : Bool) (s : Side) → 0 ≡ lines_in s (record { auth = b; filter = mode.filter; notes = mode.notes }) []
     counts true Client = refl
@@ -75,11 +80,13 @@ stream_starts mode side = record { came = came side; stands = stands mode.auth r
     counts false Client = refl
     counts false Bus = refl
 
-    sound : (b : Bool) (s : Side) → fault (record { auth = b; filter = mode.filter; notes = mode.notes }) s [] ≡ None
-    sound true Client = refl
-    sound true Bus = refl
-    sound false Client = refl
-    sound false Bus = refl
+    sound : (b filter : Bool) (s : Side) → fault (record { auth = b; filter = filter; notes = mode.notes }) s [] ≡ None
+    sound true filter Client = refl
+    sound true filter Bus = refl
+    sound false true Client = refl
+    sound false true Bus = refl
+    sound false false Client = refl
+    sound false false Bus = refl
 
 none_to : (peer : Option Text) (n : ℕ) → owed_to nothing_expected.owed peer n ≡ 0
 none_to None n = refl
@@ -191,6 +198,15 @@ module _ (policy : Policy) where
       untouched_then side view (with_left side x.1 view) (with_front policy side (Some x) view).0 (stream_untouched side (record (stream_of side view) { left = x.1 }) view refl)
       (kept_untouched side (with_left side x.1 view) (with_front policy side (Some x) view).0 (noted_kept policy side x.0 (with_left side x.1 view)))
 
+  raw_untouched : (side : Side) (bytes : List ℕ) (view : SessionView) → Untouched side view (with_raw side bytes view)
+  raw_untouched Client bytes view = record { mode = refl; came = refl; other_is = refl }
+  raw_untouched Bus bytes view = record { mode = refl; came = refl; other_is = refl }
+
+  behind_untouched : (filter : Bool) (side : Side) (view : SessionView) → Untouched side view (cond filter (with_front policy side (front (stream_of side view).left) view) (raw_step side view)).0
+  behind_untouched true side view = front_untouched side (front (stream_of side view).left) view
+  behind_untouched false side view =
+      untouched_then side view (with_left side [] view) (raw_step side view).0 (stream_untouched side (record (stream_of side view) { left = [] }) view refl) (raw_untouched side (stream_of side view).left (with_left side [] view))
+
   bus_untouched : (b : Bool) (place : ℕ) (view : SessionView) → Untouched Bus view (cond {A = SessionView × Bool} b (with_all_answered place view) (with_lines Bus place (bus_ahead (watch_at place None view.bus.left)).lines (bus_ahead (watch_at place None view.bus.left)).fault view)).0
   bus_untouched true place view = answered_untouched (has_begun view) (cond (is_empty view.bus.left) None (Some (record { kind = EarlyBus; at = place }))) place view
   bus_untouched false place view = lines_untouched Bus place (bus_ahead (watch_at place None view.bus.left)).lines (bus_ahead (watch_at place None view.bus.left)).fault view
@@ -199,7 +215,7 @@ module _ (policy : Policy) where
   at_untouched side (InLines place (Some f)) view = line_fault_untouched side place (Some f) view
   at_untouched Client (InLines place None) view = lines_untouched Client place (client_ahead (watch_at place None view.client.left)).lines (client_ahead (watch_at place None view.client.left)).fault view
   at_untouched Bus (InLines place None) view = bus_untouched (unanswered view == 0) place view
-  at_untouched side InMessages view = front_untouched side (front (stream_of side view).left) view
+  at_untouched side InMessages view = behind_untouched view.mode.filter side view
 
   drained_untouched : (side : Side) (n : ℕ) (view : SessionView) → Untouched side view (drained policy side n view)
   drained_untouched side zero view = untouched_all side view
@@ -255,7 +271,7 @@ client_follows mode events piece s f =
       quiet,
       subst (λ (w : List ℕ). ClientFollows w (lines mode Client (Bytes Bus piece ∷ events)) (watch_at place None s.left)) (sym (client_stream events piece))
           (subst (λ (x : List (List ℕ)). ClientFollows (stream Client events) x (watch_at place None s.left)) (sym ls) follows),
-      ap messages_in c ∙ none,
+      ap bytes_in c ∙ none,
     )
     by InMessages (bytes, is, left, all) ls c = (bytes, c ∙ is, left, tt)
 
@@ -343,38 +359,66 @@ all_known : (mode : Mode) (side : Side) (events : List Event) → AllGiven mode 
 all_known mode Client events all e a = absurd cc
 all_known mode Bus events all e a = all a
 
+raw_now : (mode : Mode) (side : Side) (events : List Event) (b : List ℕ) → content mode side events ≡ Some b → mode.filter ≡ false → raw mode side events ≡ b
+unfolding raw
+raw_now mode side events b c unfiltered = ap (λ (x : Bool). raw_in x (content mode side events)) unfiltered ∙ ap (raw_in false) c
+
 -- before anything of the piece is looked at, the side's items are those of before
 piece_goes : (mode : Mode) (side : Side) (events : List Event) (piece bytes : List ℕ) (s : StreamView) → FollowsStream mode side events s → taken_of side events piece ≡ bytes
-    → Goes mode side (Bytes side piece ∷ events) (pushed bytes s) (found mode side events)
+    → Goes mode side (raw mode side events) (Bytes side piece ∷ events) (pushed bytes s) (found mode side events)
 unfolding found
 piece_goes mode side events piece bytes s f is = by s.phase f.stands
   where
     more : stream side (Bytes side piece ∷ events) ≡ stream side events ++ bytes
     more = stream_more side events piece ∙ ap (λ (t : List ℕ). stream side events ++ t) is
 
-    only_lines : messages_in (content mode side events) ≡ [] → map (Line side) (lines mode side events) ++ map (Msg side) (messages_in (content mode side events)) ≡ map (Line side) (lines mode side events)
+    only_lines : messages_in mode.filter (content mode side events) ≡ [] → map (Line side) (lines mode side events) ++ map (Msg side) (messages_in mode.filter (content mode side events)) ≡ map (Line side) (lines mode side events)
     only_lines none = ap (λ (ms : List Message). map (Line side) (lines mode side events) ++ map (Msg side) ms) none ∙ append-nil (map (Line side) (lines mode side events))
 
-    by : (p : Phase) → StandsAt mode side events p s.left → GoesAt mode side (Bytes side piece ∷ events) p (pushed bytes s) (map (Line side) (lines mode side events) ++ map (Msg side) (messages_in (content mode side events)))
-    by (InLines place told) (auth, quiet, follows, none) = record {
-      auth = auth;
-      quiet = quiet;
-      given = lines mode side events;
-      follows = subst (λ (w : List ℕ). FollowsLines side w (lines mode side events) (watch_at place None (s.left ++ bytes))) (sym more) (follows_more side (stream side events) bytes (lines mode side events) place s.left follows);
-      counts = lines_counted mode side events piece s.lines place s.left auth follows (f.counts auth);
-      items_are = only_lines none;
-    }
-    by InMessages (b, c, left, all) =
+    behind : (filter : Bool) → mode.filter ≡ filter → StandsAt mode side events InMessages s.left
+        → GoesInMessages mode side (Bytes side piece ∷ events) (pushed bytes s) (map (Line side) (lines mode side events) ++ map (Msg side) (messages_in mode.filter (content mode side events)))
+        ⊎ GoesRaw mode side (raw mode side events) (Bytes side piece ∷ events) (pushed bytes s) (map (Line side) (lines mode side events) ++ map (Msg side) (messages_in mode.filter (content mode side events)))
+    behind true filters (b, c, left, all) =
         let m = content_more mode side events piece b c (all_known mode side events all) in
-        record {
+        let left_is : s.left ≡ rest b = left ∙ ap (λ (x : Bool). rest_of x b) filters in
+        inl (record {
+          filters = filters;
           bytes = b ++ taken_of side events piece;
           content_is = m.content_is;
           given = messages b;
-          split_is = ap (λ (t : List ℕ). split (b ++ t)) is ∙ split-append b bytes ∙ ap (λ (t : List ℕ). (messages b ++ messages (t ++ bytes), rest (t ++ bytes))) (sym left);
+          split_is = ap (λ (t : List ℕ). split (b ++ t)) is ∙ split-append b bytes ∙ ap (λ (t : List ℕ). (messages b ++ messages (t ++ bytes), rest (t ++ bytes))) (sym left_is);
           all = all_given mode side events piece m.lines_is all;
           counts = all_counted mode side events piece b s.lines c m.lines_is f.counts;
-          items_are = ap (λ (ls : List (List ℕ)). map (Line side) ls ++ map (Msg side) (messages_in (content mode side events))) (sym m.lines_is) ∙ ap (λ (o : Option (List ℕ)). map (Line side) (lines mode side (Bytes side piece ∷ events)) ++ map (Msg side) (messages_in o)) c;
-        }
+          items_are = ap (λ (x : Bool). map (Line side) (lines mode side events) ++ map (Msg side) (messages_in x (content mode side events))) filters
+              ∙ ap (λ (ls : List (List ℕ)). map (Line side) ls ++ map (Msg side) (messages_in true (content mode side events))) (sym m.lines_is)
+              ∙ ap (λ (o : Option (List ℕ)). map (Line side) (lines mode side (Bytes side piece ∷ events)) ++ map (Msg side) (messages_in true o)) c;
+        })
+    behind false unfiltered (b, c, left, all) =
+        let m = content_more mode side events piece b c (all_known mode side events all) in
+        let left_is : s.left ≡ [] = left ∙ ap (λ (x : Bool). rest_of x b) unfiltered in
+        let none : messages_in mode.filter (content mode side events) ≡ [] = ap (λ (x : Bool). messages_in x (content mode side events)) unfiltered ∙ ap (messages_in false) c in
+        inr (record {
+          unfiltered = unfiltered;
+          bytes = b ++ taken_of side events piece;
+          content_is = m.content_is;
+          bytes_are = ap (λ (t : List ℕ). b ++ t) is ∙ ap (λ (t : List ℕ). t ++ bytes) (sym (raw_now mode side events b c unfiltered)) ∙ ap (λ (t : List ℕ). raw mode side events ++ (t ++ bytes)) (sym left_is);
+          all = all_given mode side events piece m.lines_is all;
+          counts = all_counted mode side events piece b s.lines c m.lines_is f.counts;
+          items_are = only_lines none ∙ ap (map (Line side)) (sym m.lines_is);
+        })
+
+    by : (p : Phase) → StandsAt mode side events p s.left
+        → GoesAt mode side (raw mode side events) (Bytes side piece ∷ events) p (pushed bytes s) (map (Line side) (lines mode side events) ++ map (Msg side) (messages_in mode.filter (content mode side events)))
+    by (InLines place told) (auth, quiet, follows, none) = record {
+      auth = auth;
+      quiet = quiet;
+      none_gone = quiet_raw mode side events none;
+      given = lines mode side events;
+      follows = subst (λ (w : List ℕ). FollowsLines side w (lines mode side events) (watch_at place None (s.left ++ bytes))) (sym more) (follows_more side (stream side events) bytes (lines mode side events) place s.left follows);
+      counts = lines_counted mode side events piece s.lines place s.left auth follows (f.counts auth);
+      items_are = only_lines (quiet_messages mode.filter (content mode side events) none);
+    }
+    by InMessages stands = behind mode.filter refl stands
 
 -- ---- a piece
 
@@ -415,7 +459,7 @@ same_follows mode side one two s c b f = record {
       auth,
       quiet,
       subst (λ (w : List ℕ). FollowsLines side w (lines mode side two) (watch_at place None s.left)) (sym own) (subst (λ (x : List (List ℕ)). FollowsLines side (stream side one) x (watch_at place None s.left)) (sym ls) follows),
-      ap messages_in (content_by mode side two one c b) ∙ none,
+      ap bytes_in (content_by mode side two one c b) ∙ none,
     )
     by InMessages (bytes, is, left, all) = (bytes, content_by mode side two one c b ∙ is, left, all_too side all)
 
@@ -470,28 +514,6 @@ module _ (policy : Policy) (view : SessionView) (events : List Event) (taken : T
   unfolding history
   arrived_holds new items_new is h = subst (λ (xs : List Item). Holds policy new (followed_by_all policy (history policy view.mode events) xs) taken) (sym is) h
 
-  arrived_by : (b : Bool) → is_built_piece view.mode (take (room_of side view) piece) ≡ b →
-      arrived view.mode events (Bytes side piece) ≡ cond b (brought view.mode side events piece) (Ended NotBuilt ∷ [])
-  unfolding arrived
-  arrived_by b e =
-      ap (λ (xs : List ℕ). cond (is_built_piece view.mode xs) (brought view.mode side events piece) (Ended NotBuilt ∷ [])) taken_is
-      ∙ ap (λ (b : Bool). cond b (brought view.mode side events piece) (Ended NotBuilt ∷ [])) e
-
-  not_built_holds : (b : Bool) → Holds policy (closed_if b side (ended_by NotBuilt view)) (followed_by_all policy (history policy view.mode events) (Ended NotBuilt ∷ [])) taken
-  unfolding followed_by_all
-  not_built_holds false = end_followed policy view (history policy view.mode events) taken NotBuilt runs holds
-  not_built_holds true = end_followed policy view (history policy view.mode events) taken NotBuilt runs holds
-
-  not_built_ends : {A : Type 0} (b : Bool) → (closed_if b side (ended_by NotBuilt view)).ended ≡ None → A
-  not_built_ends false e = absurd cc
-  not_built_ends true e = absurd cc
-
-  not_built : is_built_piece view.mode bytes ≡ false → IsPieced (closed_if over side (ended_by NotBuilt view))
-  not_built e = record {
-    holds = arrived_holds (closed_if over side (ended_by NotBuilt view)) (Ended NotBuilt ∷ []) (arrived_by false e) (not_built_holds over);
-    follows = λ r c. not_built_ends over r;
-  }
-
   -- where the session runs on, it wasn't closed
   open_stream : (b : Bool) (v : SessionView) → (closed_if b side v).ended ≡ None → (stream_of side (closed_if b side v) ≡ stream_of side v) × (v.ended ≡ None)
   open_stream false v r = (refl, r)
@@ -501,31 +523,66 @@ module _ (policy : Policy) (view : SessionView) (events : List Event) (taken : T
       by None e r = absurd cc
       by (Some end) e r = (refl, r)
 
+  -- the items of the piece, of which those that were found before are the first
+  abbrev now : List Event
+  now = Bytes side piece ∷ events
+
+  brought_is : arrived view.mode events (Bytes side piece)
+      ≡ (new_in (found view.mode side events) (reached view.mode side (raw view.mode side events) (Bytes side piece ∷ events)) ++ fault_end side (fault view.mode side (Bytes side piece ∷ events))) ++ end_if (is_over side events piece) (finished side)
+  unfolding arrived
+  brought_is = ap (λ (xs : List Item). (xs ++ fault_end side (fault view.mode side now)) ++ end_if (is_over side events piece) (finished side)) new_items
+    where
+      more : List Item
+      more = (grows view.mode side events piece).items
+
+      raw_items : List Item
+      raw_items = raw_item side (new_in (raw view.mode side events) (raw view.mode side now))
+
+      found_is : found view.mode side now ≡ found view.mode side events ++ (grows view.mode side events piece).items
+      found_is = (grows view.mode side events piece).found_is
+
+      new_items : new_in (found view.mode side events) (found view.mode side (Bytes side piece ∷ events)) ++ raw_item side (new_in (raw view.mode side events) (raw view.mode side (Bytes side piece ∷ events)))
+          ≡ new_in (found view.mode side events) (reached view.mode side (raw view.mode side events) (Bytes side piece ∷ events))
+      new_items =
+          ap (λ (xs : List Item). new_in (found view.mode side events) xs ++ raw_item side (new_in (raw view.mode side events) (raw view.mode side now))) found_is
+          ∙ ap (λ (xs : List Item). xs ++ raw_item side (new_in (raw view.mode side events) (raw view.mode side now))) (new_last (found view.mode side events) (grows view.mode side events piece).items)
+          ∙ sym (new_last (found view.mode side events) ((grows view.mode side events piece).items ++ raw_item side (new_in (raw view.mode side events) (raw view.mode side now))))
+          ∙ ap (new_in (found view.mode side events)) (sym (append_assoc (found view.mode side events) (grows view.mode side events piece).items (raw_item side (new_in (raw view.mode side events) (raw view.mode side now)))))
+          ∙ ap (λ (xs : List Item). new_in (found view.mode side events) (xs ++ raw_item side (new_in (raw view.mode side events) (raw view.mode side now)))) (sym found_is)
+
   -- all that stood in front was taken
-  built : is_built_piece view.mode (take (room_of side view) piece) ≡ true → (new : SessionView) → Final policy taken view.mode side (Bytes side piece ∷ events) (history policy view.mode events) (found view.mode side events) new → IsPieced (closed_if over side new)
-  built e new f = record {
-    holds = arrived_holds (closed_if over side new) (brought view.mode side events piece) (arrived_by true e)
-        (subst (λ (h : History). Holds policy (closed_if over side new) h taken) (sym (all_append policy (history policy view.mode events) (new_in (found view.mode side events) (found view.mode side (Bytes side piece ∷ events)) ++ fault_end side (fault view.mode side (Bytes side piece ∷ events))) (end_if (is_over side events piece) (finished side))))
-        (subst (λ (b : Bool). Holds policy (closed_if over side new) (followed_by_all policy (followed_by_all policy (history policy view.mode events) (new_in (found view.mode side events) (found view.mode side (Bytes side piece ∷ events)) ++ fault_end side (fault view.mode side (Bytes side piece ∷ events)))) (end_if b (finished side))) taken) (sym over_is)
-        (closed_holds policy new _ taken side over f.holds)));
-    follows = λ r c.
-        let o = open_stream over new r in
-        subst (λ (x : StreamView). FollowsStream view.mode side (Bytes side piece ∷ events) x) (sym o.0) (record {
-          came = ap (λ (x : StreamView). x.came) (sym o.0) ∙ c;
-          stands = f.stands o.1;
-          counts = f.counts o.1;
-          sound = f.sound o.1;
-          bytes = f.bytes o.1;
-        });
-  }
+  taken_all : (new : SessionView) → Final policy taken view.mode side (raw view.mode side events) (Bytes side piece ∷ events) (history policy view.mode events) (found view.mode side events) new → IsPieced (closed_if over side new)
+  taken_all new f =
+      let front = new_in (found view.mode side events) (reached view.mode side (raw view.mode side events) (Bytes side piece ∷ events)) ++ fault_end side (fault view.mode side (Bytes side piece ∷ events)) in
+      record {
+        holds = arrived_holds (closed_if over side new) (front ++ end_if (is_over side events piece) (finished side)) brought_is
+            (subst (λ (h : History). Holds policy (closed_if over side new) h taken) (sym (all_append policy (history policy view.mode events) front (end_if (is_over side events piece) (finished side))))
+            (subst (λ (b : Bool). Holds policy (closed_if over side new) (followed_by_all policy (followed_by_all policy (history policy view.mode events) front) (end_if b (finished side))) taken) (sym over_is)
+            (closed_holds policy new _ taken side over f.holds)));
+        follows = λ r c.
+            let o = open_stream over new r in
+            subst (λ (x : StreamView). FollowsStream view.mode side (Bytes side piece ∷ events) x) (sym o.0) (record {
+              came = ap (λ (x : StreamView). x.came) (sym o.0) ∙ c;
+              stands = f.stands o.1;
+              counts = f.counts o.1;
+              sound = f.sound o.1;
+              bytes = f.bytes o.1;
+            });
+      }
 
   no_bytes : take (room_of side view) piece ≡ [] → IsPieced (closed_if over side view)
   no_bytes none =
       let same = both_streams side events piece (taken_is ∙ none) in
       let f = same_follows view.mode side events (Bytes side piece ∷ events) (stream_of side view) same.0 same.1 own in
-      built (ap (is_built_piece view.mode) none) view
-      (none_last policy taken view.mode side (Bytes side piece ∷ events) view (history policy view.mode events) (found view.mode side events) holds
-      (record { found_is = found_by view.mode side (Bytes side piece ∷ events) events same.0 same.1; fault_is = f.sound }) f.stands f.counts f.bytes)
+      let found_is = found_by view.mode side (Bytes side piece ∷ events) events same.0 same.1 in
+      let raw_is = raw_by view.mode side (Bytes side piece ∷ events) events same.0 same.1 in
+      let reached_is : reached view.mode side (raw view.mode side events) (Bytes side piece ∷ events) ≡ found view.mode side events =
+      ap (λ (xs : List Item). xs ++ raw_item side (new_in (raw view.mode side events) (raw view.mode side (Bytes side piece ∷ events)))) found_is
+      ∙ ap (λ (xs : List ℕ). found view.mode side events ++ raw_item side (new_in (raw view.mode side events) xs)) raw_is
+      ∙ ap (λ (xs : List ℕ). found view.mode side events ++ raw_item side xs) (new_none (raw view.mode side events))
+      ∙ append-nil (found view.mode side events) in
+      taken_all view
+      (none_last policy taken view.mode side (raw view.mode side events) (Bytes side piece ∷ events) view (history policy view.mode events) (found view.mode side events) holds (record { found_is = reached_is; fault_is = f.sound }) f.stands f.counts f.bytes)
 
   -- bytes behind what is left
   abbrev behind_left : StreamView
@@ -545,27 +602,30 @@ module _ (policy : Policy) (view : SessionView) (events : List Event) (taken : T
   light (InLines place told) = omega arith
   light InMessages = omega arith
 
-  more_bytes : is_built_piece view.mode (take (room_of side view) piece) ≡ true → IsPieced (closed_if over side (drained policy side most pushed_view))
-  more_bytes e =
+  pushed_runs_in : (s : Side) (x : StreamView) (v : SessionView) → (with_stream s x v).mode ≡ v.mode
+  pushed_runs_in Client x v = refl
+  pushed_runs_in Bus x v = refl
+
+  more_bytes : IsPieced (closed_if over side (drained policy side most pushed_view))
+  more_bytes =
       let same = same_stream side behind_left view in
       let l = light (stream_of side view).phase in
-      built e (drained policy side most pushed_view)
-      (drained_last policy taken steps view.mode (Bytes side piece ∷ events) side most pushed_view (history policy view.mode events) (found view.mode side events)
+      taken_all (drained policy side most pushed_view)
+      (drained_last policy taken steps view.mode (raw view.mode side events) (Bytes side piece ∷ events) side most pushed_view (history policy view.mode events) (found view.mode side events)
       (subst (λ (x : StreamView). weight x < most) (sym same) (omega (arith, l)))
       (stream_runs side behind_left view ∙ runs)
-      (subst (λ (x : StreamView). Goes view.mode side (Bytes side piece ∷ events) x (found view.mode side events)) (sym same) (piece_goes view.mode side events piece (take (room_of side view) piece) (stream_of side view) own taken_is))
+      (pushed_runs_in side behind_left view)
+      (subst (λ (x : StreamView). Goes view.mode side (raw view.mode side events) (Bytes side piece ∷ events) x (found view.mode side events)) (sym same) (piece_goes view.mode side events piece (take (room_of side view) piece) (stream_of side view) own taken_is))
       (stream_holds policy view (history policy view.mode events) taken side behind_left holds)
       (subst (λ (x : StreamView). AreBytes x.left) (sym same) (AreBytes-append (stream_of side view).left (take (room_of side view) piece) own.bytes (AreBytes-take (room_of side view) piece are)))
       (knows_still side behind_left (knows_other view.mode side events piece view refl follows)))
 
-  by_empty : (none ready : Bool) → is_empty (take (room_of side view) piece) ≡ none → view.mode.filter ≡ ready
-      → IsPieced (closed_if over side (cond none view (cond ready (drained policy side most pushed_view) (ended_by NotBuilt view))))
-  by_empty true ready none is = no_bytes (empty_is (take (room_of side view) piece) none)
-  by_empty false false none is = not_built (ap (λ (b : Bool). b || view.mode.filter) none ∙ is)
-  by_empty false true none is = more_bytes (ap (λ (b : Bool). b || view.mode.filter) none ∙ is)
+  by_empty : (none : Bool) → is_empty (take (room_of side view) piece) ≡ none → IsPieced (closed_if over side (cond none view (drained policy side most pushed_view)))
+  by_empty true none = no_bytes (empty_is (take (room_of side view) piece) none)
+  by_empty false none = more_bytes
 
   piece_step : IsPieced (with_piece policy side piece view)
-  piece_step = by_empty (is_empty (take (room_of side view) piece)) view.mode.filter refl refl
+  piece_step = by_empty (is_empty (take (room_of side view) piece)) refl
 
   -- ---- what the piece left as it was
 
@@ -605,8 +665,8 @@ module _ (policy : Policy) (view : SessionView) (events : List Event) (taken : T
   same_other Client end v = refl
   same_other Bus end v = refl
 
-  leaves_by : (none ready : Bool) → is_empty (take (room_of side view) piece) ≡ none → Leaves (closed_if over side (cond none view (cond ready (drained policy side most pushed_view) (ended_by NotBuilt view))))
-  leaves_by true ready none =
+  leaves_by : (none : Bool) → is_empty (take (room_of side view) piece) ≡ none → Leaves (closed_if over side (cond none view (drained policy side most pushed_view)))
+  leaves_by true none =
       let u = closed_untouched over view view (untouched_all side view) in
       let empty : length (take (room_of side view) piece) ≡ 0 = ap length (empty_is (take (room_of side view) piece) none) in
       let with : (stream_of side view).came ≡ length (stream side (Bytes side piece ∷ events)) = own.came ∙ plus_none (length (stream side events)) (length (take (room_of side view) piece)) empty ∙ came_with in
@@ -614,19 +674,16 @@ module _ (policy : Policy) (view : SessionView) (events : List Event) (taken : T
     where
       plus_none : (n k : ℕ) → k ≡ 0 → n ≡ n + k
       plus_none n k e = omega (arith, e)
-  leaves_by false true none =
+  leaves_by false none =
       let u = closed_untouched over pushed_view (drained policy side most pushed_view) (drained_untouched policy side most pushed_view) in
       record {
         mode = u.mode ∙ pushed_mode side behind_left view;
         other_is = u.other_is ∙ pushed_other side behind_left view;
         came = λ r. u.came ∙ pushed_came side behind_left view ∙ ap (λ (n : ℕ). n + length (take (room_of side view) piece)) own.came ∙ came_with;
       }
-  leaves_by false false none =
-      let u = closed_untouched over view (ended_by NotBuilt view) (ended_untouched side NotBuilt view) in
-      record { mode = u.mode; other_is = u.other_is; came = λ r. not_built_ends over r }
 
   piece_leaves : Leaves (with_piece policy side piece view)
-  piece_leaves = leaves_by (is_empty (take (room_of side view) piece)) view.mode.filter refl
+  piece_leaves = leaves_by (is_empty (take (room_of side view) piece)) refl
 
   -- both sides' streams then
   follows_both : (s : Side) (new : SessionView) → new.mode ≡ view.mode → FollowsStream view.mode s (Bytes side piece ∷ events) (stream_of s new) → FollowsStream view.mode (other s) (Bytes side piece ∷ events) (stream_of (other s) new) → Follows new (Bytes side piece ∷ events)

@@ -1,5 +1,5 @@
 -- What a session is seen as, and when it stands for events.
-use Rattle.std.specs.Prelude.{◌≡◌, ◌≤◌, ◌<◌, ℕ, Bool, true, false, List, [], ◌++◌, length, get_or, IsTrue, Option, Some, None, Result, Ok, Err}
+use Rattle.std.specs.Prelude.{◌≡◌, ◌≤◌, ◌<◌, ℕ, Bool, true, false, List, [], ◌++◌, length, get_or, IsTrue, if◌then◌else◌, Option, Some, None, Result, Ok, Err}
 use Rattle.std.specs.FinMap.{empty}
 use Rattle.dbus_header.specs.Stream.{rest}
 use Rattle.sasl_watch.specs.Lines.{asked}
@@ -8,14 +8,14 @@ use Rattle.sasl_watch.specs.Following.{ClientFollows, BusFollows}
 use Rattle.policy_args.specs.Policy.{Policy}
 use Rattle.policy_view.specs.Sent.{Past}
 use Rattle.policy_view.specs.Past.{History, has_greeted, past}
-use Rattle.policy_view.specs.History.{Event, stream, lines, content, messages_in, fault, history, end_of, most_sent}
+use Rattle.policy_view.specs.History.{Event, stream, lines, content, bytes_in, fault, history, end_of, most_sent}
 use Rattle.policy_view.specs.Outputs.{bus_bytes, client_bytes}
 use Rattle.policy_view.specs.Notes.{Note, numbered, notes_made}
 use Rattle.policy_view.specs.declared.Mode.{Mode}
 use Rattle.policy_view.specs.declared.Side.{Side}
 use Rattle.policy_view.specs.declared.Side.TheVariants.{Client, Bus}
 use Rattle.policy_view.specs.declared.End.{End}
-use Rattle.policy_view.specs.declared.End.TheVariants.{ClientMalformed, BusMalformed, ClientEnd, BusEnd, SerialsSpent, Memory, ClientRead, ClientWrite, BusRead, BusWrite, BusConnect, LogFault, NotBuilt}
+use Rattle.policy_view.specs.declared.End.TheVariants.{ClientMalformed, BusMalformed, ClientEnd, BusEnd, SerialsSpent, Memory, ClientRead, ClientWrite, BusRead, BusWrite, BusConnect, LogFault}
 use Rattle.proxy_core.specs.Streams.{StreamView, Phase, InLines, InMessages, new_stream, watch_at}
 use Rattle.reply_ledger.specs.Ledger.{Ledger}
 use Rattle.unique_names.specs.Taught.{Ids}
@@ -107,7 +107,6 @@ is_memory (Some BusRead) = false
 is_memory (Some BusWrite) = false
 is_memory (Some BusConnect) = false
 is_memory (Some LogFault) = false
-is_memory (Some NotBuilt) = false
 
 -- the Ends for which a session is stopped: a link or the log failed, or memory was refused for a connect or for a line
 abbrev pub is_from_outside : End → Bool
@@ -123,7 +122,6 @@ is_from_outside BusRead = true
 is_from_outside BusWrite = true
 is_from_outside BusConnect = true
 is_from_outside LogFault = true
-is_from_outside NotBuilt = false
 
 -- what was taken and then what waits is what a history gives either side, and the notes are its notes where the session
 -- makes any; and the session's End is the history's
@@ -150,17 +148,22 @@ abbrev pub AllGiven : Mode → Side → List Event → Type 0
 AllGiven mode Client events = Unit {0}
 AllGiven mode Bus events = mode.auth ≡ true → length (lines mode Bus events) ≡ asked (stream Client events)
 
--- where a stream stands: all whole lines were given and no message came, or all messages that follow the lines were
+-- what isn't given of the bytes behind the lines, when all that may be is: nothing where messages aren't filtered
+abbrev pub rest_of : Bool → List ℕ → List ℕ
+rest_of filter bytes = if filter then rest bytes else []
+
+-- where a stream stands: all whole lines were given and nothing follows them, or all that follows the lines was given, where
+-- messages are filtered up to a message that hasn't come whole
 abbrev pub StandsAt : Mode → Side → List Event → Phase → List ℕ → Type 0
 StandsAt mode side events (InLines place told) left =
     (mode.auth ≡ true)
     × (told ≡ None)
     × FollowsLines side (stream side events) (lines mode side events) (watch_at place None left)
-    × (messages_in (content mode side events) ≡ [])
+    × (bytes_in (content mode side events) ≡ [])
 StandsAt mode side events InMessages left =
-    (bytes : List ℕ) × (content mode side events ≡ Some bytes) × (left ≡ rest bytes) × AllGiven mode side events
+    (bytes : List ℕ) × (content mode side events ≡ Some bytes) × (left ≡ rest_of mode.filter bytes) × AllGiven mode side events
 
--- a side's stream has taken the whole lines and messages of all that came, and no fault stands in it
+-- a side's stream has taken all that may be taken of what came, and no fault stands in it
 pub record FollowsStream (mode : Mode) (side : Side) (events : List Event) (s : StreamView) : Type 0 where
   pub came : s.came ≡ length (stream side events)
   pub stands : StandsAt mode side events s.phase s.left

@@ -11,7 +11,7 @@ use Rattle.policy_view.specs.declared.Fault.TheVariants.{Line as OfLine, Message
 use Rattle.policy_view.specs.declared.Side.{Side}
 use Rattle.policy_view.specs.declared.Side.TheVariants.{Client, Bus}
 use Rattle.policy_view.specs.declared.End.{End}
-use Rattle.policy_view.specs.declared.End.TheVariants.{Memory, NotBuilt}
+use Rattle.policy_view.specs.declared.End.TheVariants.{Memory}
 use Rattle.sasl_watch.specs.Lines.{Cut, is_begin, for_bus}
 use Rattle.sasl_watch.specs.Watching.{client_ahead, bus_ahead}
 use Rattle.sasl_watch.specs.declared.LineFault.{LineFault}
@@ -110,13 +110,28 @@ abbrev pub with_front : Policy → Side → Option (Message × List ℕ) → Ses
 with_front policy side None view = (with_fault side (fault (stream_of side view).left) view, false)
 with_front policy side (Some x) view = and_runs (with_noted_message policy side x.0 (with_left side x.1 view))
 
+-- ---- bytes at which nobody looks
+
+-- they go to the other side as they came
+abbrev pub with_raw : Side → List ℕ → SessionView → SessionView
+with_raw Client bytes view = record view { bus_side = view.bus_side ++ bytes }
+with_raw Bus bytes view = record view { client_side = view.client_side ++ bytes }
+
+-- all that is left does, and no more may follow
+abbrev pub raw_step : Side → SessionView → SessionView × Bool
+raw_step side view = (with_raw side (stream_of side view).left (with_left side [] view), false)
+
 -- ---- what stands in front of a stream
+
+-- behind the lines stand messages where these are filtered
+abbrev pub behind_lines : Policy → Side → SessionView → SessionView × Bool
+behind_lines policy side view = if view.mode.filter then with_front policy side (front (stream_of side view).left) view else raw_step side view
 
 -- a fault that was told is told again
 abbrev pub step_at : Policy → Side → Phase → SessionView → SessionView × Bool
 step_at policy side (InLines place None) view = line_step side place view
 step_at policy side (InLines place (Some f)) view = (with_line_fault side place (Some f) view, false)
-step_at policy side InMessages view = with_front policy side (front (stream_of side view).left) view
+step_at policy side InMessages view = behind_lines policy side view
 
 abbrev pub step_of : Policy → Side → SessionView → SessionView × Bool
 step_of policy side view = step_at policy side (stream_of side view).phase view
@@ -124,7 +139,7 @@ step_of policy side view = step_at policy side (stream_of side view).phase view
 abbrev pub more_if : SessionView × Bool → (SessionView → SessionView) → SessionView
 more_if x others = if x.1 then others x.0 else x.0
 
--- one line or message after the other, at most so many
+-- one line or message after the other, at most so many, or all that is left
 abbrev pub drained : Policy → Side → ℕ → SessionView → SessionView
 drained policy side zero view = view
 drained policy side (suc n) view = more_if (step_of policy side view) (drained policy side n)
@@ -138,9 +153,7 @@ with_more policy side bytes view =
 
 -- bytes of a side's stream that it still takes
 abbrev pub with_bytes : Policy → Side → List ℕ → SessionView → SessionView
-with_bytes policy side bytes view =
-    if is_empty bytes then view
-    else (if view.mode.filter then with_more policy side bytes view else ended_by NotBuilt view)
+with_bytes policy side bytes view = if is_empty bytes then view else with_more policy side bytes view
 
 -- the side's end, where the session still runs
 abbrev pub end_unless : Option End → End → SessionView → SessionView

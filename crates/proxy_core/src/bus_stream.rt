@@ -1,10 +1,11 @@
 //! The bus's stream: the lines that answer the client's, where the session begins with them, and then messages.
-ghost use Rattle.std.specs.Prelude.{◌≡◌, ◌≤◌, ◌<◌, ◌+◌, ◌^◌, true, IsTrue, IfOk, OnOk, OnErr, length};
+ghost use Rattle.std.specs.Prelude.{◌≡◌, ◌≤◌, ◌<◌, ◌+◌, ◌^◌, [], true, IsTrue, IfOk, OnOk, OnErr, length};
 ghost use Rattle.dbus_framing.specs.Framing.{Gives};
 ghost use Rattle.sasl_watch.specs.Watching.{BusGives};
 ghost use Rattle.policy_view.specs.History.{longest_stream};
 ghost use Rattle.proxy_core.specs.Streams.{InMessages, GaveLine, GaveMessage, is_in_lines as in_lines, new_stream, pushed};
 
+use bytes::Bytes;
 use dbus_framing::{Framer, Next};
 use sasl_watch::{BusLines, NextLine};
 use std::alloc::{AllocError, Global};
@@ -131,6 +132,19 @@ impl BusStream {
         match &mut self.content {
             BusContent::Lines(_) => unreachable!(),
             BusContent::Messages(framer) => framer.next(),
+        }
+    }
+
+    /// All bytes that are left while messages come, whatever they hold. None is left then.
+    pub(crate) fn left(&mut self) -> Result<Bytes, AllocError>
+        requires { self.old.phase ≡ InMessages }
+        ensures bytes { IfOk result (λ bytes. bytes ≡ self.old.left) }
+        ensures ok { OnOk result (self.new ≡ record self.old { left = [] }) }
+        ensures err { OnErr result (self.new ≡ self.old) }
+    {
+        match &mut self.content {
+            BusContent::Lines(_) => unreachable!(),
+            BusContent::Messages(framer) => framer.left(),
         }
     }
 

@@ -1,4 +1,5 @@
-//! The session: pieces of either side's stream are taken, line by line and then message by message.
+//! The session: pieces of either side's stream are taken, line by line and then message by message, or behind the lines as
+//! they are where messages aren't filtered.
 ghost use Rattle.std.specs.Prelude.{◌≡◌, ◌≤◌, ◌<◌, ◌+◌, ◌^◌, ◌∷◌, ◌++◌, ℕ, List, [], Some, None, true, IfOk, IfNone, IfSome, OnOk, OnErr, length, take, drop, option_to_list};
 ghost use Rattle.policy_view.specs.History.{Event, Bytes, Finished, Stopped, finished as finished_by, malformed as malformed_by, longest_stream, most_sent};
 ghost use Rattle.policy_view.specs.Notes.{Note as NoteValue};
@@ -13,6 +14,7 @@ ghost use Rattle.proxy_core.specs.Seen.{Given};
 
 mod lines;
 mod noting;
+mod raw;
 mod receiving;
 mod sending;
 
@@ -129,6 +131,7 @@ impl Session {
 
     /// Takes a piece that came of the client. Of its messages those wait for the bus that the policy lets pass, with a ping
     /// in the place of each call that is answered with an error, and with the proxy's own calls behind the first Hello.
+    /// Where messages aren't filtered, its bytes behind the lines wait for the bus as they came.
     /// Answers the End where the session ended; what comes later has no effect.
     pub fn feed_client(&mut self, policy: &Policy, piece: &[u8]) -> Result<(), End>
         ensures stands { (events : List Event) (taken : Taken) → StandsFor policy.now self.old events taken → StandsFor policy.now self.new (Bytes Side.Client piece.now ∷ events) taken }
@@ -141,7 +144,7 @@ impl Session {
 
     /// Takes a piece that came of the bus. Of its messages those wait for the client that the policy shows: the answers that
     /// it waits for, each once, calls, and signals. What they tell of names is learned, and what is still to be asked waits
-    /// for the bus. Answers the End where the session ended; what comes later has no effect.
+    /// for the bus. Where messages aren't filtered, its bytes behind the lines wait for the client as they came. Answers the End where the session ended; what comes later has no effect.
     pub fn feed_bus(&mut self, policy: &Policy, piece: &[u8]) -> Result<(), End>
         ensures stands { (events : List Event) (taken : Taken) → StandsFor policy.now self.old events taken → StandsFor policy.now self.new (Bytes Side.Bus piece.now ∷ events) taken }
         ensures answer { result ≡ answer_of self.new.ended }
@@ -278,6 +281,7 @@ impl Session {
     fn take_front_message(&mut self, policy: &Policy, side: Side) -> bool
         requires running { self.old.ended ≡ None }
         requires messages { (stream_of side self.old).phase ≡ InMessages }
+        requires filtered { self.old.mode.filter ≡ true }
         ensures step { Stepped (step_of policy.now side self.old) self.old self.new result }
         ensures light { IsLight policy.now 0 self.old self.new }
     {
@@ -308,15 +312,18 @@ impl Session {
         }
     }
 
-    /// Takes what stands in front of a side's stream, a line or a message, or ends the session where a fault stands there.
-    /// Tells whether more may follow.
+    /// Takes what stands in front of a side's stream, a line or a message, or all that is left where messages aren't
+    /// filtered; or ends the session where a fault stands there. Tells whether more may follow.
     fn take_front(&mut self, policy: &Policy, side: Side) -> bool
         requires { self.old.ended ≡ None }
         ensures step { Stepped (step_of policy.now side self.old) self.old self.new result }
         ensures light { IsLight policy.now 0 self.old self.new }
     {
         if !self.is_in_lines(side) {
-            return self.take_front_message(policy, side);
+            if self.mode.filter {
+                return self.take_front_message(policy, side);
+            }
+            return self.pass_raw(policy, side);
         }
         match side {
             Side::Client => self.take_client_line(policy),
@@ -371,9 +378,6 @@ impl Session {
     {
         if bytes.is_empty() {
             return;
-        }
-        if !self.mode.filter {
-            return self.end_with(End::NotBuilt);
         }
         match self.push(side, bytes) {
             Ok(()) => {

@@ -12,7 +12,7 @@ use Rattle.policy_view.specs.declared.Mode.{Mode}
 use Rattle.policy_view.specs.declared.Fault.{Fault}
 use Rattle.policy_view.specs.declared.Fault.TheVariants.{Line, Message}
 use Rattle.policy_view.specs.declared.End.{End}
-use Rattle.policy_view.specs.declared.End.TheVariants.{ClientMalformed, BusMalformed, ClientEnd, BusEnd, SerialsSpent, Memory, ClientRead, ClientWrite, BusRead, BusWrite, BusConnect, LogFault, NotBuilt}
+use Rattle.policy_view.specs.declared.End.TheVariants.{ClientMalformed, BusMalformed, ClientEnd, BusEnd, SerialsSpent, Memory, ClientRead, ClientWrite, BusRead, BusWrite, BusConnect, LogFault}
 use Rattle.policy_view.specs.History.{Event, Bytes, Finished, history, end_of}
 use Rattle.policy_view.specs.Notes.{notes}
 use Rattle.policy_view.specs.Outputs.{bus_bytes, client_bytes}
@@ -70,7 +70,6 @@ end_bytes BusRead = 9 ∷ []
 end_bytes BusWrite = 10 ∷ []
 end_bytes BusConnect = 11 ∷ []
 end_bytes LogFault = 12 ∷ []
-end_bytes NotBuilt = 13 ∷ []
 
 abbrev pub end_record : Option End → List ℕ
 end_record None = []

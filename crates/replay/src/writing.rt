@@ -227,7 +227,6 @@ fn write_end<O: Sink>(ended: Option<End>, out: &mut O) -> Result<(), SinkFault>
         Some(End::BusWrite) => write_number(10, out),
         Some(End::BusConnect) => write_number(11, out),
         Some(End::LogFault) => write_number(12, out),
-        Some(End::NotBuilt) => write_number(13, out),
     }
 }
 

@@ -1,7 +1,7 @@
 //! The notes that a session makes of its messages.
-use crate::sessions::{bytes_of, told_steps};
+use crate::sessions::{asked, bytes_of, told_steps};
 use crate::texts::options_of;
-use policy_args::Policy;
+use policy_args::Options;
 use policy_view::{Mode, Note};
 use proxy_core::Session;
 use proxy_core::laws::session_at;
@@ -28,12 +28,14 @@ const NOTES: &str = "\
 4294967295 --filter,--talk=org.a.T; client return; client call; note; note => - 0 0; SerialsSpent 0 0; 1 Client 2 60 56 Judged(Drop(NotOutstanding)); none; Some(SerialsSpent)
 ";
 
-/// Lines of both sides, of which no note is made, and then a message.
+/// Lines of both sides, of which no note is made, and then a message, or bytes of both sides where messages aren't filtered.
 const LINES: &str = "\
 --filter,--talk=org.a.T; client auth; bus ok; note; client begin; client call; note; note => - 19 0; - 19 37; none; - 26 37; - 106 37; 1 Client 1 7 80 Judged(Pass); none; None
+--log; client auth; bus ok; note; client begin; client call; bus ones; note => - 19 0; - 19 37; none; - 26 37; - 106 37; - 106 53; none; None
+--log; client auth; bus ok; bus ones; client begin => - 19 0; - 19 37; BusMalformed(Line(LineFault { kind: EarlyBus, at: 37 })) 19 37; BusMalformed(Line(LineFault { kind: EarlyBus, at: 37 })) 19 37; Some(BusMalformed(Line(LineFault { kind: EarlyBus, at: 37 })))
 ";
 
-/// Messages that the policy filters, with notes.
+/// Messages that are filtered, with notes.
 const NOTED: Mode = Mode {
     auth: false,
     filter: true,
@@ -69,28 +71,28 @@ fn told_notes(alloc: Global, row: &str) -> Result<String, AllocError> {
     let (given, row) = row.split_once(' ').unwrap_or((row, ""));
     let (words, steps) = row.split_once("; ").unwrap_or((row, ""));
     let options = options_of(alloc, words)?;
-    told_from(alloc, &options.policy, given.parse().unwrap_or(0), steps)
+    told_from(alloc, &options, given.parse().unwrap_or(0), steps)
 }
 
 fn told_from(
     alloc: Global,
-    policy: &Policy,
+    options: &Options,
     given: u32,
     steps: &str,
 ) -> Result<String, AllocError> {
-    let mut session = session_at(alloc, policy, NOTED, given)?;
-    told_steps(alloc, &mut session, policy, steps)
+    let mut session = session_at(alloc, &options.policy, asked(options, NOTED), given)?;
+    told_steps(alloc, &mut session, &options.policy, steps)
 }
 
 fn told_lines(alloc: Global, row: &str) -> Result<String, AllocError> {
     let (words, steps) = row.split_once("; ").unwrap_or((row, ""));
     let options = options_of(alloc, words)?;
-    told_behind_lines(alloc, &options.policy, steps)
+    told_behind_lines(alloc, &options, steps)
 }
 
-fn told_behind_lines(alloc: Global, policy: &Policy, steps: &str) -> Result<String, AllocError> {
-    let mut session = Session::new(alloc, policy, WITH_LINES)?;
-    told_steps(alloc, &mut session, policy, steps)
+fn told_behind_lines(alloc: Global, options: &Options, steps: &str) -> Result<String, AllocError> {
+    let mut session = Session::new(alloc, &options.policy, asked(options, WITH_LINES))?;
+    told_steps(alloc, &mut session, &options.policy, steps)
 }
 
 /// The bytes that the note on a message of the client keeps.

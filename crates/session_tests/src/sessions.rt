@@ -3,7 +3,7 @@ ghost use Rattle.std.specs.Prelude.{◌≤◌};
 
 use crate::notes::told_note;
 use crate::texts::options_of;
-use policy_args::Policy;
+use policy_args::{Options, Policy};
 use policy_view::{End, Mode};
 use proxy_core::Session;
 use std::alloc::{AllocError, Global};
@@ -25,14 +25,25 @@ const SESSIONS: &str = "\
 --filter,--talk=org.a.T; bytes call; client ones cut=15; client ones cut=1 => - 80 0; - 80 0; ClientMalformed(Message(Malformed { kind: ByteOrder, at: 0 })) 80 0; Some(ClientMalformed(Message(Malformed { kind: ByteOrder, at: 0 })))
 --filter,--talk=org.a.T; client call; note; bus return; note => - 80 0; none; - 80 56; none; None
 --filter; client call 2=1; client call 2=2; bus return; client call 1=9 2=2 => - 0 0; - 120 0; - 120 142; - 120 142; None
+--log; client ones; bus_byte 15; bus call; client_byte 8; client_byte 78; client ones cut=0; bytes ones; bus ones cut=3; client_ended; client ones => - 16 0; 255; - 16 80; 7; 84; - 16 80; - 32 80; - 32 83; ClientEnd 32 83; ClientEnd 32 83; Some(ClientEnd)
+--log; bus ones; took_client 10; client call; bus return; client_byte 6; bus_ended; note => - 0 16; - 0 6; - 80 6; - 80 62; 108; BusEnd 80 62; none; Some(BusEnd)
 ";
 
-/// Messages alone, which the policy filters.
+/// Messages alone, which are filtered.
 pub const FILTERED: Mode = Mode {
     auth: false,
     filter: true,
     notes: false,
 };
+
+/// A mode, filtered only where the options ask for that.
+pub fn asked(options: &Options, mode: Mode) -> Mode {
+    Mode {
+        auth: mode.auth,
+        filter: options.filter,
+        notes: mode.notes,
+    }
+}
 
 /// A call to org.a.T, with serial 7.
 const CALL: &[u8] =
@@ -105,12 +116,12 @@ fn put(bytes: &mut [u8], place: &str, byte: &str) {
 fn told_session(alloc: Global, row: &str) -> Result<String, AllocError> {
     let (words, steps) = row.split_once("; ").unwrap_or((row, ""));
     let options = options_of(alloc, words)?;
-    told_under(alloc, &options.policy, steps)
+    told_under(alloc, &options, steps)
 }
 
-fn told_under(alloc: Global, policy: &Policy, steps: &str) -> Result<String, AllocError> {
-    let mut session = Session::new(alloc, policy, FILTERED)?;
-    told_steps(alloc, &mut session, policy, steps)
+fn told_under(alloc: Global, options: &Options, steps: &str) -> Result<String, AllocError> {
+    let mut session = Session::new(alloc, &options.policy, asked(options, FILTERED))?;
+    told_steps(alloc, &mut session, &options.policy, steps)
 }
 
 /// What is told of each step, and why the session ended.
@@ -182,7 +193,7 @@ fn end_of(
             session.took_client(count as usize);
             None
         }
-        _ => Some(End::NotBuilt),
+        _ => Some(End::Memory),
     }
 }
 
