@@ -6,14 +6,14 @@ use Rattle.std.proofs.lemmas.Grind.{not_there}
 use Rattle.dbus_header.specs.Message.{Message}
 use Rattle.link_traits.specs.Views.{NetView}
 use Rattle.policy_args.specs.Policy.{Policy}
-use Rattle.policy_view.specs.Past.{Item, Line, Msg, Ended, History, past, due}
-use Rattle.policy_view.specs.History.{Event, Bytes, Finished, Stopped, history, arrived, brought, found, lines, content, messages_in, fault, fault_end, malformed, finished, new_in, end_if, is_over, is_built_piece, taken_of, placed, end_of, followed_by, followed_unless, followed_by_all, most_sent}
+use Rattle.policy_view.specs.Past.{Item, Line, Msg, Raw, Ended, History, past, due}
+use Rattle.policy_view.specs.History.{Event, Bytes, Finished, Stopped, history, arrived, brought, found, raw, raw_item, lines, content, messages_in, fault, fault_end, malformed, finished, new_in, end_if, is_over, placed, end_of, followed_by, followed_unless, followed_by_all, most_sent}
 use Rattle.policy_view.specs.declared.Fault.{Fault}
 use Rattle.policy_view.specs.declared.Mode.{Mode}
 use Rattle.policy_view.specs.declared.Side.{Side}
 use Rattle.policy_view.specs.declared.Side.TheVariants.{Client, Bus}
 use Rattle.policy_view.specs.declared.End.{End}
-use Rattle.policy_view.specs.declared.End.TheVariants.{ClientMalformed, BusMalformed, ClientEnd, BusEnd, SerialsSpent, Memory, ClientRead, ClientWrite, BusRead, BusWrite, BusConnect, LogFault, NotBuilt}
+use Rattle.policy_view.specs.declared.End.TheVariants.{ClientMalformed, BusMalformed, ClientEnd, BusEnd, SerialsSpent, Memory, ClientRead, ClientWrite, BusRead, BusWrite, BusConnect, LogFault}
 use Rattle.proxy_core.specs.Sessions.{SessionView, Taken, StandsFor, is_memory}
 use Rattle.proxy_loop.specs.Works.{Cause, Stood, StoodFor}
 
@@ -31,7 +31,6 @@ is_own BusRead = false
 is_own BusWrite = false
 is_own BusConnect = false
 is_own LogFault = false
-is_own NotBuilt = true
 
 own_cause : (n : ℕ) (end : End) (before after : NetView) → is_own end ≡ true → Cause n end before after
 own_cause n (ClientMalformed fault) before after e = tt
@@ -40,7 +39,6 @@ own_cause n ClientEnd before after e = tt
 own_cause n BusEnd before after e = tt
 own_cause n SerialsSpent before after e = tt
 own_cause n Memory before after e = tt
-own_cause n NotBuilt before after e = tt
 own_cause n ClientRead before after e = cc
 own_cause n ClientWrite before after e = cc
 own_cause n BusRead before after e = cc
@@ -55,7 +53,6 @@ memory_own ClientEnd e = refl
 memory_own BusEnd e = refl
 memory_own SerialsSpent e = refl
 memory_own Memory e = refl
-memory_own NotBuilt e = refl
 memory_own ClientRead e = cc
 memory_own ClientWrite e = cc
 memory_own BusRead e = cc
@@ -69,6 +66,7 @@ memory_own LogFault e = cc
 abbrev is_plain_item : Item → Bool
 is_plain_item (Line side bytes) = true
 is_plain_item (Msg side m) = true
+is_plain_item (Raw side bytes) = true
 is_plain_item (Ended end) = is_own end
 
 abbrev AllPlain : List Item → Type 0
@@ -108,8 +106,12 @@ plain_messages side (m ∷ ms) = plain_messages side ms
 plain_found : (mode : Mode) (side : Side) (events : List Event) → AllPlain (found mode side events)
 unfolding found
 plain_found mode side events =
-    plain_append (map (Line side) (lines mode side events)) (map (Msg side) (messages_in (content mode side events)))
-    (plain_lines side (lines mode side events)) (plain_messages side (messages_in (content mode side events)))
+    plain_append (map (Line side) (lines mode side events)) (map (Msg side) (messages_in mode.filter (content mode side events)))
+    (plain_lines side (lines mode side events)) (plain_messages side (messages_in mode.filter (content mode side events)))
+
+plain_raw : (side : Side) (bytes : List ℕ) → AllPlain (raw_item side bytes)
+plain_raw side [] = refl
+plain_raw side (byte ∷ bytes) = refl
 
 malformed_own : (side : Side) (f : Fault) → is_own (malformed side f) ≡ true
 malformed_own Client f = refl
@@ -142,20 +144,17 @@ plain_brought : (mode : Mode) (side : Side) (events : List Event) (piece : List 
 plain_brought mode side events piece =
     let fresh : AllPlain (new_in (found mode side events) (found mode side (Bytes side piece ∷ events))) =
     plain_drop (length (found mode side events)) (found mode side (Bytes side piece ∷ events)) (plain_found mode side (Bytes side piece ∷ events)) in
-    plain_append (new_in (found mode side events) (found mode side (Bytes side piece ∷ events)) ++ fault_end side (fault mode side (Bytes side piece ∷ events)))
+    let unseen = raw_item side (new_in (raw mode side events) (raw mode side (Bytes side piece ∷ events))) in
+    plain_append (new_in (found mode side events) (found mode side (Bytes side piece ∷ events)) ++ unseen ++ fault_end side (fault mode side (Bytes side piece ∷ events)))
     (end_if (is_over side events piece) (finished side))
-    (plain_append (new_in (found mode side events) (found mode side (Bytes side piece ∷ events))) (fault_end side (fault mode side (Bytes side piece ∷ events)))
-    fresh (plain_fault side (fault mode side (Bytes side piece ∷ events))))
+    (plain_append (new_in (found mode side events) (found mode side (Bytes side piece ∷ events)) ++ unseen) (fault_end side (fault mode side (Bytes side piece ∷ events)))
+    (plain_append (new_in (found mode side events) (found mode side (Bytes side piece ∷ events))) unseen fresh (plain_raw side (new_in (raw mode side events) (raw mode side (Bytes side piece ∷ events)))))
+    (plain_fault side (fault mode side (Bytes side piece ∷ events))))
     (plain_if (is_over side events piece) (finished side) (finished_own side))
-
-either_plain : (b : Bool) (x y : List Item) → AllPlain x → AllPlain y → AllPlain (if b then x else y)
-either_plain true x y h k = h
-either_plain false x y h k = k
 
 plain_arrived : (mode : Mode) (events : List Event) (event : Event) → is_plain event ≡ true → AllPlain (arrived mode events event)
 unfolding arrived
-plain_arrived mode events (Bytes side piece) e =
-    either_plain (is_built_piece mode (taken_of side events piece)) (brought mode side events piece) (Ended NotBuilt ∷ []) (plain_brought mode side events piece) refl
+plain_arrived mode events (Bytes side piece) e = plain_brought mode side events piece
 plain_arrived mode events (Finished side) e = plain_one (finished side) (finished_own side)
 plain_arrived mode events (Stopped end) e = cc
 
@@ -167,6 +166,7 @@ Plain last = (end : End) → last ≡ Some end → is_own end ≡ true
 item_end : (item : Item) (before : History) → is_plain_item item ≡ true → Plain (end_of before) → Plain (end_of (item ∷ before))
 item_end (Line side bytes) before h k = k
 item_end (Msg side m) before h k = k
+item_end (Raw side bytes) before h k = k
 item_end (Ended own) before h k = λ end e. let same : own ≡ end = cc in subst (λ (x : End). is_own x ≡ true) same h
 
 either_end : (b : Bool) (item : Item) (before : History) → is_plain_item item ≡ true → Plain (end_of before) → Plain (end_of ((if b then item else Ended SerialsSpent) ∷ before))

@@ -20,7 +20,7 @@ use Rattle.link_traits.specs.declared.links.Got.TheVariants.{Bytes as GotBytes, 
 use Rattle.link_traits.specs.declared.links.Took.TheVariants.{Bytes as TookBytes, NotReady as TookNotReady, Failed as TookFailed}
 use Rattle.policy_args.specs.Policy.{Policy}
 use Rattle.policy_view.specs.declared.End.{End}
-use Rattle.policy_view.specs.declared.End.TheVariants.{ClientMalformed, BusMalformed, ClientEnd, BusEnd, SerialsSpent, Memory, ClientRead, ClientWrite, BusRead, BusWrite, BusConnect, LogFault, NotBuilt}
+use Rattle.policy_view.specs.declared.End.TheVariants.{ClientMalformed, BusMalformed, ClientEnd, BusEnd, SerialsSpent, Memory, ClientRead, ClientWrite, BusRead, BusWrite, BusConnect, LogFault}
 use Rattle.policy_view.specs.History.{Event, Bytes, Finished as FinishedEvent, Stopped}
 use Rattle.proxy_core.specs.Sessions.{SessionView, Taken, StandsFor, IsFront}
 use Rattle.proxy_core.specs.Messages.{ended_by}
@@ -165,7 +165,6 @@ cause_later n ClientEnd a b c h r = tt
 cause_later n BusEnd a b c h r = tt
 cause_later n SerialsSpent a b c h r = tt
 cause_later n Memory a b c h r = tt
-cause_later n NotBuilt a b c h r = tt
 
 pub cause_sooner : (n : ℕ) (end : End) (a b c : NetView) → ((count : Count) → a.counts count ≤ b.counts count) → Cause n end b c → Cause n end a c
 cause_sooner n ClientRead a b c h r = rose_sooner _ _ _ (h (OfLink (client_link n))) r
@@ -180,7 +179,6 @@ cause_sooner n ClientEnd a b c h r = tt
 cause_sooner n BusEnd a b c h r = tt
 cause_sooner n SerialsSpent a b c h r = tt
 cause_sooner n Memory a b c h r = tt
-cause_sooner n NotBuilt a b c h r = tt
 
 -- one after the other
 pub goes_then : (under : Policy → Type 0) (n : ℕ) (old mid new : SessionView) (before between after : NetView) (First Second Both : Journal → Type 0) →

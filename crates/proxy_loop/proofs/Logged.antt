@@ -9,7 +9,7 @@ use Rattle.policy_args.specs.Policy.{Policy}
 use Rattle.policy_view.specs.Notes.{Note}
 use Rattle.policy_view.specs.History.{Event}
 use Rattle.policy_view.specs.declared.End.{End}
-use Rattle.policy_view.specs.declared.End.TheVariants.{ClientMalformed, BusMalformed, ClientEnd, BusEnd, SerialsSpent, Memory, ClientRead, ClientWrite, BusRead, BusWrite, BusConnect, LogFault, NotBuilt}
+use Rattle.policy_view.specs.declared.End.TheVariants.{ClientMalformed, BusMalformed, ClientEnd, BusEnd, SerialsSpent, Memory, ClientRead, ClientWrite, BusRead, BusWrite, BusConnect, LogFault}
 use Rattle.proxy_core.specs.Sessions.{SessionView, Taken, StandsFor}
 use Rattle.proxy_core.specs.Messages.{ended_by}
 use Rattle.proxy_loop.specs.Sinks.{SinkView, Appends}
@@ -102,7 +102,6 @@ log_end_sooner ClientWrite before between after h r = r
 log_end_sooner BusRead before between after h r = r
 log_end_sooner BusWrite before between after h r = r
 log_end_sooner BusConnect before between after h r = r
-log_end_sooner NotBuilt before between after h r = r
 
 -- one note more
 module _ (n : ℕ) (old now next new : SessionView) (before between after : SinkView) (note : Note) (so_far : LogsSoFar n old now before between)

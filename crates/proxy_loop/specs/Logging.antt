@@ -6,7 +6,7 @@ use Rattle.policy_args.specs.Policy.{Policy}
 use Rattle.policy_view.specs.Notes.{Note}
 use Rattle.policy_view.specs.History.{Event, Stopped}
 use Rattle.policy_view.specs.declared.End.{End}
-use Rattle.policy_view.specs.declared.End.TheVariants.{ClientMalformed, BusMalformed, ClientEnd, BusEnd, SerialsSpent, Memory, ClientRead, ClientWrite, BusRead, BusWrite, BusConnect, LogFault, NotBuilt}
+use Rattle.policy_view.specs.declared.End.TheVariants.{ClientMalformed, BusMalformed, ClientEnd, BusEnd, SerialsSpent, Memory, ClientRead, ClientWrite, BusRead, BusWrite, BusConnect, LogFault}
 use Rattle.proxy_core.specs.Sessions.{SessionView, Taken, StandsFor}
 use Rattle.proxy_core.specs.Messages.{ended_by}
 use Rattle.proxy_loop.specs.Sinks.{SinkView, Appends}
@@ -25,7 +25,6 @@ IsLogEnd ClientWrite before after = ⊥
 IsLogEnd BusRead before after = ⊥
 IsLogEnd BusWrite before after = ⊥
 IsLogEnd BusConnect before after = ⊥
-IsLogEnd NotBuilt before after = ⊥
 
 -- a session that was told to stop: the first End stays
 abbrev pub stopped_at : Option End → End → SessionView → SessionView

@@ -18,7 +18,7 @@ use Rattle.link_traits.specs.declared.links.Count.{Count}
 use Rattle.link_traits.specs.declared.links.Count.TheVariants.{Link as OfLink}
 use Rattle.policy_args.specs.Policy.{Policy}
 use Rattle.policy_view.specs.declared.End.{End}
-use Rattle.policy_view.specs.declared.End.TheVariants.{ClientMalformed, BusMalformed, ClientEnd, BusEnd, SerialsSpent, Memory, ClientRead, ClientWrite, BusRead, BusWrite, BusConnect, LogFault, NotBuilt}
+use Rattle.policy_view.specs.declared.End.TheVariants.{ClientMalformed, BusMalformed, ClientEnd, BusEnd, SerialsSpent, Memory, ClientRead, ClientWrite, BusRead, BusWrite, BusConnect, LogFault}
 use Rattle.policy_view.specs.History.{Event}
 use Rattle.proxy_core.specs.Sessions.{SessionView, Taken, StandsFor, IsFront}
 use Rattle.proxy_loop.specs.Sessions.{events_of}
@@ -127,7 +127,6 @@ Cause n ClientEnd before after = Unit {0}
 Cause n BusEnd before after = Unit {0}
 Cause n SerialsSpent before after = Unit {0}
 Cause n Memory before after = Unit {0}
-Cause n NotBuilt before after = Unit {0}
 
 -- an End stays, and the notes are as before
 pub record KeepsEnd (old new : SessionView) : Type 0 where
