@@ -1,5 +1,5 @@
 -- What a script has next, and what it names.
-use Rattle.std.specs.Prelude.{◌+◌, ◌-◌, ◌^◌, min, ℕ, Bool, true, false, if◌then◌else◌, List, [], ◌∷◌, Option, Some, None}
+use Rattle.std.specs.Prelude.{◌+◌, ◌-◌, ◌^◌, ◌==◌, ◌++◌, min, ℕ, Bool, true, false, if◌then◌else◌, List, [], ◌∷◌, length, Option, Some, None}
 use Rattle.link_traits.specs.Journals.{same_link}
 use Rattle.link_traits.specs.Tables.{wishes_in, HasWish}
 use Rattle.link_traits.specs.declared.tables.LinkTable.{LinkTable}
@@ -9,6 +9,10 @@ use Rattle.link_traits.specs.declared.links.Ready.TheVariants.{Listener, Link, Q
 use Rattle.link_traits.specs.declared.scripts.Event.{Event}
 use Rattle.link_traits.specs.declared.scripts.Event.TheVariants.{Arrival, Piece, End, Room, Over}
 use Rattle.link_traits.specs.declared.scripts.Step.{Step}
+use Rattle.link_traits.specs.declared.scripts.Exception.{Exception}
+use Rattle.link_traits.specs.declared.scripts.Pace.{Pace}
+use Rattle.link_traits.specs.declared.scripts.Limit.{Limit}
+use Rattle.link_traits.specs.declared.scripts.Script.{Script}
 
 -- the place among its kind that a call has after so many others
 abbrev pub next_place : ℕ → ℕ
@@ -17,6 +21,50 @@ next_place calls = min (calls + 1) (2 ^ 64 - 1)
 -- the step of an event that wasn't named yet
 abbrev pub step_of : Event → Step
 step_of event = record { event = event; named = false }
+
+-- what a script says: what happens in its order, the bytes of its pieces one after another, which calls answer otherwise, and
+-- how many bytes links take in a write and in all
+pub record ScriptView : Type 0 where
+  pub steps : List Step
+  pub bytes : List ℕ
+  pub exceptions : List Exception
+  pub paces : List Pace
+  pub limits : List Limit
+
+abbrev pub script_of : Script → ScriptView
+script_of script = record {
+  steps = script.steps.items;
+  bytes = script.bytes.items;
+  exceptions = script.exceptions.items;
+  paces = script.paces.items;
+  limits = script.limits.items;
+}
+
+abbrev pub nothing_said : ScriptView
+nothing_said = record { steps = []; bytes = []; exceptions = []; paces = []; limits = [] }
+
+-- what a script says with an event more
+abbrev pub then_happens : Event → ScriptView → ScriptView
+then_happens event script = record script { steps = script.steps ++ step_of event ∷ [] }
+
+-- what a script says with a piece more, whose bytes stand behind those of the pieces before; one without bytes is none
+abbrev pub then_comes : LinkOf → List ℕ → ScriptView → ScriptView
+then_comes link bytes script = if length bytes == 0 then script else record script {
+  steps = script.steps ++ step_of (Piece link (length script.bytes) (length script.bytes + length bytes)) ∷ [];
+  bytes = script.bytes ++ bytes;
+}
+
+-- what a script says with a call more that answers otherwise
+abbrev pub then_excepts : Exception → ScriptView → ScriptView
+then_excepts exception script = record script { exceptions = script.exceptions ++ exception ∷ [] }
+
+-- what a script says with a link more that takes at most so many bytes a write
+abbrev pub then_paces : LinkOf → ℕ → ScriptView → ScriptView
+then_paces link most script = record script { paces = script.paces ++ (record { link = link; most = most }) ∷ [] }
+
+-- what a script says with a link more that takes so many bytes in all
+abbrev pub then_limits : LinkOf → ℕ → ScriptView → ScriptView
+then_limits link left script = record script { limits = script.limits ++ (record { link = link; left = left }) ∷ [] }
 
 -- whether an event is bytes or the end of a link
 abbrev pub comes_on : Event → LinkOf → Bool

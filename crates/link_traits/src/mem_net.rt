@@ -44,6 +44,7 @@ pub struct MemNet {
 impl MemNet {
     ghost use Rattle.link_traits.specs.Views.{Adds, RoseAt, KeepsWishes};
     ghost use Rattle.link_traits.specs.MemNets.{mem_view, IsNew};
+    ghost use Rattle.link_traits.specs.Scripts.{script_of};
 
     /// A net of a script, before anything happened, with room for so many entries of its journal, and for so many bytes of
     /// paths and of what is read and written. Memory for them is taken at once.
@@ -54,6 +55,7 @@ impl MemNet {
         bytes: usize,
     ) -> Result<MemNet, AllocError>
         ensures new { IfOk result (λ net. IsNew (mem_view net)) }
+        ensures script { IfOk result (λ net. script_of net.script ≡ script_of script) }
         ensures room { IfOk result (λ net. net.transcript ≡ record { tells = true; entries = []; entries_left = entries; bytes_left = bytes }) }
     {
         let mut script = script;

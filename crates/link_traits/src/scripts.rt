@@ -3,8 +3,8 @@
 //! A script has steps, in the order in which they happen: clients arrive, bytes come, links end. Beside them stands what goes
 //! otherwise: the first, the second or a later call of a kind fails, is refused memory or isn't ready, and a link takes no more
 //! than so many bytes, in each write or in all.
-ghost use Rattle.std.specs.Prelude.{◌≡◌, ◌≢◌, ◌≤◌, ◌<◌, ◌+◌, ◌++◌, ◌∷◌, ◌↔◌, [], ℕ, false, length, IfSome, IfNone, Contains, IsTrue, OnOk, OnErr};
-ghost use Rattle.link_traits.specs.Scripts.{IsWished, hint_of, comes_on as is_of, is_end, ends_next, step_of};
+ghost use Rattle.std.specs.Prelude.{◌≡◌, ◌≢◌, ◌≤◌, ◌<◌, ◌+◌, ◌↔◌, ℕ, false, length, IfSome, IfNone, Contains, IsTrue, OnOk, OnErr};
+ghost use Rattle.link_traits.specs.Scripts.{IsWished, hint_of, comes_on as is_of, is_end, ends_next};
 
 use crate::links::{Link, Ready};
 use crate::tables::{LinkTable, is_same};
@@ -85,8 +85,12 @@ pub struct Script {
 }
 
 impl Script {
+    ghost use Rattle.link_traits.specs.Scripts.{script_of, nothing_said, then_happens, then_comes, then_excepts, then_paces, then_limits};
+
     /// Nothing happens, and nothing goes otherwise.
-    pub fn new(alloc: Global) -> Script {
+    pub fn new(alloc: Global) -> Script
+        ensures { script_of result ≡ nothing_said }
+    {
         Script {
             bytes: Vec::new(alloc),
             steps: Vec::new(alloc),
@@ -97,9 +101,8 @@ impl Script {
     }
 
     fn add(&mut self, event: Event) -> Result<(), AllocError>
-        ensures ok { OnOk result (self.new.steps.items ≡ self.old.steps.items ++ step_of event ∷ []) }
-        ensures err { OnErr result (self.new.steps.items ≡ self.old.steps.items) }
-        ensures bytes { self.new.bytes.items ≡ self.old.bytes.items }
+        ensures ok { OnOk result (script_of self.new ≡ then_happens event (script_of self.old)) }
+        ensures err { OnErr result (script_of self.new ≡ script_of self.old) }
     {
         self.steps.push(Step {
             event,
@@ -110,57 +113,70 @@ impl Script {
 
     /// Then a client arrives at a listener.
     pub fn arrival(&mut self, listener: u32) -> Result<(), AllocError>
-        ensures ok { OnOk result (self.new.steps.items ≡ self.old.steps.items ++ step_of (Event.Arrival listener) ∷ []) }
-        ensures err { OnErr result (self.new.steps.items ≡ self.old.steps.items) }
+        ensures ok { OnOk result (script_of self.new ≡ then_happens (Event.Arrival listener) (script_of self.old)) }
+        ensures err { OnErr result (script_of self.new ≡ script_of self.old) }
     {
         self.add(Event::Arrival(listener))
     }
 
     /// Then a piece comes on a link. Each piece is read by itself. One without bytes is none.
     pub fn piece(&mut self, link: Link, bytes: &[u8]) -> Result<(), AllocError>
-        ensures ok { OnOk result (self.new.bytes.items ≡ self.old.bytes.items ++ bytes.now) }
-        ensures err { OnErr result (self.new.steps.items ≡ self.old.steps.items) }
+        ensures ok { OnOk result (script_of self.new ≡ then_comes link bytes.now (script_of self.old)) }
+        ensures err { OnErr result (script_of self.new ≡ script_of self.old) }
     {
         if bytes.is_empty() {
             return Ok(());
         }
+        self.steps.reserve(1)?;
         let from = self.bytes.len();
         self.bytes.extend_from_slice(bytes)?;
         let end = self.bytes.len();
-        self.add(Event::Piece(link, from, end))
+        let _ = self.steps.push(Step {
+            event: Event::Piece(link, from, end),
+            named: false,
+        });
+        Ok(())
     }
 
     /// Then a link ends.
     pub fn end(&mut self, link: Link) -> Result<(), AllocError>
-        ensures ok { OnOk result (self.new.steps.items ≡ self.old.steps.items ++ step_of (Event.End link) ∷ []) }
-        ensures err { OnErr result (self.new.steps.items ≡ self.old.steps.items) }
+        ensures ok { OnOk result (script_of self.new ≡ then_happens (Event.End link) (script_of self.old)) }
+        ensures err { OnErr result (script_of self.new ≡ script_of self.old) }
     {
         self.add(Event::End(link))
     }
 
     /// A call answers otherwise.
     pub fn except(&mut self, exception: Exception) -> Result<(), AllocError>
-        ensures ok { OnOk result (self.new.exceptions.items ≡ self.old.exceptions.items ++ exception ∷ []) }
-        ensures err { OnErr result (self.new.exceptions.items ≡ self.old.exceptions.items) }
+        ensures ok { OnOk result (script_of self.new ≡ then_excepts exception (script_of self.old)) }
+        ensures err { OnErr result (script_of self.new ≡ script_of self.old) }
     {
         self.exceptions.push(exception)?;
         Ok(())
     }
 
     /// A link takes at most so many bytes a write. One that takes none is never ready to be written.
-    pub fn pace(&mut self, link: Link, most: usize) -> Result<(), AllocError> {
+    pub fn pace(&mut self, link: Link, most: usize) -> Result<(), AllocError>
+        ensures ok { OnOk result (script_of self.new ≡ then_paces link most (script_of self.old)) }
+        ensures err { OnErr result (script_of self.new ≡ script_of self.old) }
+    {
         self.paces.push(Pace { link, most })?;
         Ok(())
     }
 
     /// A link takes so many bytes in all, and then each write of it fails.
-    pub fn limit(&mut self, link: Link, bytes: usize) -> Result<(), AllocError> {
+    pub fn limit(&mut self, link: Link, bytes: usize) -> Result<(), AllocError>
+        ensures ok { OnOk result (script_of self.new ≡ then_limits link bytes (script_of self.old)) }
+        ensures err { OnErr result (script_of self.new ≡ script_of self.old) }
+    {
         self.limits.push(Limit { link, left: bytes })?;
         Ok(())
     }
 
     /// Takes the memory for what is added while it runs: a step for each exception.
-    pub(crate) fn reserve(&mut self) -> Result<(), AllocError> {
+    pub(crate) fn reserve(&mut self) -> Result<(), AllocError>
+        ensures { script_of self.new ≡ script_of self.old }
+    {
         self.steps.reserve(self.exceptions.len())
     }
 
