@@ -1,0 +1,95 @@
+//! Peers that are gone.
+use crate::sessions::{bus, client, listening, one_client, two_sessions};
+use link_traits::{Count, Got, Net, Ready, Took};
+use std::io::Write;
+use std::test::Fail;
+
+/// What a client wrote before it closed is read to its end, also where a write to it came first.
+#[test]
+fn written_before_close(rt: HostRuntime) -> Result<(), Fail> {
+    let mut net = listening(&rt)?;
+    let mut stream = one_client(&rt, &mut net)?;
+    let link = client(1);
+    net.want(link, true, true);
+    let waits = net.count(Count::Waits);
+    stream.write_all(b"hello")?;
+    drop(stream);
+    assert_eq!(rt; net.write(link, b"x"), Took::NotReady);
+    assert_eq!(rt; net.count(Count::Waits), waits.saturating_add(1));
+    assert_eq!(rt; net.count(Count::Link(link)), 1);
+    let mut buffer = [0u8; 3];
+    assert_eq!(rt; net.wait(), Ready::Link(link));
+    assert_eq!(rt; net.read(link, &mut buffer), Got::Bytes(3));
+    assert_eq!(rt; net.write(link, b"x"), Took::NotReady);
+    assert_eq!(rt; net.wait(), Ready::Link(link));
+    assert_eq!(rt; net.read(link, &mut buffer), Got::Bytes(2));
+    assert_eq!(rt; net.wait(), Ready::Link(link));
+    assert_eq!(rt; net.read(link, &mut buffer), Got::Finished);
+    assert_eq!(rt; net.count(Count::Link(link)), 2);
+    assert_eq!(rt; net.write(link, b"x"), Took::Failed);
+    assert_eq!(rt; net.count(Count::Link(link)), 3);
+    Ok(())
+}
+
+/// A client that closes with bytes unread ends its link as one that read them all.
+#[test]
+fn unread_at_close(rt: HostRuntime) -> Result<(), Fail> {
+    let mut net = listening(&rt)?;
+    let mut stream = one_client(&rt, &mut net)?;
+    let link = client(1);
+    assert_eq!(rt; net.write(link, b"unread"), Took::Bytes(6));
+    stream.write_all(b"last")?;
+    drop(stream);
+    net.want(link, true, false);
+    assert_eq!(rt; net.write(link, b"x"), Took::NotReady);
+    let mut buffer = [0u8; 8];
+    assert_eq!(rt; net.wait(), Ready::Link(link));
+    assert_eq!(rt; net.read(link, &mut buffer), Got::Bytes(4));
+    assert_eq!(rt; &buffer[..4], b"last".as_slice());
+    assert_eq!(rt; net.read(link, &mut buffer), Got::Finished);
+    assert_eq!(rt; net.read(link, &mut buffer), Got::Finished);
+    assert_eq!(rt; net.write(link, b"x"), Took::Failed);
+    Ok(())
+}
+
+/// A link whose peer closed, and which isn't to be read any more, fails once the other link of its session is shut.
+#[test]
+fn other_link_shut(rt: HostRuntime) -> Result<(), Fail> {
+    let mut net = listening(&rt)?;
+    let stream = two_sessions(&rt, &mut net)?;
+    let link = client(1);
+    drop(stream);
+    net.want(link, false, true);
+    assert_eq!(rt; net.wait(), Ready::Link(link));
+    assert_eq!(rt; net.write(link, b"x"), Took::NotReady);
+    net.want(client(2), true, false);
+    assert_eq!(rt; net.write(bus(1), b"y"), Took::Bytes(1));
+    let mut buffer = [0u8; 8];
+    assert_eq!(rt; net.wait(), Ready::Link(client(2)));
+    assert_eq!(rt; net.read(client(2), &mut buffer), Got::Bytes(1));
+    assert_eq!(rt; net.read(client(2), &mut buffer), Got::NotReady);
+    assert_eq!(rt; net.write(link, b"x"), Took::NotReady);
+    net.shut(bus(1));
+    net.want(client(2), false, false);
+    assert_eq!(rt; net.wait(), Ready::Link(link));
+    assert_eq!(rt; net.write(link, b"x"), Took::Failed);
+    net.shut(link);
+    assert_eq!(rt; net.write(link, b"x"), Took::Failed);
+    Ok(())
+}
+
+/// Two links of a session whose peers both closed, and which aren't to be read any more, both fail.
+#[test]
+fn both_peers_gone(rt: HostRuntime) -> Result<(), Fail> {
+    let mut net = listening(&rt)?;
+    let stream = two_sessions(&rt, &mut net)?;
+    drop(stream);
+    net.shut(client(2));
+    assert_eq!(rt; net.write(client(1), b"x"), Took::NotReady);
+    net.want(client(1), false, true);
+    net.want(bus(1), false, true);
+    assert_eq!(rt; net.wait(), Ready::Link(bus(1)));
+    assert_eq!(rt; net.write(bus(1), b"x"), Took::Failed);
+    assert_eq!(rt; net.write(client(1), b"x"), Took::Failed);
+    Ok(())
+}

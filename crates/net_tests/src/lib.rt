@@ -1,0 +1,13 @@
+//! Tests of the net over Unix sockets, over sockets in the folder that each test runs in.
+#![tactic(auto)]
+
+#[cfg(test)]
+mod backlogs;
+#[cfg(test)]
+mod closed;
+#[cfg(test)]
+mod paths;
+#[cfg(test)]
+mod sessions;
+#[cfg(test)]
+mod streams;

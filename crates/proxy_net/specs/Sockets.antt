@@ -1,0 +1,82 @@
+-- What a set of sockets shows, and how that goes on from call to call. It tells no journal.
+use Rattle.std.specs.Prelude.{ℕ, ◌≡◌, ◌≤◌, false, Option, None, slice_get, unwrap_or}
+use Rattle.std.specs.Option.{option_map}
+use Rattle.std.specs.Ordering.{nat_cmp}
+use Rattle.std.specs.BTreeMap as tree
+use Rattle.link_traits.specs.Journals.{same_link}
+use Rattle.link_traits.specs.Numbers.{number_of}
+use Rattle.link_traits.specs.Tables.{HasWish}
+use Rattle.link_traits.specs.Views.{NetView}
+use Rattle.link_traits.specs.Told.{Rose}
+use Rattle.link_traits.specs.declared.links.Link.{Link}
+use Rattle.link_traits.specs.declared.links.Wishes.{Wishes}
+use Rattle.link_traits.specs.declared.links.Count.{Count}
+use Rattle.link_traits.specs.declared.links.Count.TheVariants.{Own, Listener, Link as OfLink, Waits}
+use Rattle.link_traits.specs.declared.links.Ready.{Ready}
+use Rattle.link_traits.specs.declared.links.Ready.TheVariants.{Listener as OfListener, Link as IsLink, Quiet, Failed}
+use Rattle.link_traits.specs.declared.links.Accepted.{Accepted}
+use Rattle.link_traits.specs.declared.links.Accepted.TheVariants.{New, NotReady, Failed as Refused, Memory}
+use Rattle.link_traits.specs.Answers.{client_link}
+use Rattle.proxy_net.specs.declared.link_sockets.LinkSocket.{LinkSocket}
+use Rattle.proxy_net.specs.declared.listeners.ListenerSocket.{ListenerSocket}
+use Rattle.proxy_net.specs.declared.sockets.SocketSet.{SocketSet}
+
+-- the socket of a link that was made and isn't shut
+abbrev pub socket_in : SocketSet → Link → Option LinkSocket
+socket_in sockets link = tree.get nat_cmp sockets.links (number_of link)
+
+abbrev pub wishes_in : SocketSet → Link → Option Wishes
+wishes_in sockets link = option_map (λ (s : LinkSocket). s.wishes) (socket_in sockets link)
+
+abbrev pub count_in : SocketSet → Count → ℕ
+count_in sockets Own = sockets.own
+count_in sockets Waits = sockets.waits
+count_in sockets (Listener listener) = unwrap_or (option_map (λ (s : ListenerSocket). s.faults) (slice_get sockets.listeners.items listener)) sockets.absent
+count_in sockets (OfLink link) = unwrap_or (option_map (λ (s : LinkSocket). s.faults) (socket_in sockets link)) sockets.absent
+
+abbrev pub shown : SocketSet → NetView
+shown sockets = record {
+  journal = None;
+  counts = count_in sockets;
+  wishes = wishes_in sockets;
+  script_done = false;
+}
+
+abbrev pub RoseIn : Count → SocketSet → SocketSet → Type 0
+RoseIn count old new = Rose (count_in old count) (count_in new count)
+
+-- no count falls
+pub record Grows (old new : SocketSet) : Type 0 where
+  pub each : (count : Count) → count_in old count ≤ count_in new count
+
+-- no count falls, and the wishes of all links are as before
+pub record GoesOn (old new : SocketSet) : Type 0 where
+  pub counts : (count : Count) → count_in old count ≤ count_in new count
+  pub wishes : (link : Link) → wishes_in new link ≡ wishes_in old link
+
+-- the wishes of all links are as before
+pub record KeepsWishesIn (old new : SocketSet) : Type 0 where
+  pub each : (link : Link) → wishes_in new link ≡ wishes_in old link
+
+-- the wishes of all links but one are as before
+pub record KeepsOthersIn (link : Link) (old new : SocketSet) : Type 0 where
+  pub each : (other : Link) → same_link link other ≡ false → wishes_in new other ≡ wishes_in old other
+
+-- an accept that answered so keeps the wishes of all links, but for that of a new session's client
+abbrev pub AfterAcceptIn : Accepted → SocketSet → SocketSet → Type 0
+AfterAcceptIn (New session) old new = KeepsOthersIn (client_link session) old new
+AfterAcceptIn NotReady old new = KeepsWishesIn old new
+AfterAcceptIn Refused old new = KeepsWishesIn old new
+AfterAcceptIn Memory old new = KeepsWishesIn old new
+
+-- nothing was counted, and there is no link
+pub record IsUnused (net : NetView) : Type 0 where
+  pub counts : (count : Count) → net.counts count ≡ 0
+  pub wishes : (link : Link) → net.wishes link ≡ None
+
+-- a listener is named, or a link for which there is a wish
+abbrev pub IsWished : (Link → Option Wishes) → Ready → Type 0
+IsWished wishes (OfListener listener) = Unit {0}
+IsWished wishes (IsLink link) = HasWish (wishes link)
+IsWished wishes Quiet = ⊥
+IsWished wishes Failed = ⊥

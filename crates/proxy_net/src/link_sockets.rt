@@ -1,0 +1,447 @@
+//! What is kept of each link: its wishes, its faults and its socket.
+ghost use Rattle.std.specs.Prelude.{◌≡◌, ◌≤◌, ◌<◌, ℕ, Some, length, true};
+ghost use Rattle.link_traits.specs.Told.{Rose};
+ghost use Rattle.link_traits.specs.Tables.{HasWish};
+ghost use Rattle.link_traits.specs.Answers.{no_wishes};
+
+use crate::streams::{StreamRead, StreamWrite, read_stream, write_stream};
+use link_traits::{Got, Wishes};
+use mio::net::UnixStream;
+use mio::{Interest, Registry, Token};
+use std::io::ErrorKind;
+use std::time::{Duration, Instant};
+
+/// The milliseconds before the first try to connect again. They double from try to try.
+const FIRST_DELAY: u64 = 1;
+
+/// The most milliseconds between two tries to connect.
+const LONGEST_DELAY: u64 = 32;
+
+/// The seconds in which a connect is tried again.
+const TRIED_FOR: u64 = 5;
+
+/// A count one higher, or at its greatest number.
+pub fn raised(count: u64) -> u64
+    ensures rose { Rose count result }
+    ensures grows { count ≤ result }
+{
+    count.saturating_add(1)
+}
+
+/// A connect to a bus that had no room for one more, and is tried again.
+#[derive(Drop)]
+pub struct Retry {
+    path: String,
+    delay: u64,
+    due: Instant,
+    until: Instant,
+}
+
+/// The stream of a link.
+#[derive(Drop)]
+pub enum Connection {
+    Open(UnixStream),
+    /// The bus had no room yet. Reads and writes aren't ready.
+    Pending(Retry),
+    /// It was given up. Reads and writes fail.
+    Failed,
+}
+
+/// What came of a try to connect.
+#[derive(Drop)]
+enum Connected {
+    To(UnixStream),
+    /// It wasn't time for one.
+    NotDue,
+    /// The bus had no room.
+    WouldBlock,
+    /// It was connected or given up before.
+    Before,
+    Failed,
+}
+
+/// What a try to connect did.
+#[derive(Clone, Copy)]
+pub enum Attempt {
+    /// It wasn't time for one.
+    NotDue,
+    /// The bus had no room.
+    WouldBlock,
+    /// Nothing is to be tried any more.
+    Done,
+}
+
+/// What a write to a link did.
+#[derive(Clone, Copy)]
+pub enum LinkWrite {
+    Bytes(usize),
+    NotReady,
+    /// The peer closed. The link's count rose.
+    PeerClosed,
+    /// The link's count rose.
+    Failed,
+}
+
+/// A link that was made and isn't shut.
+///
+/// The system reports each change once. So a link is kept as readable until a read answers that it would wait, and as writable
+/// until a write does. It is registered for reading alone; for writing too from a write that would have waited until there is
+/// room again.
+///
+/// A write to a peer that closed isn't ready until what the peer wrote before was read to its end.
+#[derive(Drop)]
+pub struct LinkSocket {
+    /// What the link is watched for.
+    pub wishes: Wishes,
+    /// How often it failed.
+    pub faults: u64,
+    connection: Connection,
+    readable: bool,
+    writable: bool,
+    peer_closed: bool,
+    end_read: bool,
+    given_up: bool,
+    queued: bool,
+}
+
+impl Retry {
+    /// A connect that had no room now.
+    pub fn new(path: String, now: Instant) -> Retry {
+        Retry {
+            path,
+            delay: FIRST_DELAY,
+            due: later(now, Duration::from_millis(FIRST_DELAY)),
+            until: later(now, Duration::from_secs(TRIED_FOR)),
+        }
+    }
+
+    /// Tries again to connect, where it is time to.
+    fn connect(&mut self, rt: &HostRuntime, now: Instant) -> Connected {
+        if now < self.due {
+            return Connected::NotDue;
+        }
+        match UnixStream::connect(rt, self.path.as_str()) {
+            Ok(stream) => Connected::To(stream),
+            Err(error) => {
+                if is_put_off(error.kind()) && now < self.until {
+                    self.put_off(now);
+                    return Connected::WouldBlock;
+                }
+                Connected::Failed
+            }
+        }
+    }
+
+    /// Puts the next try off.
+    fn put_off(&mut self, now: Instant) {
+        self.delay = self.delay.saturating_mul(2).min(LONGEST_DELAY);
+        self.due = later(now, Duration::from_millis(self.delay));
+    }
+}
+
+/// The time after so long, or the same time where the clock ends.
+fn later(now: Instant, duration: Duration) -> Instant {
+    match now.checked_add(duration) {
+        Some(time) => time,
+        None => now,
+    }
+}
+
+/// Whether a connect that was refused so is to be tried again.
+pub fn is_put_off(kind: ErrorKind) -> bool {
+    kind == ErrorKind::WouldBlock || kind == ErrorKind::Interrupted
+}
+
+impl LinkSocket {
+    /// A link without a wish.
+    pub fn new(faults: u64, connection: Connection) -> LinkSocket
+        ensures wishes { result.wishes ≡ no_wishes }
+        ensures faults { result.faults ≡ faults }
+    {
+        let writable = matches!(connection, Connection::Open(_));
+        LinkSocket {
+            wishes: Wishes {
+                read: false,
+                write: false,
+            },
+            faults,
+            connection,
+            readable: false,
+            writable,
+            peer_closed: false,
+            end_read: false,
+            given_up: false,
+            queued: false,
+        }
+    }
+
+    /// Reads once.
+    pub fn read(&mut self, into: &mut [u8]) -> Got
+        ensures within { (n : ℕ) → result ≡ Got.Bytes n → n ≤ length into.new }
+        ensures progress { (n : ℕ) → result ≡ Got.Bytes n → 0 < length into.new → 0 < n }
+        ensures failed { result ≡ Got.Failed → Rose self.old.faults self.new.faults }
+        ensures faults { self.old.faults ≤ self.new.faults }
+        ensures wishes { self.new.wishes ≡ self.old.wishes }
+    {
+        match self.read_connection(into) {
+            StreamRead::Bytes(n) => Got::Bytes(n),
+            StreamRead::End => {
+                self.end_read = true;
+                self.given_up = self.peer_closed;
+                Got::Finished
+            }
+            StreamRead::Nothing => {
+                self.readable = false;
+                Got::NotReady
+            }
+            StreamRead::Again => Got::NotReady,
+            StreamRead::Fault => {
+                self.faults = raised(self.faults);
+                Got::Failed
+            }
+        }
+    }
+
+    fn read_connection(&mut self, into: &mut [u8]) -> StreamRead
+        ensures within { (n : ℕ) → result ≡ StreamRead.Bytes n → n ≤ length into.new }
+        ensures progress { (n : ℕ) → result ≡ StreamRead.Bytes n → 0 < length into.new → 0 < n }
+        ensures faults { self.new.faults ≡ self.old.faults }
+        ensures wishes { self.new.wishes ≡ self.old.wishes }
+    {
+        match &mut self.connection {
+            Connection::Open(stream) => read_stream(stream, into),
+            Connection::Pending(_) => StreamRead::Nothing,
+            Connection::Failed => StreamRead::Fault,
+        }
+    }
+
+    /// Writes once.
+    pub fn write(&mut self, registry: &Registry, number: u64, piece: &[u8]) -> LinkWrite
+        ensures within { (n : ℕ) → result ≡ LinkWrite.Bytes n → n ≤ length piece.now }
+        ensures progress { (n : ℕ) → result ≡ LinkWrite.Bytes n → 0 < length piece.now → 0 < n }
+        ensures failed { result ≡ LinkWrite.Failed → Rose self.old.faults self.new.faults }
+        ensures closed { result ≡ LinkWrite.PeerClosed → Rose self.old.faults self.new.faults }
+        ensures faults { self.old.faults ≤ self.new.faults }
+        ensures wishes { self.new.wishes ≡ self.old.wishes }
+    {
+        match self.write_connection(piece) {
+            StreamWrite::Bytes(n) => LinkWrite::Bytes(n),
+            StreamWrite::Full => self.await_room(registry, number),
+            StreamWrite::PeerClosed => {
+                self.note_closed();
+                LinkWrite::PeerClosed
+            }
+            StreamWrite::Again => LinkWrite::NotReady,
+            StreamWrite::Fault => {
+                self.faults = raised(self.faults);
+                LinkWrite::Failed
+            }
+        }
+    }
+
+    fn write_connection(&mut self, piece: &[u8]) -> StreamWrite
+        ensures within { (n : ℕ) → result ≡ StreamWrite.Bytes n → n ≤ length piece.now }
+        ensures progress { (n : ℕ) → result ≡ StreamWrite.Bytes n → 0 < length piece.now → 0 < n }
+        ensures faults { self.new.faults ≡ self.old.faults }
+        ensures wishes { self.new.wishes ≡ self.old.wishes }
+    {
+        match &mut self.connection {
+            Connection::Open(stream) => write_stream(stream, piece),
+            Connection::Pending(_) => StreamWrite::Again,
+            Connection::Failed => StreamWrite::Fault,
+        }
+    }
+
+    /// Notes that a write was refused since the peer closed. What it wrote before is there to be read, and then the end.
+    fn note_closed(&mut self)
+        ensures rose { Rose self.old.faults self.new.faults }
+        ensures faults { self.old.faults ≤ self.new.faults }
+        ensures wishes { self.new.wishes ≡ self.old.wishes }
+    {
+        self.faults = raised(self.faults);
+        self.peer_closed = true;
+        self.readable = true;
+        self.writable = false;
+        self.given_up = self.end_read;
+    }
+
+    /// Has the system report when there is room to write.
+    fn await_room(&mut self, registry: &Registry, number: u64) -> LinkWrite
+        ensures bytes { (n : ℕ) → result ≡ LinkWrite.Bytes n → ⊥ }
+        ensures failed { result ≡ LinkWrite.Failed → Rose self.old.faults self.new.faults }
+        ensures closed { result ≡ LinkWrite.PeerClosed → ⊥ }
+        ensures faults { self.old.faults ≤ self.new.faults }
+        ensures wishes { self.new.wishes ≡ self.old.wishes }
+    {
+        if self.writable {
+            self.writable = false;
+            if !self.watch(registry, number, Interest::READABLE | Interest::WRITABLE) {
+                self.faults = raised(self.faults);
+                return LinkWrite::Failed;
+            }
+        }
+        LinkWrite::NotReady
+    }
+
+    /// Changes what the system reports. Answers whether it could.
+    fn watch(&mut self, registry: &Registry, number: u64, interest: Interest) -> bool
+        ensures faults { self.new.faults ≡ self.old.faults }
+        ensures wishes { self.new.wishes ≡ self.old.wishes }
+    {
+        match &mut self.connection {
+            Connection::Open(stream) => registry
+                .reregister(stream, Token(number as usize), interest)
+                .is_ok(),
+            Connection::Pending(_) | Connection::Failed => true,
+        }
+    }
+
+    /// Notes what the system reports. One that can't be watched on counts a fault.
+    pub fn note(&mut self, registry: &Registry, number: u64, readable: bool, writable: bool)
+        ensures faults { self.old.faults ≤ self.new.faults }
+        ensures wishes { self.new.wishes ≡ self.old.wishes }
+    {
+        self.readable = self.readable || readable;
+        if writable && !self.writable && !self.peer_closed {
+            self.writable = true;
+            if !self.watch(registry, number, Interest::READABLE) {
+                self.faults = raised(self.faults);
+            }
+        }
+    }
+
+    /// Whether its peer is known to have closed.
+    pub fn is_peer_closed(&self) -> bool {
+        self.peer_closed
+    }
+
+    /// Whether nothing more passes between it and its peer.
+    pub fn is_closed(&self) -> bool {
+        self.peer_closed || self.end_read
+    }
+
+    /// Whether its writes fail by now: its peer closed, and nothing of it is to be read any more.
+    pub fn is_given_up(&self) -> bool {
+        self.given_up
+    }
+
+    /// Judges whether its writes are to fail, by whether its session's other link is shut or closed.
+    pub fn judge(&mut self, is_other_closed: bool)
+        ensures faults { self.new.faults ≡ self.old.faults }
+        ensures wishes { self.new.wishes ≡ self.old.wishes }
+    {
+        let is_done = self.end_read || !self.wishes.read && is_other_closed;
+        self.given_up = self.peer_closed && is_done;
+    }
+
+    /// Whether it is ready for what is wished.
+    pub fn is_nameable(&self) -> bool
+        ensures { result ≡ true → HasWish (Some self.now.wishes) }
+    {
+        let can_write = self.writable || self.given_up;
+        self.wishes.read && self.readable || self.wishes.write && can_write
+    }
+
+    /// Takes a place among what is to be named, where it is ready for what is wished and has none. Answers whether it took one.
+    pub fn take_place(&mut self) -> bool
+        ensures faults { self.new.faults ≡ self.old.faults }
+        ensures wishes { self.new.wishes ≡ self.old.wishes }
+    {
+        if self.queued || !self.is_nameable() {
+            return false;
+        }
+        self.queued = true;
+        true
+    }
+
+    /// Gives up its place among what is to be named.
+    pub fn leave_place(&mut self)
+        ensures faults { self.new.faults ≡ self.old.faults }
+        ensures wishes { self.new.wishes ≡ self.old.wishes }
+    {
+        self.queued = false;
+    }
+}
+
+impl LinkSocket {
+    /// When the next try to connect is due, where there is one.
+    pub fn due(&self) -> Option<Instant> {
+        match &self.connection {
+            Connection::Pending(retry) => Some(retry.due),
+            Connection::Open(_) | Connection::Failed => None,
+        }
+    }
+
+    /// Tries again to connect, where it is time to. Where the clock can't be read, it fails.
+    pub fn attempt(
+        &mut self,
+        rt: &HostRuntime,
+        registry: &Registry,
+        number: u64,
+        now: Option<Instant>,
+    ) -> Attempt
+        ensures faults { self.old.faults ≤ self.new.faults }
+        ensures wishes { self.new.wishes ≡ self.old.wishes }
+    {
+        match self.connect(rt, now) {
+            Connected::To(stream) => {
+                self.open(registry, number, stream);
+                Attempt::Done
+            }
+            Connected::NotDue => Attempt::NotDue,
+            Connected::WouldBlock => Attempt::WouldBlock,
+            Connected::Before => Attempt::Done,
+            Connected::Failed => {
+                self.fail();
+                Attempt::Done
+            }
+        }
+    }
+
+    fn connect(&mut self, rt: &HostRuntime, now: Option<Instant>) -> Connected
+        ensures faults { self.new.faults ≡ self.old.faults }
+        ensures wishes { self.new.wishes ≡ self.old.wishes }
+    {
+        let Some(now) = now else {
+            return Connected::Failed;
+        };
+        match &mut self.connection {
+            Connection::Pending(retry) => retry.connect(rt, now),
+            Connection::Open(_) | Connection::Failed => Connected::Before,
+        }
+    }
+
+    /// Goes on with a stream that was connected.
+    fn open(&mut self, registry: &Registry, number: u64, stream: UnixStream)
+        ensures faults { self.old.faults ≤ self.new.faults }
+        ensures wishes { self.new.wishes ≡ self.old.wishes }
+    {
+        match watched(registry, number, stream) {
+            Some(stream) => {
+                self.connection = Connection::Open(stream);
+                self.writable = true;
+            }
+            None => self.fail(),
+        }
+    }
+
+    /// Counts a fault, and has reads and writes fail from now on.
+    pub fn fail(&mut self)
+        ensures faults { self.old.faults ≤ self.new.faults }
+        ensures wishes { self.new.wishes ≡ self.old.wishes }
+    {
+        self.faults = raised(self.faults);
+        self.connection = Connection::Failed;
+        self.readable = true;
+        self.writable = true;
+    }
+}
+
+/// Has the system report when there is something to read from a stream. `None` where it refuses to.
+pub fn watched(registry: &Registry, number: u64, stream: UnixStream) -> Option<UnixStream> {
+    let mut stream = stream;
+    match registry.register(&mut stream, Token(number as usize), Interest::READABLE) {
+        Ok(()) => Some(stream),
+        Err(_) => None,
+    }
+}

@@ -1,0 +1,127 @@
+//! A net over Unix sockets.
+ghost use Rattle.std.specs.Prelude.{◌≡◌, IfOk, IfSome};
+
+use crate::sockets::SocketSet;
+use link_traits::{Accepted, Count, Got, Link, Net, NetFault, Ready, Took, Wishes};
+use mio::Events;
+use std::io;
+
+/// How many events are taken from the system at once.
+const EVENTS: usize = 256;
+
+/// A net over Unix sockets. What its links carry is not told.
+///
+/// It names a link only for a wish that is true. A thing that is ready goes on being named, in turn with the others, until it
+/// answered that it would wait. A listener of which nothing is accepted when it is named isn't named again until another client comes.
+///
+/// Nothing that a client wrote before it closed is lost: a write to it isn't ready until what it wrote was read to its end, and
+/// then fails. Each such write counts as one that would have waited and as a fault of its link. Where the link isn't wished to be
+/// read any more, it fails too as soon as the other link of its session is shut or closed.
+///
+/// A connect to a bus that has no room for one more succeeds, and is tried again while the net waits, for five seconds. Until
+/// then reads and writes of that link aren't ready, and afterwards they fail.
+#[derive(Drop)]
+pub struct MioNet<'a> {
+    rt: &'a HostRuntime,
+    sockets: SocketSet,
+    events: Events,
+}
+
+impl<'a> MioNet<'a> {
+    ghost use Rattle.proxy_net.specs.Sockets.{shown, wishes_in, GoesOn, IsUnused, IsWished};
+
+    /// A net without listeners and links.
+    pub fn new(rt: &'a HostRuntime) -> io::Result<MioNet<'a>>
+        ensures { IfOk result (λ net. IsUnused (shown net.sockets)) }
+    {
+        Ok(MioNet {
+            rt,
+            sockets: SocketSet::new(rt)?,
+            events: Events::with_capacity(rt.alloc(), EVENTS)?,
+        })
+    }
+
+    /// What is counted: faults, and calls that would have waited.
+    pub fn count(&self, count: Count) -> u64
+        ensures { result ≡ (shown self.now.sockets).counts count }
+    {
+        self.sockets.count(count)
+    }
+
+    /// Waits until something is to be named. `None` where the system fails.
+    fn next(&mut self) -> Option<Ready>
+        ensures wished { IfSome result (IsWished (wishes_in self.old.sockets)) }
+        ensures goes { GoesOn self.old.sockets self.new.sockets }
+    {
+        for _ in 0..u64::MAX {
+            if let Some(ready) = self.sockets.next() {
+                return Some(ready);
+            }
+            if self.sockets.ask(self.rt, &mut self.events).is_err() {
+                return None;
+            }
+            self.sockets.note_all(self.rt, &self.events);
+        }
+        None
+    }
+}
+
+impl<'a> Net for MioNet<'a> {
+    ghost use Rattle.std.specs.Prelude.{◌≢◌, [], ◌∷◌, true};
+    ghost use Rattle.link_traits.specs.Entries.{ready};
+    ghost use Rattle.link_traits.specs.Views.{Adds, RoseAt, KeepsWishes};
+    ghost use Rattle.proxy_net.specs.Sockets.{shown, wishes_in, IsWished};
+
+    ghost view = { λ net. shown net.sockets };
+
+    /// It is refused where a file stands at the path, and where the path is empty. Nothing is removed.
+    fn listen(&mut self, path: &str) -> Result<u32, NetFault> {
+        self.sockets.listen(self.rt, path)
+    }
+
+    /// It is never quiet.
+    fn wait(&mut self) -> Ready
+        // It names a link only for a wish that is true.
+        ensures wished { result ≢ Ready.Failed → IsWished (wishes_in self.old.sockets) result }
+
+        // What the trait says.
+        ensures told { Adds (shown self.old.sockets) (shown self.new.sockets) (ready result ∷ []) }
+        ensures failed { result ≡ Ready.Failed → RoseAt Count.Own (shown self.old.sockets) (shown self.new.sockets) }
+        ensures quiet { result ≡ Ready.Quiet → (shown self.new.sockets).script_done ≡ true }
+        ensures wishes { KeepsWishes (shown self.old.sockets) (shown self.new.sockets) }
+    {
+        match self.next() {
+            Some(ready) => ready,
+            None => {
+                self.sockets.raise(Count::Own);
+                Ready::Failed
+            }
+        }
+    }
+
+    /// Where it fails or is refused memory, the listener isn't named again until a link is shut or another client comes.
+    fn accept(&mut self, listener: u32) -> Accepted {
+        self.sockets.accept(listener)
+    }
+
+    /// It is refused where the session has a link to its bus, and where the path is empty.
+    fn connect(&mut self, session: u32, path: &str) -> Result<(), NetFault> {
+        self.sockets.connect(self.rt, session, path)
+    }
+
+    fn want(&mut self, link: Link, read: bool, write: bool) {
+        self.sockets.want(link, Wishes { read, write });
+    }
+
+    fn read(&mut self, link: Link, into: &mut [u8]) -> Got {
+        self.sockets.read(link, into)
+    }
+
+    fn write(&mut self, link: Link, piece: &[u8]) -> Took {
+        self.sockets.write(link, piece)
+    }
+
+    fn shut(&mut self, link: Link) {
+        self.sockets.shut(link);
+    }
+}

@@ -1,0 +1,214 @@
+//! The sockets of a net, and what of them is to be named.
+//!
+//! What is ready and wished for stands in a queue, and what was named goes to its end, so that a busy link doesn't hold up the
+//! others. Room in it is taken where a listener or a link is made.
+ghost use Rattle.std.specs.Prelude.{◌≡◌, None, Some, IfOk, OnOk, OnErr};
+ghost use Rattle.std.specs.Option.{option_map};
+ghost use Rattle.link_traits.specs.Answers.{no_wishes};
+
+mod calls;
+mod making;
+mod naming;
+
+use crate::link_sockets::{Connection, LinkSocket, raised};
+use crate::listeners::ListenerSocket;
+use link_traits::tables::number_of;
+use link_traits::{Count, Link, Wishes};
+use mio::Poll;
+use std::alloc::AllocError;
+use std::collections::{BTreeMap, VecDeque};
+use std::io;
+
+/// The number of the first listener, above those of all links.
+const LISTENERS: u64 = 0x2_0000_0000;
+
+/// The sockets of listeners and links, with what is counted of them.
+///
+/// No count falls: what is counted of a listener or a link that isn't there is `absent`, which is at least what was counted of
+/// any link that was shut, and which a new listener or link begins with. So a link that was shut takes no room.
+#[derive(Drop)]
+pub struct SocketSet {
+    /// The net's own faults.
+    own: u64,
+    /// Calls that would have waited.
+    waits: u64,
+    /// What is counted of listeners and links that aren't there.
+    absent: u64,
+    listeners: Vec<ListenerSocket>,
+    /// The links that were made and aren't shut, by their numbers.
+    links: BTreeMap<u64, LinkSocket>,
+    /// How many clients were accepted.
+    sessions: u32,
+    /// Numbers of what is to be named.
+    ready: VecDeque<u64>,
+    /// How much was named since the system was asked.
+    named: u32,
+    /// Listeners that are to be named again when a link is shut.
+    stalled: Vec<u32>,
+    /// Numbers of links that aren't connected yet.
+    pending: VecDeque<u64>,
+    poll: Poll,
+}
+
+/// The number of the other link of a link's session.
+fn other_number(number: u64) -> u64 {
+    number ^ 1
+}
+
+impl SocketSet {
+    ghost use Rattle.proxy_net.specs.Sockets.{shown, count_in, wishes_in, RoseIn, Grows, GoesOn, KeepsOthersIn, IsUnused};
+    ghost use Rattle.link_traits.specs.declared.links.Wishes.{Wishes};
+
+    /// No sockets.
+    pub fn new(rt: &HostRuntime) -> io::Result<SocketSet>
+        ensures { IfOk result (λ sockets. IsUnused (shown sockets)) }
+    {
+        Ok(SocketSet {
+            own: 0,
+            waits: 0,
+            absent: 0,
+            listeners: Vec::new(rt.alloc()),
+            links: BTreeMap::new(rt.alloc()),
+            sessions: 0,
+            ready: VecDeque::new(rt.alloc()),
+            named: 0,
+            stalled: Vec::new(rt.alloc()),
+            pending: VecDeque::new(rt.alloc()),
+            poll: Poll::new(rt)?,
+        })
+    }
+
+    /// Raises a count, unless it is at its greatest number.
+    pub fn raise(&mut self, count: Count)
+        ensures rose { RoseIn count self.old self.new }
+        ensures goes { GoesOn self.old self.new }
+    {
+        match count {
+            Count::Own => self.own = raised(self.own),
+            Count::Waits => self.waits = raised(self.waits),
+            Count::Listener(listener) => self.raise_listener(listener),
+            Count::Link(link) => self.raise_link(link),
+        }
+    }
+
+    fn raise_listener(&mut self, listener: u32)
+        ensures rose { RoseIn (Count.Listener listener) self.old self.new }
+        ensures goes { GoesOn self.old self.new }
+    {
+        match self.listeners.get_mut(listener as usize) {
+            Some(socket) => socket.faults = raised(socket.faults),
+            None => self.absent = raised(self.absent),
+        }
+    }
+
+    fn raise_link(&mut self, link: Link)
+        ensures rose { RoseIn (Count.Link link) self.old self.new }
+        ensures goes { GoesOn self.old self.new }
+    {
+        match self.links.get_mut(&number_of(link)) {
+            Some(socket) => socket.faults = raised(socket.faults),
+            None => self.absent = raised(self.absent),
+        }
+    }
+
+    /// What is counted.
+    pub fn count(&self, count: Count) -> u64
+        ensures { result ≡ count_in self.now count }
+    {
+        match count {
+            Count::Own => self.own,
+            Count::Waits => self.waits,
+            Count::Listener(listener) => self.listener_faults(listener),
+            Count::Link(link) => self.link_faults(link),
+        }
+    }
+
+    fn listener_faults(&self, listener: u32) -> u64
+        ensures { result ≡ count_in self.now (Count.Listener listener) }
+    {
+        match self.listeners.get(listener as usize) {
+            Some(socket) => socket.faults,
+            None => self.absent,
+        }
+    }
+
+    fn link_faults(&self, link: Link) -> u64
+        ensures { result ≡ count_in self.now (Count.Link link) }
+    {
+        match self.links.get(&number_of(link)) {
+            Some(socket) => socket.faults,
+            None => self.absent,
+        }
+    }
+
+    /// Makes a link, without a wish.
+    fn add_link(&mut self, link: Link, connection: Connection) -> Result<(), AllocError>
+        ensures own { OnOk result (wishes_in self.new link ≡ Some no_wishes) }
+        ensures others { KeepsOthersIn link self.old self.new }
+        ensures grows { Grows self.old self.new }
+        ensures err { OnErr result (GoesOn self.old self.new) }
+    {
+        let number = number_of(link);
+        let faults = match self.links.get(&number) {
+            Some(socket) => socket.faults,
+            None => self.absent,
+        };
+        self.links
+            .insert(number, LinkSocket::new(faults, connection))?;
+        Ok(())
+    }
+
+    /// Closes a link and forgets it. One that isn't there stays so.
+    fn remove_link(&mut self, link: Link)
+        ensures gone { wishes_in self.new link ≡ None }
+        ensures others { KeepsOthersIn link self.old self.new }
+        ensures grows { Grows self.old self.new }
+    {
+        if let Some(socket) = self.links.remove(&number_of(link)) {
+            self.absent = self.absent.max(socket.faults);
+        }
+    }
+
+    /// Replaces the wishes of a link. Answers whether its peer is known to have closed.
+    fn set_wishes(&mut self, link: Link, wishes: Wishes) -> bool
+        ensures own { wishes_in self.new link ≡ option_map (λ (_ : Wishes). wishes) (wishes_in self.old link) }
+        ensures others { KeepsOthersIn link self.old self.new }
+        ensures grows { Grows self.old self.new }
+    {
+        let number = number_of(link);
+        match self.links.get_mut(&number) {
+            Some(socket) => {
+                socket.wishes = wishes;
+                if socket.take_place() {
+                    let _ = self.ready.push_back(number);
+                }
+                socket.is_peer_closed()
+            }
+            None => false,
+        }
+    }
+
+    /// Judges whether the writes of a link whose peer closed are to fail, and queues it where they are.
+    fn judge(&mut self, number: u64)
+        ensures { GoesOn self.old self.new }
+    {
+        let is_other_closed = match self.links.get(&other_number(number)) {
+            Some(other) => other.is_closed(),
+            None => true,
+        };
+        if let Some(socket) = self.links.get_mut(&number) {
+            socket.judge(is_other_closed);
+            if socket.take_place() {
+                let _ = self.ready.push_back(number);
+            }
+        }
+    }
+
+    /// Takes the room for one more in the queue, whatever is in it and however many go back to it.
+    fn reserve(&mut self) -> Result<(), AllocError>
+        ensures { GoesOn self.old self.new }
+    {
+        let most = self.links.len().saturating_add(self.listeners.len());
+        self.ready.reserve(most.saturating_add(1))
+    }
+}

@@ -1,0 +1,147 @@
+//! What is done with links that stand: their wishes, reads, writes and ends.
+ghost use Rattle.std.specs.Prelude.{◌≡◌, ◌≤◌, ◌<◌, ℕ, None, length};
+ghost use Rattle.std.specs.Option.{option_map};
+
+use super::{SocketSet, other_number};
+use crate::link_sockets::{LinkWrite, raised};
+use link_traits::tables::number_of;
+use link_traits::{Count, Got, Link, Took, Wishes};
+
+impl SocketSet {
+    ghost use Rattle.proxy_net.specs.Sockets.{wishes_in, RoseIn, Grows, GoesOn, KeepsOthersIn};
+    ghost use Rattle.link_traits.specs.declared.links.Wishes.{Wishes};
+
+    /// Replaces the wishes of a link.
+    pub fn want(&mut self, link: Link, wishes: Wishes)
+        ensures own { wishes_in self.new link ≡ option_map (λ (_ : Wishes). wishes) (wishes_in self.old link) }
+        ensures others { KeepsOthersIn link self.old self.new }
+        ensures grows { Grows self.old self.new }
+    {
+        if self.set_wishes(link, wishes) {
+            self.judge(number_of(link));
+        }
+    }
+
+    /// Reads once.
+    pub fn read(&mut self, link: Link, into: &mut [u8]) -> Got
+        ensures within { (n : ℕ) → result ≡ Got.Bytes n → n ≤ length into.new }
+        ensures progress { (n : ℕ) → result ≡ Got.Bytes n → 0 < length into.new → 0 < n }
+        ensures failed { result ≡ Got.Failed → RoseIn (Count.Link link) self.old self.new }
+        ensures not_ready { result ≡ Got.NotReady → RoseIn Count.Waits self.old self.new }
+        ensures goes { GoesOn self.old self.new }
+    {
+        match self.links.get_mut(&number_of(link)) {
+            Some(socket) => {
+                let got = socket.read(into);
+                if got == Got::NotReady {
+                    self.waits = raised(self.waits);
+                }
+                got
+            }
+            None => {
+                self.absent = raised(self.absent);
+                Got::Failed
+            }
+        }
+    }
+
+    /// Writes once.
+    pub fn write(&mut self, link: Link, piece: &[u8]) -> Took
+        ensures within { (n : ℕ) → result ≡ Took.Bytes n → n ≤ length piece.now }
+        ensures progress { (n : ℕ) → result ≡ Took.Bytes n → 0 < length piece.now → 0 < n }
+        ensures failed { result ≡ Took.Failed → RoseIn (Count.Link link) self.old self.new }
+        ensures not_ready { result ≡ Took.NotReady → RoseIn Count.Waits self.old self.new }
+        ensures goes { GoesOn self.old self.new }
+    {
+        match self.write_link(link, piece) {
+            LinkWrite::Bytes(n) => Took::Bytes(n),
+            LinkWrite::NotReady => Took::NotReady,
+            LinkWrite::PeerClosed => self.answer_closed(number_of(link)),
+            LinkWrite::Failed => Took::Failed,
+        }
+    }
+
+    fn write_link(&mut self, link: Link, piece: &[u8]) -> LinkWrite
+        ensures within { (n : ℕ) → result ≡ LinkWrite.Bytes n → n ≤ length piece.now }
+        ensures progress { (n : ℕ) → result ≡ LinkWrite.Bytes n → 0 < length piece.now → 0 < n }
+        ensures failed { result ≡ LinkWrite.Failed → RoseIn (Count.Link link) self.old self.new }
+        ensures closed { result ≡ LinkWrite.PeerClosed → RoseIn (Count.Link link) self.old self.new }
+        ensures not_ready { result ≡ LinkWrite.NotReady → RoseIn Count.Waits self.old self.new }
+        ensures goes { GoesOn self.old self.new }
+    {
+        let number = number_of(link);
+        match self.links.get_mut(&number) {
+            Some(socket) => {
+                let wrote = socket.write(self.poll.registry(), number, piece);
+                if matches!(wrote, LinkWrite::NotReady) {
+                    self.waits = raised(self.waits);
+                }
+                wrote
+            }
+            None => {
+                self.absent = raised(self.absent);
+                LinkWrite::Failed
+            }
+        }
+    }
+
+    /// Answers a write that was refused since the peer closed. It isn't ready as long as there may be something to read.
+    fn answer_closed(&mut self, number: u64) -> Took
+        ensures bytes { (n : ℕ) → result ≡ Took.Bytes n → ⊥ }
+        ensures not_ready { result ≡ Took.NotReady → RoseIn Count.Waits self.old self.new }
+        ensures goes { GoesOn self.old self.new }
+    {
+        self.judge_both(number);
+        if self.is_given_up(number) {
+            return Took::Failed;
+        }
+        self.raise(Count::Waits);
+        Took::NotReady
+    }
+
+    /// Whether writes of a link fail by now.
+    fn is_given_up(&self, number: u64) -> bool {
+        match self.links.get(&number) {
+            Some(socket) => socket.is_given_up(),
+            None => true,
+        }
+    }
+
+    fn judge_both(&mut self, number: u64)
+        ensures { GoesOn self.old self.new }
+    {
+        self.judge(number);
+        self.judge(other_number(number));
+    }
+
+    /// Closes a link and forgets it. One that isn't there stays so.
+    pub fn shut(&mut self, link: Link)
+        ensures gone { wishes_in self.new link ≡ None }
+        ensures others { KeepsOthersIn link self.old self.new }
+        ensures grows { Grows self.old self.new }
+    {
+        self.remove_link(link);
+        self.settle(number_of(link));
+    }
+
+    /// Has the other link of a session and the stalled listeners go on without a link that was shut.
+    fn settle(&mut self, number: u64)
+        ensures { GoesOn self.old self.new }
+    {
+        self.judge(other_number(number));
+        self.revive_all();
+    }
+
+    /// Names the stalled listeners again.
+    #[tactic(auto, using(crate::proofs::Going::goes_through))]
+    fn revive_all(&mut self)
+        ensures { GoesOn self.old self.new }
+    {
+        for _ in 0..self.stalled.len() {
+            let Some(listener) = self.stalled.pop() else {
+                return;
+            };
+            self.revive(listener);
+        }
+    }
+}

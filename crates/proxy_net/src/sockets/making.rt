@@ -1,0 +1,278 @@
+//! How listeners and links are made.
+ghost use Rattle.std.specs.Prelude.{◌≡◌, ◌≢◌, ℕ, Err, Some, IsErrOf, OnErr, OnOk};
+ghost use Rattle.link_traits.specs.Answers.{no_wishes, client_link, bus_link};
+
+use super::{LISTENERS, SocketSet};
+use crate::link_sockets::{Connection, Retry, is_put_off, raised, watched};
+use crate::listeners::{Arrival, ListenerSocket};
+use link_traits::tables::number_of;
+use link_traits::{Accepted, Count, Link, NetFault, Side};
+use mio::net::{UnixListener, UnixStream};
+use mio::{Interest, Token};
+use std::alloc::AllocError;
+use std::time::Instant;
+
+impl SocketSet {
+    ghost use Rattle.proxy_net.specs.Sockets.{wishes_in, RoseIn, Grows, GoesOn, KeepsOthersIn, AfterAcceptIn};
+
+    /// Listens at a path. An empty one is refused, since the system would take a name of its own for it.
+    pub fn listen(&mut self, rt: &HostRuntime, path: &str) -> Result<u32, NetFault>
+        ensures failed { IsErrOf result NetFault.Failed → RoseIn Count.Own self.old self.new }
+        ensures goes { GoesOn self.old self.new }
+    {
+        match self.make_listener(rt, path) {
+            Err(NetFault::Failed) => {
+                self.own = raised(self.own);
+                Err(NetFault::Failed)
+            }
+            answer => answer,
+        }
+    }
+
+    /// Makes the next listener, and counts nothing.
+    fn make_listener(&mut self, rt: &HostRuntime, path: &str) -> Result<u32, NetFault>
+        ensures { GoesOn self.old self.new }
+    {
+        let Ok(listener) = u32::try_from(self.listeners.len()) else {
+            return Err(NetFault::Failed);
+        };
+        if self.reserve_listener().is_err() {
+            return Err(NetFault::Memory);
+        }
+        match bound(rt, path) {
+            Some(socket) => self.add_listener(listener, socket),
+            None => Err(NetFault::Failed),
+        }
+    }
+
+    /// Takes the room for one more listener.
+    fn reserve_listener(&mut self) -> Result<(), AllocError>
+        ensures { GoesOn self.old self.new }
+    {
+        self.listeners.reserve(1)?;
+        let most = self.listeners.len().saturating_add(1);
+        self.stalled.reserve(most)?;
+        self.reserve()
+    }
+
+    fn add_listener(&mut self, listener: u32, socket: UnixListener) -> Result<u32, NetFault>
+        ensures { GoesOn self.old self.new }
+    {
+        let mut socket = socket;
+        let token = Token((LISTENERS + u64::from(listener)) as usize);
+        let registry = self.poll.registry();
+        if registry
+            .register(&mut socket, token, Interest::READABLE)
+            .is_err()
+        {
+            return Err(NetFault::Failed);
+        }
+        match self
+            .listeners
+            .push(ListenerSocket::new(self.absent, socket))
+        {
+            Ok(()) => Ok(listener),
+            Err(_) => Err(NetFault::Memory),
+        }
+    }
+}
+
+/// Binds a socket to a path. `None` where it is empty, and where the system refuses it, as where a file stands there.
+fn bound(rt: &HostRuntime, path: &str) -> Option<UnixListener> {
+    if path.is_empty() {
+        return None;
+    }
+    UnixListener::bind(rt, path).ok()
+}
+
+impl SocketSet {
+    ghost use Rattle.proxy_net.specs.Sockets.{wishes_in, RoseIn, Grows, GoesOn, KeepsOthersIn, AfterAcceptIn};
+
+    /// Takes a client that waits at a listener.
+    pub fn accept(&mut self, listener: u32) -> Accepted
+        ensures failed { result ≡ Accepted.Failed → RoseIn (Count.Listener listener) self.old self.new }
+        ensures not_ready { result ≡ Accepted.NotReady → RoseIn Count.Waits self.old self.new }
+        ensures new_wishes { (session : ℕ) → result ≡ Accepted.New session → wishes_in self.new (client_link session) ≡ Some no_wishes }
+        ensures wishes { AfterAcceptIn result self.old self.new }
+        ensures grows { Grows self.old self.new }
+    {
+        if self.reserve().is_err() {
+            self.stall(listener);
+            return Accepted::Memory;
+        }
+        let Some(session) = self.sessions.checked_add(1) else {
+            return self.fail_accept(listener);
+        };
+        match self.take_client(listener) {
+            Arrival::Client(stream) => self.make_session(listener, session, stream),
+            Arrival::NotReady => Accepted::NotReady,
+            Arrival::Failed => self.fail_accept(listener),
+        }
+    }
+
+    fn take_client(&mut self, listener: u32) -> Arrival
+        ensures not_ready { result ≡ Arrival.NotReady → RoseIn Count.Waits self.old self.new }
+        ensures goes { GoesOn self.old self.new }
+    {
+        match self.listeners.get_mut(listener as usize) {
+            Some(socket) => {
+                let arrival = socket.accept();
+                if matches!(arrival, Arrival::NotReady) {
+                    self.waits = raised(self.waits);
+                }
+                arrival
+            }
+            None => Arrival::Failed,
+        }
+    }
+
+    /// Counts an accept that failed, and stalls its listener.
+    fn fail_accept(&mut self, listener: u32) -> Accepted
+        ensures failed { result ≡ Accepted.Failed }
+        ensures rose { RoseIn (Count.Listener listener) self.old self.new }
+        ensures goes { GoesOn self.old self.new }
+    {
+        match self.listeners.get_mut(listener as usize) {
+            Some(socket) => {
+                socket.faults = raised(socket.faults);
+                if socket.stall() {
+                    let _ = self.stalled.push(listener);
+                }
+            }
+            None => self.absent = raised(self.absent),
+        }
+        Accepted::Failed
+    }
+
+    /// Has a listener not be named until a link is shut or another client comes.
+    fn stall(&mut self, listener: u32)
+        ensures { GoesOn self.old self.new }
+    {
+        if let Some(socket) = self.listeners.get_mut(listener as usize)
+            && socket.stall()
+        {
+            let _ = self.stalled.push(listener);
+        }
+    }
+
+    /// Makes a session of a client.
+    fn make_session(&mut self, listener: u32, session: u32, stream: UnixStream) -> Accepted
+        ensures failed { result ≡ Accepted.Failed → RoseIn (Count.Listener listener) self.old self.new }
+        ensures ready { result ≢ Accepted.NotReady }
+        ensures new_wishes { (other : ℕ) → result ≡ Accepted.New other → wishes_in self.new (client_link other) ≡ Some no_wishes }
+        ensures wishes { AfterAcceptIn result self.old self.new }
+        ensures grows { Grows self.old self.new }
+    {
+        let link = Link {
+            session,
+            side: Side::Client,
+        };
+        let Some(stream) = watched(self.poll.registry(), number_of(link), stream) else {
+            return self.fail_accept(listener);
+        };
+        match self.add_link(link, Connection::Open(stream)) {
+            Ok(()) => {
+                self.sessions = session;
+                Accepted::New(session)
+            }
+            Err(_) => {
+                self.stall(listener);
+                Accepted::Memory
+            }
+        }
+    }
+}
+
+impl SocketSet {
+    ghost use Rattle.proxy_net.specs.Sockets.{wishes_in, RoseIn, Grows, GoesOn, KeepsOthersIn, AfterAcceptIn};
+
+    /// Connects a session to the bus at a path. An empty one is refused, since the system would take a name of its own for it,
+    /// and so is a session that has a link to its bus. Where the bus has no room for one more, it is tried again later.
+    pub fn connect(&mut self, rt: &HostRuntime, session: u32, path: &str) -> Result<(), NetFault>
+        ensures failed { IsErrOf result NetFault.Failed → RoseIn (Count.Link (bus_link session)) self.old self.new }
+        ensures own { OnOk result (wishes_in self.new (bus_link session) ≡ Some no_wishes) }
+        ensures others { KeepsOthersIn (bus_link session) self.old self.new }
+        ensures grows { Grows self.old self.new }
+    {
+        let link = Link {
+            session,
+            side: Side::Bus,
+        };
+        match self.make_bus_link(rt, link, path) {
+            Ok(()) => Ok(()),
+            Err(NetFault::Failed) => {
+                self.raise(Count::Link(link));
+                Err(NetFault::Failed)
+            }
+            Err(NetFault::Memory) => Err(NetFault::Memory),
+        }
+    }
+
+    fn make_bus_link(&mut self, rt: &HostRuntime, link: Link, path: &str) -> Result<(), NetFault>
+        ensures own { OnOk result (wishes_in self.new link ≡ Some no_wishes) }
+        ensures others { KeepsOthersIn link self.old self.new }
+        ensures grows { Grows self.old self.new }
+    {
+        let number = number_of(link);
+        if path.is_empty() || self.links.contains_key(&number) {
+            return Err(NetFault::Failed);
+        }
+        if self.reserve_pending().is_err() {
+            return Err(NetFault::Memory);
+        }
+        match UnixStream::connect(rt, path) {
+            Ok(stream) => self.join(link, stream),
+            Err(error) => {
+                if is_put_off(error.kind()) {
+                    return self.join_later(rt, link, path);
+                }
+                Err(NetFault::Failed)
+            }
+        }
+    }
+
+    /// Takes the room for a link that isn't connected yet.
+    fn reserve_pending(&mut self) -> Result<(), AllocError>
+        ensures { GoesOn self.old self.new }
+    {
+        self.pending.reserve(1)?;
+        self.reserve()
+    }
+
+    /// Makes a link of a stream.
+    fn join(&mut self, link: Link, stream: UnixStream) -> Result<(), NetFault>
+        ensures own { OnOk result (wishes_in self.new link ≡ Some no_wishes) }
+        ensures others { KeepsOthersIn link self.old self.new }
+        ensures grows { Grows self.old self.new }
+    {
+        let Some(stream) = watched(self.poll.registry(), number_of(link), stream) else {
+            return Err(NetFault::Failed);
+        };
+        match self.add_link(link, Connection::Open(stream)) {
+            Ok(()) => Ok(()),
+            Err(_) => Err(NetFault::Memory),
+        }
+    }
+
+    /// Makes a link that is to be connected later. The connect would have waited, and is counted so.
+    fn join_later(&mut self, rt: &HostRuntime, link: Link, path: &str) -> Result<(), NetFault>
+        ensures own { OnOk result (wishes_in self.new link ≡ Some no_wishes) }
+        ensures others { KeepsOthersIn link self.old self.new }
+        ensures grows { Grows self.old self.new }
+    {
+        let Ok(now) = Instant::now(rt) else {
+            return Err(NetFault::Failed);
+        };
+        let Ok(path) = String::from_str(rt.alloc(), path) else {
+            return Err(NetFault::Memory);
+        };
+        match self.add_link(link, Connection::Pending(Retry::new(path, now))) {
+            Ok(()) => {
+                self.waits = raised(self.waits);
+                let _ = self.pending.push_back(number_of(link));
+                Ok(())
+            }
+            Err(_) => Err(NetFault::Memory),
+        }
+    }
+}

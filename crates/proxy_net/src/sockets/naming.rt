@@ -1,0 +1,253 @@
+//! What the system reports of sockets, and what is named for it.
+ghost use Rattle.std.specs.Prelude.{◌≡◌, ◌≤◌, ◌<◌, IfSome};
+ghost use Rattle.link_traits.specs.Numbers.{number_of as link_number};
+
+use super::{LISTENERS, SocketSet};
+use crate::link_sockets::{Attempt, raised};
+use link_traits::{Link, Ready, Side};
+use mio::Events;
+use std::io;
+use std::time::{Duration, Instant};
+
+/// How many times something is named before the system is asked for more.
+const NAMED_BETWEEN_ASKS: u32 = 16;
+
+/// How many milliseconds the system is waited for where the clock can't be read.
+const BLIND_DELAY: u64 = 32;
+
+/// The link of a number.
+fn link_of(number: u64) -> Link
+    requires { number < LISTENERS }
+    ensures { link_number result ≡ number }
+{
+    let side = if number % 2 == 0 {
+        Side::Client
+    } else {
+        Side::Bus
+    };
+    Link {
+        session: (number / 2) as u32,
+        side,
+    }
+}
+
+/// Whether a number is that of a session's bus link.
+fn is_bus(number: u64) -> bool {
+    number < LISTENERS && number % 2 == 1
+}
+
+impl SocketSet {
+    ghost use Rattle.proxy_net.specs.Sockets.{wishes_in, GoesOn, IsWished};
+
+    /// Asks the system what became ready, and waits for it where nothing is to be named yet.
+    pub fn ask(&mut self, rt: &HostRuntime, events: &mut Events) -> io::Result<()>
+        ensures { GoesOn self.old self.new }
+    {
+        let timeout = self.timeout(rt);
+        self.named = 0;
+        self.poll.poll(events, timeout)
+    }
+
+    /// Notes what the system reported, of clients before what it reported of buses.
+    pub fn note_all(&mut self, rt: &HostRuntime, events: &Events)
+        ensures { GoesOn self.old self.new }
+    {
+        self.note_side(events, false);
+        self.note_side(events, true);
+        self.retry_all(rt);
+    }
+
+    /// Notes what the system reported of buses, or of all else.
+    #[tactic(auto, using(crate::proofs::Going::goes_through))]
+    fn note_side(&mut self, events: &Events, of_buses: bool)
+        ensures { GoesOn self.old self.new }
+    {
+        for event in events.iter() {
+            let number = event.token().0 as u64;
+            if is_bus(number) == of_buses {
+                let failed = event.is_error();
+                let readable = failed || event.is_readable() || event.is_read_closed();
+                let writable = failed || event.is_writable() || event.is_write_closed();
+                self.note(number, readable, writable);
+            }
+        }
+    }
+
+    /// Notes that a listener has a client, or what a link is ready for.
+    fn note(&mut self, number: u64, readable: bool, writable: bool)
+        ensures { GoesOn self.old self.new }
+    {
+        if number >= LISTENERS {
+            self.note_listener(number);
+            return;
+        }
+        if let Some(socket) = self.links.get_mut(&number) {
+            socket.note(self.poll.registry(), number, readable, writable);
+            if socket.take_place() {
+                let _ = self.ready.push_back(number);
+            }
+        }
+    }
+
+    fn note_listener(&mut self, number: u64)
+        requires { LISTENERS ≤ number }
+        ensures { GoesOn self.old self.new }
+    {
+        let place = (number - LISTENERS) as usize;
+        if let Some(socket) = self.listeners.get_mut(place)
+            && socket.note()
+        {
+            let _ = self.ready.push_back(number);
+        }
+    }
+
+    /// Names a stalled listener again.
+    pub(super) fn revive(&mut self, listener: u32)
+        ensures { GoesOn self.old self.new }
+    {
+        if let Some(socket) = self.listeners.get_mut(listener as usize)
+            && socket.revive()
+        {
+            let _ = self.ready.push_back(LISTENERS + u64::from(listener));
+        }
+    }
+
+    /// The next that is to be named, unless there is none or the system is to be asked first.
+    pub fn next(&mut self) -> Option<Ready>
+        ensures wished { IfSome result (IsWished (wishes_in self.old)) }
+        ensures goes { GoesOn self.old self.new }
+    {
+        if self.named >= NAMED_BETWEEN_ASKS {
+            return None;
+        }
+        for _ in 0..self.ready.len() {
+            let Some(ready) = self.pop() else {
+                continue;
+            };
+            return Some(ready);
+        }
+        None
+    }
+
+    /// What the first number of the queue names. It goes to the queue's end, or leaves it where it isn't to be named.
+    fn pop(&mut self) -> Option<Ready>
+        ensures wished { IfSome result (IsWished (wishes_in self.old)) }
+        ensures goes { GoesOn self.old self.new }
+    {
+        let Some(number) = self.ready.pop_front() else {
+            return None;
+        };
+        let named = self.named_by(number);
+        if named.is_some() {
+            self.named = self.named.saturating_add(1);
+            let _ = self.ready.push_back(number);
+        }
+        named
+    }
+
+    fn named_by(&mut self, number: u64) -> Option<Ready>
+        ensures wished { IfSome result (IsWished (wishes_in self.old)) }
+        ensures goes { GoesOn self.old self.new }
+    {
+        if number >= LISTENERS {
+            return self.named_listener(number);
+        }
+        let Some(socket) = self.links.get_mut(&number) else {
+            return None;
+        };
+        if socket.is_nameable() {
+            return Some(Ready::Link(link_of(number)));
+        }
+        socket.leave_place();
+        None
+    }
+
+    fn named_listener(&mut self, number: u64) -> Option<Ready>
+        requires { LISTENERS ≤ number }
+        ensures wished { IfSome result (IsWished (wishes_in self.old)) }
+        ensures goes { GoesOn self.old self.new }
+    {
+        let place = number - LISTENERS;
+        let Ok(listener) = u32::try_from(place) else {
+            return None;
+        };
+        if let Some(socket) = self.listeners.get_mut(place as usize)
+            && socket.keeps_place()
+        {
+            return Some(Ready::Listener(listener));
+        }
+        None
+    }
+}
+
+impl SocketSet {
+    ghost use Rattle.proxy_net.specs.Sockets.{GoesOn};
+
+    /// How long the system is waited for: not at all where something is to be named, and else until the next try to connect.
+    fn timeout(&self, rt: &HostRuntime) -> Option<Duration> {
+        if !self.ready.is_empty() {
+            return Some(Duration::ZERO);
+        }
+        let due = self.next_due()?;
+        match Instant::now(rt) {
+            Ok(now) => Some(due.saturating_duration_since(now)),
+            Err(_) => Some(Duration::from_millis(BLIND_DELAY)),
+        }
+    }
+
+    /// When the next try to connect is due.
+    fn next_due(&self) -> Option<Instant> {
+        let mut next = None;
+        for number in &self.pending {
+            if let Some(socket) = self.links.get(number)
+                && let Some(due) = socket.due()
+            {
+                next = Some(earlier(next, due));
+            }
+        }
+        next
+    }
+
+    /// Tries again to connect the links that aren't connected yet.
+    #[tactic(auto, using(crate::proofs::Going::goes_through))]
+    fn retry_all(&mut self, rt: &HostRuntime)
+        ensures { GoesOn self.old self.new }
+    {
+        if self.pending.is_empty() {
+            return;
+        }
+        let now = Instant::now(rt).ok();
+        for _ in 0..self.pending.len() {
+            self.retry_first(rt, now);
+        }
+    }
+
+    /// Tries the first of these again. It goes to their end, unless nothing is to be tried any more.
+    fn retry_first(&mut self, rt: &HostRuntime, now: Option<Instant>)
+        ensures { GoesOn self.old self.new }
+    {
+        let Some(number) = self.pending.pop_front() else {
+            return;
+        };
+        if let Some(socket) = self.links.get_mut(&number) {
+            let attempt = socket.attempt(rt, self.poll.registry(), number, now);
+            if socket.take_place() {
+                let _ = self.ready.push_back(number);
+            }
+            if matches!(attempt, Attempt::WouldBlock) {
+                self.waits = raised(self.waits);
+            }
+            if !matches!(attempt, Attempt::Done) {
+                let _ = self.pending.push_back(number);
+            }
+        }
+    }
+}
+
+/// The earlier of two times.
+fn earlier(time: Option<Instant>, other: Instant) -> Instant {
+    match time {
+        Some(time) if time < other => time,
+        _ => other,
+    }
+}

@@ -1,0 +1,81 @@
+//! What the streams of the system answer, by what a link does about it.
+ghost use Rattle.std.specs.Prelude.{◌≡◌, ◌≤◌, ◌<◌, ℕ, length};
+
+use mio::net::UnixStream;
+use std::io::{ErrorKind, Read, Write};
+
+/// What a read of a stream gave.
+#[derive(Clone, Copy)]
+pub enum StreamRead {
+    /// So many bytes.
+    Bytes(usize),
+    /// No more bytes will come. A peer that closes with bytes unread resets the stream, which ends it too.
+    End,
+    /// No bytes are there yet.
+    Nothing,
+    /// It is to be tried again.
+    Again,
+    /// The system refused it.
+    Fault,
+}
+
+/// What a write to a stream did.
+#[derive(Clone, Copy)]
+pub enum StreamWrite {
+    /// It took so many bytes.
+    Bytes(usize),
+    /// There is no room yet.
+    Full,
+    /// The peer closed, and takes nothing any more.
+    PeerClosed,
+    /// It is to be tried again.
+    Again,
+    /// The system refused it.
+    Fault,
+}
+
+/// Reads once.
+pub fn read_stream(stream: &mut UnixStream, into: &mut [u8]) -> StreamRead
+    ensures within { (n : ℕ) → result ≡ StreamRead.Bytes n → n ≤ length into.new }
+    ensures progress { (n : ℕ) → result ≡ StreamRead.Bytes n → 0 < length into.new → 0 < n }
+{
+    match stream.read(into) {
+        Ok(0) if !into.is_empty() => StreamRead::End,
+        Ok(n) => StreamRead::Bytes(n),
+        Err(error) => refused_read(error.kind()),
+    }
+}
+
+fn refused_read(kind: ErrorKind) -> StreamRead
+    ensures none { (n : ℕ) → result ≡ StreamRead.Bytes n → ⊥ }
+{
+    match kind {
+        ErrorKind::WouldBlock => StreamRead::Nothing,
+        ErrorKind::Interrupted => StreamRead::Again,
+        ErrorKind::ConnectionReset => StreamRead::End,
+        _ => StreamRead::Fault,
+    }
+}
+
+/// Writes once. The system raises no signal where the peer closed.
+pub fn write_stream(stream: &mut UnixStream, piece: &[u8]) -> StreamWrite
+    ensures within { (n : ℕ) → result ≡ StreamWrite.Bytes n → n ≤ length piece.now }
+    ensures progress { (n : ℕ) → result ≡ StreamWrite.Bytes n → 0 < length piece.now → 0 < n }
+{
+    match stream.write(piece) {
+        Ok(0) if !piece.is_empty() => StreamWrite::Fault,
+        Ok(n) => StreamWrite::Bytes(n),
+        Err(error) => refused_write(error.kind()),
+    }
+}
+
+fn refused_write(kind: ErrorKind) -> StreamWrite
+    ensures none { (n : ℕ) → result ≡ StreamWrite.Bytes n → ⊥ }
+{
+    match kind {
+        ErrorKind::WouldBlock => StreamWrite::Full,
+        ErrorKind::Interrupted => StreamWrite::Again,
+        ErrorKind::BrokenPipe | ErrorKind::ConnectionReset => StreamWrite::PeerClosed,
+        _ => StreamWrite::Fault,
+    }
+}
