@@ -1,0 +1,79 @@
+-- What a run of a proxy line writes to the log.
+use Rattle.std.specs.Prelude.{ℕ, nat_eq, ◌≡◌, ◌⊎◌, Bool, false, ◌||◌, List, [], ◌∷◌, ◌++◌, Option, Some, None, if◌then◌else◌, slice_get}
+use Rattle.link_traits.specs.Journals.{Journal}
+use Rattle.link_traits.specs.Views.{NetView}
+use Rattle.link_traits.specs.Entries.{Entry, listened, ready, accepted, connected, read, finished, wrote, not_ready, failed, refused, shut}
+use Rattle.policy_args.specs.declared.line.Block.{Block}
+use Rattle.policy_view.specs.History.{new_in}
+use Rattle.proxy_core.specs.Sessions.{IsFront}
+use Rattle.proxy_loop.specs.Sinks.{SinkView, Appends}
+use Rattle.proxy_loop.specs.Runs.{log_of}
+use Rattle.proxy_loop.specs.Tables.{session_mode}
+use Rattle.proxy_loop.specs.Servers.{listener_of, WithoutSessions}
+
+-- the session of which a link was read
+abbrev pub read_of : Entry → Option ℕ
+read_of (read link bytes) = Some link.session
+read_of (listened listener path) = None
+read_of (ready answer) = None
+read_of (accepted listener session) = None
+read_of (connected session path) = None
+read_of (finished link) = None
+read_of (wrote link bytes) = None
+read_of (not_ready call) = None
+read_of (failed call) = None
+read_of (refused call) = None
+read_of (shut link) = None
+
+-- the lines of the messages that an entry adds to a session's history, where its block has a log
+abbrev pub lines_under : Block → ℕ → Entry → Journal → List ℕ
+lines_under block n entry before =
+    if block.options.log
+    then new_in (log_of block.options.policy (session_mode block.options) n before) (log_of block.options.policy (session_mode block.options) n (entry ∷ before))
+    else []
+
+abbrev pub lines_at : Option Block → ℕ → Entry → Journal → List ℕ
+lines_at None n entry before = []
+lines_at (Some block) n entry before = lines_under block n entry before
+
+abbrev pub block_at : List Block → Option ℕ → Option Block
+block_at blocks None = None
+block_at blocks (Some listener) = slice_get blocks listener
+
+-- under the block of the listener that accepted the session
+abbrev pub lines_of : List Block → ℕ → Entry → Journal → List ℕ
+lines_of blocks n entry before = lines_at (block_at blocks (listener_of n before)) n entry before
+
+-- a session is among those whose lines weren't all written
+abbrev pub is_cut : ℕ → List ℕ → Bool
+is_cut n [] = false
+is_cut n (m ∷ cut) = nat_eq m n || is_cut n cut
+
+-- the lines of a read are written whole, or a part of them, and then the session is among those
+abbrev pub IsWritten : ℕ → List ℕ → List ℕ → List ℕ → List ℕ → Type 0
+IsWritten n due before cut lines = ((lines ≡ due) × (cut ≡ before)) ⊎ (IsFront lines due × (cut ≡ n ∷ before))
+
+-- What a read of a session that isn't among those adds to the log. None is read of a session that is among them.
+pub record ReadLogs (n : ℕ) (due : List ℕ) (Rest : List ℕ → List ℕ → Type 0) (cut got : List ℕ) : Type 0 where
+  pub before : List ℕ
+  pub earlier : List ℕ
+  pub lines : List ℕ
+  pub rest : Rest before earlier
+  pub uncut : is_cut n before ≡ false
+  pub written : IsWritten n due before cut lines
+  pub all : got ≡ earlier ++ lines
+
+abbrev pub EntryLogs : Option ℕ → (ℕ → List ℕ) → (List ℕ → List ℕ → Type 0) → List ℕ → List ℕ → Type 0
+EntryLogs None due Rest cut got = Rest cut got
+EntryLogs (Some n) due Rest cut got = ReadLogs n (due n) Rest cut got
+
+-- The log of a journal: for each read, in order, the lines of the messages that it adds to its session's history. Of the last read
+-- of a session it may be a part of them; these sessions are listed.
+abbrev pub LogOf : List Block → Journal → List ℕ → List ℕ → Type 0
+LogOf blocks [] cut got = (cut ≡ []) × (got ≡ [])
+LogOf blocks (entry ∷ before) cut got = EntryLogs (read_of entry) (λ n. lines_of blocks n entry before) (λ c g. LogOf blocks before c g) cut got
+
+-- Where the journal is told at the end it was told at the start. Where it was without sessions then, the sink got the journal's log.
+pub record RunLogs (blocks : List Block) (before after : NetView) (first last : SinkView) : Type 0 where
+  pub each : (now : Journal) → after.journal ≡ Some now → (was : Journal) × (before.journal ≡ Some was)
+      × (WithoutSessions was → (cut : List ℕ) × (got : List ℕ) × LogOf blocks now cut got × Appends first last got)
