@@ -1,0 +1,54 @@
+-- The words of a proxy line, of which each `--args-file=FILE` stands for the words of FILE.
+--
+-- The files are read in the order of the words, and each is cut into words before the next is read. The words of a file are ended by
+-- NULs; within it `--args-file=FILE` is no option. Then all words are read as a line. An index counts all of them, those of each file
+-- in the place of the word that names it.
+use Rattle.std.specs.Prelude.{ℕ, ◌+◌, nat_lt, List, [], ◌∷◌, ◌++◌, length, codes, Option, Some, None, Result, Ok, Err, if◌then◌else◌}
+use Rattle.policy_args.specs.declared.BadWord.{BadWord}
+use Rattle.policy_args.specs.Words.{words_in, behind}
+use Rattle.policy_args.specs.ProxyLine.{LineValue, line_of}
+use Rattle.line_words.specs.declared.reading.TheConstants.{ARGS_LIMIT}
+
+-- what words come to
+pub data Line : Type 0 where
+  -- a file is needed of which nothing is told
+  Untold : Line
+  -- a file of words is above its limit
+  TooLong : Line
+  -- a word is bad
+  Bad : BadWord → Line
+  -- the words give a line
+  Reads : LineValue → Line
+
+-- what is told of the files, by their paths
+abbrev pub Told : Type 0
+Told = List ℕ → Option (List ℕ)
+
+-- the path that a word names
+abbrev pub args_path : List ℕ → Option (List ℕ)
+args_path word = behind (codes "--args-file=") word
+
+abbrev pub with_words : List (List ℕ) → Result (List (List ℕ)) BadWord → (List (List ℕ) → Line) → Line
+with_words before (Ok words) next = next (before ++ words)
+with_words before (Err bad) next = Bad (record { index = length before + bad.index; kind = bad.kind })
+
+abbrev pub with_file : List (List ℕ) → Option (List ℕ) → (List (List ℕ) → Line) → Line
+with_file before None next = Untold
+with_file before (Some bytes) next = if nat_lt ARGS_LIMIT (length bytes) then TooLong else with_words before (words_in bytes) next
+
+-- a word, or the words of the file that it names, behind those before; and then what follows
+abbrev pub with_word : Told → List (List ℕ) → List ℕ → Option (List ℕ) → (List (List ℕ) → Line) → Line
+with_word told before word None next = next (before ++ word ∷ [])
+with_word told before word (Some path) next = with_file before (told path) next
+
+abbrev pub read_all : Result LineValue BadWord → Line
+read_all (Ok line) = Reads line
+read_all (Err bad) = Bad bad
+
+-- the words one after the other, and then the line of all
+abbrev pub line_from : Told → List (List ℕ) → List (List ℕ) → Line
+line_from told before [] = read_all (line_of before)
+line_from told before (word ∷ words) = with_word told before word (args_path word) (λ now. line_from told now words)
+
+abbrev pub line_in : Told → List (List ℕ) → Line
+line_in told words = line_from told [] words

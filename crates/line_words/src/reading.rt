@@ -1,0 +1,153 @@
+//! Words, each file of words put in the place of the word that names it, and the line that they give.
+ghost use Rattle.std.specs.Prelude.{◌≡◌, ◌≤◌, ℕ, [], ◌∷◌, ◌++◌, List, Ok, length, map, option_map, string_bytes, IfOk, IfErr, IfSome, OnOk};
+ghost use Rattle.link_traits.specs.Told.{Rose};
+ghost use Rattle.policy_args.specs.Reading.{line_seen};
+ghost use Rattle.policy_args.specs.Words.{words_in};
+ghost use Rattle.line_words.specs.Words.{args_path, Reads, line_in};
+ghost use Rattle.line_words.specs.Stops.{Agrees, StopsBy, StopsFrom, FileStops, IsBehind, Expands, CausedBy};
+
+use link_traits::{FileFault, Files, read_whole};
+use policy_args::{BadWord, LineRefusal, ProxyLine, read_line, words_of};
+use std::alloc::{AllocError, Global};
+
+/// The most bytes that a file of words may have, 16 MiB, as a policy file.
+pub const ARGS_LIMIT: usize = 16_777_216;
+
+/// Why words give no proxy line.
+#[derive(Clone, Copy, Debug, PartialEq, Eq)]
+pub enum LineStop<'a> {
+    /// The file at this path, which a word names, was not read.
+    File(&'a str),
+    /// A file of words has more than `ARGS_LIMIT` bytes.
+    TooLong,
+    /// A word is bad. Its index counts the words of each file in the place of the word that names it.
+    Bad(BadWord),
+    /// Memory was refused.
+    Memory,
+}
+
+/// The proxy line of words. Each `--args-file=FILE` stands for the words of FILE, which are ended by NULs as those of a policy file are; within
+/// such a file it is no option. The files are read first, in the order of the words, and each is cut into words before the next is read.
+pub fn read_words<'a, F: Files>(
+    alloc: Global,
+    files: &mut F,
+    words: &'a [String],
+) -> Result<ProxyLine, LineStop<'a>>
+    ensures line { IfOk result (λ line. Agrees (line_in (F.told files.old) (map (λ w. string_bytes w) words.now)) (Reads (line_seen line))) }
+    ensures stops { IfErr result (λ stop. StopsBy (F.told files.old) (map (λ w. string_bytes w) words.now) stop) }
+    ensures cause { IfErr result (λ stop. CausedBy (Rose (F.faults files.old) (F.faults files.new)) stop) }
+    ensures count { F.faults files.old ≤ F.faults files.new }
+{
+    match expand(alloc, files, words) {
+        Ok(all) => match read_line(alloc, &all) {
+            Ok(line) => Ok(line),
+            Err(LineRefusal::Bad(bad)) => Err(LineStop::Bad(bad)),
+            Err(LineRefusal::Memory) => Err(LineStop::Memory),
+        },
+        Err(stop) => Err(stop),
+    }
+}
+
+/// All words, with those of each file in the place of the word that names it.
+fn expand<'a, F: Files>(
+    alloc: Global,
+    files: &mut F,
+    words: &'a [String],
+) -> Result<Vec<String>, LineStop<'a>>
+    ensures words { IfOk result (λ all. Expands (F.told files.old) [] (map (λ w. string_bytes w) words.now) (map (λ w. string_bytes w) all.items) []) }
+    ensures stops { IfErr result (λ stop. StopsBy (F.told files.old) (map (λ w. string_bytes w) words.now) stop) }
+    ensures cause { IfErr result (λ stop. CausedBy (Rose (F.faults files.old) (F.faults files.new)) stop) }
+    ensures count { F.faults files.old ≤ F.faults files.new }
+{
+    let mut all = Vec::new(alloc);
+    for word in words {
+        match add_word(alloc, files, word, &mut all) {
+            Ok(()) => {}
+            Err(stop) => return Err(stop),
+        }
+    }
+    Ok(all)
+}
+
+/// Puts a word, or the words of the file that it names, behind these.
+fn add_word<'a, F: Files>(
+    alloc: Global,
+    files: &mut F,
+    word: &'a str,
+    all: &mut Vec<String>,
+) -> Result<(), LineStop<'a>>
+    ensures words { OnOk result ((rest : List (List ℕ)) → Expands (F.told files.old) (map (λ w. string_bytes w) all.old.items) (word.now ∷ rest) (map (λ w. string_bytes w) all.new.items) rest) }
+    ensures stops { IfErr result (λ stop. (rest : List (List ℕ)) → StopsFrom (F.told files.old) (map (λ w. string_bytes w) all.old.items) (word.now ∷ rest) stop) }
+    ensures cause { IfErr result (λ stop. CausedBy (Rose (F.faults files.old) (F.faults files.new)) stop) }
+    ensures count { F.faults files.old ≤ F.faults files.new }
+    ensures kept { (p : List ℕ) → F.told files.new p ≡ F.told files.old p }
+{
+    match path_in(word) {
+        Some(path) => match file_words(alloc, files, path) {
+            Ok(mut words) => match all.append(&mut words) {
+                Ok(()) => Ok(()),
+                Err(_) => Err(LineStop::Memory),
+            },
+            Err(stop) => Err(behind(all.len(), stop)),
+        },
+        None => match add_copy(alloc, word, all) {
+            Ok(()) => Ok(()),
+            Err(_) => Err(LineStop::Memory),
+        },
+    }
+}
+
+/// The path of the file that a word names.
+fn path_in(word: &str) -> Option<&str>
+    ensures { option_map (λ path. path.now) result ≡ args_path word.now }
+{
+    word.strip_prefix("--args-file=")
+}
+
+/// Why words stop, where a file's words stand behind so many others. An index beyond all numbers is told as want of memory.
+fn behind(count: usize, stop: LineStop<'_>) -> LineStop<'_>
+    ensures { IsBehind count stop.entry result }
+{
+    match stop {
+        LineStop::Bad(bad) => match count.checked_add(bad.index) {
+            Some(index) => LineStop::Bad(BadWord {
+                index,
+                kind: bad.kind,
+            }),
+            None => LineStop::Memory,
+        },
+        other => other,
+    }
+}
+
+/// Puts a copy of a word behind these.
+fn add_copy(alloc: Global, word: &str, all: &mut Vec<String>) -> Result<(), AllocError>
+    ensures { OnOk result (map (λ w. string_bytes w) all.new.items ≡ map (λ w. string_bytes w) all.old.items ++ word.now ∷ []) }
+{
+    all.push(String::from_str(alloc, word)?)?;
+    Ok(())
+}
+
+/// The words of a file.
+fn file_words<'a, F: Files>(
+    alloc: Global,
+    files: &mut F,
+    path: &'a str,
+) -> Result<Vec<String>, LineStop<'a>>
+    ensures words { IfOk result (λ words. IfSome (F.told files.old path.now) (λ bytes. (length bytes ≤ ARGS_LIMIT) × (words_in bytes ≡ Ok (map (λ w. string_bytes w) words.items)))) }
+    ensures stops { IfErr result (λ stop. FileStops (F.told files.old path.now) path.now stop) }
+    ensures cause { IfErr result (λ stop. CausedBy (Rose (F.faults files.old) (F.faults files.new)) stop) }
+    ensures count { F.faults files.old ≤ F.faults files.new }
+    ensures kept { (p : List ℕ) → F.told files.new p ≡ F.told files.old p }
+{
+    match read_whole(alloc, files, path, ARGS_LIMIT) {
+        Ok(bytes) => match words_of(alloc, &bytes) {
+            Ok(words) => Ok(words),
+            Err(LineRefusal::Bad(bad)) => Err(LineStop::Bad(bad)),
+            Err(LineRefusal::Memory) => Err(LineStop::Memory),
+        },
+        Err(FileFault::TooLong) => Err(LineStop::TooLong),
+        Err(FileFault::Failed) => Err(LineStop::File(path)),
+        Err(FileFault::Memory) => Err(LineStop::Memory),
+    }
+}
