@@ -2,6 +2,8 @@
 #![tactic(auto)]
 
 #[cfg(test)]
+mod many;
+#[cfg(test)]
 mod served;
 #[cfg(test)]
 mod servers;

@@ -1,13 +1,13 @@
 //! What a server does with the clients of a script, told in words.
-use link_traits::{MemNet, MemSink, Net, Sink};
+use link_traits::{MemSink, Net, Sink};
 use policy_args::{LineRefusal, ProxyLine, read_line};
 use proxy_loop::{Server, ServerEnd, Turn};
 use std::alloc::{AllocError, Global};
-use test_nets::{link_of, net_of};
+use test_nets::{add_written, net_of};
 use test_tables::text_of;
 
 /// A server takes at most so many turns here.
-const MOST_TURNS: u32 = 999;
+const MOST_TURNS: u32 = 99_999;
 
 /// How many bytes the log has room for, where no other number stands in front of a row.
 const LOG_ROOM: usize = 999;
@@ -34,7 +34,7 @@ pub fn told_server(alloc: Global, row: &str) -> Result<String, AllocError> {
 }
 
 /// The proxy line of words. Bad words are told as if memory had run out.
-fn line_of(alloc: Global, text: &str) -> Result<ProxyLine, AllocError> {
+pub fn line_of(alloc: Global, text: &str) -> Result<ProxyLine, AllocError> {
     let mut words = Vec::new(alloc);
     for word in text.split(' ') {
         words.push(String::from_str(alloc, word)?)?;
@@ -46,7 +46,7 @@ fn line_of(alloc: Global, text: &str) -> Result<ProxyLine, AllocError> {
 }
 
 /// Listens, and takes turns until one is the last.
-fn serve<N: Net, S: Sink>(
+pub fn serve<N: Net, S: Sink>(
     server: &mut Server,
     net: &mut N,
     log: &mut S,
@@ -65,21 +65,4 @@ fn told_end(alloc: Global, end: Result<Turn, ServerEnd>) -> Result<String, Alloc
         Ok(turn) => format!(in alloc; "{turn:?}"),
         Err(end) => format!(in alloc; "{end:?}"),
     }
-}
-
-/// Adds what was written to each link of a list.
-fn add_written(
-    alloc: Global,
-    told: &mut String,
-    net: &MemNet,
-    links: &str,
-) -> Result<(), AllocError> {
-    for name in links.split(' ') {
-        let written = net.written(alloc, link_of(name))?;
-        told.push_str(", ")?;
-        told.push_str(name)?;
-        told.push(' ')?;
-        told.push_str(&text_of(alloc, &written)?)?;
-    }
-    Ok(())
 }

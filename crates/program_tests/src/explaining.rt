@@ -4,6 +4,7 @@ use crate::outside::{DROPPED, LOG};
 use crate::runs::{Ended, run_on};
 use std::alloc::{AllocError, Global};
 use std::test::Fail;
+use std::thread::Threads;
 use test_tables::{plain, wrong_row};
 
 /// A recording of a call of org.a.I.M at org.a.S.
@@ -45,7 +46,8 @@ const FILES: &str = "\
 --filter DBPR%01~ => 9 0 error: no such message
 ";
 
-fn explained(
+fn explained<R: Threads + Sync>(
+    rt: &R,
     alloc: Global,
     policy: &[u8],
     recording: &[u8],
@@ -53,22 +55,26 @@ fn explained(
     room: usize,
 ) -> Result<Ended, AllocError> {
     let words = format!(in alloc; "explain policy recording {number}")?;
-    run_on(alloc, &words, policy, recording, room)
+    run_on(rt, alloc, &words, policy, recording, room)
 }
 
-fn told_number(alloc: Global, number: &str) -> Result<String, AllocError> {
-    told(alloc, &explained(alloc, SEE, SEEN, number, 200)?)
+fn told_number<R: Threads + Sync>(
+    rt: &R,
+    alloc: Global,
+    number: &str,
+) -> Result<String, AllocError> {
+    told(alloc, &explained(rt, alloc, SEE, SEEN, number, 200)?)
 }
 
-fn told_files(alloc: Global, files: &str) -> Result<String, AllocError> {
+fn told_files<R: Threads + Sync>(rt: &R, alloc: Global, files: &str) -> Result<String, AllocError> {
     let (policy, recording) = files.split_once(' ').unwrap_or((files, ""));
     let (policy, recording) = (plain(alloc, policy)?, plain(alloc, recording)?);
-    told(alloc, &explained(alloc, &policy, &recording, "0", 200)?)
+    told(alloc, &explained(rt, alloc, &policy, &recording, "0", 200)?)
 }
 
 #[test]
 fn a_message_is_explained_with_the_entry_of_its_decision(rt: HostRuntime) -> Result<(), Fail> {
-    let ended = explained(rt.alloc(), SEE, SEEN, "1", 200)?;
+    let ended = explained(&rt, rt.alloc(), SEE, SEEN, "1", 200)?;
     assert_eq!(rt; (ended.code, ended.err.bytes.len()), (0, 0));
     assert_eq!(rt; ended.out.bytes.as_slice(), SEEN_LINES);
     Ok(())
@@ -79,7 +85,7 @@ fn a_decision_without_an_entry_has_one_line_and_a_log_changes_nothing(
     rt: HostRuntime,
 ) -> Result<(), Fail> {
     for policy in [b"--filter".as_slice(), b"--filter\0--log".as_slice()] {
-        let ended = explained(rt.alloc(), policy, DROPPED, "1", 200)?;
+        let ended = explained(&rt, rt.alloc(), policy, DROPPED, "1", 200)?;
         assert_eq!(rt; (ended.code, ended.err.bytes.len()), (0, 0));
         assert_eq!(rt; ended.out.bytes.as_slice(), LOG);
     }
@@ -89,7 +95,7 @@ fn a_decision_without_an_entry_has_one_line_and_a_log_changes_nothing(
 #[test]
 fn an_explanation_without_room_is_cut_with_status_6(rt: HostRuntime) -> Result<(), Fail> {
     for room in 0..SEEN_LINES.len() {
-        let ended = explained(rt.alloc(), SEE, SEEN, "1", room)?;
+        let ended = explained(&rt, rt.alloc(), SEE, SEEN, "1", room)?;
         assert_eq!(rt; (ended.code, ended.err.bytes.len()), (6, 0));
         assert_eq!(rt; ended.out.bytes.as_slice(), &SEEN_LINES[..room]);
     }
@@ -98,13 +104,20 @@ fn an_explanation_without_room_is_cut_with_status_6(rt: HostRuntime) -> Result<(
 
 #[test]
 fn numbers_of_no_message_are_9_and_other_words_are_usage(rt: HostRuntime) -> Result<(), Fail> {
-    assert_eq!(rt; wrong_row(rt.alloc(), NUMBERS, &told_number)?, None);
+    assert_eq!(rt;
+        wrong_row(
+            rt.alloc(),
+            NUMBERS,
+            &|alloc, number| told_number(&rt, alloc, number)
+        )?,
+        None
+    );
     Ok(())
 }
 
 #[test]
 fn without_the_filter_a_recording_has_no_messages(rt: HostRuntime) -> Result<(), Fail> {
-    let ended = explained(rt.alloc(), b"--see=org.a.S", SEEN, "1", 200)?;
+    let ended = explained(&rt, rt.alloc(), b"--see=org.a.S", SEEN, "1", 200)?;
     assert_eq!(rt;
         told(rt.alloc(), &ended)?.as_str(),
         "9 0 error: no such message"
@@ -114,6 +127,13 @@ fn without_the_filter_a_recording_has_no_messages(rt: HostRuntime) -> Result<(),
 
 #[test]
 fn files_are_checked_before_the_number(rt: HostRuntime) -> Result<(), Fail> {
-    assert_eq!(rt; wrong_row(rt.alloc(), FILES, &told_files)?, None);
+    assert_eq!(rt;
+        wrong_row(
+            rt.alloc(),
+            FILES,
+            &|alloc, files| told_files(&rt, alloc, files)
+        )?,
+        None
+    );
     Ok(())
 }

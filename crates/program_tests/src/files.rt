@@ -6,13 +6,14 @@ use recording::RECORDING_LIMIT;
 use std::alloc::{AllocError, Global};
 use std::str;
 use std::test::Fail;
+use std::thread::Threads;
 use test_tables::{plain, wrong_row};
 
 /// Words, and the status, how many bytes are written, and the line.
 const WORDS: &str = "\
 replay policy recording => 0 0 
- => 1 0 error: usage
-play policy recording => 1 0 error: usage
+ => 1 0 error: word 0: BadAddress
+play policy recording => 1 0 error: word 0: BadAddress
 replay => 1 0 error: usage
 replay policy => 1 0 error: usage
 replay policy recording more => 1 0 error: usage
@@ -64,7 +65,7 @@ replay -- policy recording more => 1 0 error: usage
 replay -- -policy recording => 4 0 error: file -policy
 replay policy -- --recording => 4 0 error: file --recording
 replay -- policy -- => 4 0 error: file --
--- replay policy recording => 1 0 error: usage
+-- replay policy recording => 1 0 error: word 0: OptionBeforeAddress
 explain --policy recording 1 => 1 0 error: usage
 explain policy -recording 1 => 1 0 error: usage
 explain policy recording -1 => 1 0 error: usage
@@ -78,21 +79,21 @@ sample --version => 1 0 error: usage
 sample -- 3 1 => 0 77 
 ";
 
-/// Words that ask for a text, and the same.
+/// Words that ask for a text, and such that don't and are a proxy line.
 const ALONE: &str = "\
 --version => 0 16 
---version more => 1 0 error: usage
---version --help => 1 0 error: usage
---help more => 1 0 error: usage
---help --version => 1 0 error: usage
---help= => 1 0 error: usage
---Help => 1 0 error: usage
--- => 1 0 error: usage
--- --help => 1 0 error: usage
--h => 1 0 error: usage
--V => 1 0 error: usage
-help => 1 0 error: usage
-version => 1 0 error: usage
+--version more => 1 0 error: word 0: OptionBeforeAddress
+--version --help => 1 0 error: word 0: OptionBeforeAddress
+--help more => 1 0 error: word 0: OptionBeforeAddress
+--help --version => 1 0 error: word 0: OptionBeforeAddress
+--help= => 1 0 error: word 0: OptionBeforeAddress
+--Help => 1 0 error: word 0: OptionBeforeAddress
+-- => 1 0 error: word 0: OptionBeforeAddress
+-- --help => 1 0 error: word 0: OptionBeforeAddress
+-h => 1 0 error: word 0: BadAddress
+-V => 1 0 error: word 0: BadAddress
+help => 1 0 error: word 0: BadAddress
+version => 1 0 error: word 0: BadAddress
 ";
 
 /// A policy file and a recording, and the status, how many bytes are written, and the line.
@@ -113,8 +114,8 @@ const FILES: &str = "\
 --filter DBPR%01~%01%01~~~a%04 => 3 0 error: recording: BadKind at 12
 ";
 
-fn told_words(alloc: Global, words: &str) -> Result<String, AllocError> {
-    let ended = run_over(alloc, words, good_files(alloc)?, 100)?;
+fn told_words<R: Threads + Sync>(rt: &R, alloc: Global, words: &str) -> Result<String, AllocError> {
+    let ended = run_over(rt, alloc, words, good_files(alloc)?, 100)?;
     told(alloc, &ended)
 }
 
@@ -125,14 +126,19 @@ fn good_files(alloc: Global) -> Result<Vec<MemFile>, AllocError> {
     Ok(files)
 }
 
-fn told_files(alloc: Global, files: &str) -> Result<String, AllocError> {
+fn told_files<R: Threads + Sync>(rt: &R, alloc: Global, files: &str) -> Result<String, AllocError> {
     let (policy, recording) = files.split_once(' ').unwrap_or((files, ""));
     let (policy, recording) = (plain(alloc, policy)?, plain(alloc, recording)?);
-    told_replay(alloc, &policy, &recording)
+    told_replay(rt, alloc, &policy, &recording)
 }
 
-fn told_replay(alloc: Global, policy: &[u8], recording: &[u8]) -> Result<String, AllocError> {
-    let ended = replay(alloc, policy, recording, 100)?;
+fn told_replay<R: Threads + Sync>(
+    rt: &R,
+    alloc: Global,
+    policy: &[u8],
+    recording: &[u8],
+) -> Result<String, AllocError> {
+    let ended = replay(rt, alloc, policy, recording, 100)?;
     told(alloc, &ended)
 }
 
@@ -151,31 +157,50 @@ fn line_of(text: &str) -> &str {
 }
 
 #[test]
-fn words_of_another_form_are_usage(rt: HostRuntime) -> Result<(), Fail> {
+fn words_of_a_tool_or_of_none_have_a_status_and_a_line(rt: HostRuntime) -> Result<(), Fail> {
     for table in [WORDS, DASHES, ALONE] {
-        assert_eq!(rt; wrong_row(rt.alloc(), table, &told_words)?, None);
+        assert_eq!(rt;
+            wrong_row(
+                rt.alloc(),
+                table,
+                &|alloc, words| told_words(&rt, alloc, words)
+            )?,
+            None
+        );
     }
     Ok(())
 }
 
 #[test]
 fn bad_files_have_a_status_and_a_line(rt: HostRuntime) -> Result<(), Fail> {
-    assert_eq!(rt; wrong_row(rt.alloc(), FILES, &told_files)?, None);
+    assert_eq!(rt;
+        wrong_row(
+            rt.alloc(),
+            FILES,
+            &|alloc, files| told_files(&rt, alloc, files)
+        )?,
+        None
+    );
     Ok(())
 }
 
 /// A replay of as many zeros for a policy, and of as many for a recording.
-fn told_zeros(alloc: Global, policy: usize, recording: usize) -> Result<String, AllocError> {
+fn told_zeros<R: Threads + Sync>(
+    rt: &R,
+    alloc: Global,
+    policy: usize,
+    recording: usize,
+) -> Result<String, AllocError> {
     let policy = vec![in alloc; 0; policy]?;
     let recording = vec![in alloc; 0; recording]?;
-    told_replay(alloc, &policy, &recording)
+    told_replay(rt, alloc, &policy, &recording)
 }
 
 #[test]
 fn files_above_their_limits_are_too_long(rt: HostRuntime) -> Result<(), Fail> {
-    let told = told_zeros(rt.alloc(), POLICY_LIMIT + 1, 0);
+    let told = told_zeros(&rt, rt.alloc(), POLICY_LIMIT + 1, 0);
     assert_eq!(rt; told?.as_str(), "2 0 error: policy file too long");
-    let told = told_zeros(rt.alloc(), 0, RECORDING_LIMIT + 1);
+    let told = told_zeros(&rt, rt.alloc(), 0, RECORDING_LIMIT + 1);
     assert_eq!(rt; told?.as_str(), "3 0 error: recording: TooLong at 67108864");
     Ok(())
 }

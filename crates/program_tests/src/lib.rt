@@ -12,4 +12,6 @@ mod runs;
 #[cfg(test)]
 mod sampling;
 #[cfg(test)]
+mod serving;
+#[cfg(test)]
 mod texts;

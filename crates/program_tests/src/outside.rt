@@ -5,10 +5,11 @@ use proxy_main::{DiskFiles, StdSink};
 use std::alloc::{AllocError, Global};
 use std::fs;
 use std::test::Fail;
+use std::thread::Threads;
 
 #[test]
 fn output_without_room_is_cut_with_status_6(rt: HostRuntime) -> Result<(), Fail> {
-    let ended = replay(rt.alloc(), b"--filter", b"DBPR\x01\0\x02\0\0\0\0", 3)?;
+    let ended = replay(&rt, rt.alloc(), b"--filter", b"DBPR\x01\0\x02\0\0\0\0", 3)?;
     assert_eq!(rt; (ended.code, ended.err.bytes.len()), (6, 0));
     assert_eq!(rt; ended.out.bytes.as_slice(), b"\x12\x01\0".as_slice());
     Ok(())
@@ -28,17 +29,17 @@ pub const LOG: &[u8] =
     b"1 c 1 call serial=10 reply=- from=- dest=org.h.X path=/x iface=org.h.I member=M drop NotVisible 0\n";
 
 /// A replay of it with room for so many bytes of the log.
-fn logged(alloc: Global, room: usize) -> Result<Ended, AllocError> {
+fn logged<R: Threads + Sync>(rt: &R, alloc: Global, room: usize) -> Result<Ended, AllocError> {
     let mut files = Vec::new(alloc);
     files.push(file(alloc, "policy", b"--filter\0--log")?)?;
     files.push(file(alloc, "recording", DROPPED)?)?;
-    run_with_room(alloc, "replay policy recording", files, 100, room)
+    run_with_room(rt, alloc, "replay policy recording", files, 100, room)
 }
 
 #[test]
 fn a_log_without_room_is_cut_with_status_6_before_the_output(rt: HostRuntime) -> Result<(), Fail> {
     for room in 0..LOG.len() {
-        let ended = logged(rt.alloc(), room)?;
+        let ended = logged(&rt, rt.alloc(), room)?;
         assert_eq!(rt; (ended.code, ended.out.bytes.len()), (6, 0));
         assert_eq!(rt; ended.err.bytes.as_slice(), &LOG[..room]);
     }
@@ -47,7 +48,7 @@ fn a_log_without_room_is_cut_with_status_6_before_the_output(rt: HostRuntime) ->
 
 #[test]
 fn a_log_with_room_stands_beside_the_output(rt: HostRuntime) -> Result<(), Fail> {
-    let ended = logged(rt.alloc(), LOG.len())?;
+    let ended = logged(&rt, rt.alloc(), LOG.len())?;
     assert_eq!(rt; ended.code, 0);
     assert_eq!(rt; ended.err.bytes.as_slice(), LOG);
     assert_eq!(rt;

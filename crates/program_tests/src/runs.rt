@@ -1,7 +1,9 @@
-//! Runs of the program over files and sinks in memory.
-use link_traits::{MemFile, MemFiles, MemSink};
+//! Runs of the program over files, nets and sinks in memory.
+use link_traits::{MemFile, MemFiles, MemNet, MemSink};
 use proxy_main::run;
 use std::alloc::{AllocError, Global};
+use std::thread::Threads;
+use test_nets::net_of;
 
 /// What a run ended with.
 #[derive(Drop)]
@@ -12,28 +14,43 @@ pub struct Ended {
 }
 
 /// A run of words, which spaces part, over these files, with room for so many bytes of output and enough for a line.
-pub fn run_over(
+pub fn run_over<R: Threads + Sync>(
+    rt: &R,
     alloc: Global,
     words: &str,
     files: Vec<MemFile>,
     room: usize,
 ) -> Result<Ended, AllocError> {
-    run_with_room(alloc, words, files, room, 100)
+    run_with_room(rt, alloc, words, files, room, 100)
 }
 
 /// The same with room for so many bytes of output, and for so many on standard error.
-pub fn run_with_room(
+pub fn run_with_room<R: Threads + Sync>(
+    rt: &R,
     alloc: Global,
     words: &str,
     files: Vec<MemFile>,
     out_room: usize,
     err_room: usize,
 ) -> Result<Ended, AllocError> {
+    let mut net = net_of(alloc, "")?;
+    run_on_net(rt, alloc, words, files, &mut net, (out_room, err_room))
+}
+
+/// The same over a net, with room for output and standard error.
+pub fn run_on_net<R: Threads + Sync>(
+    rt: &R,
+    alloc: Global,
+    words: &str,
+    files: Vec<MemFile>,
+    net: &mut MemNet,
+    room: (usize, usize),
+) -> Result<Ended, AllocError> {
     let words = split(alloc, words)?;
     let mut files = MemFiles::new(files);
-    let mut out = MemSink::new(alloc, out_room)?;
-    let mut err = MemSink::new(alloc, err_room)?;
-    let status = run(alloc, &words, &mut files, &mut out, &mut err);
+    let mut out = MemSink::new(alloc, room.0)?;
+    let mut err = MemSink::new(alloc, room.1)?;
+    let status = run(rt, alloc, &words, &mut files, net, &mut out, &mut err);
     let code = status.code;
     Ok(Ended { code, out, err })
 }
@@ -59,7 +76,8 @@ pub fn file(alloc: Global, path: &str, bytes: &[u8]) -> Result<MemFile, AllocErr
 }
 
 /// A run of words over the files `policy` and `recording`, with room for so many bytes of output.
-pub fn run_on(
+pub fn run_on<R: Threads + Sync>(
+    rt: &R,
     alloc: Global,
     words: &str,
     policy: &[u8],
@@ -69,15 +87,23 @@ pub fn run_on(
     let mut files = Vec::new(alloc);
     files.push(file(alloc, "policy", policy)?)?;
     files.push(file(alloc, "recording", recording)?)?;
-    run_over(alloc, words, files, room)
+    run_over(rt, alloc, words, files, room)
 }
 
 /// A replay of a recording under a policy, with room for so many bytes of output.
-pub fn replay(
+pub fn replay<R: Threads + Sync>(
+    rt: &R,
     alloc: Global,
     policy: &[u8],
     recording: &[u8],
     room: usize,
 ) -> Result<Ended, AllocError> {
-    run_on(alloc, "replay policy recording", policy, recording, room)
+    run_on(
+        rt,
+        alloc,
+        "replay policy recording",
+        policy,
+        recording,
+        room,
+    )
 }

@@ -4,7 +4,7 @@ use std::test::Fail;
 
 #[test]
 fn a_sample_is_summed_up(rt: HostRuntime) -> Result<(), Fail> {
-    let ended = run_over(rt.alloc(), "sample 3 1", Vec::new(rt.alloc()), 200)?;
+    let ended = run_over(&rt, rt.alloc(), "sample 3 1", Vec::new(rt.alloc()), 200)?;
     assert_eq!(rt; (ended.code, ended.err.bytes.len()), (0, 0));
     assert_eq!(rt;
         ended.out.bytes.as_slice(),

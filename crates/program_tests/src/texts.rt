@@ -4,6 +4,7 @@ use policy_args::read_options;
 use proxy_main::{HELP, VERSION};
 use std::alloc::{AllocError, Global};
 use std::test::Fail;
+use std::thread::Threads;
 use tool_words::{explain_words, replay_words, sample_words};
 
 /// Each option of a policy file, as the help shows it, and a word of it.
@@ -17,6 +18,9 @@ const OPTIONS: [(&str, &str); 7] = [
     ("--broadcast=NAME=RULE", "--broadcast=org.a.B=*"),
 ];
 
+/// Each option that a proxy line alone has, as the help shows it.
+const LINE_OPTIONS: [&str; 2] = ["--sessions=N", "--args-file=FILE"];
+
 /// Each tool with its words, and what else the program is asked for.
 const TOOLS: [&str; 5] = [
     "replay POLICY RECORDING",
@@ -27,7 +31,7 @@ const TOOLS: [&str; 5] = [
 ];
 
 /// Each status.
-const STATUSES: [u8; 8] = [0, 1, 2, 3, 4, 6, 8, 9];
+const STATUSES: [u8; 9] = [0, 1, 2, 3, 4, 5, 6, 8, 9];
 
 /// How many lines of the help begin so.
 fn lines_with(start: &str) -> usize {
@@ -60,19 +64,29 @@ fn is_taken(alloc: Global, words: &[String]) -> Result<bool, AllocError> {
 }
 
 /// Whether these words write the text, and a front of it with status 6 where out has room for no more.
-fn is_written(alloc: Global, words: &str, text: &str) -> Result<bool, AllocError> {
-    let ended = run_over(alloc, words, Vec::new(alloc), text.len())?;
+fn is_written<R: Threads + Sync>(
+    rt: &R,
+    alloc: Global,
+    words: &str,
+    text: &str,
+) -> Result<bool, AllocError> {
+    let ended = run_over(rt, alloc, words, Vec::new(alloc), text.len())?;
     Ok(
         ended.code == 0
             && ended.err.bytes.is_empty()
             && ended.out.bytes.as_slice() == text.as_bytes()
-            && is_cut(alloc, words, text)?,
+            && is_cut(rt, alloc, words, text)?,
     )
 }
 
-fn is_cut(alloc: Global, words: &str, text: &str) -> Result<bool, AllocError> {
+fn is_cut<R: Threads + Sync>(
+    rt: &R,
+    alloc: Global,
+    words: &str,
+    text: &str,
+) -> Result<bool, AllocError> {
     for room in 0..text.len() {
-        let ended = run_over(alloc, words, Vec::new(alloc), room)?;
+        let ended = run_over(rt, alloc, words, Vec::new(alloc), room)?;
         if ended.code != 6
             || !ended.err.bytes.is_empty()
             || ended.out.bytes.as_slice() != &text.as_bytes()[..room]
@@ -85,22 +99,26 @@ fn is_cut(alloc: Global, words: &str, text: &str) -> Result<bool, AllocError> {
 
 #[test]
 fn help_and_version_are_written(rt: HostRuntime) -> Result<(), Fail> {
-    assert!(rt; is_written(rt.alloc(), "--help", HELP)?);
+    assert!(rt; is_written(&rt, rt.alloc(), "--help", HELP)?);
     let version = format!(in rt.alloc(); "zamtigarn {VERSION}\n")?;
     assert_eq!(rt; version.as_str(), "zamtigarn 0.1.0\n");
-    assert!(rt; is_written(rt.alloc(), "--version", version.as_str())?);
+    assert!(rt; is_written(&rt, rt.alloc(), "--version", version.as_str())?);
     Ok(())
 }
 
 #[test]
-fn help_tells_each_option_of_a_policy(rt: HostRuntime) -> Result<(), Fail> {
+fn help_tells_each_option(rt: HostRuntime) -> Result<(), Fail> {
     for (shown, word) in OPTIONS {
         let start = format!(in rt.alloc(); "  {shown} ")?;
         assert_eq!(rt; lines_with(start.as_str()), 1);
         let words = split(rt.alloc(), word)?;
         assert!(rt; read_options(rt.alloc(), &words).is_ok());
     }
-    assert_eq!(rt; lines_with("  --"), OPTIONS.len());
+    for shown in LINE_OPTIONS {
+        let start = format!(in rt.alloc(); "  {shown} ")?;
+        assert_eq!(rt; lines_with(start.as_str()), 1);
+    }
+    assert_eq!(rt; lines_with("  --"), OPTIONS.len() + LINE_OPTIONS.len());
     Ok(())
 }
 
@@ -112,7 +130,8 @@ fn help_tells_each_tool_and_each_status(rt: HostRuntime) -> Result<(), Fail> {
         let words = split(rt.alloc(), tool)?;
         assert!(rt; is_taken(rt.alloc(), &words)?);
     }
-    assert_eq!(rt; lines_with("  zamtigarn "), TOOLS.len());
+    assert_eq!(rt; lines_with("  zamtigarn ADDRESS PATH [OPTION]... "), 1);
+    assert_eq!(rt; lines_with("  zamtigarn "), TOOLS.len() + 1);
     for status in STATUSES {
         let start = format!(in rt.alloc(); "  {status}  ")?;
         assert_eq!(rt; lines_with(start.as_str()), 1);

@@ -40,7 +40,7 @@ rose_later a b c le rose = λ small. let before : b < 2 ^ 64 - 1 = omega arith i
 rose_earlier : (a b c : ℕ) → a ≤ b → Rose b c → Rose a c
 rose_earlier a b c le rose = λ small. let more : b < c = rose small in omega arith
 
-said_over : (a b c : ℕ) (old new : Option (List ℕ)) (line : List ℕ) → a ≤ b → Said (Rose b c) old new line → Said (Rose a c) old new line
+pub said_over : (a b c : ℕ) (old new : Option (List ℕ)) (line : List ℕ) → a ≤ b → Said (Rose b c) old new line → Said (Rose a c) old new line
 said_over a b c old new line le (Whole is) = Whole is
 said_over a b c old new line le (Cut rose part) = Cut (rose_earlier a b c le rose) part
 

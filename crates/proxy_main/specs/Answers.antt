@@ -1,7 +1,7 @@
 -- What a run answers, by its words and by what is told of the files.
 --
 -- The files are read in the order of the words, and each is read and checked before the next. The first fault is the answer.
-use Rattle.std.specs.Prelude.{◌≡◌, ℕ, Bool, true, false, nat_lt, List, [], ◌++◌, length, codes, Option, Some, None, Result, Ok, Err, bytes_eq, if◌then◌else◌}
+use Rattle.std.specs.Prelude.{◌≡◌, ℕ, Bool, true, false, nat_lt, List, [], ◌++◌, length, codes, Option, Some, None, Result, Ok, Err, if◌then◌else◌}
 use Rattle.policy_args.specs.declared.BadWord.{BadWord}
 use Rattle.policy_args.specs.Words.{PolicyOptions, options_of, words_in, ◌>>=◌}
 use Rattle.recording.specs.Recording.{Recording, recording_of}
@@ -9,10 +9,12 @@ use Rattle.replay.specs.Output.{output_of_recording, log_of_recording, history_o
 use Rattle.replay.specs.Explained.{explained}
 use Rattle.sample.specs.Sample.{sample}
 use Rattle.sample.specs.Summary.{sample_options, summary_of}
+pub use Rattle.line_words.specs.Stops.{without}
 use Rattle.proxy_main.specs.declared.Refusal.{Refusal}
-use Rattle.proxy_main.specs.declared.Refusal.TheVariants.{Usage, PolicyWord, PolicyTooLong, Recording as BadFile, NoSuchMessage}
+use Rattle.proxy_main.specs.declared.Refusal.TheVariants.{Usage, LineWord, ArgsTooLong, PolicyWord, PolicyTooLong, Recording as BadFile, NoSuchMessage}
 use Rattle.proxy_main.specs.declared.TheConstants.{POLICY_LIMIT}
 use Rattle.proxy_main.specs.declared.texts.TheConstants.{HELP, VERSION}
+use Rattle.proxy_main.specs.Lines.{is_policy_kind}
 use Rattle.proxy_main.specs.Words.{Command, Replay, Explain, Sample, Help, Version, reading}
 
 pub data Answer : Type 0 where
@@ -103,6 +105,8 @@ Agrees answer this = IsSettled answer → answer ≡ this
 -- the status of a refusal
 abbrev pub refusal_code : Refusal → ℕ
 refusal_code Usage = 1
+refusal_code (LineWord bad) = if is_policy_kind bad.kind then 2 else 1
+refusal_code ArgsTooLong = 1
 refusal_code (PolicyWord bad) = 2
 refusal_code PolicyTooLong = 2
 refusal_code (BadFile fault) = 3
@@ -150,7 +154,3 @@ may_log told (Some Version) = false
 pub record IsLog (told : List ℕ → Option (List ℕ)) (command : Option Command) (log : List ℕ) : Type 0 where
   pub settled : IsSettled (answer_to told command) → log ≡ log_of (answer_to told command)
   pub unasked : may_log told command ≡ false → log ≡ []
-
--- what is told where nothing is told of one path
-abbrev pub without : List ℕ → (List ℕ → Option (List ℕ)) → List ℕ → Option (List ℕ)
-without path told p = if bytes_eq p path then None else told p

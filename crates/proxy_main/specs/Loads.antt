@@ -2,7 +2,7 @@
 use Rattle.std.specs.Prelude.{◌≡◌, ℕ, true, List, Option, Some, None, Result, Ok, Err, IfSome}
 use Rattle.link_traits.specs.Told.{added, Part}
 use Rattle.proxy_main.specs.declared.Refusal.{Refusal}
-use Rattle.proxy_main.specs.declared.Refusal.TheVariants.{Usage, PolicyWord, PolicyTooLong, Recording, NoSuchMessage}
+use Rattle.proxy_main.specs.declared.Refusal.TheVariants.{Usage, LineWord, ArgsTooLong, PolicyWord, PolicyTooLong, Recording, NoSuchMessage}
 use Rattle.proxy_main.specs.declared.Stop.{Stop}
 use Rattle.proxy_main.specs.declared.Stop.TheVariants.{Refused as Refuses, File, Output, Log, Memory}
 use Rattle.proxy_main.specs.Words.{Command, Replay, Explain, Sample, Help, Version}
@@ -15,6 +15,8 @@ use Rattle.proxy_main.specs.Answers.{Answer, Untold, Refused, then_load, answer_
 -- a refusal of a file
 abbrev pub IsOfFile : Refusal → Type 0
 IsOfFile Usage = ⊥
+IsOfFile (LineWord bad) = ⊥
+IsOfFile ArgsTooLong = ⊥
 IsOfFile (PolicyWord bad) = Unit {0}
 IsOfFile PolicyTooLong = Unit {0}
 IsOfFile (Recording fault) = Unit {0}
@@ -57,6 +59,8 @@ IsExplain (Some Version) = ⊥
 -- the words are refused only where they name nothing, and a message's number only where they ask for a message
 abbrev pub IsOfWords : Refusal → Option Command → Type 0
 IsOfWords Usage command = command ≡ None
+IsOfWords (LineWord bad) command = ⊥
+IsOfWords ArgsTooLong command = ⊥
 IsOfWords (PolicyWord bad) command = Unit {0}
 IsOfWords PolicyTooLong command = Unit {0}
 IsOfWords (Recording fault) command = Unit {0}

@@ -1,4 +1,4 @@
--- The words of the command line.
+-- The words of the command line, where they name a tool.
 --
 --     replay POLICY RECORDING       plays the recording of one file under the policy of another
 --     explain POLICY RECORDING N    tells what was decided there on the recording's message of number N, from 1, and by which entry
@@ -7,9 +7,9 @@
 --     --version                     writes its version
 --
 -- The words of a tool are those that its command takes. POLICY and RECORDING are paths. Each number is decimal, in digits alone and with
--- no zero in front of others: the N of a sample is at most 100,000, and any other number is below 2^64. Words of any other form name
--- nothing.
-use Rattle.std.specs.Prelude.{ℕ, ◌-◌, ◌^◌, nat_le, List, [], ◌∷◌, Option, Some, None, option_map, codes, bytes_eq, if◌then◌else◌}
+-- no zero in front of others: the N of a sample is at most 100,000, and any other number is below 2^64. Words of any other form are
+-- none of a tool's.
+use Rattle.std.specs.Prelude.{ℕ, ◌-◌, ◌^◌, ◌||◌, nat_le, Bool, false, List, [], ◌∷◌, Option, Some, None, option_map, codes, bytes_eq, if◌then◌else◌}
 use Rattle.policy_args.specs.ProxyLine.{number_of}
 use Rattle.tool_words.specs.Tools.{taken, replay_places, explain_places, sample_places}
 
@@ -82,3 +82,16 @@ named_by tool words =
 abbrev pub reading : List (List ℕ) → Option Command
 reading [] = None
 reading (tool ∷ words) = named_by tool (tool ∷ words)
+
+-- a tool that is built
+abbrev pub is_tool_name : List ℕ → Bool
+is_tool_name word = bytes_eq word (codes "replay") || bytes_eq word (codes "explain") || bytes_eq word (codes "sample")
+
+abbrev pub asks_alone : List (List ℕ) → Bool
+asks_alone (word ∷ []) = bytes_eq word (codes "--help") || bytes_eq word (codes "--version")
+asks_alone words = false
+
+-- The words name a tool where the first of them does, or where `--help` or `--version` is the only one. Any others are a proxy line.
+abbrev pub names_tool : List (List ℕ) → Bool
+names_tool [] = false
+names_tool (word ∷ words) = is_tool_name word || asks_alone (word ∷ words)

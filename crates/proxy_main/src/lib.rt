@@ -1,6 +1,7 @@
 //! The program behind its command line.
 //!
-//! `replay POLICY RECORDING` plays a recorded session under a policy, and writes what its sides get
+//! `ADDRESS PATH [OPTION..]` and further such blocks are a proxy line: the program listens at each PATH, and serves each client that comes
+//! between it and the bus at ADDRESS, by the block's options. The tools work on files. `replay POLICY RECORDING` plays a recorded session under a policy, and writes what its sides get
 //! on the standard output. Where the policy asks for a log, that is written first, on the standard
 //! error. `explain POLICY RECORDING N` plays it too, and writes what was decided on its message of
 //! number N, and the entry of the policy on which that rests. `sample N SEED` plays a generated
@@ -12,9 +13,11 @@ mod disk_files;
 mod files;
 mod lines;
 mod program;
+mod serving;
 mod std_sink;
 mod stops;
 mod texts;
+mod tools;
 mod words;
 mod work;
 
@@ -26,6 +29,7 @@ pub use program::run;
 use recording::BadRecording;
 pub use std_sink::StdSink;
 pub use texts::{HELP, VERSION};
+pub use tools::tool;
 
 /// The most bytes that a policy file may have, 16 MiB: far more than the 65,535 entries of a
 /// policy take, and little beside the memory of a program.
@@ -34,8 +38,12 @@ pub const POLICY_LIMIT: usize = 16_777_216;
 /// Why the words or a file are refused.
 #[derive(Clone, Copy, Debug, PartialEq, Eq)]
 pub enum Refusal {
-    /// The words name no command.
+    /// The words of a tool aren't those that it takes.
     Usage,
+    /// A word of a proxy line is bad.
+    LineWord(BadWord),
+    /// A file of words of a proxy line has more than `line_words::ARGS_LIMIT` bytes.
+    ArgsTooLong,
     /// A word of the policy file is bad.
     PolicyWord(BadWord),
     /// The policy file has more than `POLICY_LIMIT` bytes.
@@ -64,9 +72,10 @@ pub(crate) enum Stop<'a> {
 
 /// The status of a run.
 ///
-/// 0: the whole log and the whole output were written. 1: the words name no command. 2: the policy
-/// file is refused. 3: the recording is refused. 4: a file was not read. 6: the output or the log was
-/// not written. 8: memory ran out. 9: the recording has no message of the number.
+/// 0: the whole log and the whole output were written, or nothing is left to be served. 1: the words
+/// are refused. 2: a word of the policy is refused. 3: the recording is refused. 4: a file was not read.
+/// 5: the net could not listen, or wait. 6: the output or the log of a tool was not written. 8: memory
+/// ran out. 9: the recording has no message of the number.
 #[derive(Clone, Copy, Debug, PartialEq, Eq)]
 pub struct Status {
     /// The number that the process ends with.

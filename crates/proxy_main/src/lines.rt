@@ -1,12 +1,12 @@
 //! The line on err of each status that has one.
 ghost use Rattle.std.specs.Prelude.{◌≡◌, ◌≤◌, IfOk, string_bytes};
 ghost use Rattle.link_traits.specs.Told.{Rose};
-ghost use Rattle.proxy_main.specs.Lines.{refusal_line, word_line, kind_name, recording_line, fault_name as name_of_fault, file_line};
+ghost use Rattle.proxy_main.specs.Lines.{refusal_line, word_line, plain_word_line, line_word_line, is_policy_kind, kind_name, recording_line, fault_name as name_of_fault, file_line};
 ghost use Rattle.proxy_main.specs.Endings.{Said};
 
 use crate::Refusal;
 use link_traits::{Sink, write_all};
-use policy_args::WordKind;
+use policy_args::{BadWord, WordKind};
 use recording::{BadRecording, RecordingKind};
 use std::alloc::{AllocError, Global};
 
@@ -16,6 +16,8 @@ pub fn refusal_text(alloc: Global, refusal: Refusal) -> Result<String, AllocErro
 {
     match refusal {
         Refusal::Usage => String::from_str(alloc, "error: usage\n"),
+        Refusal::LineWord(bad) => line_word_text(alloc, bad),
+        Refusal::ArgsTooLong => String::from_str(alloc, "error: args file too long\n"),
         Refusal::PolicyWord(bad) => word_text(alloc, bad.index, name(bad.kind)),
         Refusal::PolicyTooLong => String::from_str(alloc, "error: policy file too long\n"),
         Refusal::Recording(fault) => recording_text(alloc, fault),
@@ -44,6 +46,39 @@ fn word_text(alloc: Global, index: usize, kind: &str) -> Result<String, AllocErr
     ensures { IfOk result (λ text. string_bytes text ≡ word_line index kind.now) }
 {
     format!(in alloc; "error: policy word {index}: {kind}\n")
+}
+
+/// The line of a bad word of a proxy line.
+fn line_word_text(alloc: Global, bad: BadWord) -> Result<String, AllocError>
+    ensures { IfOk result (λ text. string_bytes text ≡ line_word_line bad) }
+{
+    if is_of_policy(bad.kind) {
+        word_text(alloc, bad.index, name(bad.kind))
+    } else {
+        plain_word_text(alloc, bad.index, name(bad.kind))
+    }
+}
+
+/// The line of a bad word that is none of a policy.
+fn plain_word_text(alloc: Global, index: usize, kind: &str) -> Result<String, AllocError>
+    ensures { IfOk result (λ text. string_bytes text ≡ plain_word_line index kind.now) }
+{
+    format!(in alloc; "error: word {index}: {kind}\n")
+}
+
+/// Whether a word of a proxy line is bad as one of a policy is.
+pub fn is_of_policy(kind: WordKind) -> bool
+    ensures { result ≡ is_policy_kind kind }
+{
+    match kind {
+        WordKind::BadName | WordKind::BadRule => true,
+        WordKind::UnknownOption
+        | WordKind::BadAddress
+        | WordKind::NoPath
+        | WordKind::OptionBeforeAddress
+        | WordKind::BadNumber
+        | WordKind::TooMany => false,
+    }
 }
 
 /// The line of a recording with a fault.

@@ -1,77 +1,40 @@
 //! A whole run.
-ghost use Rattle.std.specs.Prelude.{◌≡◌, ◌⊎◌, true, None, map, string_bytes};
-ghost use Rattle.link_traits.specs.Told.{Rose, Part};
-ghost use Rattle.proxy_main.specs.Words.{reading};
-ghost use Rattle.proxy_main.specs.Answers.{answer_of, IsSettled, code_of, out_of, may_log};
-ghost use Rattle.proxy_main.specs.Loads.{IsDone, IsLogged};
-ghost use Rattle.proxy_main.specs.Endings.{Ends, ErrFront, Exactly, ExactlyOfFiles, IsFree};
+ghost use Rattle.std.specs.Prelude.{◌≡◌, true, false, map, string_bytes};
+ghost use Rattle.link_traits.specs.Told.{Rose};
+ghost use Rattle.proxy_loop.specs.Sinks.{sink_of};
+ghost use Rattle.proxy_main.specs.Words.{names_tool};
+ghost use Rattle.proxy_main.specs.ToolRuns.{ToolRun};
+ghost use Rattle.proxy_main.specs.LineRuns.{LineRun};
 
 use crate::Status;
-use crate::stops::tell;
-use crate::work::work;
-use link_traits::{Files, Sink};
+use crate::serving::serve_words;
+use crate::tools::tool;
+use link_traits::{Files, Net, OpenGate, Sink};
 use std::alloc::Global;
+use std::thread::Threads;
 
-/// The program: reads the words, which are those after the program's name, then each file that
-/// they name, and does the work. What it gives out goes to `out`. Before that the log goes to `err`,
-/// where one is asked for, and a line on what went wrong follows it there. Memory grows with the
-/// bytes of the files.
-pub fn run<F: Files, O: Sink, E: Sink>(
+/// The program. The words are those after the program's name: a tool's, or a proxy line. A tool works on the files, and has no part
+/// of the net. A proxy line is served over the net until nothing is left to be served; its log goes to `err`, and `out` gets nothing.
+/// `rt` is the runtime by which a tool's jobs are joined.
+pub fn run<R: Threads + Sync, F: Files, N: Net, O: Sink, E: Sink>(
+    rt: &R,
     alloc: Global,
     words: &[String],
     files: &mut F,
+    net: &mut N,
     out: &mut O,
     err: &mut E,
 ) -> Status
-    // The run ends in one of six ways, each with its cause and with what out and err got.
-    ensures ends { Ends (F.told files.old) (reading (map (λ w. string_bytes w) words.now)) (Rose (F.faults files.old) (F.faults files.new)) (Rose (O.faults out.old) (O.faults out.new)) (Rose (E.faults err.old) (E.faults err.new)) (O.told out.old) (O.told out.new) (E.told err.old) (E.told err.new) result.code }
+    // A tool.
+    ensures tool { names_tool (map (λ w. string_bytes w) words.now) ≡ true → ToolRun (F.told files.old) (map (λ w. string_bytes w) words.now) (Rose (F.faults files.old) (F.faults files.new)) (Rose (O.faults out.old) (O.faults out.new)) (Rose (E.faults err.old) (E.faults err.new)) (O.told out.old) (O.told out.new) (E.told err.old) (E.told err.new) result.code }
+    ensures net { names_tool (map (λ w. string_bytes w) words.now) ≡ true → net.new ≡ net.old }
 
-    // 1 comes exactly where the words name nothing.
-    ensures usage { Exactly result.code 1 (reading (map (λ w. string_bytes w) words.now) ≡ None) }
-
-    // 2 comes exactly where the policy file is refused, and 3 exactly where the recording is.
-    ensures policy { IsSettled (answer_of (map (λ w. string_bytes w) words.now) (F.told files.old)) → ExactlyOfFiles result.code 2 (code_of (answer_of (map (λ w. string_bytes w) words.now) (F.told files.old)) ≡ 2) }
-    ensures recording { IsSettled (answer_of (map (λ w. string_bytes w) words.now) (F.told files.old)) → ExactlyOfFiles result.code 3 (code_of (answer_of (map (λ w. string_bytes w) words.now) (F.told files.old)) ≡ 3) }
-
-    // 9 comes exactly where the recording has no message of the number.
-    ensures missing { IsSettled (answer_of (map (λ w. string_bytes w) words.now) (F.told files.old)) → ExactlyOfFiles result.code 9 (code_of (answer_of (map (λ w. string_bytes w) words.now) (F.told files.old)) ≡ 9) }
-
-    // 4 comes only where the files failed, and 6 only where out did, or where err did and there may
-    // be a log.
-    ensures file { result.code ≡ 4 → Rose (F.faults files.old) (F.faults files.new) }
-    ensures sink { result.code ≡ 6 → Rose (O.faults out.old) (O.faults out.new) ⊎ ((may_log (F.told files.old) (reading (map (λ w. string_bytes w) words.now)) ≡ true) × Rose (E.faults err.old) (E.faults err.new)) }
-
-    // Unless a file, out, err or memory fails, the status is the answer's.
-    ensures complete { IsSettled (answer_of (map (λ w. string_bytes w) words.now) (F.told files.old)) → (result.code ≡ code_of (answer_of (map (λ w. string_bytes w) words.now) (F.told files.old))) ⊎ IsFree result.code }
-
-    // With 0 out got the whole output, and err got the whole log and nothing else.
-    ensures done { result.code ≡ 0 → IsDone (answer_of (map (λ w. string_bytes w) words.now) (F.told files.old)) (O.told out.old) (O.told out.new) × IsLogged (F.told files.old) (reading (map (λ w. string_bytes w) words.now)) (E.told err.old) (E.told err.new) }
-
-    // In any case out got a front of the output, and nothing with another status than 0 and 6.
-    ensures front { IsSettled (answer_of (map (λ w. string_bytes w) words.now) (F.told files.old)) → Part (O.told out.old) (O.told out.new) (out_of (answer_of (map (λ w. string_bytes w) words.now) (F.told files.old))) }
-    ensures nothing { (result.code ≡ 0) ⊎ ((result.code ≡ 6) ⊎ (O.told out.new ≡ O.told out.old)) }
-
-    // The log is first: out got nothing unless err has the whole log and nothing else.
-    ensures first { (O.told out.new ≡ O.told out.old) ⊎ IsLogged (F.told files.old) (reading (map (λ w. string_bytes w) words.now)) (E.told err.old) (E.told err.new) }
-
-    // In any case err got a front of the log, and then a front of the status's line.
-    ensures said { ErrFront (F.told files.old) (reading (map (λ w. string_bytes w) words.now)) (E.told err.old) (E.told err.new) result.code }
+    // A proxy line.
+    ensures line { names_tool (map (λ w. string_bytes w) words.now) ≡ false → LineRun (F.told files.old) (map (λ w. string_bytes w) words.now) (Rose (F.faults files.old) (F.faults files.new)) (Rose (E.faults err.old) (E.faults err.new)) (N.view net.old) (N.view net.new) (sink_of (E.told err.old) (E.faults err.old)) (sink_of (E.told err.new) (E.faults err.new)) result.code }
+    ensures out { names_tool (map (λ w. string_bytes w) words.now) ≡ false → out.new ≡ out.old }
 {
-    run_to_end(alloc, words, files, out, err)
-}
-
-/// A run, by the way in which it ends.
-fn run_to_end<F: Files, O: Sink, E: Sink>(
-    alloc: Global,
-    words: &[String],
-    files: &mut F,
-    out: &mut O,
-    err: &mut E,
-) -> Status
-    ensures { Ends (F.told files.old) (reading (map (λ w. string_bytes w) words.now)) (Rose (F.faults files.old) (F.faults files.new)) (Rose (O.faults out.old) (O.faults out.new)) (Rose (E.faults err.old) (E.faults err.new)) (O.told out.old) (O.told out.new) (E.told err.old) (E.told err.new) result.code }
-{
-    if let Err(stop) = work(alloc, words, files, out, err) {
-        return tell(alloc, stop, err);
+    match tool(rt, &OpenGate, alloc, words, files, out, err) {
+        Some(status) => status,
+        None => serve_words(alloc, words, files, net, err),
     }
-    Status { code: 0 }
 }

@@ -1,13 +1,14 @@
 //! What is said of a run that stopped, and its status.
-ghost use Rattle.std.specs.Prelude.{◌≡◌, ◌≤◌};
+ghost use Rattle.std.specs.Prelude.{◌≡◌, ◌≤◌, if◌then◌else◌};
 ghost use Rattle.link_traits.specs.Told.{Rose};
 ghost use Rattle.proxy_main.specs.Answers.{refusal_code};
-ghost use Rattle.proxy_main.specs.Lines.{refusal_line, file_line, memory_line};
+ghost use Rattle.proxy_main.specs.Lines.{refusal_line, file_line, memory_line, is_policy_kind};
 ghost use Rattle.proxy_main.specs.Endings.{Said, IsTold, StopTold};
 
-use crate::lines::{file_text, refusal_text, say};
+use crate::lines::{file_text, is_of_policy, refusal_text, say};
 use crate::{Refusal, Status, Stop};
 use link_traits::Sink;
+use policy_args::WordKind;
 use std::alloc::Global;
 
 /// Says why a run stopped, and gives its status.
@@ -51,7 +52,7 @@ fn tell_file<E: Sink>(alloc: Global, path: &str, err: &mut E) -> Status
 }
 
 /// Says that memory ran out.
-fn tell_memory<E: Sink>(err: &mut E) -> Status
+pub fn tell_memory<E: Sink>(err: &mut E) -> Status
     ensures code { result.code ≡ 8 }
     ensures said { Said (Rose (E.faults err.old) (E.faults err.new)) (E.told err.old) (E.told err.new) memory_line }
     ensures count { E.faults err.old ≤ E.faults err.new }
@@ -67,9 +68,19 @@ fn code(refusal: Refusal) -> u8
 {
     match refusal {
         Refusal::Usage => 1,
+        Refusal::LineWord(bad) => line_word_code(bad.kind),
+        Refusal::ArgsTooLong => 1,
         Refusal::PolicyWord(_) => 2,
         Refusal::PolicyTooLong => 2,
         Refusal::Recording(_) => 3,
         Refusal::NoSuchMessage => 9,
     }
+}
+
+/// The status of a bad word of a proxy line.
+fn line_word_code(kind: WordKind) -> u8
+    ensures code { result ≡ (if is_policy_kind kind then 2 else 1) }
+    ensures small { result ≤ 9 }
+{
+    if is_of_policy(kind) { 2 } else { 1 }
 }

@@ -3,32 +3,38 @@
 /// The version of the program.
 pub const VERSION: &str = "0.1.0";
 
-/// What `--help` writes: each tool, each option of a policy file, and each status.
+/// What `--help` writes: the proxy line, each tool, each option, and each status.
 pub const HELP: &str = "\
 Usage:
+  zamtigarn ADDRESS PATH [OPTION]...    listens at PATH, and stands between each client that comes and the bus at ADDRESS
   zamtigarn replay POLICY RECORDING     plays a recording under a policy, and writes what each side gets
   zamtigarn explain POLICY RECORDING N  tells what was decided on its message of number N, and by which entry
   zamtigarn sample N SEED               plays a session of N draws from a seed, and sums it up
   zamtigarn --help                      writes this text
   zamtigarn --version                   writes the version
 
-The file POLICY holds options, each ended by a NUL:
-  --filter               the messages are filtered
-  --log                  replay writes a line for each message on standard error
+ADDRESS is a D-Bus address with a unix:path. Further blocks of an ADDRESS, a PATH and options may follow.
+The options of a block, and those in the file POLICY, where each is ended by a NUL:
+  --filter               the messages are filtered; without it all goes through as it is
+  --log                  a line for each message that is filtered is written on standard error
   --see=NAME             NAME is seen to be there
   --talk=NAME            its methods may be called
   --own=NAME             it may be owned, too
   --call=NAME=RULE       it is seen, and calls that match RULE pass
   --broadcast=NAME=RULE  it is seen, and its signals that match RULE are shown
 NAME is a well-known bus name, or N.* for N and all names below it. RULE is [METHOD][@PATH].
+Among the words of blocks alone:
+  --sessions=N           N clients are served in all, and then the program ends
+  --args-file=FILE       stands for the words of FILE, each ended by a NUL
 
 Status:
-  0  the output was written
+  0  the output was written, or nothing is left to be served
   1  the words are none of these
   2  the policy is refused
   3  the recording is refused
   4  a file could not be read
-  6  the output or the log could not be written
+  5  the proxy could not listen, or wait
+  6  the output or the log of a tool could not be written
   8  memory was refused
   9  the recording has no message of the number N
 ";

@@ -2,7 +2,7 @@
 ghost use Rattle.std.specs.Prelude.{◌≡◌, ◌≤◌, [], ◌∷◌, map, option_map, string_bytes, codes, IfOk, IfSome};
 ghost use Rattle.policy_args.specs.ProxyLine.{has_leading_zero as begins_with_zero};
 ghost use Rattle.tool_words.specs.Tools.{taken, replay_places, explain_places, sample_places};
-ghost use Rattle.proxy_main.specs.Words.{reading, named_by, alone_of, text_of, replay_of, explain_of, sample_of, number_within};
+ghost use Rattle.proxy_main.specs.Words.{is_tool_name as is_name, asks_alone as asks_for_text, names_tool, reading, named_by, alone_of, text_of, replay_of, explain_of, sample_of, number_within};
 ghost use Rattle.proxy_main.specs.Read.{command_of, HasFewDraws, worth_within};
 
 use sample::MOST_DRAWS;
@@ -34,6 +34,33 @@ pub enum CommandWords<'a> {
     Help,
     /// Its version.
     Version,
+}
+
+/// Whether the words name a tool: the first of them does, or one asks for a text alone.
+pub fn is_tool(words: &[String]) -> bool
+    ensures { result ≡ names_tool (map (λ w. string_bytes w) words.now) }
+{
+    match words {
+        [word, ..] => is_tool_name(word) || asks_alone(words),
+        [] => false,
+    }
+}
+
+/// Whether a word is a tool's name.
+fn is_tool_name(word: &str) -> bool
+    ensures { result ≡ is_name word.now }
+{
+    word == "replay" || word == "explain" || word == "sample"
+}
+
+/// Whether the only word asks for a text.
+fn asks_alone(words: &[String]) -> bool
+    ensures { result ≡ asks_for_text (map (λ w. string_bytes w) words.now) }
+{
+    match words {
+        [word] => word.as_str() == "--help" || word.as_str() == "--version",
+        _ => false,
+    }
 }
 
 /// The words' reading, where they name a command.

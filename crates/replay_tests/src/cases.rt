@@ -10,6 +10,7 @@ use crate::values::length;
 use std::alloc::{AllocError, Global};
 use std::process::Abort;
 use std::str;
+use std::thread::Threads;
 use test_tables::plain;
 
 /// The sizes of the pieces in which the streams come: byte by byte, a few, and as they stand.
@@ -125,16 +126,25 @@ fn output_of(alloc: Global, case: &Case) -> Result<Vec<u8>, AllocError> {
     Ok(output)
 }
 
-fn run_of(alloc: Global, case: &Case, size: usize) -> Result<Ended, AllocError> {
+fn run_of<R: Threads + Sync>(
+    rt: &R,
+    alloc: Global,
+    case: &Case,
+    size: usize,
+) -> Result<Ended, AllocError> {
     let recording = recording_of(alloc, case, size)?;
-    replay(alloc, &case.policy, &recording, 10_000)
+    replay(rt, alloc, &case.policy, &recording, 10_000)
 }
 
-fn assert_case(rt: &impl Abort, alloc: Global, text: &str) -> Result<(), AllocError> {
+fn assert_case<R: Abort + Threads + Sync>(
+    rt: &R,
+    alloc: Global,
+    text: &str,
+) -> Result<(), AllocError> {
     let case = case_of(alloc, text)?;
     let output = output_of(alloc, &case)?;
     for size in SIZES {
-        let ended = run_of(alloc, &case, size)?;
+        let ended = run_of(rt, alloc, &case, size)?;
         assert_written(rt, text, &ended, &output);
         assert_logged(rt, text, &ended, &case.log);
     }
@@ -155,7 +165,7 @@ fn assert_logged(rt: &impl Abort, text: &str, ended: &Ended, log: &str) {
 }
 
 /// Whether each case comes out as it says, in pieces of each size.
-pub fn assert_cases(rt: &impl Abort, alloc: Global, cases: &[&str]) {
+pub fn assert_cases<R: Abort + Threads + Sync>(rt: &R, alloc: Global, cases: &[&str]) {
     for case in cases {
         if assert_case(rt, alloc, case).is_err() {
             panic!(rt; "{case}: out of memory");

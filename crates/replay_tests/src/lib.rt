@@ -16,6 +16,8 @@ mod owners;
 #[cfg(test)]
 mod peers;
 #[cfg(test)]
+mod raw;
+#[cfg(test)]
 mod runs;
 #[cfg(test)]
 mod sessions;

@@ -88,11 +88,11 @@ client call_without_reply 11 path=/x interface=org.h.I member=M destination=org.
 end %01%01%01~~~~~~~~
 log 1 c 1 call serial=10 reply=- from=- dest=org.h.X path=/x iface=org.h.I member=M drop NotVisible 0
 ",
-    // Without a filter there are no messages.
+    // Without a filter there are no messages, and the bytes go on.
     "\
 policy --log
 client call_without_reply 10 path=/x interface=org.h.I member=M destination=org.h.X
-end %0D
+to_bus call_without_reply 10 path=/x interface=org.h.I member=M destination=org.h.X
 ",
     // Nothing is told where no log is asked for.
     "\

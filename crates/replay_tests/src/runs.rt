@@ -2,6 +2,8 @@
 use link_traits::{MemFile, MemFiles, MemSink};
 use proxy_main::run;
 use std::alloc::{AllocError, Global};
+use std::thread::Threads;
+use test_nets::net_of;
 
 /// What a run ended with.
 #[derive(Drop)]
@@ -21,7 +23,8 @@ fn file(alloc: Global, path: &str, bytes: &[u8]) -> Result<MemFile, AllocError> 
 }
 
 /// A replay of a recording under a policy, with room for so many bytes of output.
-pub fn replay(
+pub fn replay<R: Threads + Sync>(
+    rt: &R,
     alloc: Global,
     policy: &[u8],
     recording: &[u8],
@@ -31,7 +34,8 @@ pub fn replay(
     let words = words(alloc)?;
     let mut out = MemSink::new(alloc, room)?;
     let mut err = MemSink::new(alloc, 10_000)?;
-    let status = run(alloc, &words, &mut files, &mut out, &mut err);
+    let mut net = net_of(alloc, "")?;
+    let status = run(rt, alloc, &words, &mut files, &mut net, &mut out, &mut err);
     let code = status.code;
     Ok(Ended { code, out, err })
 }

@@ -3,4 +3,4 @@
 
 mod scripted;
 
-pub use scripted::{link_of, name_of, net_of};
+pub use scripted::{add_written, link_of, name_of, net_of};

@@ -1,7 +1,7 @@
 //! Nets in memory that are made of texts.
 use link_traits::{Exception, Link, MemNet, Script, Side};
 use std::alloc::{AllocError, Global};
-use test_tables::plain;
+use test_tables::{plain, text_of};
 
 /// A net of a script that is written in words: `arrival 0`, `piece c1 bytes`, `end c1`, `pace b1 2`, `limit b1 9`, an
 /// exception with its place as `ReadFails 2`, and `room 9 8` for the room of entries and of bytes, which is else ample. In a piece
@@ -74,4 +74,21 @@ pub fn name_of(alloc: Global, link: Link) -> Result<String, AllocError> {
         Side::Client => format!(in alloc; "c{}", link.session),
         Side::Bus => format!(in alloc; "b{}", link.session),
     }
+}
+
+/// Adds what was written to each link of a list, as a text.
+pub fn add_written(
+    alloc: Global,
+    told: &mut String,
+    net: &MemNet,
+    links: &str,
+) -> Result<(), AllocError> {
+    for name in links.split(' ') {
+        let written = net.written(alloc, link_of(name))?;
+        told.push_str(", ")?;
+        told.push_str(name)?;
+        told.push(' ')?;
+        told.push_str(&text_of(alloc, &written)?)?;
+    }
+    Ok(())
 }

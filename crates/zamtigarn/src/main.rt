@@ -2,12 +2,16 @@
 #![tactic(auto)]
 
 use proxy_main::{DiskFiles, StdSink, run};
+use proxy_net::MioNet;
 use std::alloc::AllocError;
 use std::env;
 use std::process::ExitCode;
 
 /// The status where memory is refused before the words are there.
 const MEMORY: u8 = 8;
+
+/// The status where the system gives no net to listen and wait with.
+const NET: u8 = 5;
 
 /// The words after the program's name.
 fn words(rt: &HostRuntime) -> Result<Vec<String>, AllocError> {
@@ -27,9 +31,21 @@ fn main(rt: HostRuntime) -> ExitCode {
         Ok(words) => words,
         Err(_) => return ExitCode::from(MEMORY),
     };
+    let mut net = match MioNet::new(&rt) {
+        Ok(net) => net,
+        Err(_) => return ExitCode::from(NET),
+    };
     let mut files = DiskFiles::new(&rt);
     let mut out = StdSink::new(rt.stdout());
     let mut err = StdSink::new(rt.stderr());
-    let status = run(rt.alloc(), &words, &mut files, &mut out, &mut err);
+    let status = run(
+        &rt,
+        rt.alloc(),
+        &words,
+        &mut files,
+        &mut net,
+        &mut out,
+        &mut err,
+    );
     ExitCode::from(status.code)
 }

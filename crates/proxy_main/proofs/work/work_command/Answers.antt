@@ -20,3 +20,8 @@ pub returns-in-Help-clause-done : goal.returns-in-Help-clause-done
 returns-in-Help-clause-done g c =
     let answer = ap (λ (w : CommandWords). answer_to (g.F.Files.told c.args.files.now) (Some (command_of w))) c.in-Help.is in
     subst (λ (a : Answer). OnOk c.work_text.result (IsDone a (g.O.Sink.told c.args.out.now) (g.O.Sink.told c.work_text.new.out))) (sym answer) c.work_text.ensures.done
+
+pub returns-in-Help-clause-log : goal.returns-in-Help-clause-log
+returns-in-Help-clause-log g c =
+    let unasked = ap (λ (w : CommandWords). may_log (g.F.Files.told c.args.files.now) (Some (command_of w))) c.in-Help.is in
+    quiet_stop c.work_text.result (g.F.Files.told c.args.files.now) _ _ _ _ _ unasked c.work_text.ensures.cause refl

@@ -1,5 +1,5 @@
 use Rattle.proxy_main.proofs.Endings.{ends_stop}
-use Rattle.proxy_main.proofs.program.run_to_end.Goals as goal
+use Rattle.proxy_main.proofs.tools.run_to_end.Goals as goal
 
 pub returns-in-Err : goal.returns-in-Err
 returns-in-Err g c =

@@ -1,0 +1,103 @@
+//! The tools: what works on files.
+ghost use Rattle.std.specs.Prelude.{◌≡◌, ◌⊎◌, ◌↔◌, true, false, None, map, string_bytes, IfSome};
+ghost use Rattle.link_traits.specs.Told.{Rose, Part};
+ghost use Rattle.proxy_main.specs.Words.{reading, names_tool};
+ghost use Rattle.proxy_main.specs.Answers.{answer_of, IsSettled, code_of, out_of, may_log};
+ghost use Rattle.proxy_main.specs.Loads.{IsDone, IsLogged};
+ghost use Rattle.proxy_main.specs.Endings.{Ends, ErrFront, Exactly, ExactlyOfFiles, IsFree};
+ghost use Rattle.proxy_main.specs.ToolRuns.{ToolRun};
+
+use crate::Status;
+use crate::stops::tell;
+use crate::words::is_tool;
+use crate::work::work;
+use link_traits::{Files, Gate, Sink};
+use std::alloc::Global;
+use std::thread::Threads;
+
+/// The tool that the words name, if they name one: the first of them does, or `--help` or `--version` is the only one. Else nothing is
+/// read or written. `rt` is the runtime by which jobs are joined, and `gate` is entered by each job before its work; no tool has jobs yet.
+///
+/// The tool reads its words, then each file that they name, and does its work. What it gives out goes to `out`. Before that the log goes
+/// to `err`, where one is asked for, and a line on what went wrong follows it there. Memory grows with the bytes of the files.
+pub fn tool<R: Threads + Sync, G: Gate + Sync, F: Files, O: Sink, E: Sink>(
+    _rt: &R,
+    _gate: &G,
+    alloc: Global,
+    words: &[String],
+    files: &mut F,
+    out: &mut O,
+    err: &mut E,
+) -> Option<Status>
+    ensures none { (names_tool (map (λ w. string_bytes w) words.now) ≡ false) ↔ (result ≡ None) }
+    ensures runs { IfSome result (λ status. ToolRun (F.told files.old) (map (λ w. string_bytes w) words.now) (Rose (F.faults files.old) (F.faults files.new)) (Rose (O.faults out.old) (O.faults out.new)) (Rose (E.faults err.old) (E.faults err.new)) (O.told out.old) (O.told out.new) (E.told err.old) (E.told err.new) status.code) }
+    ensures files { result ≡ None → files.new ≡ files.old }
+    ensures out { result ≡ None → out.new ≡ out.old }
+    ensures err { result ≡ None → err.new ≡ err.old }
+{
+    if is_tool(words) {
+        return Some(run_tool(alloc, words, files, out, err));
+    }
+    None
+}
+
+/// A tool's run, whatever the words.
+fn run_tool<F: Files, O: Sink, E: Sink>(
+    alloc: Global,
+    words: &[String],
+    files: &mut F,
+    out: &mut O,
+    err: &mut E,
+) -> Status
+    // The run ends in one of six ways, each with its cause and with what out and err got.
+    ensures ends { Ends (F.told files.old) (reading (map (λ w. string_bytes w) words.now)) (Rose (F.faults files.old) (F.faults files.new)) (Rose (O.faults out.old) (O.faults out.new)) (Rose (E.faults err.old) (E.faults err.new)) (O.told out.old) (O.told out.new) (E.told err.old) (E.told err.new) result.code }
+
+    // 1 comes exactly where the words name nothing.
+    ensures usage { Exactly result.code 1 (reading (map (λ w. string_bytes w) words.now) ≡ None) }
+
+    // 2 comes exactly where the policy file is refused, and 3 exactly where the recording is.
+    ensures policy { IsSettled (answer_of (map (λ w. string_bytes w) words.now) (F.told files.old)) → ExactlyOfFiles result.code 2 (code_of (answer_of (map (λ w. string_bytes w) words.now) (F.told files.old)) ≡ 2) }
+    ensures recording { IsSettled (answer_of (map (λ w. string_bytes w) words.now) (F.told files.old)) → ExactlyOfFiles result.code 3 (code_of (answer_of (map (λ w. string_bytes w) words.now) (F.told files.old)) ≡ 3) }
+
+    // 9 comes exactly where the recording has no message of the number.
+    ensures missing { IsSettled (answer_of (map (λ w. string_bytes w) words.now) (F.told files.old)) → ExactlyOfFiles result.code 9 (code_of (answer_of (map (λ w. string_bytes w) words.now) (F.told files.old)) ≡ 9) }
+
+    // 4 comes only where the files failed, and 6 only where out did, or where err did and there may
+    // be a log.
+    ensures file { result.code ≡ 4 → Rose (F.faults files.old) (F.faults files.new) }
+    ensures sink { result.code ≡ 6 → Rose (O.faults out.old) (O.faults out.new) ⊎ ((may_log (F.told files.old) (reading (map (λ w. string_bytes w) words.now)) ≡ true) × Rose (E.faults err.old) (E.faults err.new)) }
+
+    // Unless a file, out, err or memory fails, the status is the answer's.
+    ensures complete { IsSettled (answer_of (map (λ w. string_bytes w) words.now) (F.told files.old)) → (result.code ≡ code_of (answer_of (map (λ w. string_bytes w) words.now) (F.told files.old))) ⊎ IsFree result.code }
+
+    // With 0 out got the whole output, and err got the whole log and nothing else.
+    ensures done { result.code ≡ 0 → IsDone (answer_of (map (λ w. string_bytes w) words.now) (F.told files.old)) (O.told out.old) (O.told out.new) × IsLogged (F.told files.old) (reading (map (λ w. string_bytes w) words.now)) (E.told err.old) (E.told err.new) }
+
+    // In any case out got a front of the output, and nothing with another status than 0 and 6.
+    ensures front { IsSettled (answer_of (map (λ w. string_bytes w) words.now) (F.told files.old)) → Part (O.told out.old) (O.told out.new) (out_of (answer_of (map (λ w. string_bytes w) words.now) (F.told files.old))) }
+    ensures nothing { (result.code ≡ 0) ⊎ ((result.code ≡ 6) ⊎ (O.told out.new ≡ O.told out.old)) }
+
+    // The log is first: out got nothing unless err has the whole log and nothing else.
+    ensures first { (O.told out.new ≡ O.told out.old) ⊎ IsLogged (F.told files.old) (reading (map (λ w. string_bytes w) words.now)) (E.told err.old) (E.told err.new) }
+
+    // In any case err got a front of the log, and then a front of the status's line.
+    ensures said { ErrFront (F.told files.old) (reading (map (λ w. string_bytes w) words.now)) (E.told err.old) (E.told err.new) result.code }
+{
+    run_to_end(alloc, words, files, out, err)
+}
+
+/// A run, by the way in which it ends.
+fn run_to_end<F: Files, O: Sink, E: Sink>(
+    alloc: Global,
+    words: &[String],
+    files: &mut F,
+    out: &mut O,
+    err: &mut E,
+) -> Status
+    ensures { Ends (F.told files.old) (reading (map (λ w. string_bytes w) words.now)) (Rose (F.faults files.old) (F.faults files.new)) (Rose (O.faults out.old) (O.faults out.new)) (Rose (E.faults err.old) (E.faults err.new)) (O.told out.old) (O.told out.new) (E.told err.old) (E.told err.new) result.code }
+{
+    if let Err(stop) = work(alloc, words, files, out, err) {
+        return tell(alloc, stop, err);
+    }
+    Status { code: 0 }
+}
