@@ -1,5 +1,5 @@
 //! Buses that take no client for a time.
-use crate::sessions::{PATH, accept, bus, client, listening, must, one_client};
+use crate::sessions::{accept, bus, client, listening, must, one_client};
 use libc::net::listen;
 use link_traits::{Count, Got, Net, Ready, Took};
 use proxy_net::MioNet;
@@ -19,18 +19,18 @@ fn full_bus(rt: &HostRuntime, path: &str) -> Result<(UnixListener, UnixStream), 
 /// Once the bus has room, a link that waited for it is connected.
 #[test]
 fn full_backlog(rt: HostRuntime) -> Result<(), Fail> {
-    let mut net = listening(&rt)?;
-    let mut client_end = one_client(&rt, &mut net)?;
-    let (listener, _waiting) = full_bus(&rt, "bus")?;
+    let mut net = listening(&rt, "full_backlog")?;
+    let mut client_end = one_client(&rt, &mut net, "full_backlog")?;
+    let (listener, _waiting) = full_bus(&rt, "full_backlog_bus")?;
     let waits = net.count(Count::Waits);
-    assert_eq!(rt; net.connect(1, "bus"), Ok(()));
+    assert_eq!(rt; net.connect(1, "full_backlog_bus"), Ok(()));
     assert!(rt; net.count(Count::Waits) > waits);
     let link = bus(1);
     let mut buffer = [0u8; 8];
     assert_eq!(rt; net.read(link, &mut buffer), Got::NotReady);
     assert_eq!(rt; net.write(link, b"early"), Took::NotReady);
     net.want(link, true, true);
-    others_go_on(&rt, &mut net, &mut client_end)?;
+    others_go_on(&rt, &mut net, &mut client_end, "full_backlog")?;
     let (_first, _) = listener.accept()?;
     assert_eq!(rt; net.wait(), Ready::Link(link));
     assert_eq!(rt; net.write(link, b"late"), Took::Bytes(4));
@@ -47,6 +47,7 @@ fn others_go_on(
     rt: &HostRuntime,
     net: &mut MioNet<'_>,
     client_end: &mut UnixStream,
+    path: &str,
 ) -> Result<(), Fail> {
     let link = client(1);
     let mut buffer = [0u8; 8];
@@ -59,18 +60,18 @@ fn others_go_on(
     must(net.read(link, &mut buffer) == Got::Bytes(2), "it is read")?;
     must(net.read(link, &mut buffer) == Got::NotReady, "no more came")?;
     net.want(link, false, false);
-    let _other = UnixStream::connect(rt, PATH)?;
+    let _other = UnixStream::connect(rt, path)?;
     accept(net, 2)
 }
 
 /// A bus that has no room for seconds is given up.
 #[test]
 fn backlog_stays_full(rt: HostRuntime) -> Result<(), Fail> {
-    let mut net = listening(&rt)?;
-    let _client_end = one_client(&rt, &mut net)?;
-    let (_listener, _waiting) = full_bus(&rt, "bus")?;
+    let mut net = listening(&rt, "backlog_stays_full")?;
+    let _client_end = one_client(&rt, &mut net, "backlog_stays_full")?;
+    let (_listener, _waiting) = full_bus(&rt, "backlog_stays_full_bus")?;
     let link = bus(1);
-    assert_eq!(rt; net.connect(1, "bus"), Ok(()));
+    assert_eq!(rt; net.connect(1, "backlog_stays_full_bus"), Ok(()));
     assert_eq!(rt; net.write(link, b"x"), Took::NotReady);
     net.want(link, false, true);
     assert_eq!(rt; net.wait(), Ready::Link(link));
@@ -84,11 +85,11 @@ fn backlog_stays_full(rt: HostRuntime) -> Result<(), Fail> {
 /// A bus that goes while a link waits for it.
 #[test]
 fn bus_goes(rt: HostRuntime) -> Result<(), Fail> {
-    let mut net = listening(&rt)?;
-    let _client_end = one_client(&rt, &mut net)?;
-    let (listener, _waiting) = full_bus(&rt, "bus")?;
+    let mut net = listening(&rt, "bus_goes")?;
+    let _client_end = one_client(&rt, &mut net, "bus_goes")?;
+    let (listener, _waiting) = full_bus(&rt, "bus_goes_bus")?;
     let link = bus(1);
-    assert_eq!(rt; net.connect(1, "bus"), Ok(()));
+    assert_eq!(rt; net.connect(1, "bus_goes_bus"), Ok(()));
     drop(listener);
     net.want(link, true, false);
     assert_eq!(rt; net.wait(), Ready::Link(link));

@@ -7,8 +7,8 @@ use std::test::Fail;
 /// What a client wrote before it closed is read to its end, also where a write to it came first.
 #[test]
 fn written_before_close(rt: HostRuntime) -> Result<(), Fail> {
-    let mut net = listening(&rt)?;
-    let mut stream = one_client(&rt, &mut net)?;
+    let mut net = listening(&rt, "written_before_close")?;
+    let mut stream = one_client(&rt, &mut net, "written_before_close")?;
     let link = client(1);
     net.want(link, true, true);
     let waits = net.count(Count::Waits);
@@ -34,8 +34,8 @@ fn written_before_close(rt: HostRuntime) -> Result<(), Fail> {
 /// A client that closes with bytes unread ends its link as one that read them all.
 #[test]
 fn unread_at_close(rt: HostRuntime) -> Result<(), Fail> {
-    let mut net = listening(&rt)?;
-    let mut stream = one_client(&rt, &mut net)?;
+    let mut net = listening(&rt, "unread_at_close")?;
+    let mut stream = one_client(&rt, &mut net, "unread_at_close")?;
     let link = client(1);
     assert_eq!(rt; net.write(link, b"unread"), Took::Bytes(6));
     stream.write_all(b"last")?;
@@ -55,8 +55,8 @@ fn unread_at_close(rt: HostRuntime) -> Result<(), Fail> {
 /// A link whose peer closed, and which isn't to be read any more, fails once the other link of its session is shut.
 #[test]
 fn other_link_shut(rt: HostRuntime) -> Result<(), Fail> {
-    let mut net = listening(&rt)?;
-    let stream = two_sessions(&rt, &mut net)?;
+    let mut net = listening(&rt, "other_link_shut")?;
+    let stream = two_sessions(&rt, &mut net, "other_link_shut")?;
     let link = client(1);
     drop(stream);
     net.want(link, false, true);
@@ -81,8 +81,8 @@ fn other_link_shut(rt: HostRuntime) -> Result<(), Fail> {
 /// Two links of a session whose peers both closed, and which aren't to be read any more, both fail.
 #[test]
 fn both_peers_gone(rt: HostRuntime) -> Result<(), Fail> {
-    let mut net = listening(&rt)?;
-    let stream = two_sessions(&rt, &mut net)?;
+    let mut net = listening(&rt, "both_peers_gone")?;
+    let stream = two_sessions(&rt, &mut net, "both_peers_gone")?;
     drop(stream);
     net.shut(client(2));
     assert_eq!(rt; net.write(client(1), b"x"), Took::NotReady);

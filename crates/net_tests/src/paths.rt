@@ -26,8 +26,8 @@ fn taken_paths(rt: HostRuntime) -> Result<(), Fail> {
 /// A bus that isn't there.
 #[test]
 fn no_bus(rt: HostRuntime) -> Result<(), Fail> {
-    let mut net = listening(&rt)?;
-    let _stream = one_client(&rt, &mut net)?;
+    let mut net = listening(&rt, "no_bus")?;
+    let _stream = one_client(&rt, &mut net, "no_bus")?;
     let link = bus(1);
     assert_eq!(rt; net.connect(1, "none"), Err(NetFault::Failed));
     assert_eq!(rt; net.count(Count::Link(link)), 1);

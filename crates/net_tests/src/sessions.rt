@@ -5,9 +5,6 @@ use std::io::Write;
 use std::os::unix::net::UnixStream;
 use std::test::Fail;
 
-/// The path that a net of `opened` listens at.
-pub const PATH: &str = "socket";
-
 pub fn client(session: u32) -> Link {
     Link {
         session,
@@ -27,10 +24,10 @@ pub fn must(holds: bool, what: &str) -> Result<(), Fail> {
     if holds { Ok(()) } else { Err(Fail::new(what)) }
 }
 
-/// A net that listens at `PATH`.
-pub fn listening(rt: &HostRuntime) -> Result<MioNet<'_>, Fail> {
+/// A net that listens at a path, which is a test's own, since all tests may run in one folder.
+pub fn listening<'a>(rt: &'a HostRuntime, path: &str) -> Result<MioNet<'a>, Fail> {
     let mut net = MioNet::new(rt)?;
-    must(net.listen(PATH) == Ok(0), "listens at the first path")?;
+    must(net.listen(path) == Ok(0), "listens at the first path")?;
     Ok(net)
 }
 
@@ -45,16 +42,20 @@ pub fn accept(net: &mut MioNet<'_>, session: u32) -> Result<(), Fail> {
 }
 
 /// Has a client of the test's own make session 1, and answers that client.
-pub fn one_client(rt: &HostRuntime, net: &mut MioNet<'_>) -> Result<UnixStream, Fail> {
-    let stream = UnixStream::connect(rt, PATH)?;
+pub fn one_client(rt: &HostRuntime, net: &mut MioNet<'_>, path: &str) -> Result<UnixStream, Fail> {
+    let stream = UnixStream::connect(rt, path)?;
     accept(net, 1)?;
     Ok(stream)
 }
 
 /// Connects session 1, which a client of the test's own made, to the net itself, where it makes session 2.
-pub fn two_sessions(rt: &HostRuntime, net: &mut MioNet<'_>) -> Result<UnixStream, Fail> {
-    let stream = one_client(rt, net)?;
-    must(net.connect(1, PATH) == Ok(()), "connects to itself")?;
+pub fn two_sessions(
+    rt: &HostRuntime,
+    net: &mut MioNet<'_>,
+    path: &str,
+) -> Result<UnixStream, Fail> {
+    let stream = one_client(rt, net, path)?;
+    must(net.connect(1, path) == Ok(()), "connects to itself")?;
     accept(net, 2)?;
     Ok(stream)
 }
@@ -62,22 +63,22 @@ pub fn two_sessions(rt: &HostRuntime, net: &mut MioNet<'_>) -> Result<UnixStream
 /// Listeners and sessions are numbered in the order in which they are made.
 #[test]
 fn numbers(rt: HostRuntime) -> Result<(), Fail> {
-    let mut net = listening(&rt)?;
-    assert_eq!(rt; net.listen("other"), Ok(1));
-    assert_eq!(rt; net.listen("third"), Ok(2));
-    let _first = UnixStream::connect(&rt, "other")?;
+    let mut net = listening(&rt, "numbers")?;
+    assert_eq!(rt; net.listen("numbers_other"), Ok(1));
+    assert_eq!(rt; net.listen("numbers_third"), Ok(2));
+    let _first = UnixStream::connect(&rt, "numbers_other")?;
     assert_eq!(rt; net.wait(), Ready::Listener(1));
     assert_eq!(rt; net.accept(0), Accepted::NotReady);
     assert_eq!(rt; net.accept(1), Accepted::New(1));
-    let _second = UnixStream::connect(&rt, PATH)?;
-    let _third = UnixStream::connect(&rt, PATH)?;
+    let _second = UnixStream::connect(&rt, "numbers")?;
+    let _third = UnixStream::connect(&rt, "numbers")?;
     assert_eq!(rt; net.accept(0), Accepted::New(2));
     assert_eq!(rt; net.accept(0), Accepted::New(3));
     assert_eq!(rt; net.accept(0), Accepted::NotReady);
     assert_eq!(rt; net.accept(3), Accepted::Failed);
-    assert_eq!(rt; net.connect(3, "other"), Ok(()));
-    assert_eq!(rt; net.connect(3, "other"), Err(NetFault::Failed));
-    assert_eq!(rt; net.connect(2, "third"), Ok(()));
+    assert_eq!(rt; net.connect(3, "numbers_other"), Ok(()));
+    assert_eq!(rt; net.connect(3, "numbers_other"), Err(NetFault::Failed));
+    assert_eq!(rt; net.connect(2, "numbers_third"), Ok(()));
     assert_eq!(rt; net.accept(2), Accepted::New(4));
     assert_eq!(rt; net.accept(1), Accepted::New(5));
     Ok(())
@@ -86,9 +87,9 @@ fn numbers(rt: HostRuntime) -> Result<(), Fail> {
 /// A listener of which nothing is accepted when it is named isn't named again until another client comes.
 #[test]
 fn unheeded_listeners(rt: HostRuntime) -> Result<(), Fail> {
-    let mut net = listening(&rt)?;
-    let mut stream = one_client(&rt, &mut net)?;
-    let _second = UnixStream::connect(&rt, PATH)?;
+    let mut net = listening(&rt, "unheeded_listeners")?;
+    let mut stream = one_client(&rt, &mut net, "unheeded_listeners")?;
+    let _second = UnixStream::connect(&rt, "unheeded_listeners")?;
     assert_eq!(rt; net.wait(), Ready::Listener(0));
     stream.write_all(b"hello")?;
     net.want(client(1), true, false);
@@ -96,7 +97,7 @@ fn unheeded_listeners(rt: HostRuntime) -> Result<(), Fail> {
         assert_eq!(rt; net.wait(), Ready::Link(client(1)));
     }
     net.want(client(1), false, false);
-    let _third = UnixStream::connect(&rt, PATH)?;
+    let _third = UnixStream::connect(&rt, "unheeded_listeners")?;
     assert_eq!(rt; net.wait(), Ready::Listener(0));
     assert_eq!(rt; net.accept(0), Accepted::New(2));
     assert_eq!(rt; net.accept(0), Accepted::New(3));

@@ -11,8 +11,8 @@ const MEGABYTE: usize = 1_000_000;
 /// Bytes go both ways, and a link is named as long as it is ready for a wish.
 #[test]
 fn both_ways(rt: HostRuntime) -> Result<(), Fail> {
-    let mut net = listening(&rt)?;
-    let mut stream = two_sessions(&rt, &mut net)?;
+    let mut net = listening(&rt, "both_ways")?;
+    let mut stream = two_sessions(&rt, &mut net, "both_ways")?;
     let mut buffer = [0u8; 8];
     stream.write_all(b"hello")?;
     net.want(client(1), true, false);
@@ -46,8 +46,8 @@ fn both_ways(rt: HostRuntime) -> Result<(), Fail> {
 /// Two links that stay ready are named in turn.
 #[test]
 fn in_turn(rt: HostRuntime) -> Result<(), Fail> {
-    let mut net = listening(&rt)?;
-    let mut stream = two_sessions(&rt, &mut net)?;
+    let mut net = listening(&rt, "in_turn")?;
+    let mut stream = two_sessions(&rt, &mut net, "in_turn")?;
     stream.write_all(b"one")?;
     assert_eq!(rt; net.write(client(2), b"two"), Took::Bytes(3));
     net.want(client(1), true, false);
@@ -139,8 +139,8 @@ impl End {
 /// A megabyte goes each way at once, in order, by writes that take a part of what they are given.
 #[test]
 fn megabytes(rt: HostRuntime) -> Result<(), Fail> {
-    let mut net = listening(&rt)?;
-    let _stream = two_sessions(&rt, &mut net)?;
+    let mut net = listening(&rt, "megabytes")?;
+    let _stream = two_sessions(&rt, &mut net, "megabytes")?;
     let mut near = end_of(bus(1));
     let mut far = end_of(client(2));
     near.send(&mut net);

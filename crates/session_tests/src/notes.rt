@@ -80,7 +80,7 @@ fn told_from(
     given: u32,
     steps: &str,
 ) -> Result<String, AllocError> {
-    let mut session = session_at(alloc, &options.policy, asked(options, NOTED), given)?;
+    let mut session = session_at(alloc, &options.policy, NOTED, given)?;
     told_steps(alloc, &mut session, &options.policy, steps)
 }
 

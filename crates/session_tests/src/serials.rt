@@ -1,5 +1,5 @@
 //! Sessions of which the last serials are given.
-use crate::sessions::{FILTERED, asked, told_steps};
+use crate::sessions::{FILTERED, told_steps};
 use crate::texts::options_of;
 use policy_args::Options;
 use proxy_core::laws::session_at;
@@ -11,8 +11,7 @@ use test_tables::wrong_row;
 /// table of sessions.
 ///
 /// A call passes with the last serial and is answered, and the next one has none. Pings need a serial too, dropped messages
-/// don't. A Hello and the calls behind it are sent together or not at all, and so are the calls on a list of names. Where
-/// messages aren't filtered none takes a serial.
+/// don't. A Hello and the calls behind it are sent together or not at all, and so are the calls on a list of names.
 const SPENT: &str = "\
 4294967294 --filter,--talk=org.a.T; client call; bus_byte 8; bus_byte 9; bus_byte 10; bus_byte 11; bus return 20=255 21=255 22=255 23=255; client call => - 80 0; 255; 255; 255; 255; - 80 56; SerialsSpent 80 56; Some(SerialsSpent)
 4294967294 --filter,--talk=org.a.T; client call 2=1; client call => - 80 0; SerialsSpent 80 0; Some(SerialsSpent)
@@ -24,7 +23,6 @@ const SPENT: &str = "\
 4294967292 --filter,--talk=org.a.T; client hello; client hello => - 550 0; SerialsSpent 550 0; Some(SerialsSpent)
 4294967291 --filter,--talk=org.a.*; client hello; bus names 20=254 21=255 22=255 23=255 => - 537 0; SerialsSpent 537 0; Some(SerialsSpent)
 4294967290 --filter,--talk=org.a.*; client hello; bus names 20=253 21=255 22=255 23=255; client hello => - 537 0; - 849 0; SerialsSpent 849 0; Some(SerialsSpent)
-4294967295 --log; client call; client hello; bus_byte 8 => - 80 0; - 208 0; 7; None
 ";
 
 fn told_spent(alloc: Global, row: &str) -> Result<String, AllocError> {
@@ -40,7 +38,7 @@ fn told_from(
     given: u32,
     steps: &str,
 ) -> Result<String, AllocError> {
-    let mut session = session_at(alloc, &options.policy, asked(options, FILTERED), given)?;
+    let mut session = session_at(alloc, &options.policy, FILTERED, given)?;
     told_steps(alloc, &mut session, &options.policy, steps)
 }
 
