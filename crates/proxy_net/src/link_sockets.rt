@@ -1,5 +1,5 @@
 //! What is kept of each link: its wishes, its faults and its socket.
-ghost use Rattle.std.specs.Prelude.{◌≡◌, ◌≤◌, ◌<◌, ℕ, Some, length, true};
+ghost use Rattle.std.specs.Prelude.{◌≡◌, ◌≤◌, ◌<◌, ◌&&◌, ◌||◌, not, ℕ, Some, length, true};
 ghost use Rattle.link_traits.specs.Told.{Rose};
 ghost use Rattle.link_traits.specs.Tables.{HasWish};
 ghost use Rattle.link_traits.specs.Answers.{no_wishes};
@@ -311,22 +311,29 @@ impl LinkSocket {
     }
 
     /// Whether its peer is known to have closed.
-    pub fn is_peer_closed(&self) -> bool {
+    pub fn is_peer_closed(&self) -> bool
+        ensures { result ≡ self.now.peer_closed }
+    {
         self.peer_closed
     }
 
     /// Whether nothing more passes between it and its peer.
-    pub fn is_closed(&self) -> bool {
+    pub fn is_closed(&self) -> bool
+        ensures { result ≡ (self.now.peer_closed || self.now.end_read) }
+    {
         self.peer_closed || self.end_read
     }
 
     /// Whether its writes fail by now: its peer closed, and nothing of it is to be read any more.
-    pub fn is_given_up(&self) -> bool {
+    pub fn is_given_up(&self) -> bool
+        ensures { result ≡ self.now.given_up }
+    {
         self.given_up
     }
 
     /// Judges whether its writes are to fail, by whether its session's other link is shut or closed.
     pub fn judge(&mut self, is_other_closed: bool)
+        ensures given_up { self.new.given_up ≡ (self.old.peer_closed && (self.old.end_read || (not self.old.wishes.read && is_other_closed))) }
         ensures faults { self.new.faults ≡ self.old.faults }
         ensures wishes { self.new.wishes ≡ self.old.wishes }
     {

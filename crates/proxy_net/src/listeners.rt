@@ -1,5 +1,5 @@
 //! The sockets that listen.
-ghost use Rattle.std.specs.Prelude.{◌≡◌, ◌≤◌};
+ghost use Rattle.std.specs.Prelude.{◌≡◌, ◌≤◌, ◌&&◌, not, true, false};
 ghost use Rattle.link_traits.specs.Told.{Rose};
 
 use crate::link_sockets::raised;
@@ -50,6 +50,7 @@ impl ListenerSocket {
 
     /// Takes a client.
     pub fn accept(&mut self) -> Arrival
+        ensures heeded { self.new.unheeded ≡ false }
         ensures failed { result ≡ Arrival.Failed → Rose self.old.faults self.new.faults }
         ensures faults { self.old.faults ≤ self.new.faults }
     {
@@ -62,6 +63,7 @@ impl ListenerSocket {
 
     /// Answers an accept that the system refused.
     fn refuse(&mut self, kind: ErrorKind) -> Arrival
+        ensures heeded { self.new.unheeded ≡ self.old.unheeded }
         ensures failed { result ≡ Arrival.Failed → Rose self.old.faults self.new.faults }
         ensures faults { self.old.faults ≤ self.new.faults }
     {
@@ -80,7 +82,8 @@ impl ListenerSocket {
 
     /// Isn't named until it is noted or revived. Answers whether it is to be listed as stalled.
     pub fn stall(&mut self) -> bool
-        ensures { self.new.faults ≡ self.old.faults }
+        ensures faults { self.new.faults ≡ self.old.faults }
+        ensures stalled { self.new.stalled ≡ true }
     {
         let was_listed = self.listed;
         self.stalled = true;
@@ -101,7 +104,8 @@ impl ListenerSocket {
 
     /// Notes that a client came. Answers whether it is to be queued.
     pub fn note(&mut self) -> bool
-        ensures { self.new.faults ≡ self.old.faults }
+        ensures faults { self.new.faults ≡ self.old.faults }
+        ensures noted { (self.new.ready ≡ true) × (self.new.stalled ≡ false) × (self.new.unheeded ≡ false) }
     {
         let was_queued = self.queued;
         self.ready = true;
@@ -113,7 +117,9 @@ impl ListenerSocket {
 
     /// Whether it is to be named. One that isn't leaves its place in the queue.
     pub fn keeps_place(&mut self) -> bool
-        ensures { self.new.faults ≡ self.old.faults }
+        ensures faults { self.new.faults ≡ self.old.faults }
+        ensures place { result ≡ (self.old.ready && (not self.old.stalled && not self.old.unheeded)) }
+        ensures named { self.new.unheeded ≡ result }
     {
         self.queued = self.ready && !self.stalled && !self.unheeded;
         self.unheeded = self.queued;
