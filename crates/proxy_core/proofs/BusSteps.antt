@@ -65,11 +65,11 @@ module _ (policy : Policy) (apart : CoversNoUniqueName policy) (view : SessionVi
   known_is : known policy view ≡ knowledge policy before.told
   known_is = knowledge_is policy view.ids view.ledger before apart (holds.knows runs).stand
 
-  level_is : kept_level policy view.ids ≡ level_of policy before.told.facts
+  pub level_is : kept_level policy view.ids ≡ level_of policy before.told.facts
   unfolding knowledge
   level_is = ap (λ (k : Knowledge). k.level) known_is
 
-  role_is : bus_role (expected_at view.ledger.expected (reply_serial m)) m ≡ now
+  pub role_is : bus_role (expected_at view.ledger.expected (reply_serial m)) m ≡ now
   unfolding role
   role_is = ap (λ (o : Option Expected). bus_role o m) ((holds.knows runs).stand.answers (reply_serial m))
 

@@ -14,16 +14,17 @@ use Rattle.policy_args.specs.Policy.{Policy}
 use Rattle.policy_view.specs.History.{malformed}
 use Rattle.policy_view.specs.Notes.{Note}
 use Rattle.policy_view.specs.declared.Fault.TheVariants.{Message as OfMessage}
+use Rattle.policy_view.specs.declared.visible.Visible.{Visible as Element}
 use Rattle.policy_view.specs.declared.Side.{Side}
 use Rattle.policy_view.specs.declared.Side.TheVariants.{Client, Bus}
 use Rattle.policy_view.specs.declared.End.{End}
 use Rattle.policy_view.specs.declared.End.TheVariants.{Memory}
 use Rattle.proxy_core.specs.Streams.{StreamView, Phase, InLines, InMessages, pushed, GaveMessage}
 use Rattle.proxy_core.specs.Sessions.{SessionView, stream_of, IsFront}
-use Rattle.proxy_core.specs.Messages.{ended_by, with_noted_message, KeepsSides}
+use Rattle.proxy_core.specs.Messages.{ended_by, with_watched_message, KeepsSides}
 use Rattle.proxy_core.specs.Steps.{with_stream, with_left, with_fault, and_runs, with_front, with_raw, raw_step, step_at, step_of, more_if, drained, with_more, with_bytes, TookMessage, IsRefused, Took, Stepped, Did, own_to_come, weight, IsLight}
-use Rattle.proxy_core.proofs.Keeping.{Grows, grows_none, grows_then, bus_grows, client_grows, noted_kept}
-use Rattle.proxy_core.proofs.Weights.{noted_light}
+use Rattle.proxy_core.proofs.Keeping.{Grows, grows_none, grows_then, bus_grows, client_grows, watched_kept}
+use Rattle.proxy_core.proofs.Weights.{watched_light}
 use Rattle.proxy_core.proofs.LineSteps.{line_grows, line_runs, did_light}
 
 -- ---- the rest of a side's stream
@@ -43,6 +44,10 @@ left_mode : (side : Side) (left : List ℕ) (view : SessionView) → (with_left 
 left_mode Client left view = refl
 left_mode Bus left view = refl
 
+left_watches : (side : Side) (left : List ℕ) (view : SessionView) → (with_left side left view).watches ≡ view.watches
+left_watches Client left view = refl
+left_watches Bus left view = refl
+
 left_grows : (side : Side) (left : List ℕ) (view new : SessionView) → Grows (with_left side left view) new → Grows view new
 left_grows Client left view new g = g
 left_grows Bus left view new g = g
@@ -53,23 +58,25 @@ grows_left Bus left view new g = g
 
 -- what waits is as it was
 kept_grows : (old new expected : SessionView) → KeepsSides old new → Grows old expected → Grows new expected
-kept_grows old new expected k (bus, client, notes) = (
+kept_grows old new expected k (bus, client, notes, visible) = (
   subst (λ (xs : List ℕ). IsFront xs expected.bus_side) (sym k.bus_side) bus,
   subst (λ (xs : List ℕ). IsFront xs expected.client_side) (sym k.client_side) client,
   subst (λ (xs : List Note). IsFront xs expected.notes) (sym k.notes) notes,
+  subst (λ (xs : List Element). IsFront xs expected.visible) (sym k.visible) visible,
 )
 
 -- memory was refused in the midst of what was to be
-refused_in : (expected old new : SessionView) → old.ended ≡ None → new.ended ≡ Some Memory → new.mode ≡ old.mode → Grows new expected → IsRefused expected old new
-refused_in expected old new runs ended mode (bus, client, notes) = record { running = runs; ended = ended; mode = mode; for_bus = bus; for_client = client; noted = notes }
+refused_in : (expected old new : SessionView) → old.ended ≡ None → new.ended ≡ Some Memory → new.mode ≡ old.mode → new.watches ≡ old.watches → Grows new expected → IsRefused expected old new
+refused_in expected old new runs ended mode watches (bus, client, notes, visible) =
+    record { running = runs; ended = ended; mode = mode; for_bus = bus; for_client = client; noted = notes; watches = watches; watched = visible }
 
 refused_grows : (expected old new : SessionView) → IsRefused expected old new → Grows new expected
-refused_grows expected old new r = (r.for_bus, r.for_client, r.noted)
+refused_grows expected old new r = (r.for_bus, r.for_client, r.noted, r.watched)
 
 -- and before anything was done
 refused_first : (expected old new : SessionView) → old.ended ≡ None → new ≡ ended_by Memory old → Grows old expected → IsRefused expected old new
 refused_first expected old new runs is grows =
-    refused_in expected old new runs (ap (λ (v : SessionView). v.ended) is) (ap (λ (v : SessionView). v.mode) is) (subst (λ (v : SessionView). Grows v expected) (sym is) grows)
+    refused_in expected old new runs (ap (λ (v : SessionView). v.ended) is) (ap (λ (v : SessionView). v.mode) is) (ap (λ (v : SessionView). v.watches) is) (subst (λ (v : SessionView). Grows v expected) (sym is) grows)
 
 -- a message's bytes are no longer left
 left_weighs : (policy : Policy) (side : Side) (left : List ℕ) (n : ℕ) (view : SessionView) → length (left_of side view) ≡ n + length left → weight policy (with_left side left view) + 19 * n ≡ weight policy view
@@ -109,7 +116,7 @@ raw_weighs policy Bus view = by _ _ _ _ _ _ (length-append view.client_side view
 
 module _ (policy : Policy) (side : Side) where
   abbrev after : Message → List ℕ → SessionView → SessionView
-  after m left view = with_noted_message policy side m (with_left side left view)
+  after m left view = with_watched_message policy side m (with_left side left view)
 
   fault_grows : (o : Option Malformed) (view : SessionView) → Grows view (with_fault side o view)
   fault_grows None view = grows_none view
@@ -117,7 +124,7 @@ module _ (policy : Policy) (side : Side) where
 
   front_grows : (o : Option (Message × List ℕ)) (view : SessionView) → Grows view (with_front policy side o view).0
   front_grows None view = fault_grows (fault (left_of side view)) view
-  front_grows (Some x) view = left_grows side x.1 view (after x.0 x.1 view) (noted_kept policy side x.0 (with_left side x.1 view)).grows
+  front_grows (Some x) view = left_grows side x.1 view (after x.0 x.1 view) (watched_kept policy side x.0 (with_left side x.1 view)).grows
 
   behind_grows : (filter : Bool) (view : SessionView) → Grows view (cond filter (with_front policy side (front (left_of side view)) view) (raw_step side view)).0
   behind_grows true view = front_grows (front (left_of side view)) view
@@ -168,13 +175,14 @@ module _ (policy : Policy) (side : Side) where
 
   -- a whole message is taken
   pub whole_step : (old mid new : SessionView) (frame left : List ℕ) (m : Message) → old.ended ≡ None → InMessagesNow old → Takes (left_of side old) frame left m → mid ≡ with_left side left old
-      → TookMessage (with_noted_message policy side m mid) mid new → Stepped (step_of policy side old) old new (is_none new.ended)
+      → TookMessage (with_watched_message policy side m mid) mid new → Stepped (step_of policy side old) old new (is_none new.ended)
   whole_step old mid new frame left m runs p t is (inl done) =
-      let new_is : new ≡ after m left old = done ∙ ap (λ (v : SessionView). with_noted_message policy side m v) is in
+      let new_is : new ≡ after m left old = done ∙ ap (λ (v : SessionView). with_watched_message policy side m v) is in
       inl (new_is ∙ ap (λ (x : SessionView × Bool). x.0) (sym (step_is old m left p t.in_front)), ap (λ (v : SessionView). is_none v.ended) new_is ∙ ap (λ (x : SessionView × Bool). x.1) (sym (step_is old m left p t.in_front)))
   whole_step old mid new frame left m runs p t is (inr refused) =
       inr (
         refused_in (step_of policy side old).0 old new runs refused.ended (refused.kept.mode ∙ ap (λ (v : SessionView). v.mode) is ∙ left_mode side left old)
+            (refused.kept.watches ∙ ap (λ (v : SessionView). v.watches) is ∙ left_watches side left old)
             (kept_grows mid new (step_of policy side old).0 refused.kept
             (subst (λ (v : SessionView). Grows v (step_of policy side old).0) (sym is) (grows_left side left old (step_of policy side old).0 (step_grows old)))),
         ap is_none refused.ended,
@@ -196,21 +204,24 @@ module _ (policy : Policy) (side : Side) where
 
   -- and nineteen bytes at most come out for each of its own, beside the own calls that were to come
   pub whole_light : (old mid new : SessionView) (frame left : List ℕ) (m : Message) → Takes (left_of side old) frame left m → mid ≡ with_left side left old
-      → TookMessage (with_noted_message policy side m mid) mid new → IsLight policy 0 old new
+      → TookMessage (with_watched_message policy side m mid) mid new → IsLight policy 0 old new
   whole_light old mid new frame left m t is took =
       let parts : length (left_of side old) ≡ length (spell m) + length left = ap length (t.parts ∙ ap (λ (xs : List ℕ). xs ++ left) t.spelled) ∙ length-append (spell m) left in
       let mode : mid.mode ≡ old.mode = ap (λ (v : SessionView). v.mode) is ∙ left_mode side left old in
+      let watches : mid.watches ≡ old.watches = ap (λ (v : SessionView). v.watches) is ∙ left_watches side left old in
       elim took [
         | inl done ↦
             subst (λ (v : SessionView). IsLight policy 0 old v) (sym done)
             (record {
-              mode = (noted_kept policy side m mid).mode ∙ mode;
-              weighs = weighs_less old mid (with_noted_message policy side m mid) left (length (spell m)) is parts (noted_light policy side m mid t.valid);
+              mode = (watched_kept policy side m mid).mode ∙ mode;
+              watches = (watched_kept policy side m mid).watches ∙ watches;
+              weighs = weighs_less old mid (with_watched_message policy side m mid) left (length (spell m)) is parts (watched_light policy side m mid t.valid);
             })
         | inr refused ↦
             let same : weight policy new ≡ weight policy mid = sides_weigh mid new refused.kept in
             record {
               mode = refused.kept.mode ∙ mode;
+              watches = refused.kept.watches ∙ watches;
               weighs = weighs_less old mid new left (length (spell m)) is parts (no_more _ _ (19 * length (spell m)) same);
             }
       ]
@@ -254,15 +265,15 @@ module _ (policy : Policy) (side : Side) where
   goes_on (suc n) view new more pos runs (inr refused) e = absurd (let h : true ≡ false = sym e ∙ refused.1 in cc)
 
   -- where it doesn't
-  pub stops : (n : ℕ) (first view new : SessionView) (expected : SessionView) (more : Bool) → 0 < n → first.ended ≡ None → view.mode ≡ first.mode → drained policy side n view ≡ expected
+  pub stops : (n : ℕ) (first view new : SessionView) (expected : SessionView) (more : Bool) → 0 < n → first.ended ≡ None → view.mode ≡ first.mode → view.watches ≡ first.watches → drained policy side n view ≡ expected
       → Stepped (step_of policy side view) view new more → more ≡ false → Took expected first new
-  stops zero first view new expected more pos runs mode is s e = absurd (omega (arith, pos))
-  stops (suc n) first view new expected more pos runs mode is (inl done) e =
+  stops zero first view new expected more pos runs mode watches is s e = absurd (omega (arith, pos))
+  stops (suc n) first view new expected more pos runs mode watches is (inl done) e =
       let halts : (step_of policy side view).1 ≡ false = sym done.1 ∙ e in
       inl (done.0 ∙ ap (λ (b : Bool). more_if ((step_of policy side view).0, b) (drained policy side n)) (sym halts) ∙ is)
-  stops (suc n) first view new expected more pos runs mode is (inr refused) e =
+  stops (suc n) first view new expected more pos runs mode watches is (inr refused) e =
       let whole : SessionView = drained policy side (suc n) view in
-      inr (refused_in expected first new runs refused.0.ended (refused.0.mode ∙ mode)
+      inr (refused_in expected first new runs refused.0.ended (refused.0.mode ∙ mode) (refused.0.watches ∙ watches)
       (subst (λ (v : SessionView). Grows new v) is (grows_then new (step_of policy side view).0 whole (refused_grows (step_of policy side view).0 view new refused.0) (later (step_of policy side view).1))))
     where
       later : (b : Bool) → Grows (step_of policy side view).0 (more_if ((step_of policy side view).0, b) (drained policy side n))
@@ -288,6 +299,8 @@ module _ (policy : Policy) (side : Side) (old mid new : SessionView) (bytes : Li
           for_bus = subst (λ (v : SessionView). IsFront new.bus_side v.bus_side) target_is cut.0.for_bus;
           for_client = subst (λ (v : SessionView). IsFront new.client_side v.client_side) target_is cut.0.for_client;
           noted = subst (λ (v : SessionView). IsFront new.notes v.notes) target_is cut.0.noted;
+          watches = cut.0.watches ∙ ap (λ (v : SessionView). v.watches) mid_is ∙ left_watches side [] old;
+          watched = subst (λ (v : SessionView). IsFront new.visible v.visible) target_is cut.0.watched;
         },
         refl,
       )
@@ -296,6 +309,8 @@ module _ (policy : Policy) (side : Side) (old mid new : SessionView) (bytes : Li
   raw_light =
       did_light policy old mid new (with_raw side bytes mid) goes did (ap (λ (v : SessionView). v.mode) mid_is ∙ left_mode side [] old)
       (raw_mode side ∙ ap (λ (v : SessionView). v.mode) mid_is ∙ left_mode side [] old)
+      (ap (λ (v : SessionView). v.watches) mid_is ∙ left_watches side [] old)
+      (raw_watches side ∙ ap (λ (v : SessionView). v.watches) mid_is ∙ left_watches side [] old)
       (ap length (raw_client side))
       (ap length (raw_bus side))
       (raw_greeted side)
@@ -304,6 +319,10 @@ module _ (policy : Policy) (side : Side) (old mid new : SessionView) (bytes : Li
       raw_mode : (s : Side) → (with_raw s bytes mid).mode ≡ mid.mode
       raw_mode Client = refl
       raw_mode Bus = refl
+
+      raw_watches : (s : Side) → (with_raw s bytes mid).watches ≡ mid.watches
+      raw_watches Client = refl
+      raw_watches Bus = refl
 
       raw_client : (s : Side) → (with_raw s bytes mid).client.left ≡ mid.client.left
       raw_client Client = refl
@@ -331,7 +350,7 @@ given_bus view v side next new is same gave = subst (λ (s : Side). Given s v ne
 
 module _ (policy : Policy) (side : Side) (old : SessionView) (runs : old.ended ≡ None) (filters : old.mode.filter ≡ true) where
   abbrev Kept : List ℕ → SessionView → SessionView → Type 0
-  Kept frame mid new = (m : Message) → Valid m → frame ≡ spell m → TookMessage (with_noted_message policy side m mid) mid new
+  Kept frame mid new = (m : Message) → Valid m → frame ≡ spell m → TookMessage (with_watched_message policy side m mid) mid new
 
   with_given : {mid : SessionView} {s : StreamView} {left : List ℕ} → mid ≡ with_stream side s old → s ≡ record (stream_of side old) { left = left } → mid ≡ with_left side left old
   with_given e f = e ∙ ap (λ (x : StreamView). with_stream side x old) f
@@ -387,15 +406,19 @@ pushed_mode : (side : Side) (s : StreamView) (view : SessionView) → (with_stre
 pushed_mode Client s view = refl
 pushed_mode Bus s view = refl
 
+pushed_watches : (side : Side) (s : StreamView) (view : SessionView) → (with_stream side s view).watches ≡ view.watches
+pushed_watches Client s view = refl
+pushed_watches Bus s view = refl
+
 not_empty_by : (bytes : List ℕ) → (length bytes == 0) ≡ false → is_empty bytes ≡ false
 not_empty_by [] e = absurd cc
 not_empty_by (byte ∷ bytes) e = refl
 
 -- from what stood before
-took_from : (expected other old mid new : SessionView) → expected ≡ other → mid.ended ≡ old.ended → mid.mode ≡ old.mode → Took expected mid new → Took other old new
-took_from expected other old mid new is runs mode (inl done) = inl (done ∙ is)
-took_from expected other old mid new is runs mode (inr refused) =
-    inr (refused_in other old new (sym runs ∙ refused.running) refused.ended (refused.mode ∙ mode) (subst (λ (v : SessionView). Grows new v) is (refused_grows expected mid new refused)))
+took_from : (expected other old mid new : SessionView) → expected ≡ other → mid.ended ≡ old.ended → mid.mode ≡ old.mode → mid.watches ≡ old.watches → Took expected mid new → Took other old new
+took_from expected other old mid new is runs mode watches (inl done) = inl (done ∙ is)
+took_from expected other old mid new is runs mode watches (inr refused) =
+    inr (refused_in other old new (sym runs ∙ refused.running) refused.ended (refused.mode ∙ mode) (refused.watches ∙ watches) (subst (λ (v : SessionView). Grows new v) is (refused_grows expected mid new refused)))
 
 module _ (policy : Policy) (side : Side) (bytes : List ℕ) where
   more_grows : (view : SessionView) → Grows view (with_more policy side bytes view)
@@ -424,8 +447,9 @@ module _ (policy : Policy) (side : Side) (bytes : List ℕ) where
       ∙ ap (λ (b : Bool). cond b old (with_more policy side bytes old)) (sym (not_empty_by bytes some)) in
       took_from (drained policy side most mid) (with_bytes policy side bytes old) old mid new all (ap (λ (v : SessionView). v.ended) is ∙ pushed_ended side (pushed bytes (stream_of side old)) old)
       (ap (λ (v : SessionView). v.mode) is ∙ pushed_mode side (pushed bytes (stream_of side old)) old)
+      (ap (λ (v : SessionView). v.watches) is ∙ pushed_watches side (pushed bytes (stream_of side old)) old)
       took
 
 -- one after the other
 pub light_then : (policy : Policy) (a b c : SessionView) → IsLight policy 0 a b → IsLight policy 0 b c → IsLight policy 0 a c
-light_then policy a b c p q = record { mode = q.mode ∙ p.mode; weighs = omega (arith, p.weighs, q.weighs) }
+light_then policy a b c p q = record { mode = q.mode ∙ p.mode; watches = q.watches ∙ p.watches; weighs = omega (arith, p.weighs, q.weighs) }

@@ -22,6 +22,9 @@ use Rattle.policy_view.specs.Past.{Item, Line, Msg, Raw, Ended, History, past, a
 use Rattle.policy_view.specs.History.{Event, stream, lines, content, raw_item, fault, line_fault, fault_of, fault_of_line, fault_end, malformed, new_in, end_of, followed_by, followed_unless, followed_by_all, most_sent}
 use Rattle.policy_view.specs.Notes.{numbered}
 use Rattle.policy_view.specs.Outputs.{bus_bytes, client_bytes, to_bus, to_client}
+use Rattle.policy_view.specs.Visible.{visible_of}
+use Rattle.policy_view.specs.declared.visible.Visible.{Visible as Element}
+use Rattle.policy_view.specs.declared.visible.Visible.TheVariants as element
 use Rattle.policy_view.specs.declared.Fault.{Fault}
 use Rattle.policy_view.specs.declared.Fault.TheVariants.{Line as OfLine, Message as OfMessage}
 use Rattle.policy_view.specs.declared.Mode.{Mode}
@@ -30,11 +33,11 @@ use Rattle.policy_view.specs.declared.Side.{Side}
 use Rattle.policy_view.specs.declared.Side.TheVariants.{Client, Bus}
 use Rattle.policy_view.proofs.CutLaws.{new_last}
 use Rattle.proxy_core.specs.Streams.{StreamView, Phase, InLines, InMessages, is_in_lines}
-use Rattle.proxy_core.specs.Sessions.{SessionView, Taken, Holds, stream_of, lines_in, AllGiven, StandsAt}
-use Rattle.proxy_core.specs.Messages.{ended_by, with_noted_message}
-use Rattle.proxy_core.specs.Steps.{with_stream, with_left, behind_line, in_messages, begun_if, asks, with_client_line, with_bus_line, with_line_fault, with_lines, with_all_answered, unanswered, has_begun, line_step, with_fault, with_front, with_raw, raw_step, step_at, more_if, drained}
-use Rattle.proxy_core.proofs.Placing.{followed, placed_itself, ended_holds}
-use Rattle.proxy_core.proofs.Keeping.{IsKept, noted_kept}
+use Rattle.proxy_core.specs.Sessions.{SessionView, Taken, Holds, elements_given, stream_of, lines_in, AllGiven, StandsAt}
+use Rattle.proxy_core.specs.Messages.{ended_by, if_watched, with_watched_message}
+use Rattle.proxy_core.specs.Steps.{with_stream, with_left, behind_line, in_messages, begun_if, asks, visible_with_line, with_client_line, with_bus_line, with_line_fault, with_lines, with_all_answered, unanswered, has_begun, line_step, with_fault, with_front, with_raw, raw_step, step_at, more_if, drained}
+use Rattle.proxy_core.proofs.Placing.{followed, given_more, given_none, knows_still, placed_itself, ended_holds}
+use Rattle.proxy_core.proofs.Keeping.{IsKept, watched_kept}
 use Rattle.proxy_core.proofs.LineCuts.{sound_at, behind, ClientGoes, client_goes, BusGoes, bus_goes}
 use Rattle.proxy_core.proofs.Going.{Goes, GoesAt, GoesInLines, GoesInMessages, GoesRaw, Stops, Begins, begins, reached, messages_stop, messages_stand, message_goes, raw_stops, raw_stands, client_stops, client_stands, client_line_goes, begin_goes, bus_stops, bus_stands, bus_line_goes, early_stops, none_stops, done_goes}
 
@@ -70,7 +73,8 @@ stream_holds policy view items taken Client s h = record {
   end_is = h.end_is;
   noted = h.noted;
   count = h.count;
-  knows = λ e. let k = h.knows e in record { count = k.count; fits = k.fits; greeted = k.greeted; stand = k.stand };
+  watched = h.watched;
+  knows = λ e. knows_still policy view _ _ refl refl refl refl (h.knows e);
 }
 stream_holds policy view items taken Bus s h = record {
   for_bus = h.for_bus;
@@ -78,7 +82,8 @@ stream_holds policy view items taken Bus s h = record {
   end_is = h.end_is;
   noted = h.noted;
   count = h.count;
-  knows = λ e. let k = h.knows e in record { count = k.count; fits = k.fits; greeted = k.greeted; stand = k.stand };
+  watched = h.watched;
+  knows = λ e. knows_still policy view _ _ refl refl refl refl (h.knows e);
 }
 
 -- ---- a line in its place
@@ -90,11 +95,19 @@ line_room policy view items taken side l runs h =
     let room : nat_le (length (past policy items).told.sent + 0) most_sent ≡ true = grind (arith, nat_tests, fits) in
     followed policy items (Line side l) (sym h.end_is ∙ runs) ∙ ap (λ (i : Item). i ∷ items) (placed_itself policy (past policy items) (Line side l) room)
 
+line_watched : (waits taken : List Element) (watches : Bool) (policy : Policy) (items : History) (side : Side) (l : List ℕ) → taken ++ waits ≡ elements_given watches policy items
+    → taken ++ (waits ++ if_watched watches (element.Line side l ∷ [])) ≡ elements_given watches policy (Line side l ∷ items)
+unfolding visible_of
+line_watched waits taken watches policy items side l so_far =
+    sym (append_assoc taken waits (if_watched watches (element.Line side l ∷ [])))
+    ∙ ap (λ (es : List Element). es ++ if_watched watches (element.Line side l ∷ [])) so_far
+    ∙ given_more watches policy items (Line side l)
+
 client_line_holds : (policy : Policy) (view : SessionView) (items : History) (taken : Taken) (l : List ℕ) (s : StreamView) → view.ended ≡ None → Holds policy view items taken
-    → Holds policy (record view { bus_side = view.bus_side ++ for_bus l; client = s }) (followed_by policy items (Line Client l)) taken
-unfolding bus_bytes client_bytes to_bus to_client past after numbered
+    → Holds policy (record view { bus_side = view.bus_side ++ for_bus l; client = s; visible = visible_with_line Client l view }) (followed_by policy items (Line Client l)) taken
+unfolding bus_bytes client_bytes to_bus to_client past after numbered visible_of
 client_line_holds policy view items taken l s runs h =
-    let v : SessionView = record view { bus_side = view.bus_side ++ for_bus l; client = s } in
+    let v : SessionView = record view { bus_side = view.bus_side ++ for_bus l; client = s; visible = visible_with_line Client l view } in
     subst (λ (i : History). Holds policy v i taken) (sym (line_room policy view items taken Client l runs h))
     (record {
       for_bus = sym (append_assoc taken.bus_side view.bus_side (for_bus l)) ∙ ap (λ (w : List ℕ). w ++ for_bus l) h.for_bus;
@@ -102,14 +115,15 @@ client_line_holds policy view items taken l s runs h =
       end_is = h.end_is;
       noted = h.noted;
       count = h.count;
-      knows = λ e. let k = h.knows e in record { count = k.count; fits = k.fits; greeted = k.greeted; stand = k.stand };
+      watched = line_watched view.visible taken.visible view.watches policy items Client l h.watched;
+      knows = λ e. knows_still policy view _ _ refl refl refl refl (h.knows e);
     })
 
 bus_line_holds : (policy : Policy) (view : SessionView) (items : History) (taken : Taken) (l : List ℕ) (s : StreamView) → view.ended ≡ None → Holds policy view items taken
-    → Holds policy (record view { client_side = view.client_side ++ l; bus = s }) (followed_by policy items (Line Bus l)) taken
-unfolding bus_bytes client_bytes to_bus to_client past after numbered
+    → Holds policy (record view { client_side = view.client_side ++ l; bus = s; visible = visible_with_line Bus l view }) (followed_by policy items (Line Bus l)) taken
+unfolding bus_bytes client_bytes to_bus to_client past after numbered visible_of
 bus_line_holds policy view items taken l s runs h =
-    let v : SessionView = record view { client_side = view.client_side ++ l; bus = s } in
+    let v : SessionView = record view { client_side = view.client_side ++ l; bus = s; visible = visible_with_line Bus l view } in
     subst (λ (i : History). Holds policy v i taken) (sym (line_room policy view items taken Bus l runs h))
     (record {
       for_bus = h.for_bus ∙ sym (append-nil (bus_bytes policy items));
@@ -117,7 +131,8 @@ bus_line_holds policy view items taken l s runs h =
       end_is = h.end_is;
       noted = h.noted;
       count = h.count;
-      knows = λ e. let k = h.knows e in record { count = k.count; fits = k.fits; greeted = k.greeted; stand = k.stand };
+      watched = line_watched view.visible taken.visible view.watches policy items Bus l h.watched;
+      knows = λ e. knows_still policy view _ _ refl refl refl refl (h.knows e);
     })
 
 -- ---- bytes at which nobody looks, in their place
@@ -130,14 +145,15 @@ raw_room policy view items taken side bytes runs h =
     followed policy items (Raw side bytes) (sym h.end_is ∙ runs) ∙ ap (λ (i : Item). i ∷ items) (placed_itself policy (past policy items) (Raw side bytes) room)
 
 raw_holds : (policy : Policy) (view : SessionView) (items : History) (taken : Taken) (side : Side) (bytes : List ℕ) → Holds policy view items taken → Holds policy (with_raw side bytes view) (Raw side bytes ∷ items) taken
-unfolding bus_bytes client_bytes to_bus to_client past after numbered
+unfolding bus_bytes client_bytes to_bus to_client past after numbered visible_of
 raw_holds policy view items taken Client bytes h = record {
   for_bus = sym (append_assoc taken.bus_side view.bus_side bytes) ∙ ap (λ (w : List ℕ). w ++ bytes) h.for_bus;
   for_client = h.for_client ∙ sym (append-nil (client_bytes policy items));
   end_is = h.end_is;
   noted = h.noted;
   count = h.count;
-  knows = λ e. let k = h.knows e in record { count = k.count; fits = k.fits; greeted = k.greeted; stand = k.stand };
+  watched = h.watched ∙ given_none view.watches policy items (Raw Client bytes) refl;
+  knows = λ e. knows_still policy view _ _ refl refl refl refl (h.knows e);
 }
 raw_holds policy view items taken Bus bytes h = record {
   for_bus = h.for_bus ∙ sym (append-nil (bus_bytes policy items));
@@ -145,7 +161,8 @@ raw_holds policy view items taken Bus bytes h = record {
   end_is = h.end_is;
   noted = h.noted;
   count = h.count;
-  knows = λ e. let k = h.knows e in record { count = k.count; fits = k.fits; greeted = k.greeted; stand = k.stand };
+  watched = h.watched ∙ given_none view.watches policy items (Raw Bus bytes) refl;
+  knows = λ e. knows_still policy view _ _ refl refl refl refl (h.knows e);
 }
 
 no_raw : (side : Side) (view : SessionView) → view ≡ with_raw side [] view
@@ -170,7 +187,7 @@ new_none (x ∷ xs) = new_none xs
 -- what a session does with a valid message is what the history has
 abbrev pub Steps : Policy → Taken → Type 0
 Steps policy taken = (side : Side) (view : SessionView) (items : History) (m : Message) → view.ended ≡ None → Holds policy view items taken → Valid m
-    → Holds policy (with_noted_message policy side m view) (followed_by policy items (Msg side m)) taken
+    → Holds policy (with_watched_message policy side m view) (followed_by policy items (Msg side m)) taken
 
 -- the session holds what its side's stream has beyond these items, and its fault; where it runs, all was taken
 pub record Final (policy : Policy) (taken : Taken) (mode : Mode) (side : Side) (gone : List ℕ) (events : List Event) (items : History) (given : List Item) (new : SessionView) : Type 0 where
@@ -289,18 +306,18 @@ module _ (policy : Policy) (taken : Taken) (mode : Mode) (gone : List ℕ) (even
       by : (b : Bool) → is_begin l ≡ b → ClientLast (drained policy Client n (with_client_line place l view))
       by false e =
           let s : StreamView = record view.client { phase = InLines (place + length l) None; left = (behind place view.client.left l).left; lines = view.client.lines + asks place l } in
-          let v : SessionView = record view { bus_side = view.bus_side ++ for_bus l; client = s } in
-          let is : with_client_line place l view ≡ v = ap (λ (b : Bool). record view { bus_side = view.bus_side ++ for_bus l; client = begun_if b (behind_line place l (asks place l) view.client) }) e in
+          let v : SessionView = record view { bus_side = view.bus_side ++ for_bus l; client = s; visible = visible_with_line Client l view } in
+          let is : with_client_line place l view ≡ v = ap (λ (b : Bool). record view { bus_side = view.bus_side ++ for_bus l; client = begun_if b (behind_line place l (asks place l) view.client); visible = visible_with_line Client l view }) e in
           let goes = client_line_goes mode gone events view.client place given g l (asks place l) c e (asks_first place l e) (asks_other place l e) in
           subst (λ (x : SessionView). ClientLast (drained policy Client n x)) (sym is)
           (item_last policy taken mode Client gone events items given (Line Client l) (drained policy Client n v) (begins mode Client gone events (InLines (place + length l) None) s (given ++ Line Client l ∷ []) goes)
           (others v (followed_by policy items (Line Client l)) (given ++ Line Client l ∷ []) (omega (arith, rest_short, short)) runs moded goes (client_line_holds policy view items taken l s runs h) rest_bytes tt))
       by true e =
           let s : StreamView = record view.client { phase = InMessages; left = (behind place view.client.left l).left; lines = view.client.lines + 0 } in
-          let v : SessionView = record view { bus_side = view.bus_side ++ for_bus l; client = s } in
+          let v : SessionView = record view { bus_side = view.bus_side ++ for_bus l; client = s; visible = visible_with_line Client l view } in
           let is : with_client_line place l view ≡ v =
-          ap (λ (b : Bool). record view { bus_side = view.bus_side ++ for_bus l; client = begun_if b (behind_line place l (asks place l) view.client) }) e
-          ∙ ap (λ (k : ℕ). record view { bus_side = view.bus_side ++ for_bus l; client = in_messages (behind_line place l k view.client) }) (asks_begin place l e) in
+          ap (λ (b : Bool). record view { bus_side = view.bus_side ++ for_bus l; client = begun_if b (behind_line place l (asks place l) view.client); visible = visible_with_line Client l view }) e
+          ∙ ap (λ (k : ℕ). record view { bus_side = view.bus_side ++ for_bus l; client = in_messages (behind_line place l k view.client); visible = visible_with_line Client l view }) (asks_begin place l e) in
           let goes = begin_goes mode gone events view.client place given g l c e in
           subst (λ (x : SessionView). ClientLast (drained policy Client n x)) (sym is)
           (item_last policy taken mode Client gone events items given (Line Client l) (drained policy Client n v) (begins mode Client gone events InMessages s (given ++ Line Client l ∷ []) goes)
@@ -330,7 +347,7 @@ module _ (policy : Policy) (taken : Taken) (mode : Mode) (gone : List ℕ) (even
   bus_line_last : (l : List ℕ) → BusGoes (stream Bus events) g.given all_asked place view.bus.left l → BusLast (drained policy Bus n (with_bus_line place l view))
   bus_line_last l c =
       let s : StreamView = record view.bus { phase = InLines (place + length l) None; left = (behind place view.bus.left l).left; lines = view.bus.lines + 1 } in
-      let v : SessionView = record view { client_side = view.client_side ++ l; bus = s } in
+      let v : SessionView = record view { client_side = view.client_side ++ l; bus = s; visible = visible_with_line Bus l view } in
       let goes = bus_line_goes mode gone events view.bus place given g l c in
       let parts : length view.bus.left ≡ length l + length (behind place view.bus.left l).left = ap length c.parts ∙ length-append l (behind place view.bus.left l).left in
       let some = c.some in
@@ -404,7 +421,7 @@ module _ (policy : Policy) (taken : Taken) (steps : Steps policy taken) (mode : 
   mode_behind Bus left v = refl
 
   abbrev behind_message : Message → List ℕ → SessionView
-  behind_message m left = with_noted_message policy side m (with_left side left view)
+  behind_message m left = with_watched_message policy side m (with_left side left view)
 
   message_last : (m : Message) (left : List ℕ) → front left_now ≡ Some (m, left) → (o : Option End) → (behind_message m left).ended ≡ o
       → MessageLast (more_if (behind_message m left, is_none o) (drained policy side n))
@@ -413,7 +430,7 @@ module _ (policy : Policy) (taken : Taken) (steps : Steps policy taken) (mode : 
       let s : StreamView = record (stream_of side view) { left = left } in
       let goes = message_goes mode side gone events (stream_of side view) given g m left e in
       let held = steps side (with_stream side s view) items m (stream_runs side s view ∙ runs) (stream_holds policy view items taken side s h) is.0 in
-      let kept = noted_kept policy side m (with_stream side s view) in
+      let kept = watched_kept policy side m (with_stream side s view) in
       let same : stream_of side (behind_message m left) ≡ s = kept_stream side (with_stream side s view) (behind_message m left) kept ∙ same_stream side s view in
       let begin = begins mode side gone events InMessages s (given ++ Msg side m ∷ []) (inl goes) in
       let less = front-shorter left_now m left e in

@@ -1,5 +1,5 @@
--- What a message leaves as it was: the mode, the streams, and what waited before it; and how it is without its note.
-use Rattle.std.proofs.Common.{ℕ, ◌≡◌, ◌+◌, Bool, true, false, cond, List, [], ◌∷◌, ◌++◌, length, refl, ap, ◌∙◌, sym, append-nil, append_assoc, flat_map}
+-- What a message leaves as it was: the mode, the streams, and what waited before it; and how it is without its note and its element.
+use Rattle.std.proofs.Common.{ℕ, ◌≡◌, ◌+◌, Bool, true, false, cond, List, [], ◌∷◌, ◌++◌, length, refl, ap, ap₂, ◌∙◌, sym, append-nil, append_assoc, flat_map}
 use Rattle.std.specs.Prelude.{nat_le, ◌&&◌, is_none}
 use Rattle.dbus_header.specs.Message.{Message, reply_serial, spell}
 use Rattle.policy_args.specs.Policy.{Policy}
@@ -10,6 +10,7 @@ use Rattle.policy_view.specs.Shown.{BusRole, bus_role, seen_as, showing_at}
 use Rattle.policy_view.specs.Verdicts.{client_role, verdict}
 use Rattle.policy_view.specs.Notes.{Note}
 use Rattle.policy_view.specs.declared.Decision.{Decision}
+use Rattle.policy_view.specs.declared.visible.Visible.{Visible as Element}
 use Rattle.policy_view.specs.declared.End.{End}
 use Rattle.policy_view.specs.declared.End.TheVariants.{SerialsSpent}
 use Rattle.policy_view.specs.declared.Showing.{Showing}
@@ -19,7 +20,7 @@ use Rattle.policy_view.specs.declared.Verdict.{Verdict}
 use Rattle.unique_names.specs.Taught.{kept_level}
 use Rattle.verdicts.specs.Kept.{expected_at}
 use Rattle.proxy_core.specs.Sessions.{SessionView, IsFront}
-use Rattle.proxy_core.specs.Messages.{decision_in, ended_by, known, sending, with_message, with_note, with_note_on, with_noted_message, with_replied, with_role, with_sent, with_shown, with_told, with_used, with_verdict}
+use Rattle.proxy_core.specs.Messages.{decision_in, elements_in, ended_by, if_watched, known, sending, unless_ended, with_elements, with_message, with_note, with_note_on, with_noted_message, with_replied, with_role, with_sent, with_shown, with_told, with_used, with_verdict, with_watched_message, KeepsSides}
 
 -- ---- fronts
 
@@ -34,40 +35,46 @@ front_then xs ys zs p q = record { rest = p.rest ++ q.rest; is = sym (append_ass
 
 -- ---- what waits
 
--- what waits for either side, and the notes, stand behind what was there before
+-- what waits for either side, the notes, and the elements stand behind what was there before
 abbrev pub Grows : SessionView → SessionView → Type 0
-Grows old new = IsFront old.bus_side new.bus_side × IsFront old.client_side new.client_side × IsFront old.notes new.notes
+Grows old new = IsFront old.bus_side new.bus_side × IsFront old.client_side new.client_side × IsFront old.notes new.notes × IsFront old.visible new.visible
 
 pub grows_none : (view : SessionView) → Grows view view
-grows_none view = (front_all view.bus_side, front_all view.client_side, front_all view.notes)
+grows_none view = (front_all view.bus_side, front_all view.client_side, front_all view.notes, front_all view.visible)
 
 pub grows_then : (a b c : SessionView) → Grows a b → Grows b c → Grows a c
-grows_then a b c (bus, client, notes) (more_bus, more_client, more_notes) = (
+grows_then a b c (bus, client, notes, visible) (more_bus, more_client, more_notes, more_visible) = (
   front_then a.bus_side b.bus_side c.bus_side bus more_bus,
   front_then a.client_side b.client_side c.client_side client more_client,
   front_then a.notes b.notes c.notes notes more_notes,
+  front_then a.visible b.visible c.visible visible more_visible,
 )
 
 pub bus_grows : (view : SessionView) (more : List ℕ) → Grows view (record view { bus_side = view.bus_side ++ more })
-bus_grows view more = (front_more view.bus_side more, front_all view.client_side, front_all view.notes)
+bus_grows view more = (front_more view.bus_side more, front_all view.client_side, front_all view.notes, front_all view.visible)
 
 pub client_grows : (view : SessionView) (more : List ℕ) → Grows view (record view { client_side = view.client_side ++ more })
-client_grows view more = (front_all view.bus_side, front_more view.client_side more, front_all view.notes)
+client_grows view more = (front_all view.bus_side, front_more view.client_side more, front_all view.notes, front_all view.visible)
+
+-- where elements are kept too
+pub elements_grow : (old new : SessionView) (elements : List Element) → Grows old new → Grows old (with_elements elements new)
+elements_grow old new elements (bus, client, notes, visible) = (bus, client, notes, front_then old.visible new.visible _ visible (front_more new.visible (if_watched new.watches elements)))
 
 -- ---- a message
 
 -- the same mode and streams, and what waits stands behind what waited before
 pub record IsKept (old new : SessionView) : Type 0 where
   pub mode : new.mode ≡ old.mode
+  pub watches : new.watches ≡ old.watches
   pub client : new.client ≡ old.client
   pub bus : new.bus ≡ old.bus
   pub grows : Grows old new
 
 pub itself : (view : SessionView) → IsKept view view
-itself view = record { mode = refl; client = refl; bus = refl; grows = grows_none view }
+itself view = record { mode = refl; watches = refl; client = refl; bus = refl; grows = grows_none view }
 
 pub ended_kept : (end : End) (view : SessionView) → IsKept view (ended_by end view)
-ended_kept end view = record { mode = refl; client = refl; bus = refl; grows = grows_none view }
+ended_kept end view = record { mode = refl; watches = refl; client = refl; bus = refl; grows = grows_none view }
 
 either : (old x y : SessionView) (b : Bool) → IsKept old x → IsKept old y → IsKept old (cond b x y)
 either old x y true k l = k
@@ -78,6 +85,7 @@ either old x y false k l = l
 sent_kept : (due : List Sent) (old new : SessionView) → IsKept old new → IsKept old (with_sent due new)
 sent_kept due old new k = record {
   mode = k.mode;
+  watches = k.watches;
   client = k.client;
   bus = k.bus;
   grows = grows_then old new (with_sent due new) k.grows (bus_grows new (spelled_from (new.sent + 1) due));
@@ -91,7 +99,7 @@ sending_kept (s ∷ due) view new k =
 -- ---- what a message does
 
 replied_kept : (replied : List Exchange) (view : SessionView) → IsKept view (with_replied replied view)
-replied_kept replied view = record { mode = refl; client = refl; bus = refl; grows = grows_none view }
+replied_kept replied view = record { mode = refl; watches = refl; client = refl; bus = refl; grows = grows_none view }
 
 module _ (policy : Policy) (m : Message) where
   verdict_kept : (v : Verdict) (view : SessionView) → IsKept view (with_verdict policy m v view)
@@ -100,6 +108,7 @@ module _ (policy : Policy) (m : Message) where
   told_kept : (role : BusRole) (showing : Showing) (view : SessionView) → IsKept view (with_told policy m role (with_shown policy m showing view))
   told_kept role showing view = record {
     mode = refl;
+    watches = refl;
     client = refl;
     bus = refl;
     grows = client_grows view (flat_map spell (seen_as (kept_level policy view.ids) m showing));
@@ -111,31 +120,93 @@ module _ (policy : Policy) (m : Message) where
       (told_kept role (showing_at policy (known policy view) m role) view)
 
   used_kept : (view new : SessionView) → IsKept (with_used m view) new → IsKept view new
-  used_kept view new k = record { mode = k.mode; client = k.client; bus = k.bus; grows = k.grows }
+  used_kept view new k = record { mode = k.mode; watches = k.watches; client = k.client; bus = k.bus; grows = k.grows }
 
--- ---- notes
+-- ---- notes and elements
 
--- whatever notes wait, a message does the same
-abbrev with_notes : List Note → ℕ → SessionView → SessionView
-with_notes notes n view = record view { notes = notes; numbered = n }
+-- what is kept of the messages: the notes and their count, and the elements
+pub record Kept : Type 0 where
+  pub notes : List Note
+  pub numbered : ℕ
+  pub watches : Bool
+  pub visible : List Element
 
-either_apart : (notes : List Note) (n : ℕ) (x y : SessionView) (b : Bool) → cond b (with_notes notes n x) (with_notes notes n y) ≡ with_notes notes n (cond b x y)
-either_apart notes n x y true = refl
-either_apart notes n x y false = refl
+abbrev pub with_kept : Kept → SessionView → SessionView
+with_kept kept view = record view { notes = kept.notes; numbered = kept.numbered; watches = kept.watches; visible = kept.visible }
 
-sending_apart : (notes : List Note) (n : ℕ) (due : List Sent) (view new : SessionView) → sending due (with_notes notes n view) (with_notes notes n new) ≡ with_notes notes n (sending due view new)
-sending_apart notes n [] view new = refl
-sending_apart notes n (s ∷ due) view new = either_apart notes n (with_sent (s ∷ due) new) (ended_by SerialsSpent view) (nat_le (view.sent + length (s ∷ due)) most_sent)
+abbrev kept_in : SessionView → Kept
+kept_in view = record { notes = view.notes; numbered = view.numbered; watches = view.watches; visible = view.visible }
+
+-- where that stood outside while memory was refused, and was put back, what waits and the streams are what they were
+pub sides_kept : (old mid after new : SessionView) (out put : Kept) → mid ≡ with_kept out old → new ≡ with_kept put after → KeepsSides mid after → put.notes ≡ old.notes → put.watches ≡ old.watches → put.visible ≡ old.visible → KeepsSides old new
+sides_kept old mid after new out put outside inside kept notes watches visible = record {
+  mode = same (λ v. v.mode) refl refl kept.mode;
+  client = same (λ v. v.client) refl refl kept.client;
+  bus = same (λ v. v.bus) refl refl kept.bus;
+  bus_side = same (λ v. v.bus_side) refl refl kept.bus_side;
+  client_side = same (λ v. v.client_side) refl refl kept.client_side;
+  greeted = same (λ v. v.greeted) refl refl kept.greeted;
+  notes = ap (λ (v : SessionView). v.notes) inside ∙ notes;
+  watches = ap (λ (v : SessionView). v.watches) inside ∙ watches;
+  visible = ap (λ (v : SessionView). v.visible) inside ∙ visible;
+}
+  where
+    same : {A : Type 0} (part : SessionView → A) → part (with_kept put after) ≡ part after → part (with_kept out old) ≡ part old → part after ≡ part mid → part new ≡ part old
+    same part after_is old_is kept = ap part inside ∙ after_is ∙ kept ∙ ap part outside ∙ old_is
+
+-- whatever that is, a message does the same
+either_apart : (kept : Kept) (x y : SessionView) (b : Bool) → cond b (with_kept kept x) (with_kept kept y) ≡ with_kept kept (cond b x y)
+either_apart kept x y true = refl
+either_apart kept x y false = refl
+
+sending_apart : (kept : Kept) (due : List Sent) (view new : SessionView) → sending due (with_kept kept view) (with_kept kept new) ≡ with_kept kept (sending due view new)
+sending_apart kept [] view new = refl
+sending_apart kept (s ∷ due) view new = either_apart kept (with_sent (s ∷ due) new) (ended_by SerialsSpent view) (nat_le (view.sent + length (s ∷ due)) most_sent)
+
+kept_apart : (policy : Policy) (side : Side) (m : Message) (view : SessionView) (kept : Kept) → with_message policy side m (with_kept kept view) ≡ with_kept kept (with_message policy side m view)
+kept_apart policy Client m view kept =
+    let v : Verdict = verdict policy (known policy view) m in
+    sending_apart kept (due_on policy view.greeted m v) view (with_replied (replied_on m (client_role m) v) view)
+kept_apart policy Bus m view kept =
+    let used : SessionView = with_used m view in
+    let role : BusRole = bus_role (expected_at view.ledger.expected (reply_serial m)) m in
+    sending_apart kept (due_at policy m role) used (with_told policy m role (with_shown policy m (showing_at policy (known policy used) m role) used))
+
+-- it leaves what is kept
+kept_left : (policy : Policy) (side : Side) (m : Message) (view : SessionView) → kept_in (with_message policy side m view) ≡ kept_in view
+kept_left policy side m view = ap kept_in (kept_apart policy side m view (kept_in view))
 
 pub notes_apart : (policy : Policy) (side : Side) (m : Message) (view : SessionView) (notes : List Note) (n : ℕ) →
     with_message policy side m (record view { notes = notes; numbered = n }) ≡ record (with_message policy side m view) { notes = notes; numbered = n }
-notes_apart policy Client m view notes n =
-    let v : Verdict = verdict policy (known policy view) m in
-    sending_apart notes n (due_on policy view.greeted m v) view (with_replied (replied_on m (client_role m) v) view)
-notes_apart policy Bus m view notes n =
-    let used : SessionView = with_used m view in
-    let role : BusRole = bus_role (expected_at view.ledger.expected (reply_serial m)) m in
-    sending_apart notes n (due_at policy m role) used (with_told policy m role (with_shown policy m (showing_at policy (known policy used) m role) used))
+notes_apart policy side m view notes n =
+    kept_apart policy side m view (record { notes = notes; numbered = n; watches = view.watches; visible = view.visible })
+    ∙ ap (λ (kept : Kept). record (with_message policy side m view) { notes = notes; numbered = n; watches = kept.watches; visible = kept.visible }) (sym (kept_left policy side m view))
+
+-- a note rests on what is noted alone
+note_apart : (side : Side) (m : Message) (decision : Decision) (view : SessionView) (watches : Bool) (visible : List Element) →
+    with_note_on side m decision (record view { watches = watches; visible = visible }) ≡ record (with_note_on side m decision view) { watches = watches; visible = visible }
+note_apart side m decision view watches visible = by (view.mode.notes && is_none view.ended)
+  where
+    apart : SessionView → SessionView
+    apart v = record v { watches = watches; visible = visible }
+
+    by : (b : Bool) → cond b (apart (with_note side m decision view)) (apart view) ≡ apart (cond b (with_note side m decision view) view)
+    by true = refl
+    by false = refl
+
+-- the decision on it doesn't rest on what is kept
+decision_apart : (policy : Policy) (side : Side) (m : Message) (view : SessionView) (watches : Bool) (visible : List Element) →
+    decision_in policy side m (record view { watches = watches; visible = visible }) ≡ decision_in policy side m view
+decision_apart policy Client m view watches visible = refl
+decision_apart policy Bus m view watches visible = refl
+
+pub visible_apart : (policy : Policy) (side : Side) (m : Message) (view : SessionView) (watches : Bool) (visible : List Element) →
+    with_noted_message policy side m (record view { watches = watches; visible = visible }) ≡ record (with_noted_message policy side m view) { watches = watches; visible = visible }
+visible_apart policy side m view watches visible =
+    ap₂ (λ (d : Decision) (v : SessionView). with_note_on side m d v) (decision_apart policy side m view watches visible)
+    (kept_apart policy side m view (record { notes = view.notes; numbered = view.numbered; watches = watches; visible = visible })
+    ∙ ap (λ (kept : Kept). record (with_message policy side m view) { notes = kept.notes; numbered = kept.numbered; watches = watches; visible = visible }) (sym (kept_left policy side m view)))
+    ∙ note_apart side m (decision_in policy side m view) (with_message policy side m view) watches visible
 
 -- it leaves the notes and their count
 pub notes_left : (policy : Policy) (side : Side) (m : Message) (view : SessionView) → (with_message policy side m view).notes ≡ view.notes
@@ -161,8 +232,25 @@ noted_kept policy side m view = by (with_message policy side m view) (message_ke
     by new k = either view (with_note side m decision new) new (new.mode.notes && is_none new.ended)
         (record {
           mode = k.mode;
+          watches = k.watches;
           client = k.client;
           bus = k.bus;
-          grows = grows_then view new (with_note side m decision new) k.grows (front_all new.bus_side, front_all new.client_side, front_more new.notes _);
+          grows = grows_then view new (with_note side m decision new) k.grows (front_all new.bus_side, front_all new.client_side, front_more new.notes _, front_all new.visible);
         })
         k
+
+-- and the elements that were kept before a message
+pub visible_left : (policy : Policy) (side : Side) (m : Message) (view : SessionView) → (with_noted_message policy side m view).visible ≡ view.visible
+visible_left policy side m view = ap (λ (v : SessionView). v.visible) (visible_apart policy side m view view.watches view.visible)
+
+pub watched_kept : (policy : Policy) (side : Side) (m : Message) (view : SessionView) → IsKept view (with_watched_message policy side m view)
+watched_kept policy side m view =
+    let new : SessionView = with_noted_message policy side m view in
+    let k = noted_kept policy side m view in
+    record {
+      mode = k.mode;
+      watches = k.watches;
+      client = k.client;
+      bus = k.bus;
+      grows = elements_grow view new (unless_ended new.ended (elements_in policy side m view)) k.grows;
+    }

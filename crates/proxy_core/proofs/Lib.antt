@@ -1,3 +1,5 @@
+pub mod Untouched
+pub mod StreamPieces
 pub mod Standing
 pub mod Driven
 pub mod Going
@@ -15,6 +17,8 @@ pub mod ReceivingSteps
 pub mod Frames
 pub mod Keeping
 pub mod Noting
+pub mod Watching
+pub mod KeptElements
 pub mod Taken
 pub mod Weights
 pub mod Draining

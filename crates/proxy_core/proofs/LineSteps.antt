@@ -13,12 +13,13 @@ use Rattle.sasl_watch.specs.declared.LineKind.TheVariants.{EarlyBus}
 use Rattle.sasl_watch.specs.declared.NextLine.{NextLine}
 use Rattle.sasl_watch.specs.declared.NextLine.TheVariants.{Line, Begin}
 use Rattle.policy_args.specs.Policy.{Policy}
+use Rattle.policy_view.specs.declared.visible.Visible.TheVariants as element
 use Rattle.policy_view.specs.declared.Side.{Side}
 use Rattle.policy_view.specs.declared.Side.TheVariants.{Client, Bus}
 use Rattle.proxy_core.specs.Streams.{StreamView, InLines, watch_at, GaveLine}
 use Rattle.proxy_core.specs.Sessions.{SessionView, IsFront}
 use Rattle.proxy_core.specs.Steps.{behind_line, in_messages, with_line_fault, with_lines, with_cut, unanswered, has_begun, with_all_answered, step_at, Stepped, Did, own_to_come, weight, IsLight}
-use Rattle.proxy_core.proofs.Keeping.{Grows, grows_none, bus_grows, client_grows}
+use Rattle.proxy_core.proofs.Keeping.{Grows, grows_none, bus_grows, client_grows, elements_grow}
 
 -- ---- what waits behind a line starts with what waited before
 
@@ -29,8 +30,8 @@ fault_grows Bus place (Some f) view = grows_none view
 
 lines_grow : (side : Side) (place : ℕ) (ls : List (List ℕ)) (o : Option LineFault) (view : SessionView) → Grows view (with_lines side place ls o view).0
 lines_grow side place [] o view = fault_grows side place o view
-lines_grow Client place (l ∷ ls) o view = bus_grows view (for_bus l)
-lines_grow Bus place (l ∷ ls) o view = client_grows view l
+lines_grow Client place (l ∷ ls) o view = elements_grow view (record view { bus_side = view.bus_side ++ for_bus l }) (element.Line Client l ∷ []) (bus_grows view (for_bus l))
+lines_grow Bus place (l ∷ ls) o view = elements_grow view (record view { client_side = view.client_side ++ l }) (element.Line Bus l ∷ []) (client_grows view l)
 
 abbrev by_begun : Bool → Option LineFault → ℕ → SessionView → SessionView × Bool
 by_begun b o place view = cond b (record view { bus = in_messages view.bus }, true) (with_line_fault Bus place o view, false)
@@ -80,7 +81,7 @@ stream_behind s place n l w parts is =
 
 -- ---- what was done with a line
 
-module _ (expected : SessionView × Bool) (old mid new target : SessionView) (goes : Bool) (runs : old.ended ≡ None) (is : target ≡ expected.0) (more : expected.1 ≡ true) (mode : mid.mode ≡ old.mode) where
+module _ (expected : SessionView × Bool) (old mid new target : SessionView) (goes : Bool) (runs : old.ended ≡ None) (is : target ≡ expected.0) (more : expected.1 ≡ true) (mode : mid.mode ≡ old.mode) (watches : mid.watches ≡ old.watches) where
   pub did_step : Did target mid new goes → Stepped expected old new goes
   did_step (inl done) = inl (done.0 ∙ is, done.1 ∙ sym more)
   did_step (inr cut) = inr (
@@ -91,6 +92,8 @@ module _ (expected : SessionView × Bool) (old mid new target : SessionView) (go
       for_bus = subst (λ (v : SessionView). IsFront new.bus_side v.bus_side) is cut.0.for_bus;
       for_client = subst (λ (v : SessionView). IsFront new.client_side v.client_side) is cut.0.for_client;
       noted = subst (λ (v : SessionView). IsFront new.notes v.notes) is cut.0.noted;
+      watches = cut.0.watches ∙ watches;
+      watched = subst (λ (v : SessionView). IsFront new.visible v.visible) is cut.0.watched;
     },
     cut.1,
   )
@@ -98,16 +101,17 @@ module _ (expected : SessionView × Bool) (old mid new target : SessionView) (go
 front_short : (xs ys : List ℕ) → IsFront xs ys → length xs ≤ length ys
 front_short xs ys f = let h : length xs + length f.rest ≡ length ys = sym (length-append xs f.rest) ∙ ap length f.is in omega (arith, h)
 
-pub did_light : (policy : Policy) (old mid new target : SessionView) (goes : Bool) → Did target mid new goes → mid.mode ≡ old.mode → target.mode ≡ old.mode
+pub did_light : (policy : Policy) (old mid new target : SessionView) (goes : Bool) → Did target mid new goes → mid.mode ≡ old.mode → target.mode ≡ old.mode → mid.watches ≡ old.watches → target.watches ≡ old.watches
     → length target.client.left ≡ length mid.client.left → length target.bus.left ≡ length mid.bus.left → target.greeted ≡ mid.greeted
     → weight policy target ≤ weight policy old → IsLight policy 0 old new
-did_light policy old mid new target goes (inl done) mode mode_is client bus greeted less =
-    subst (λ (v : SessionView). IsLight policy 0 old v) (sym done.0) (record { mode = mode_is; weighs = no_heavier _ _ less })
+did_light policy old mid new target goes (inl done) mode mode_is watches watches_is client bus greeted less =
+    subst (λ (v : SessionView). IsLight policy 0 old v) (sym done.0) (record { mode = mode_is; watches = watches_is; weighs = no_heavier _ _ less })
   where
     no_heavier : (new old : ℕ) → new ≤ old → new ≤ old + 19 * 0
     no_heavier new old h = omega arith
-did_light policy old mid new target goes (inr cut) mode mode_is client bus greeted less = record {
+did_light policy old mid new target goes (inr cut) mode mode_is watches watches_is client bus greeted less = record {
   mode = cut.0.mode ∙ mode;
+  watches = cut.0.watches ∙ watches;
   weighs = by (front_short new.bus_side target.bus_side cut.0.for_bus) (front_short new.client_side target.client_side cut.0.for_client) cut.0.client cut.0.bus client bus (ap (own_to_come policy) (cut.0.greeted ∙ sym greeted)) less;
 }
   where
@@ -138,27 +142,27 @@ for_bus_short l = by (bytes_eq (word l) (codes "NEGOTIATE_UNIX_FD")) refl
 
 module _ (policy : Policy) where
   pub client_light : (view old new target : SessionView) (s : StreamView) (l : List ℕ) (goes : Bool) → view ≡ old → view.client.left ≡ l ++ s.left
-      → Did target (record view { client = s }) new goes → target.mode ≡ view.mode → target.client.left ≡ s.left → target.bus.left ≡ view.bus.left
+      → Did target (record view { client = s }) new goes → target.mode ≡ view.mode → target.watches ≡ view.watches → target.client.left ≡ s.left → target.bus.left ≡ view.bus.left
       → target.bus_side ≡ view.bus_side ++ for_bus l → target.client_side ≡ view.client_side → target.greeted ≡ view.greeted → IsLight policy 0 old new
-  client_light view old new target s l goes same parts did mode client bus out shown greeted =
+  client_light view old new target s l goes same parts did mode watches client bus out shown greeted =
       let c : length target.client.left ≡ length s.left = ap length client in
       let b : length target.bus.left ≡ length view.bus.left = ap length bus in
       let less : weight policy target ≤ weight policy view =
       by (length view.bus_side) (ap length out ∙ length-append view.bus_side (for_bus l)) (for_bus_short l) (ap length shown) (ap length parts ∙ length-append l s.left) c b (ap (own_to_come policy) greeted) in
-      subst (λ (v : SessionView). IsLight policy 0 v new) same (did_light policy view (record view { client = s }) new target goes did refl mode c b greeted less)
+      subst (λ (v : SessionView). IsLight policy 0 v new) same (did_light policy view (record view { client = s }) new target goes did refl mode refl watches c b greeted less)
     where
       by : {b n k s l m o s' l' r m' o' : ℕ} (b' : ℕ) → b ≡ b' + n → n ≤ k → s ≡ s' → l' ≡ k + r → l ≡ r → m ≡ m' → o ≡ o' → b + s + 19 * (l + m) + o ≤ b' + s' + 19 * (l' + m') + o'
       by b' b n s l l' m o = omega arith
 
   pub bus_light : (view old new target : SessionView) (s : StreamView) (l : List ℕ) (goes : Bool) → view ≡ old → view.bus.left ≡ l ++ s.left
-      → Did target (record view { bus = s }) new goes → target.mode ≡ view.mode → target.bus.left ≡ s.left → target.client.left ≡ view.client.left
+      → Did target (record view { bus = s }) new goes → target.mode ≡ view.mode → target.watches ≡ view.watches → target.bus.left ≡ s.left → target.client.left ≡ view.client.left
       → target.client_side ≡ view.client_side ++ l → target.bus_side ≡ view.bus_side → target.greeted ≡ view.greeted → IsLight policy 0 old new
-  bus_light view old new target s l goes same parts did mode bus client out shown greeted =
+  bus_light view old new target s l goes same parts did mode watches bus client out shown greeted =
       let c : length target.client.left ≡ length view.client.left = ap length client in
       let b : length target.bus.left ≡ length s.left = ap length bus in
       let less : weight policy target ≤ weight policy view =
       by (length view.client_side) (length l) (ap length shown) (ap length out ∙ length-append view.client_side l) (ap length parts ∙ length-append l s.left) c b (ap (own_to_come policy) greeted) in
-      subst (λ (v : SessionView). IsLight policy 0 v new) same (did_light policy view (record view { bus = s }) new target goes did refl mode c b greeted less)
+      subst (λ (v : SessionView). IsLight policy 0 v new) same (did_light policy view (record view { bus = s }) new target goes did refl mode refl watches c b greeted less)
     where
       by : {b s l m o b' l' r m' o' : ℕ} (s' k : ℕ) → b ≡ b' → s ≡ s' + k → m' ≡ k + r → l ≡ l' → m ≡ r → o ≡ o' → b + s + 19 * (l + m) + o ≤ b' + s' + 19 * (l' + m') + o'
       by s' k b s m l r o = omega arith

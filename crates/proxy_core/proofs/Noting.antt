@@ -18,8 +18,8 @@ use Rattle.verdicts.proofs.KnowledgeLaws.{CoversNoUniqueName}
 use Rattle.proxy_core.specs.Sessions.{SessionView, Taken, Holds}
 use Rattle.proxy_core.specs.Messages.{decision_in, with_message, with_note, with_note_on, with_noted_message}
 use Rattle.proxy_core.specs.Steps.{TookMessage}
-use Rattle.proxy_core.proofs.Keeping.{count_left, message_kept, notes_apart, notes_left}
-use Rattle.proxy_core.proofs.Placing.{HoldsSides, followed, placed_itself, placed_spent, sides_of}
+use Rattle.proxy_core.proofs.Keeping.{count_left, message_kept, notes_apart, notes_left, sides_kept}
+use Rattle.proxy_core.proofs.Placing.{HoldsNotes, HoldsSides, followed, knows_still, placed_itself, placed_spent, sides_of}
 use Rattle.proxy_core.proofs.ClientSteps.{client_holds, verdict_is}
 use Rattle.proxy_core.proofs.BusSteps.{bus_holds, showing_is}
 
@@ -99,15 +99,9 @@ module _ (policy : Policy) (side : Side) (m : Message) (old : SessionView) where
   given_back mid after new makes runs out ended (inr refused) is = inr (record {
     running = runs;
     ended = ap (λ (v : SessionView). v.ended) is ∙ refused.ended;
-    kept = record {
-      mode = ap (λ (v : SessionView). v.mode) is ∙ refused.kept.mode ∙ ap (λ (v : SessionView). v.mode) out;
-      client = ap (λ (v : SessionView). v.client) is ∙ refused.kept.client ∙ ap (λ (v : SessionView). v.client) out;
-      bus = ap (λ (v : SessionView). v.bus) is ∙ refused.kept.bus ∙ ap (λ (v : SessionView). v.bus) out;
-      bus_side = ap (λ (v : SessionView). v.bus_side) is ∙ refused.kept.bus_side ∙ ap (λ (v : SessionView). v.bus_side) out;
-      client_side = ap (λ (v : SessionView). v.client_side) is ∙ refused.kept.client_side ∙ ap (λ (v : SessionView). v.client_side) out;
-      greeted = ap (λ (v : SessionView). v.greeted) is ∙ refused.kept.greeted ∙ ap (λ (v : SessionView). v.greeted) out;
-      notes = ap (λ (v : SessionView). v.notes) is;
-    };
+    kept = sides_kept old mid after new (record { notes = []; numbered = old.numbered; watches = old.watches; visible = old.visible })
+        (record { notes = old.notes; numbered = after.numbered; watches = after.watches; visible = after.visible }) out is refused.kept refl
+        (refused.kept.watches ∙ ap (λ (v : SessionView). v.watches) out) (refused.kept.visible ∙ ap (λ (v : SessionView). v.visible) out);
   })
 
 -- ---- what the session holds then
@@ -142,10 +136,10 @@ module _ (policy : Policy) (apart : CoversNoUniqueName policy) (view : SessionVi
   count_kept makes = count_left policy side m view ∙ holds.count (sym (ap (λ (mode : Mode). mode.notes) mode_kept) ∙ makes)
 
   -- where the message has its place, with one more where the session makes notes
-  placed_holds : (makes : Bool) → new.mode.notes ≡ makes → HoldsSides policy new (Msg side m ∷ items) taken → Holds policy (with_note_on side m decision new) (Msg side m ∷ items) taken
+  placed_holds : (makes : Bool) → new.mode.notes ≡ makes → HoldsSides policy new (Msg side m ∷ items) taken → HoldsNotes policy (with_note_on side m decision new) (Msg side m ∷ items) taken
   unfolding numbered
   placed_holds false off s =
-      subst (λ (v : SessionView). Holds policy v (Msg side m ∷ items) taken) (sym (none_made side m decision new off))
+      subst (λ (v : SessionView). HoldsNotes policy v (Msg side m ∷ items) taken) (sym (none_made side m decision new off))
       (record {
         for_bus = s.for_bus;
         for_client = s.for_client;
@@ -160,7 +154,7 @@ module _ (policy : Policy) (apart : CoversNoUniqueName policy) (view : SessionVi
   placed_holds true on s =
       let running : is_none new.ended ≡ true = ap is_none (s.end_is ∙ sym holds.end_is ∙ runs) in
       let so_far : taken.notes ++ new.notes ≡ notes policy items = notes_kept ∙ ap (λ (b : Bool). cond b (notes policy items) []) on in
-      subst (λ (v : SessionView). Holds policy v (Msg side m ∷ items) taken) (sym (noted_by side m decision new true true on running))
+      subst (λ (v : SessionView). HoldsNotes policy v (Msg side m ∷ items) taken) (sym (noted_by side m decision new true true on running))
       (record {
         for_bus = s.for_bus;
         for_client = s.for_client;
@@ -171,31 +165,31 @@ module _ (policy : Policy) (apart : CoversNoUniqueName policy) (view : SessionVi
             ∙ ap (λ (d : Decision). notes policy items ++ record { number = (numbered policy items).1 + 1; side = side; frame = spell m; decision = d } ∷ []) (decided side)
             ∙ sym (ap (λ (b : Bool). cond b (notes policy (Msg side m ∷ items)) []) on);
         count = λ makes. ap (λ (k : ℕ). k + 1) (count_kept makes);
-        knows = λ e. let k = s.knows e in record { count = k.count; fits = k.fits; greeted = k.greeted; stand = k.stand };
+        knows = λ e. knows_still policy new _ _ refl refl refl refl (s.knows e);
       })
 
   -- and none where the session ended in its place
-  spent_holds : HoldsSides policy new (Ended SerialsSpent ∷ items) taken → Holds policy (with_note_on side m decision new) (Ended SerialsSpent ∷ items) taken
+  spent_holds : HoldsSides policy new (Ended SerialsSpent ∷ items) taken → HoldsNotes policy (with_note_on side m decision new) (Ended SerialsSpent ∷ items) taken
   unfolding numbered
   spent_holds s =
       let stopped : is_none new.ended ≡ false = ap is_none s.end_is in
-      subst (λ (v : SessionView). Holds policy v (Ended SerialsSpent ∷ items) taken)
+      subst (λ (v : SessionView). HoldsNotes policy v (Ended SerialsSpent ∷ items) taken)
       (sym (noted_by side m decision new new.mode.notes false refl stopped ∙ ap (λ (b : Bool). cond b (with_note side m decision new) new) (and-false new.mode.notes)))
       (record { for_bus = s.for_bus; for_client = s.for_client; end_is = s.end_is; noted = notes_kept; count = count_kept; knows = s.knows })
 
-  pub noted_holds : Holds policy (with_noted_message policy side m view) (followed_by policy items (Msg side m)) taken
+  pub noted_holds : HoldsNotes policy (with_noted_message policy side m view) (followed_by policy items (Msg side m)) taken
   noted_holds = by (nat_le (length (past policy items).told.sent + length (due policy (past policy items) (Msg side m))) most_sent) refl
     where
       first : followed_by policy items (Msg side m) ≡ placed policy (past policy items) (Msg side m) ∷ items
       first = followed policy items (Msg side m) (sym holds.end_is ∙ runs)
 
       by : (fits : Bool) → nat_le (length (past policy items).told.sent + length (due policy (past policy items) (Msg side m))) most_sent ≡ fits →
-          Holds policy (with_noted_message policy side m view) (followed_by policy items (Msg side m)) taken
+          HoldsNotes policy (with_noted_message policy side m view) (followed_by policy items (Msg side m)) taken
       by true fits =
           let is = first ∙ ap (λ (i : Item). i ∷ items) (placed_itself policy (past policy items) (Msg side m) fits) in
-          subst (λ (i : History). Holds policy (with_noted_message policy side m view) i taken) (sym is)
+          subst (λ (i : History). HoldsNotes policy (with_noted_message policy side m view) i taken) (sym is)
           (placed_holds new.mode.notes refl (subst (λ (i : History). HoldsSides policy new i taken) is (sides_hold side)))
       by false fits =
           let is = first ∙ ap (λ (i : Item). i ∷ items) (placed_spent policy (past policy items) (Msg side m) fits) in
-          subst (λ (i : History). Holds policy (with_noted_message policy side m view) i taken) (sym is)
+          subst (λ (i : History). HoldsNotes policy (with_noted_message policy side m view) i taken) (sym is)
           (spent_holds (subst (λ (i : History). HoldsSides policy new i taken) is (sides_hold side)))

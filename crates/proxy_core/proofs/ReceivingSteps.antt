@@ -396,6 +396,8 @@ took_used m expected other old mid new is same (inr refused) = inr (record {
     client_side = refused.kept.client_side ∙ ap (λ (v : SessionView). v.client_side) is;
     greeted = refused.kept.greeted ∙ ap (λ (v : SessionView). v.greeted) is;
     notes = refused.kept.notes ∙ ap (λ (v : SessionView). v.notes) is;
+    watches = refused.kept.watches ∙ ap (λ (v : SessionView). v.watches) is;
+    visible = refused.kept.visible ∙ ap (λ (v : SessionView). v.visible) is;
   };
 })
 
@@ -414,5 +416,7 @@ took_or_ends (Err e) goes expected old mid new runs ok err on off = inr (record 
     client_side = ap (λ (v : SessionView). v.client_side) off.1 ∙ err.client_side;
     greeted = ap (λ (v : SessionView). v.greeted) off.1 ∙ err.greeted;
     notes = ap (λ (v : SessionView). v.notes) off.1 ∙ err.notes;
+    watches = ap (λ (v : SessionView). v.watches) off.1 ∙ err.watches;
+    visible = ap (λ (v : SessionView). v.visible) off.1 ∙ err.visible;
   };
 })

@@ -1,9 +1,10 @@
 -- What is taken of what waits for either side.
-use Rattle.std.proofs.Common.{ℕ, ◌≡◌, List, ◌++◌, take, drop, ap, ◌∙◌, append_assoc}
+use Rattle.std.proofs.Common.{ℕ, ◌≡◌, List, ◌++◌, take, drop, refl, ap, ◌∙◌, append_assoc}
 use Rattle.std.proofs.lemmas.List.{take-append-drop}
 use Rattle.policy_args.specs.Policy.{Policy}
 use Rattle.policy_view.specs.History.{Event}
 use Rattle.proxy_core.specs.Sessions.{SessionView, Taken, StandsFor, IsFront}
+use Rattle.proxy_core.proofs.Placing.{knows_still}
 
 -- what was taken, and then what is taken, and then the rest
 taken_on : {A : Type 0} (before first rest waits : List A) → first ++ rest ≡ waits → (before ++ first) ++ rest ≡ before ++ waits
@@ -20,13 +21,15 @@ module _ (policy : Policy) (view : SessionView) (events : List Event) (taken : T
         bus_front = front_as _ _ _ same stands.bus_front;
         client_front = stands.client_front;
         notes_front = stands.notes_front;
+        visible_front = stands.visible_front;
         holds = λ e. let h = stands.holds e in record {
           for_bus = same ∙ h.for_bus;
           for_client = h.for_client;
           end_is = h.end_is;
           noted = h.noted;
           count = h.count;
-          knows = λ r. let k = h.knows r in record { count = k.count; fits = k.fits; greeted = k.greeted; stand = k.stand };
+          watched = h.watched;
+          knows = λ r. knows_still policy view _ _ refl refl refl refl (h.knows r);
         };
         follows = λ e. let f = stands.follows e in record { client = f.client; bus = f.bus };
       }
@@ -38,13 +41,15 @@ module _ (policy : Policy) (view : SessionView) (events : List Event) (taken : T
         bus_front = stands.bus_front;
         client_front = front_as _ _ _ same stands.client_front;
         notes_front = stands.notes_front;
+        visible_front = stands.visible_front;
         holds = λ e. let h = stands.holds e in record {
           for_bus = h.for_bus;
           for_client = same ∙ h.for_client;
           end_is = h.end_is;
           noted = h.noted;
           count = h.count;
-          knows = λ r. let k = h.knows r in record { count = k.count; fits = k.fits; greeted = k.greeted; stand = k.stand };
+          watched = h.watched;
+          knows = λ r. knows_still policy view _ _ refl refl refl refl (h.knows r);
         };
         follows = λ e. let f = stands.follows e in record { client = f.client; bus = f.bus };
       }

@@ -41,7 +41,7 @@ use Rattle.name_filters.proofs.NameBytes.{fewer-short}
 use Rattle.own_calls.proofs.Lengths.{asked-calls-short}
 use Rattle.verdicts.specs.Kept.{expected_at}
 use Rattle.proxy_core.specs.Sessions.{SessionView}
-use Rattle.proxy_core.specs.Messages.{decision_in, known, sending, with_message, with_note, with_noted_message, with_replied, with_role, with_sent, with_shown, with_told, with_used, with_verdict}
+use Rattle.proxy_core.specs.Messages.{decision_in, known, sending, with_message, with_note, with_noted_message, with_replied, with_role, with_sent, with_shown, with_told, with_used, with_verdict, with_watched_message}
 use Rattle.proxy_core.specs.Steps.{own_to_come, weight}
 
 -- ---- how long a message is
@@ -303,7 +303,11 @@ message_light policy Client m view valid = verdict_light policy m (verdict polic
 message_light policy Bus m view valid = role_light policy m valid (bus_role (expected_at view.ledger.expected (reply_serial m)) m) (with_used m view)
 
 -- a note weighs nothing
-pub noted_light : (policy : Policy) (side : Side) (m : Message) (view : SessionView) → Valid m → weight policy (with_noted_message policy side m view) ≤ weight policy view + 19 * length (spell m)
+noted_light : (policy : Policy) (side : Side) (m : Message) (view : SessionView) → Valid m → weight policy (with_noted_message policy side m view) ≤ weight policy view + 19 * length (spell m)
 noted_light policy side m view valid =
     let new : SessionView = with_message policy side m view in
     either_light policy m view (with_note side m (decision_in policy side m view) new) new (new.mode.notes && is_none new.ended) (message_light policy side m view valid) (message_light policy side m view valid)
+
+-- and neither does an element of the visible part
+pub watched_light : (policy : Policy) (side : Side) (m : Message) (view : SessionView) → Valid m → weight policy (with_watched_message policy side m view) ≤ weight policy view + 19 * length (spell m)
+watched_light policy side m view valid = noted_light policy side m view valid

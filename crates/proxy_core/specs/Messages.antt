@@ -14,16 +14,21 @@ use Rattle.policy_view.specs.Knowledge.{Knowledge}
 use Rattle.policy_view.specs.Past.{called_at, due_at, due_on, has_greeted, learned_at, replied_on}
 use Rattle.policy_view.specs.Sent.{Exchange, Sent, is_bus_or_absent, spelled_from}
 use Rattle.policy_view.specs.Texts.{has_text}
+use Rattle.policy_view.specs.Elements.{given_of}
 use Rattle.policy_view.specs.Shown.{BusRole, bus_role, seen_as, showing_at}
+use Rattle.policy_view.specs.Visible.{visible_as}
 use Rattle.policy_view.specs.Verdicts.{client_role, verdict}
 use Rattle.policy_view.specs.declared.Decision.{Decision}
 use Rattle.policy_view.specs.declared.Decision.TheVariants.{Judged, Shown}
 use Rattle.policy_view.specs.declared.Showing.{Showing}
 use Rattle.policy_view.specs.declared.Verdict.{Verdict}
+use Rattle.policy_view.specs.declared.visible.Visible.{Visible as Element}
+use Rattle.policy_view.specs.declared.visible.Visible.TheVariants as element
 use Rattle.policy_view.specs.declared.Side.{Side}
 use Rattle.policy_view.specs.declared.Side.TheVariants.{Client, Bus}
 use Rattle.policy_view.specs.declared.End.{End}
 use Rattle.policy_view.specs.declared.End.TheVariants.{SerialsSpent}
+use Rattle.reply_ledger.specs.Ledger.{Ledger}
 use Rattle.reply_ledger.specs.Owed.{Replies, one_less, one_more}
 use Rattle.reply_ledger.specs.declared.kind.Kind.{Kind as Expected}
 use Rattle.reply_ledger.specs.declared.kind.Kind.TheVariants as expects
@@ -128,6 +133,17 @@ own_names (Some expects.OwnMatch) = false
 own_names (Some (expects.OwnOwner name)) = false
 own_names (Some expects.OwnNames) = true
 
+-- the answer to a question of the proxy's own for an owner
+abbrev pub own_owner : Option Expected → Bool
+own_owner None = false
+own_owner (Some (expects.Call serial)) = false
+own_owner (Some (expects.Hello serial)) = false
+own_owner (Some (expects.Names serial)) = false
+own_owner (Some (expects.Ping serial order what)) = false
+own_owner (Some expects.OwnMatch) = false
+own_owner (Some (expects.OwnOwner name)) = true
+own_owner (Some expects.OwnNames) = false
+
 -- a return or an error uses up what is expected at its REPLY_SERIAL
 abbrev pub without : FinMap nat_cmp Expected → Option ℕ → FinMap nat_cmp Expected
 without expected None = expected
@@ -190,9 +206,42 @@ with_note_on side m decision view = if view.mode.notes && is_none view.ended the
 abbrev pub with_noted_message : Policy → Side → Message → SessionView → SessionView
 with_noted_message policy side m view = with_note_on side m (decision_in policy side m view) (with_message policy side m view)
 
+-- ---- what is left of a message in the visible part
+
+-- of a message of the bus, by its role and by what is shown of it
+abbrev pub bus_elements : Policy → Ids → Replies → Message → BusRole → List Element
+bus_elements policy ids owed m role = flat_map given_of (visible_as policy (kept_level policy ids) m role (showing_at policy (kept policy ids owed) m role))
+
+-- by what is known when it comes: one element or none
+abbrev pub elements_by : Policy → Ids → Ledger → Side → Message → List Element
+elements_by policy ids ledger Client m = element.Client (spell m) ∷ []
+elements_by policy ids ledger Bus m = bus_elements policy ids ledger.owed m (bus_role (expected_at ledger.expected (reply_serial m)) m)
+
+abbrev pub elements_in : Policy → Side → Message → SessionView → List Element
+elements_in policy side m view = elements_by policy view.ids view.ledger side m
+
+-- elements are kept where the session watches
+abbrev pub if_watched : Bool → List Element → List Element
+if_watched true elements = elements
+if_watched false elements = []
+
+abbrev pub with_elements : List Element → SessionView → SessionView
+with_elements elements view = record view { visible = view.visible ++ if_watched view.watches elements }
+
+-- a message in whose place the session ended leaves none
+abbrev pub unless_ended : Option End → List Element → List Element
+unless_ended None elements = elements
+unless_ended (Some end) elements = []
+
+-- a message, the note on it, and what is left of it in the visible part
+abbrev pub with_watched_message : Policy → Side → Message → SessionView → SessionView
+with_watched_message policy side m view =
+    let new = with_noted_message policy side m view in
+    with_elements (unless_ended new.ended (elements_in policy side m view)) new
+
 -- ---- memory that was refused
 
--- what waits for either side, the notes, and the streams are what they were
+-- what waits for either side, the notes, the elements and the streams are what they were
 pub record KeepsSides (old new : SessionView) : Type 0 where
   pub mode : new.mode ≡ old.mode
   pub client : new.client ≡ old.client
@@ -201,3 +250,5 @@ pub record KeepsSides (old new : SessionView) : Type 0 where
   pub client_side : new.client_side ≡ old.client_side
   pub greeted : new.greeted ≡ old.greeted
   pub notes : new.notes ≡ old.notes
+  pub watches : new.watches ≡ old.watches
+  pub visible : new.visible ≡ old.visible

@@ -1,6 +1,7 @@
 -- What a session is seen as, and when it stands for events.
 use Rattle.std.specs.Prelude.{◌≡◌, ◌≤◌, ◌<◌, ℕ, Bool, true, false, List, [], ◌++◌, length, get_or, IsTrue, if◌then◌else◌, Option, Some, None, Result, Ok, Err}
 use Rattle.std.specs.FinMap.{empty}
+use Rattle.std.specs.Global.{Box}
 use Rattle.dbus_header.specs.Stream.{rest}
 use Rattle.sasl_watch.specs.Lines.{asked}
 use Rattle.sasl_watch.specs.Watching.{Watch}
@@ -10,7 +11,9 @@ use Rattle.policy_view.specs.Sent.{Past}
 use Rattle.policy_view.specs.Past.{History, has_greeted, past}
 use Rattle.policy_view.specs.History.{Event, stream, lines, content, bytes_in, fault, history, end_of, most_sent}
 use Rattle.policy_view.specs.Outputs.{bus_bytes, client_bytes}
+use Rattle.policy_view.specs.Elements.{elements}
 use Rattle.policy_view.specs.Notes.{Note, numbered, notes_made}
+use Rattle.policy_view.specs.declared.visible.Visible.{Visible as Element}
 use Rattle.policy_view.specs.declared.Mode.{Mode}
 use Rattle.policy_view.specs.declared.Side.{Side}
 use Rattle.policy_view.specs.declared.Side.TheVariants.{Client, Bus}
@@ -42,6 +45,9 @@ pub record SessionView : Type 0 where
   -- the notes that wait, and how many were made
   pub notes : List Note
   pub numbered : ℕ
+  -- whether it keeps the elements of the visible part, and those that wait
+  pub watches : Bool
+  pub visible : List Element
 
 abbrev pub nothing_expected : Ledger
 nothing_expected = record { expected = empty; owed = empty }
@@ -60,7 +66,21 @@ at_start mode = record {
   ids = empty;
   notes = [];
   numbered = 0;
+  watches = false;
+  visible = [];
 }
+
+-- the elements that wait, where they are kept
+abbrev pub waiting_in : Option (Box (List Element)) → List Element
+waiting_in None = []
+waiting_in (Some watch) = watch.value
+
+-- one that watches filters, and makes no notes
+abbrev pub watching_mode : Bool → Mode
+watching_mode auth = record { auth = auth; filter = true; notes = false }
+
+abbrev pub watching_at_start : Bool → SessionView
+watching_at_start auth = record (at_start (watching_mode auth)) { watches = true }
 
 abbrev pub stream_of : Side → SessionView → StreamView
 stream_of Client view = view.client
@@ -75,9 +95,10 @@ pub record Taken : Type 0 where
   pub bus_side : List ℕ
   pub client_side : List ℕ
   pub notes : List Note
+  pub visible : List Element
 
 abbrev pub nothing : Taken
-nothing = record { bus_side = []; client_side = []; notes = [] }
+nothing = record { bus_side = []; client_side = []; notes = []; visible = [] }
 
 -- ---- what it keeps of the past
 
@@ -123,14 +144,19 @@ is_from_outside BusWrite = true
 is_from_outside BusConnect = true
 is_from_outside LogFault = true
 
+-- the elements of the visible part that a session gives: all but its End where it watches, and else none
+abbrev pub elements_given : Bool → Policy → History → List Element
+elements_given watches policy items = if watches then elements policy items else []
+
 -- what was taken and then what waits is what a history gives either side, and the notes are its notes where the session
--- makes any; and the session's End is the history's
+-- makes any, and the elements those of its visible part where it watches; and the session's End is the history's
 pub record Holds (policy : Policy) (view : SessionView) (items : History) (taken : Taken) : Type 0 where
   pub for_bus : taken.bus_side ++ view.bus_side ≡ bus_bytes policy items
   pub for_client : taken.client_side ++ view.client_side ≡ client_bytes policy items
   pub end_is : view.ended ≡ end_of items
   pub noted : taken.notes ++ view.notes ≡ notes_made view.mode policy items
   pub count : IsTrue view.mode.notes → view.numbered ≡ (numbered policy items).1
+  pub watched : taken.visible ++ view.visible ≡ elements_given view.watches policy items
   pub knows : view.ended ≡ None → Knows policy view (past policy items)
 
 -- the lines that were given, of which these are left, are the first of the stream's
@@ -176,12 +202,13 @@ pub record Follows (view : SessionView) (events : List Event) : Type 0 where
   pub client : FollowsStream view.mode Client events view.client
   pub bus : FollowsStream view.mode Bus events view.bus
 
--- A session stands for events: it holds their history. One that was refused memory holds a front of what that gives, and of
--- its notes.
+-- A session stands for events: it holds their history. One that was refused memory holds a front of what that gives, of its
+-- notes, and of the elements of its visible part.
 pub record StandsFor (policy : Policy) (view : SessionView) (events : List Event) (taken : Taken) : Type 0 where
   pub bus_front : IsFront (taken.bus_side ++ view.bus_side) (bus_bytes policy (history policy view.mode events))
   pub client_front : IsFront (taken.client_side ++ view.client_side) (client_bytes policy (history policy view.mode events))
   pub notes_front : IsFront (taken.notes ++ view.notes) (notes_made view.mode policy (history policy view.mode events))
+  pub visible_front : IsFront (taken.visible ++ view.visible) (elements_given view.watches policy (history policy view.mode events))
   pub holds : is_memory view.ended ≡ false → Holds policy view (history policy view.mode events) taken
   pub follows : view.ended ≡ None → Follows view events
 

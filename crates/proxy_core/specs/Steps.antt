@@ -10,6 +10,8 @@ use Rattle.policy_view.specs.Sent.{own_calls, spelled_from}
 use Rattle.policy_view.specs.declared.Fault.TheVariants.{Line as OfLine, Message as OfMessage}
 use Rattle.policy_view.specs.declared.Side.{Side}
 use Rattle.policy_view.specs.declared.Side.TheVariants.{Client, Bus}
+use Rattle.policy_view.specs.declared.visible.Visible.{Visible as Element}
+use Rattle.policy_view.specs.declared.visible.Visible.TheVariants as element
 use Rattle.policy_view.specs.declared.End.{End}
 use Rattle.policy_view.specs.declared.End.TheVariants.{Memory}
 use Rattle.sasl_watch.specs.Lines.{Cut, is_begin, for_bus}
@@ -18,7 +20,7 @@ use Rattle.sasl_watch.specs.declared.LineFault.{LineFault}
 use Rattle.sasl_watch.specs.declared.LineKind.TheVariants.{EarlyBus}
 use Rattle.proxy_core.specs.Streams.{StreamView, Phase, InLines, InMessages, is_in_lines, pushed, watch_at}
 use Rattle.proxy_core.specs.Sessions.{SessionView, stream_of, IsFront}
-use Rattle.proxy_core.specs.Messages.{ended_by, with_noted_message, KeepsSides}
+use Rattle.proxy_core.specs.Messages.{ended_by, if_watched, with_watched_message, KeepsSides}
 
 abbrev pub with_stream : Side → StreamView → SessionView → SessionView
 with_stream Client s view = record view { client = s }
@@ -40,11 +42,16 @@ begun_if begin s = if begin then in_messages s else s
 abbrev pub asks : ℕ → List ℕ → ℕ
 asks place line = if place == 0 || is_begin line then 0 else 1
 
+-- the elements that wait, with the line behind them where the session watches
+abbrev pub visible_with_line : Side → List ℕ → SessionView → List Element
+visible_with_line side line view = view.visible ++ if_watched view.watches (element.Line side line ∷ [])
+
 -- a line of the client goes to the bus, and messages follow BEGIN
 abbrev pub with_client_line : ℕ → List ℕ → SessionView → SessionView
 with_client_line place line view = record view {
   bus_side = view.bus_side ++ for_bus line;
   client = begun_if (is_begin line) (behind_line place line (asks place line) view.client);
+  visible = visible_with_line Client line view;
 }
 
 -- a line of the bus goes to the client
@@ -52,6 +59,7 @@ abbrev pub with_bus_line : ℕ → List ℕ → SessionView → SessionView
 with_bus_line place line view = record view {
   client_side = view.client_side ++ line;
   bus = behind_line place line 1 view.bus;
+  visible = visible_with_line Bus line view;
 }
 
 abbrev pub with_line : Side → ℕ → List ℕ → SessionView → SessionView
@@ -108,7 +116,7 @@ and_runs view = (view, is_none view.ended)
 -- with the message in front taken, or the fault; and whether more may follow
 abbrev pub with_front : Policy → Side → Option (Message × List ℕ) → SessionView → SessionView × Bool
 with_front policy side None view = (with_fault side (fault (stream_of side view).left) view, false)
-with_front policy side (Some x) view = and_runs (with_noted_message policy side x.0 (with_left side x.1 view))
+with_front policy side (Some x) view = and_runs (with_watched_message policy side x.0 (with_left side x.1 view))
 
 -- ---- bytes at which nobody looks
 
@@ -183,7 +191,7 @@ pub record IsRefusedAtOnce (old new : SessionView) : Type 0 where
 abbrev pub TookMessage : SessionView → SessionView → SessionView → Type 0
 TookMessage expected old new = (new ≡ expected) ⊎ IsRefusedAtOnce old new
 
--- what waits, and the notes, are the first of what was to be
+-- what waits, the notes, and the elements are the first of what was to be
 pub record IsRefused (expected old new : SessionView) : Type 0 where
   pub running : old.ended ≡ None
   pub ended : new.ended ≡ Some Memory
@@ -191,6 +199,8 @@ pub record IsRefused (expected old new : SessionView) : Type 0 where
   pub for_bus : IsFront new.bus_side expected.bus_side
   pub for_client : IsFront new.client_side expected.client_side
   pub noted : IsFront new.notes expected.notes
+  pub watches : new.watches ≡ old.watches
+  pub watched : IsFront new.visible expected.visible
 
 -- it is what was to be, or memory was refused in its midst
 abbrev pub Took : SessionView → SessionView → SessionView → Type 0
@@ -206,6 +216,8 @@ pub record IsCutOff (expected old new : SessionView) : Type 0 where
   pub for_bus : IsFront new.bus_side expected.bus_side
   pub for_client : IsFront new.client_side expected.client_side
   pub noted : IsFront new.notes expected.notes
+  pub watches : new.watches ≡ old.watches
+  pub watched : IsFront new.visible expected.visible
   pub client : length new.client.left ≤ length old.client.left
   pub bus : length new.bus.left ≤ length old.bus.left
   pub greeted : new.greeted ≡ old.greeted
@@ -228,4 +240,5 @@ weight policy view =
 -- with so many bytes that came
 pub record IsLight (policy : Policy) (n : ℕ) (old new : SessionView) : Type 0 where
   pub mode : new.mode ≡ old.mode
+  pub watches : new.watches ≡ old.watches
   pub weighs : weight policy new ≤ weight policy old + 19 * n

@@ -3,10 +3,12 @@
 
 mod bus_stream;
 mod client_stream;
+mod elements;
 mod facts;
 pub mod laws;
 mod queue;
 mod requests;
 mod session;
+mod watch;
 
 pub use session::{LONGEST_STREAM, MOST_OWN_BYTES, Session};

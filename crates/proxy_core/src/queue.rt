@@ -28,7 +28,7 @@ fn cells(order: Order, number: u32) -> [u8; 4]
 }
 
 /// A message that is read is valid, and its bytes spell it.
-fn is_spelled(bytes: &[u8])
+pub(crate) fn is_spelled(bytes: &[u8])
     ensures { (m : MessageTree) → message_of bytes.now ≡ Some m → Valid m × (bytes.now ≡ spell m) }
 {
     let _bytes = bytes;

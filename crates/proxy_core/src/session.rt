@@ -4,10 +4,11 @@ ghost use Rattle.std.specs.Prelude.{◌≡◌, ◌≤◌, ◌<◌, ◌+◌, ◌^
 ghost use Rattle.policy_view.specs.History.{Event, Bytes, Finished, Stopped, finished as finished_by, malformed as malformed_by, longest_stream, most_sent};
 ghost use Rattle.policy_view.specs.Notes.{Note as NoteValue};
 ghost use Rattle.policy_view.specs.declared.End.{End as SessionEnd};
+ghost use Rattle.policy_view.specs.declared.visible.Visible.{Visible as Element};
 ghost use Rattle.policy_view.specs.declared.End.TheVariants.{ClientEnd, BusEnd};
 ghost use Rattle.policy_args.specs.Policy.{Policy as PolicyValue};
 ghost use Rattle.proxy_core.specs.Streams.{InMessages, is_in_lines as in_lines, pushed};
-ghost use Rattle.proxy_core.specs.Sessions.{StandsFor, Taken, nothing, at_start, stream_of, answer_of, is_from_outside, IsFront};
+ghost use Rattle.proxy_core.specs.Sessions.{StandsFor, Taken, nothing, at_start, watching_at_start, stream_of, answer_of, is_from_outside, IsFront};
 ghost use Rattle.proxy_core.specs.Messages.{ended_by};
 ghost use Rattle.proxy_core.specs.Steps.{with_stream, with_left, step_of, drained, with_bytes, with_piece, Took, Stepped, IsLight, weight};
 ghost use Rattle.proxy_core.specs.Seen.{Given};
@@ -17,14 +18,16 @@ mod noting;
 mod raw;
 mod receiving;
 mod sending;
+mod watching;
 
 use crate::bus_stream::BusStream;
 use crate::client_stream::ClientStream;
+use crate::watch::{Watch, next_of};
 use dbus_framing::Next;
 use out_queue::OutQueue;
 use own_calls::after_hello_len;
 use policy_args::Policy;
-use policy_view::{End, Fault, Mode, Note, Side};
+use policy_view::{End, Fault, Mode, Note, Side, Visible};
 use reply_ledger::Ledger;
 use serial_map::Serials;
 use std::alloc::{AllocError, Global};
@@ -53,6 +56,7 @@ pub struct Session {
     tracker: Tracker,
     notes: VecDeque<Note>,
     numbered: u64,
+    watch: Option<Box<Watch>>,
     alloc: Global,
 }
 
@@ -61,7 +65,8 @@ impl Model for Session {
     ghost use Rattle.std.specs.Cmp.Lexicographic.{slice_cmp};
     ghost use Rattle.std.specs.FinMap as map;
     ghost use Rattle.std.specs.Coded.{codes, coded_list, coded_ℕ};
-    ghost use Rattle.proxy_core.specs.Sessions.{SessionView};
+    ghost use Rattle.std.specs.Prelude.{is_some};
+    ghost use Rattle.proxy_core.specs.Sessions.{SessionView, waiting_in};
     ghost use Rattle.reply_ledger.specs.declared.kind.Kind.{Kind as KindValue};
     ghost use Rattle.unique_names.specs.Known.{Known as KnownValue};
 
@@ -69,7 +74,7 @@ impl Model for Session {
 
     ghost coded = { Prim.hlevel (codes, map.code {X = KindValue} {R = nat_cmp} coded_ℕ (Prim.hlevel (codes, coded_list coded_ℕ)), map.code {R = slice_cmp nat_cmp} (coded_list coded_ℕ) (map.code {R = nat_cmp} coded_ℕ coded_ℕ), map.code {X = KnownValue} {R = slice_cmp nat_cmp} (coded_list coded_ℕ) (Prim.hlevel (codes, coded_list coded_ℕ))) };
 
-    ghost view = { λ s. record { mode = s.mode; bus_side = s.to_bus; client_side = s.to_client; ended = s.ended; client = s.client; bus = s.bus; sent = s.serials; greeted = s.greeted; ledger = s.ledger; ids = s.tracker; notes = s.notes.items; numbered = s.numbered } };
+    ghost view = { λ s. record { mode = s.mode; bus_side = s.to_bus; client_side = s.to_client; ended = s.ended; client = s.client; bus = s.bus; sent = s.serials; greeted = s.greeted; ledger = s.ledger; ids = s.tracker; notes = s.notes.items; numbered = s.numbered; watches = is_some s.watch; visible = waiting_in s.watch } };
 }
 
 /// The end of a side's stream as an End.
@@ -125,8 +130,26 @@ impl Session {
             tracker: Tracker::new(alloc),
             notes: VecDeque::new(alloc),
             numbered: 0,
+            watch: None,
             alloc,
         })
+    }
+
+    /// A session that filters messages, makes no notes, and keeps the elements of the visible part of its history. Like any other it has
+    /// taken nothing, and is for one policy.
+    pub fn watching(alloc: Global, policy: &Policy, auth: bool) -> Result<Session, AllocError>
+        ensures stands { IfOk result (λ s. StandsFor policy.now s [] nothing) }
+        ensures start { IfOk result (λ s. s ≡ watching_at_start auth) }
+        ensures light { IfOk result (λ s. weight policy.now s ≤ MOST_OWN_BYTES) }
+    {
+        let mode = Mode {
+            auth,
+            filter: true,
+            notes: false,
+        };
+        let mut session = Session::new(alloc, policy, mode)?;
+        session.watch = Some(Box::new(alloc, Watch::new(alloc))?);
+        Ok(session)
     }
 
     /// Takes a piece that came of the client. Of its messages those wait for the bus that the policy lets pass, with a ping
@@ -241,6 +264,16 @@ impl Session {
         ensures stands { (policy : PolicyValue) (events : List Event) (taken : Taken) → StandsFor policy self.old events taken → StandsFor policy self.new events (record taken { notes = taken.notes ++ option_to_list result }) }
     {
         self.notes.pop_front()
+    }
+
+    /// The next element of the visible part, where one waits, in the order of the history. Only a session that was made by `watching` has
+    /// any; its End is no such element.
+    pub fn next_visible(&mut self) -> Option<Visible>
+        ensures none { IfNone result ((self.old.visible ≡ []) × (self.new ≡ self.old)) }
+        ensures some { IfSome result (λ element. (rest : List Element) × (self.old.visible ≡ element ∷ rest) × (self.new ≡ record self.old { visible = rest })) }
+        ensures stands { (policy : PolicyValue) (events : List Event) (taken : Taken) → StandsFor policy self.old events taken → StandsFor policy self.new events (record taken { visible = taken.visible ++ option_to_list result }) }
+    {
+        next_of(&mut self.watch)
     }
 
     /// Why the session ended.

@@ -13,3 +13,5 @@ mod serials;
 mod sessions;
 #[cfg(test)]
 mod texts;
+#[cfg(test)]
+mod twins;

@@ -8,7 +8,7 @@ use std::alloc::{AllocError, Global};
 use std::test::Fail;
 
 /// The client's call of ListNames, with serial 1.
-const CALL: &[u8] = b"l\x01\0\x01\0\0\0\0\x01\0\0\0\x75\0\0\0\
+pub const CALL: &[u8] = b"l\x01\0\x01\0\0\0\0\x01\0\0\0\x75\0\0\0\
 \x01\x01o\0\x15\0\0\0/org/freedesktop/DBus\0\0\0\
 \x02\x01s\0\x14\0\0\0org.freedesktop.DBus\0\0\0\0\
 \x03\x01s\0\x09\0\0\0ListNames\0\0\0\0\0\0\0\

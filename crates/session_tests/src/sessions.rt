@@ -1,6 +1,7 @@
 //! Sessions that messages are fed to, and what waits for either side.
 ghost use Rattle.std.specs.Prelude.{◌≤◌};
 
+use crate::name_lists::CALL as CALL_OF_NAMES;
 use crate::notes::told_note;
 use crate::texts::options_of;
 use policy_args::{Options, Policy};
@@ -68,6 +69,14 @@ const NAMES: &[u8] = b"l\x02\x01\x01\x1c\0\0\0\x1e\0\0\0\x40\0\0\0\
 \x08\x01g\0\x02as\0\
 \x18\0\0\0\x07\0\0\0org.a.A\0\x07\0\0\0org.a.B\0";
 
+/// The bus's return of :1.7 as the owner that the proxy asked for, with serial 31, the answer to serial 3.
+const OWNER: &[u8] = b"l\x02\x01\x01\x09\0\0\0\x1f\0\0\0\x3f\0\0\0\
+\x05\x01u\0\x03\0\0\0\
+\x06\x01s\0\x05\0\0\0:1.40\0\0\0\
+\x07\x01s\0\x14\0\0\0org.freedesktop.DBus\0\0\0\0\
+\x08\x01g\0\x01s\0\0\
+\x04\0\0\0:1.7\0";
+
 /// The client's first lines, the bus's answer, and the client's last line.
 const AUTH: &[u8] = b"\0AUTH EXTERNAL 30\r\n";
 
@@ -80,7 +89,7 @@ const ONES: &[u8] = &[0xff; 16];
 
 /// A message, changed as what follows its name says: `PLACE=BYTE` puts a byte at a place, and `cut=LENGTH` leaves so many
 /// bytes.
-fn message(alloc: Global, row: &str) -> Result<Vec<u8>, AllocError> {
+pub fn message(alloc: Global, row: &str) -> Result<Vec<u8>, AllocError> {
     let (name, changes) = row.split_once(' ').unwrap_or((row, ""));
     let mut bytes = Vec::from_slice(alloc, bytes_of(name))?;
     for change in changes.split(' ') {
@@ -101,7 +110,9 @@ pub fn bytes_of(name: &str) -> &'static [u8] {
         "call" => CALL,
         "return" => RETURN,
         "hello" => HELLO,
+        "list" => CALL_OF_NAMES,
         "names" => NAMES,
+        "owner" => OWNER,
         "ones" => ONES,
         _ => b"",
     }

@@ -2,15 +2,16 @@
 ghost use Rattle.std.specs.Prelude.{◌≡◌, ◌∷◌, ◌++◌, [], true, false, None, OnOk, OnErr};
 ghost use Rattle.sasl_watch.specs.Lines.{for_bus as for_the_bus};
 ghost use Rattle.policy_view.specs.declared.Side.TheVariants as Side;
+ghost use Rattle.policy_view.specs.declared.visible.Visible.TheVariants as element;
 ghost use Rattle.policy_view.specs.declared.End.TheVariants.{Memory};
 ghost use Rattle.proxy_core.specs.Streams.{is_in_lines as in_lines};
-ghost use Rattle.proxy_core.specs.Messages.{ended_by};
+ghost use Rattle.proxy_core.specs.Messages.{ended_by, with_elements};
 ghost use Rattle.proxy_core.specs.Steps.{step_of, in_messages, unanswered as unanswered_lines, has_begun as begun, Did, Stepped, IsLight};
 
 use super::Session;
 use bytes::Bytes;
 use policy_args::Policy;
-use policy_view::{End, Fault};
+use policy_view::{End, Fault, Side};
 use sasl_watch::{NextLine, for_bus};
 use std::alloc::AllocError;
 
@@ -29,10 +30,13 @@ impl Session {
 
     /// The client's NUL goes to the bus.
     fn send_nul(&mut self) -> bool
-        ensures { Did (record self.old { bus_side = self.old.bus_side ++ 0 ∷ [] }) self.old self.new result }
+        ensures { Did (with_elements (element.Line Side.Client (0 ∷ []) ∷ []) (record self.old { bus_side = self.old.bus_side ++ 0 ∷ [] })) self.old self.new result }
     {
         let done = self.to_bus.push_slice(b"\0");
-        self.goes_on(done)
+        if !self.goes_on(done) {
+            return false;
+        }
+        self.keep_line(Side::Client, b"\0")
     }
 
     /// A line of the client as the bus is to have it, put behind what waits for the bus.
@@ -46,16 +50,19 @@ impl Session {
 
     /// A line of the client goes to the bus.
     fn send_line(&mut self, line: &Bytes) -> bool
-        ensures { Did (record self.old { bus_side = self.old.bus_side ++ for_the_bus line.now }) self.old self.new result }
+        ensures { Did (with_elements (element.Line Side.Client line.now ∷ []) (record self.old { bus_side = self.old.bus_side ++ for_the_bus line.now })) self.old self.new result }
     {
         let done = self.put_line(line);
-        self.goes_on(done)
+        if !self.goes_on(done) {
+            return false;
+        }
+        self.keep_line(Side::Client, line.as_slice())
     }
 
     /// BEGIN goes to the bus, and messages follow it.
     fn send_begin(&mut self, line: Bytes) -> bool
         requires { in_lines self.old.client.phase ≡ true }
-        ensures { Did (record self.old { bus_side = self.old.bus_side ++ for_the_bus line; client = in_messages self.old.client }) self.old self.new result }
+        ensures { Did (with_elements (element.Line Side.Client line ∷ []) (record self.old { bus_side = self.old.bus_side ++ for_the_bus line; client = in_messages self.old.client })) self.old self.new result }
     {
         let sent = self.send_line(&line);
         drop(line);
@@ -68,10 +75,13 @@ impl Session {
 
     /// A line of the bus goes to the client.
     fn show_line(&mut self, line: &Bytes) -> bool
-        ensures { Did (record self.old { client_side = self.old.client_side ++ line.now }) self.old self.new result }
+        ensures { Did (with_elements (element.Line Side.Bus line.now ∷ []) (record self.old { client_side = self.old.client_side ++ line.now })) self.old self.new result }
     {
         let done = self.to_client.push_slice(line.as_slice());
-        self.goes_on(done)
+        if !self.goes_on(done) {
+            return false;
+        }
+        self.keep_line(Side::Bus, line.as_slice())
     }
 
     /// Messages follow the bus's lines.

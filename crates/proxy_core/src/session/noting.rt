@@ -73,7 +73,7 @@ impl Session {
     }
 
     /// Takes a whole message of a side, and makes a note of it where the session makes notes.
-    pub(super) fn take_frame(&mut self, policy: &Policy, side: Side, frame: Bytes)
+    pub(super) fn take_unwatched(&mut self, policy: &Policy, side: Side, frame: Bytes)
         requires running { self.old.ended ≡ None }
         requires valid { (m : MessageTree) × Valid m × (frame ≡ spell m) }
         ensures { (m : MessageTree) → Valid m → frame ≡ spell m → TookMessage (with_noted_message policy.now side m self.old) self.old self.new }

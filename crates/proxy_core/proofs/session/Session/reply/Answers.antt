@@ -1,7 +1,8 @@
 use Rattle.std.proofs.Common.{List, ap, sym, ◌∙◌}
 use Rattle.policy_view.specs.Sent.{Exchange}
 use Rattle.reply_ledger.specs.Owed.{one_less}
-use Rattle.proxy_core.specs.Sessions.{SessionView}
+use Rattle.std.specs.Prelude.{is_some}
+use Rattle.proxy_core.specs.Sessions.{SessionView, waiting_in}
 use Rattle.proxy_core.specs.Messages.{with_replied}
 use Rattle.proxy_core.proofs.SendingSteps.{other_replies, replied_to}
 use Rattle.proxy_core.proofs.Taking.{replies_is, tree}
@@ -14,6 +15,6 @@ returns-then-not-is_reply c =
 
 pub returns-in-Some : goal.returns-in-Some
 returns-in-Some c =
-    ap (λ l. record { mode = c.self.inside.mode; bus_side = c.self.inside.to_bus; client_side = c.self.inside.to_client; ended = c.self.inside.ended; client = c.self.inside.client; bus = c.self.inside.bus; sent = c.self.inside.serials; greeted = c.self.inside.greeted; ledger = l; ids = c.self.inside.tracker; notes = c.self.inside.notes.items; numbered = c.self.inside.numbered }) c.answer.ensures.left
+    ap (λ l. record { mode = c.self.inside.mode; bus_side = c.self.inside.to_bus; client_side = c.self.inside.to_client; ended = c.self.inside.ended; client = c.self.inside.client; bus = c.self.inside.bus; sent = c.self.inside.serials; greeted = c.self.inside.greeted; ledger = l; ids = c.self.inside.tracker; notes = c.self.inside.notes.items; numbered = c.self.inside.numbered; watches = is_some c.self.inside.watch; visible = waiting_in c.self.inside.watch }) c.answer.ensures.left
     ∙ ap (λ (v : SessionView). record v { ledger = record v.ledger { owed = one_less v.ledger.owed c.in-Some.destination.now c.unwrap_or.result } }) c.self.view_is
     ∙ replied_to c.args.message.now c.args.self.now c.in-Some.destination c.unwrap_or.result (sym c.is_reply.ensures ∙ c.if-not-is_reply.false) c.in-Some.is c.unwrap_or.ensures
