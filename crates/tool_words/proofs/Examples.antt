@@ -1,7 +1,7 @@
 -- Worked examples of the words that a command takes.
 use Rattle.std.proofs.Common.{◌≡◌, List, [], ◌∷◌, Option, Some, None, codes, map, refl}
 use Rattle.clap.specs.Words.{Text}
-use Rattle.tool_words.specs.Tools.{replay_places, explain_places, sample_places, taken}
+use Rattle.tool_words.specs.Tools.{replay_places, explain_places, twin_places, sample_places, taken}
 use Rattle.tool_words.proofs.OnLiterals.{words_on_literals}
 
 abbrev replay : List Text → Option (List Text)
@@ -28,6 +28,11 @@ dashes = refl
 others : taken (codes "explain") explain_places (codes "explain" ∷ codes "p" ∷ codes "r" ∷ codes "1" ∷ []) ≡ Some (codes "p" ∷ codes "r" ∷ codes "1" ∷ [])
 unfolding words_on_literals
 others = refl
+
+recordings : map (λ words. taken (codes "twin") twin_places (codes "twin" ∷ words)) ((codes "p" ∷ codes "a" ∷ codes "b" ∷ []) ∷ (codes "p" ∷ codes "a" ∷ []) ∷ (codes "p" ∷ codes "a" ∷ codes "b" ∷ codes "c" ∷ []) ∷ [])
+    ≡ Some (codes "p" ∷ codes "a" ∷ codes "b" ∷ []) ∷ None ∷ None ∷ []
+unfolding words_on_literals
+recordings = refl
 
 draws : taken (codes "sample") sample_places (codes "sample" ∷ codes "3" ∷ codes "1" ∷ []) ≡ Some (codes "3" ∷ codes "1" ∷ [])
 unfolding words_on_literals

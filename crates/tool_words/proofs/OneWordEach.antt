@@ -1,18 +1,18 @@
 -- What the command of each tool does with words: each place is for one word.
-use Rattle.std.proofs.Common.{◌≡◌, ◌∙◌, ◌<◌, ◌≤◌, ◌==◌, ◌||◌, ℕ, Bool, true, false, List, [], ◌∷◌, ◌++◌, Option, Some, None, String, string_bytes, ap, refl, length, arith, codes, bytes_eq, drop, map, if◌then◌else◌}
+use Rattle.std.proofs.Common.{◌≡◌, ◌∙◌, ◌<◌, ◌==◌, ◌||◌, ℕ, Bool, true, false, List, [], ◌∷◌, ◌++◌, Option, Some, None, String, string_bytes, ap, ap₂, refl, zero, suc, length, arith, codes, bytes_eq, drop, map, if◌then◌else◌}
 use Rattle.std.proofs.lemmas.Str.{IsUtf8-string_bytes}
 use Rattle.clap.specs.Kinds.{or_else}
-use Rattle.clap.specs.Words.{App, Kinds, Rule, Text, built, matches_of}
-use Rattle.clap.specs.Simple.{filled, help_rule}
-use Rattle.clap.specs.Walk.{Held, value, arg_by_index, nothing_held, pushed, settled, to_positional}
-use Rattle.clap.specs.Faults.{long_fault, react_fault, short_fault, step_fault}
+use Rattle.clap.specs.Words.{App, Kinds, Rule, Shape, Text, built, is_simple_and_free}
+use Rattle.clap.specs.Simple.{filled, help_rule, label_of, names_of}
+use Rattle.clap.specs.Walk.{Held, value, arg_by_index, arg_by_long, arg_by_short, nothing_held, pushed, rows_after, settled, to_positional}
+use Rattle.clap.specs.Faults.{built_fault, long_fault, react_fault, short_fault, step_fault}
 use Rattle.clap.specs.declared.error.kind.ErrorKind.TheVariants.{DisplayHelp, TooManyValues, UnknownArgument}
 use Rattle.clap.proofs.FaultLemmas.{leaf_fault}
 use Rattle.clap.proofs.OnLiterals.{clap_on_literals}
-use Rattle.tool_words.specs.Tools.{command_of, replay_places, explain_places, sample_places, taken, unless_faulty, words_at}
-use Rattle.tool_words.specs.Operands.{of_number, operands}
-use Rattle.tool_words.proofs.WordKinds.{Faulty}
-use Rattle.tool_words.proofs.Walking.{AllUtf8, OneEach, behind, or_else_faulty, outcome, read, standing}
+use Rattle.tool_words.specs.Tools.{command_of, replay_places, explain_places, twin_places, sample_places, taken, unless_faulty, words_at}
+use Rattle.tool_words.specs.Operands.{AllUtf8, IsOneWordEach, of_number, operands}
+use Rattle.tool_words.proofs.WordKinds.{Faulty, faulty_as}
+use Rattle.tool_words.proofs.Walking.{OneEach, behind, or_else_faulty, outcome, read, standing}
 
 -- the words of strings are texts
 all_utf8 : {Z : Type 0} (words : List (String Z)) → AllUtf8 (map (λ w. string_bytes w) words)
@@ -26,6 +26,14 @@ utf8_behind (word ∷ words) = all_utf8 words
 behind_none : (words : Option (List Text)) → behind [] words ≡ words
 behind_none None = refl
 behind_none (Some words) = refl
+
+or_false : (b : Bool) → b || false ≡ b
+or_false true = refl
+or_false false = refl
+
+-- what a built command takes
+abbrev taken_by : App → List Text → List Text → Option (List Text)
+taken_by command places words = unless_faulty (built_fault command nothing_held words) (words_at places (rows_after command.top.rules (names_of command) words))
 
 -- ---- the wish for help is never taken
 
@@ -45,198 +53,155 @@ help_short : (c : List Rule) (is_help : Bool) (rest : Text) (h : Held) (next : H
 help_short c true rest h next = or_else_faulty _ _ (help_fault c h)
 help_short c false rest h next = record { kind = UnknownArgument; more = []; is = refl }
 
--- ---- replay
+-- ---- lists of so many words
 
-abbrev replay_command : App
-replay_command = built (command_of (codes "replay") replay_places)
+-- P holds of each list of this length
+abbrev OfLength : ℕ → (List Text → Type 0) → Type 0
+OfLength zero P = P []
+OfLength (suc n) P = (word : Text) → OfLength n (λ words. P (word ∷ words))
 
-abbrev replay_held : List Text → Held
-replay_held [] = nothing_held
-replay_held (a ∷ []) = pushed (codes "POLICY") a nothing_held
-replay_held (a ∷ b ∷ more) = pushed (codes "RECORDING") b (settled replay_command.top.rules (pushed (codes "POLICY") a nothing_held))
+-- .. and of each that is shorter
+abbrev Shorter : ℕ → (List Text → Type 0) → Type 0
+Shorter zero P = Unit {0}
+Shorter (suc n) P = P [] × ((word : Text) → Shorter n (λ words. P (word ∷ words)))
 
-abbrev replay_position : List Text → ℕ
-replay_position [] = 1
-replay_position (a ∷ []) = 2
-replay_position (a ∷ b ∷ more) = 3
+of_length : (n : ℕ) (words : List Text) (P : List Text → Type 0) → OfLength n P → length words ≡ n → P words
+of_length zero [] P all is = all
+of_length zero (word ∷ words) P all is = absurd (omega arith)
+of_length (suc n) [] P all is = absurd (omega arith)
+of_length (suc n) (word ∷ words) P all is = of_length n words (λ more. P (word ∷ more)) (all word) (omega arith)
 
-replay_takes : (words : List Text) (word : Text) (is_trailing : Bool) → length words < 2 → (step_fault replay_command.top (replay_position words) (replay_held words) value ≡ [])
-    × (to_positional replay_command.top.rules (arg_by_index replay_command.top.rules (replay_position words)) word (standing replay_held replay_position words is_trailing) (replay_held words)
-    ≡ standing replay_held replay_position (words ++ word ∷ []) is_trailing)
+shorter : (n : ℕ) (words : List Text) (P : List Text → Type 0) → Shorter n P → length words < n → P words
+shorter zero words P all lt = absurd (omega arith)
+shorter (suc n) [] P all lt = all.0
+shorter (suc n) (word ∷ words) P all lt = shorter n words (λ more. P (word ∷ more)) (all.1 word) (omega arith)
+
+-- ---- a command, and where it stands behind words of its places
+
+-- what is held where each of these words goes to its place
+abbrev held_from : List Rule → List Text → List Text → Held → Held
+held_from rules places [] h = h
+held_from rules [] (word ∷ words) h = h
+held_from rules (place ∷ places) (word ∷ words) h = held_from rules places words (pushed place word (settled rules h))
+
+held_skip : (rules : List Rule) (places words : List Text) (h : Held) → (held_from rules places words h).skip ≡ h.skip
+held_skip rules places [] h = refl
+held_skip rules [] (word ∷ words) h = refl
+held_skip rules (place ∷ places) (word ∷ words) h = held_skip rules places words (pushed place word (settled rules h))
+
+abbrev position : List Text → ℕ
+position words = suc (length words)
+
+module _ (tool : Text) (places : List Text) where
+  abbrev command : App
+  command = built (command_of tool places)
+
+  abbrev held : List Text → Held
+  held words = held_from command.top.rules places words nothing_held
+
+  abbrev Takes : List Text → Type 0
+  Takes words = (word : Text) (is_trailing : Bool) → (step_fault command.top (position words) (held words) value ≡ [])
+      × (to_positional command.top.rules (arg_by_index command.top.rules (position words)) word (standing held position words is_trailing) (held words)
+      ≡ standing held position (words ++ word ∷ []) (is_trailing || false))
+
+  abbrev IsFull : List Text → Type 0
+  IsFull words = Faulty (step_fault command.top (position words) (held words) value)
+
+  abbrev Ends : List Text → Type 0
+  Ends words = (is_trailing : Bool) → outcome command.top places (standing held position words is_trailing) [] ≡ of_number (length places) (Some words)
+
+  -- what computes of the command of a tool
+  record Computes : Type 0 where
+    pub is_simple : is_simple_and_free (command_of tool places) ≡ true
+    pub named : (command_of tool places).top.no_binary_name ≡ false
+    pub leaf : command.subs ≡ []
+    pub long : (name : Text) → arg_by_long command.top.rules name ≡ (if bytes_eq (codes "help") name || false then Some (filled help_rule) else None)
+    pub short : (c : ℕ) → arg_by_short command.top.rules c ≡ (if 104 == c || false then Some (filled help_rule) else None)
+    pub keeps : command.top.args_override_self ≡ false
+    pub takes : Shorter (length places) Takes
+    pub full : OfLength (length places) IsFull
+    pub ends : Shorter (suc (length places)) Ends
+
+  one_each : Computes → OneEach command.top places held position
+  one_each c = record {
+    takes = λ words word is_trailing lt.
+        let took = shorter (length places) words Takes c.takes lt word is_trailing in
+        (took.0, took.1 ∙ ap (standing held position (words ++ word ∷ [])) (or_false is_trailing));
+    full = λ words is. of_length (length places) words IsFull c.full is;
+    ends = λ words is_trailing le. shorter (suc (length places)) words Ends c.ends (omega arith) is_trailing;
+    long = λ name v h. faulty_as _ _ (ap₂ (λ (again : Bool) (rule : Option Rule). long_fault command.top.rules again rule v h) c.keeps (c.long name)) (help_long command.top.rules (bytes_eq (codes "help") name || false) v h);
+    short = λ x rest h next. faulty_as _ _ (ap₂ (λ (again : Bool) (rule : Option Rule). short_fault command.top.rules again rule rest h next) c.keeps (c.short x)) (help_short command.top.rules (104 == x || false) rest h next);
+    no_skip = λ words. held_skip command.top.rules places words nothing_held;
+  }
+
+  reads : Computes → (words : List Text) → AllUtf8 (drop 1 words) → taken tool places words ≡ of_number (length places) (operands (drop 1 words))
+  unfolding taken
+  reads c words utf8 =
+      ap (λ (b : Bool). taken_by command places (if b then words else drop 1 words)) c.named
+      ∙ ap₂ unless_faulty (leaf_fault command nothing_held (drop 1 words) c.leaf) (ap (λ (subs : List Shape). words_at places (rows_after command.top.rules (map label_of subs) (drop 1 words))) c.leaf)
+      ∙ read command.top places held position (one_each c) (drop 1 words) [] false (omega arith) utf8
+      ∙ ap (of_number (length places)) (behind_none (operands (drop 1 words)))
+
+  one_word_each : Computes → IsOneWordEach tool places
+  one_word_each c = record { is_simple = c.is_simple; takes = reads c }
+
+-- ---- each tool
+
+unknown : Faulty (UnknownArgument ∷ [])
+unknown = record { kind = UnknownArgument; more = []; is = refl }
+
+pub replay_one_each : IsOneWordEach (codes "replay") replay_places
 unfolding clap_on_literals
-replay_takes [] word true lt = (refl, refl)
-replay_takes [] word false lt = (refl, refl)
-replay_takes (a ∷ []) word true lt = (refl, refl)
-replay_takes (a ∷ []) word false lt = (refl, refl)
-replay_takes (a ∷ b ∷ []) word is_trailing lt = absurd (omega arith)
-replay_takes (a ∷ b ∷ c ∷ more) word is_trailing lt = absurd (omega arith)
+replay_one_each = one_word_each (codes "replay") replay_places (record {
+  is_simple = refl;
+  named = refl;
+  leaf = refl;
+  long = λ name. refl;
+  short = λ c. refl;
+  keeps = refl;
+  takes = (λ word t. (refl, refl), λ a. (λ word t. (refl, refl), λ b. tt));
+  full = λ a b. unknown;
+  ends = (λ t. refl, λ a. (λ t. refl, λ b. (λ t. refl, λ c. tt)));
+})
 
-replay_full : (words : List Text) → length words ≡ 2 → Faulty (step_fault replay_command.top (replay_position words) (replay_held words) value)
+pub explain_one_each : IsOneWordEach (codes "explain") explain_places
 unfolding clap_on_literals
-replay_full [] is = absurd (omega arith)
-replay_full (a ∷ []) is = absurd (omega arith)
-replay_full (a ∷ b ∷ []) is = record { kind = UnknownArgument; more = []; is = refl }
-replay_full (a ∷ b ∷ c ∷ more) is = absurd (omega arith)
+explain_one_each = one_word_each (codes "explain") explain_places (record {
+  is_simple = refl;
+  named = refl;
+  leaf = refl;
+  long = λ name. refl;
+  short = λ c. refl;
+  keeps = refl;
+  takes = (λ word t. (refl, refl), λ a. (λ word t. (refl, refl), λ b. (λ word t. (refl, refl), λ c. tt)));
+  full = λ a b c. unknown;
+  ends = (λ t. refl, λ a. (λ t. refl, λ b. (λ t. refl, λ c. (λ t. refl, λ d. tt))));
+})
 
-replay_ends : (words : List Text) (is_trailing : Bool) → length words ≤ 2
-    → outcome replay_command.top replay_places (standing replay_held replay_position words is_trailing) [] ≡ of_number 2 (Some words)
+pub twin_one_each : IsOneWordEach (codes "twin") twin_places
 unfolding clap_on_literals
-replay_ends [] is_trailing le = refl
-replay_ends (a ∷ []) is_trailing le = refl
-replay_ends (a ∷ b ∷ []) is_trailing le = refl
-replay_ends (a ∷ b ∷ c ∷ more) is_trailing le = absurd (omega arith)
+twin_one_each = one_word_each (codes "twin") twin_places (record {
+  is_simple = refl;
+  named = refl;
+  leaf = refl;
+  long = λ name. refl;
+  short = λ c. refl;
+  keeps = refl;
+  takes = (λ word t. (refl, refl), λ a. (λ word t. (refl, refl), λ b. (λ word t. (refl, refl), λ c. tt)));
+  full = λ a b c. unknown;
+  ends = (λ t. refl, λ a. (λ t. refl, λ b. (λ t. refl, λ c. (λ t. refl, λ d. tt))));
+})
 
-replay_no_skip : (words : List Text) → (replay_held words).skip ≡ 0
-replay_no_skip [] = refl
-replay_no_skip (a ∷ []) = refl
-replay_no_skip (a ∷ b ∷ more) = refl
-
-replay_one_each : OneEach replay_command.top replay_places replay_held replay_position
-replay_one_each = record {
-  takes = replay_takes;
-  full = replay_full;
-  ends = replay_ends;
-  long = λ name v h. help_long replay_command.top.rules (bytes_eq (codes "help") name || false) v h;
-  short = λ c rest h next. help_short replay_command.top.rules (104 == c || false) rest h next;
-  no_skip = replay_no_skip;
-}
-
-pub replay_reads : (words : List Text) → AllUtf8 (drop 1 words) → taken (codes "replay") replay_places words ≡ of_number 2 (operands (drop 1 words))
-unfolding taken
-replay_reads words utf8 =
-    ap (λ (kinds : Kinds). unless_faulty kinds (words_at replay_places (matches_of (command_of (codes "replay") replay_places) words))) (leaf_fault replay_command nothing_held (drop 1 words) refl)
-    ∙ read replay_command.top replay_places replay_held replay_position replay_one_each (drop 1 words) [] false (omega arith) utf8
-    ∙ ap (of_number 2) (behind_none (operands (drop 1 words)))
-
--- ---- explain
-
-abbrev explain_command : App
-explain_command = built (command_of (codes "explain") explain_places)
-
-abbrev explain_held : List Text → Held
-explain_held [] = nothing_held
-explain_held (a ∷ []) = pushed (codes "POLICY") a nothing_held
-explain_held (a ∷ b ∷ []) = pushed (codes "RECORDING") b (settled explain_command.top.rules (pushed (codes "POLICY") a nothing_held))
-explain_held (a ∷ b ∷ c ∷ more) = pushed (codes "N") c (settled explain_command.top.rules (pushed (codes "RECORDING") b (settled explain_command.top.rules (pushed (codes "POLICY") a nothing_held))))
-
-abbrev explain_position : List Text → ℕ
-explain_position [] = 1
-explain_position (a ∷ []) = 2
-explain_position (a ∷ b ∷ []) = 3
-explain_position (a ∷ b ∷ c ∷ more) = 4
-
-explain_takes : (words : List Text) (word : Text) (is_trailing : Bool) → length words < 3 → (step_fault explain_command.top (explain_position words) (explain_held words) value ≡ [])
-    × (to_positional explain_command.top.rules (arg_by_index explain_command.top.rules (explain_position words)) word (standing explain_held explain_position words is_trailing) (explain_held words)
-    ≡ standing explain_held explain_position (words ++ word ∷ []) is_trailing)
+pub sample_one_each : IsOneWordEach (codes "sample") sample_places
 unfolding clap_on_literals
-explain_takes [] word true lt = (refl, refl)
-explain_takes [] word false lt = (refl, refl)
-explain_takes (a ∷ []) word true lt = (refl, refl)
-explain_takes (a ∷ []) word false lt = (refl, refl)
-explain_takes (a ∷ b ∷ []) word true lt = (refl, refl)
-explain_takes (a ∷ b ∷ []) word false lt = (refl, refl)
-explain_takes (a ∷ b ∷ c ∷ []) word is_trailing lt = absurd (omega arith)
-explain_takes (a ∷ b ∷ c ∷ d ∷ more) word is_trailing lt = absurd (omega arith)
-
-explain_full : (words : List Text) → length words ≡ 3 → Faulty (step_fault explain_command.top (explain_position words) (explain_held words) value)
-unfolding clap_on_literals
-explain_full [] is = absurd (omega arith)
-explain_full (a ∷ []) is = absurd (omega arith)
-explain_full (a ∷ b ∷ []) is = absurd (omega arith)
-explain_full (a ∷ b ∷ c ∷ []) is = record { kind = UnknownArgument; more = []; is = refl }
-explain_full (a ∷ b ∷ c ∷ d ∷ more) is = absurd (omega arith)
-
-explain_ends : (words : List Text) (is_trailing : Bool) → length words ≤ 3
-    → outcome explain_command.top explain_places (standing explain_held explain_position words is_trailing) [] ≡ of_number 3 (Some words)
-unfolding clap_on_literals
-explain_ends [] is_trailing le = refl
-explain_ends (a ∷ []) is_trailing le = refl
-explain_ends (a ∷ b ∷ []) is_trailing le = refl
-explain_ends (a ∷ b ∷ c ∷ []) is_trailing le = refl
-explain_ends (a ∷ b ∷ c ∷ d ∷ more) is_trailing le = absurd (omega arith)
-
-explain_no_skip : (words : List Text) → (explain_held words).skip ≡ 0
-explain_no_skip [] = refl
-explain_no_skip (a ∷ []) = refl
-explain_no_skip (a ∷ b ∷ []) = refl
-explain_no_skip (a ∷ b ∷ c ∷ more) = refl
-
-explain_one_each : OneEach explain_command.top explain_places explain_held explain_position
-explain_one_each = record {
-  takes = explain_takes;
-  full = explain_full;
-  ends = explain_ends;
-  long = λ name v h. help_long explain_command.top.rules (bytes_eq (codes "help") name || false) v h;
-  short = λ c rest h next. help_short explain_command.top.rules (104 == c || false) rest h next;
-  no_skip = explain_no_skip;
-}
-
-pub explain_reads : (words : List Text) → AllUtf8 (drop 1 words) → taken (codes "explain") explain_places words ≡ of_number 3 (operands (drop 1 words))
-unfolding taken
-explain_reads words utf8 =
-    ap (λ (kinds : Kinds). unless_faulty kinds (words_at explain_places (matches_of (command_of (codes "explain") explain_places) words))) (leaf_fault explain_command nothing_held (drop 1 words) refl)
-    ∙ read explain_command.top explain_places explain_held explain_position explain_one_each (drop 1 words) [] false (omega arith) utf8
-    ∙ ap (of_number 3) (behind_none (operands (drop 1 words)))
-
--- ---- sample
-
-abbrev sample_command : App
-sample_command = built (command_of (codes "sample") sample_places)
-
-abbrev sample_held : List Text → Held
-sample_held [] = nothing_held
-sample_held (a ∷ []) = pushed (codes "N") a nothing_held
-sample_held (a ∷ b ∷ more) = pushed (codes "SEED") b (settled sample_command.top.rules (pushed (codes "N") a nothing_held))
-
-abbrev sample_position : List Text → ℕ
-sample_position [] = 1
-sample_position (a ∷ []) = 2
-sample_position (a ∷ b ∷ more) = 3
-
-sample_takes : (words : List Text) (word : Text) (is_trailing : Bool) → length words < 2 → (step_fault sample_command.top (sample_position words) (sample_held words) value ≡ [])
-    × (to_positional sample_command.top.rules (arg_by_index sample_command.top.rules (sample_position words)) word (standing sample_held sample_position words is_trailing) (sample_held words)
-    ≡ standing sample_held sample_position (words ++ word ∷ []) is_trailing)
-unfolding clap_on_literals
-sample_takes [] word true lt = (refl, refl)
-sample_takes [] word false lt = (refl, refl)
-sample_takes (a ∷ []) word true lt = (refl, refl)
-sample_takes (a ∷ []) word false lt = (refl, refl)
-sample_takes (a ∷ b ∷ []) word is_trailing lt = absurd (omega arith)
-sample_takes (a ∷ b ∷ c ∷ more) word is_trailing lt = absurd (omega arith)
-
-sample_full : (words : List Text) → length words ≡ 2 → Faulty (step_fault sample_command.top (sample_position words) (sample_held words) value)
-unfolding clap_on_literals
-sample_full [] is = absurd (omega arith)
-sample_full (a ∷ []) is = absurd (omega arith)
-sample_full (a ∷ b ∷ []) is = record { kind = UnknownArgument; more = []; is = refl }
-sample_full (a ∷ b ∷ c ∷ more) is = absurd (omega arith)
-
-sample_ends : (words : List Text) (is_trailing : Bool) → length words ≤ 2
-    → outcome sample_command.top sample_places (standing sample_held sample_position words is_trailing) [] ≡ of_number 2 (Some words)
-unfolding clap_on_literals
-sample_ends [] is_trailing le = refl
-sample_ends (a ∷ []) is_trailing le = refl
-sample_ends (a ∷ b ∷ []) is_trailing le = refl
-sample_ends (a ∷ b ∷ c ∷ more) is_trailing le = absurd (omega arith)
-
-sample_no_skip : (words : List Text) → (sample_held words).skip ≡ 0
-sample_no_skip [] = refl
-sample_no_skip (a ∷ []) = refl
-sample_no_skip (a ∷ b ∷ more) = refl
-
-sample_one_each : OneEach sample_command.top sample_places sample_held sample_position
-sample_one_each = record {
-  takes = sample_takes;
-  full = sample_full;
-  ends = sample_ends;
-  long = λ name v h. help_long sample_command.top.rules (bytes_eq (codes "help") name || false) v h;
-  short = λ c rest h next. help_short sample_command.top.rules (104 == c || false) rest h next;
-  no_skip = sample_no_skip;
-}
-
-pub sample_reads : (words : List Text) → AllUtf8 (drop 1 words) → taken (codes "sample") sample_places words ≡ of_number 2 (operands (drop 1 words))
-unfolding taken
-sample_reads words utf8 =
-    ap (λ (kinds : Kinds). unless_faulty kinds (words_at sample_places (matches_of (command_of (codes "sample") sample_places) words))) (leaf_fault sample_command nothing_held (drop 1 words) refl)
-    ∙ read sample_command.top sample_places sample_held sample_position sample_one_each (drop 1 words) [] false (omega arith) utf8
-    ∙ ap (of_number 2) (behind_none (operands (drop 1 words)))
+sample_one_each = one_word_each (codes "sample") sample_places (record {
+  is_simple = refl;
+  named = refl;
+  leaf = refl;
+  long = λ name. refl;
+  short = λ c. refl;
+  keeps = refl;
+  takes = (λ word t. (refl, refl), λ a. (λ word t. (refl, refl), λ b. tt));
+  full = λ a b. unknown;
+  ends = (λ t. refl, λ a. (λ t. refl, λ b. (λ t. refl, λ c. tt)));
+})

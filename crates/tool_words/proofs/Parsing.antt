@@ -1,27 +1,12 @@
 -- What a parse of words comes to.
-use Rattle.std.proofs.Common.{◌≡◌, ◌∙◌, ◌&&◌, Bool, true, false, IsTrue, ◌↔◌, List, [], ◌∷◌, Option, None, Result, Ok, Err, IfOk, ap, refl, sym, inl, inr, subst, codes}
+use Rattle.std.proofs.Common.{◌≡◌, ◌∙◌, ◌&&◌, Bool, true, false, IsTrue, ◌↔◌, List, [], ◌∷◌, Option, None, Result, Ok, Err, IfOk, ap, refl, sym, inl, inr, subst}
 use Rattle.std.proofs.lemmas.Bool.{true≢false, false≢true}
 use Rattle.std.proofs.lemmas.Result.{IfOk-weaker}
 use Rattle.clap.specs.Words.{App, Text, HasKind, HasMatchesOf, FailsBy, Kinds, fault_of, found_of, is_simple, is_simple_and_free, kind_of, matches_of, rows_of}
 use Rattle.clap.specs.declared.error.Error.{Error}
 use Rattle.clap.specs.declared.error.kind.ErrorKind.TheVariants.{OutOfMemory}
 use Rattle.clap.specs.declared.parser.matches.ArgMatches.{ArgMatches}
-use Rattle.clap.proofs.OnLiterals.{clap_on_literals}
-use Rattle.tool_words.specs.Tools.{Parses, command_of, replay_places, explain_places, sample_places, taken, unless_faulty, words_at}
-
--- ---- the commands are simple
-
-pub replay_is_simple : is_simple_and_free (command_of (codes "replay") replay_places) ≡ true
-unfolding clap_on_literals
-replay_is_simple = refl
-
-pub explain_is_simple : is_simple_and_free (command_of (codes "explain") explain_places) ≡ true
-unfolding clap_on_literals
-explain_is_simple = refl
-
-pub sample_is_simple : is_simple_and_free (command_of (codes "sample") sample_places) ≡ true
-unfolding clap_on_literals
-sample_is_simple = refl
+use Rattle.tool_words.specs.Tools.{Parses, command_of, taken, unless_faulty, words_at}
 
 -- ---- what a parse gives
 

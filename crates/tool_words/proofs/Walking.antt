@@ -10,7 +10,7 @@ use Rattle.clap.specs.Walk.{Held, Step, Walk, idle, value, trailing, after_step,
 use Rattle.clap.specs.Lexer.{long_of}
 use Rattle.clap.specs.Faults.{bundle_step_fault, check_fault, defaults_fault, flags_fault, flag_word_fault, long_fault, settle_fault, short_fault, step_fault, turn_fault, walk_fault, word_fault}
 use Rattle.tool_words.specs.Tools.{in_front, unless_faulty, words_at}
-use Rattle.tool_words.specs.Operands.{is_option, of_number, operands}
+use Rattle.tool_words.specs.Operands.{AllUtf8, is_option, of_number, operands}
 use Rattle.tool_words.proofs.WordKinds.{Faulty, faulty_as, IsPlain, IsFlag, Long, Short, kind_of_word, met_plain, fault_plain, fault_long, fault_short, first_flag}
 
 abbrev after_walk : Shape → Held → Kinds
@@ -49,11 +49,6 @@ pub record OneEach (s : Shape) (places : List Text) (held : List Text → Held) 
   pub long : (name : Text) (v : Option Text) (h : Held) → Faulty (long_fault s.rules s.args_override_self (arg_by_long s.rules name) v h)
   pub short : (c : ℕ) (rest : Text) (h : Held) (next : Held → Kinds) → Faulty (short_fault s.rules s.args_override_self (arg_by_short s.rules c) rest h next)
   pub no_skip : (words : List Text) → (held words).skip ≡ 0
-
--- each word is a text
-abbrev pub AllUtf8 : List Text → Type 0
-AllUtf8 [] = Unit {0}
-AllUtf8 (word ∷ words) = IsUtf8 word × AllUtf8 words
 
 -- words behind others
 abbrev pub behind : List Text → Option (List Text) → Option (List Text)

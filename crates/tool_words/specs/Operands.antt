@@ -1,7 +1,8 @@
 -- The words that a command takes, told without a command.
-use Rattle.std.specs.Prelude.{ℕ, ◌==◌, Bool, false, List, [], ◌∷◌, Option, Some, None, length, bytes_eq, if◌then◌else◌}
-use Rattle.clap.specs.Words.{Text}
-use Rattle.tool_words.specs.Tools.{in_front}
+use Rattle.std.specs.Prelude.{◌≡◌, ℕ, ◌==◌, Bool, true, false, List, [], ◌∷◌, Option, Some, None, length, drop, bytes_eq, if◌then◌else◌}
+use Rattle.std.specs.Str.{IsUtf8}
+use Rattle.clap.specs.Words.{Text, is_simple_and_free}
+use Rattle.tool_words.specs.Tools.{command_of, in_front, taken}
 
 -- a word that begins with a dash is an option, but a dash alone is none
 abbrev pub is_option : Text → Bool
@@ -20,3 +21,13 @@ operands (word ∷ words) =
 abbrev pub of_number : ℕ → Option (List Text) → Option (List Text)
 of_number n None = None
 of_number n (Some words) = if length words == n then Some words else None
+
+-- each word is a text
+abbrev pub AllUtf8 : List Text → Type 0
+AllUtf8 [] = Unit {0}
+AllUtf8 (word ∷ words) = IsUtf8 word × AllUtf8 words
+
+-- a command of which each place is for one word
+pub record IsOneWordEach (tool : Text) (places : List Text) : Type 0 where
+  pub is_simple : is_simple_and_free (command_of tool places) ≡ true
+  pub takes : (words : List Text) → AllUtf8 (drop 1 words) → taken tool places words ≡ of_number (length places) (operands (drop 1 words))

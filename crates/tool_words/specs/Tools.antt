@@ -2,6 +2,7 @@
 --
 --     replay POLICY RECORDING
 --     explain POLICY RECORDING N
+--     twin POLICY A B
 --     sample N SEED
 --
 -- The first word is the tool's name. Each place behind it is for one word, which has to be there. There is no option but the wish for
@@ -49,10 +50,18 @@ replay_places = codes "POLICY" ∷ codes "RECORDING" ∷ []
 abbrev pub explain_places : List Text
 explain_places = codes "POLICY" ∷ codes "RECORDING" ∷ codes "N" ∷ []
 
+abbrev pub twin_places : List Text
+twin_places = codes "POLICY" ∷ codes "A" ∷ codes "B" ∷ []
+
 abbrev pub sample_places : List Text
 sample_places = codes "N" ∷ codes "SEED" ∷ []
 
 -- ---- what contracts see of a parse
+
+-- the words in the places of what a parse found
+abbrev pub words_found : List Text → Option ArgMatches → Option (List Text)
+words_found places None = None
+words_found places (Some m) = words_at places (rows_of (found_of m))
 
 -- what a command's parse of words gave
 pub record Parses (name : Text) (places words : List Text) (parse : Result ArgMatches Error) : Type 0 where

@@ -4,10 +4,10 @@
 //! each of its places.
 #![tactic(auto)]
 
-ghost use Rattle.std.specs.Prelude.{◌≡◌, ◌↔◌, [], ◌∷◌, IfOk, drop, map, option_map, string_bytes, codes, false, IsTrue};
-ghost use Rattle.clap.specs.Words.{first_of, found_of, kind_of, rows_of, rule_of};
-ghost use Rattle.tool_words.specs.Operands.{of_number, operands};
-ghost use Rattle.tool_words.specs.Tools.{Parses, required_word, replay_places, explain_places, sample_places, taken, words_at};
+ghost use Rattle.std.specs.Prelude.{◌≡◌, ◌↔◌, [], ◌∷◌, IfOk, drop, map, length, option_map, string_bytes, codes, true, false, IsTrue};
+ghost use Rattle.clap.specs.Words.{app_of, first_of, found_of, is_simple_and_free, kind_of, rows_of, rule_of};
+ghost use Rattle.tool_words.specs.Operands.{IsOneWordEach, of_number, operands};
+ghost use Rattle.tool_words.specs.Tools.{Parses, command_of, required_word, replay_places, explain_places, twin_places, sample_places, taken, words_at, words_found};
 
 use clap::error::ErrorKind;
 use clap::{Arg, ArgMatches, Command, Error};
@@ -33,6 +33,17 @@ pub struct ExplainWords<'a> {
     pub number: &'a str,
 }
 
+/// The words of `twin POLICY A B`.
+#[derive(Clone, Copy, Debug, PartialEq, Eq)]
+pub struct TwinWords<'a> {
+    /// The path of the policy file.
+    pub policy: &'a str,
+    /// The path of one recording.
+    pub one: &'a str,
+    /// The path of the other.
+    pub other: &'a str,
+}
+
 /// The words of `sample N SEED`.
 #[derive(Clone, Copy, Debug, PartialEq, Eq)]
 pub struct SampleWords<'a> {
@@ -52,25 +63,10 @@ pub fn replay_words(alloc: Global, words: &[String]) -> Result<Option<ReplayWord
     // an option, and where they are as many as the places.
     ensures plain { IfOk result (λ r. option_map (λ w. w.policy.now ∷ w.recording.now ∷ []) r ≡ of_number 2 (operands (drop 1 (map (λ w. string_bytes w) words.now)))) }
 {
-    match replay_matches(alloc, words) {
-        Ok(matches) => Ok(replay_places(&matches)),
-        Err(error) => {
-            if is_memory(&error) {
-                return Err(AllocError);
-            }
-            Ok(None)
-        }
+    match matches_of(alloc, "replay", &["POLICY", "RECORDING"], words)? {
+        Some(matches) => Ok(replay_places(&matches)),
+        None => Ok(None),
     }
-}
-
-/// What the command of `replay` finds.
-fn replay_matches<'a>(alloc: Global, words: &'a [String]) -> Result<ArgMatches<'a>, Error>
-    ensures { Parses (codes "replay") replay_places (map (λ w. string_bytes w) words.now) result }
-{
-    let policy = place(alloc, "POLICY");
-    let recording = place(alloc, "RECORDING");
-    let command = Command::new(alloc, "replay").arg(policy)?.arg(recording)?;
-    command.try_get_matches_from(words)
 }
 
 /// The words in the places of `replay`.
@@ -95,29 +91,10 @@ pub fn explain_words(
     // an option, and where they are as many as the places.
     ensures plain { IfOk result (λ r. option_map (λ w. w.policy.now ∷ w.recording.now ∷ w.number.now ∷ []) r ≡ of_number 3 (operands (drop 1 (map (λ w. string_bytes w) words.now)))) }
 {
-    match explain_matches(alloc, words) {
-        Ok(matches) => Ok(explain_places(&matches)),
-        Err(error) => {
-            if is_memory(&error) {
-                return Err(AllocError);
-            }
-            Ok(None)
-        }
+    match matches_of(alloc, "explain", &["POLICY", "RECORDING", "N"], words)? {
+        Some(matches) => Ok(explain_places(&matches)),
+        None => Ok(None),
     }
-}
-
-/// What the command of `explain` finds.
-fn explain_matches<'a>(alloc: Global, words: &'a [String]) -> Result<ArgMatches<'a>, Error>
-    ensures { Parses (codes "explain") explain_places (map (λ w. string_bytes w) words.now) result }
-{
-    let policy = place(alloc, "POLICY");
-    let recording = place(alloc, "RECORDING");
-    let number = place(alloc, "N");
-    let command = Command::new(alloc, "explain")
-        .arg(policy)?
-        .arg(recording)?
-        .arg(number)?;
-    command.try_get_matches_from(words)
 }
 
 /// The words in the places of `explain`.
@@ -134,6 +111,32 @@ fn explain_places<'a>(matches: &ArgMatches<'a>) -> Option<ExplainWords<'a>>
     })
 }
 
+/// The words of `twin POLICY A B`, the tool's name in front, where its command takes them. It fails where memory
+/// is refused.
+pub fn twin_words(alloc: Global, words: &[String]) -> Result<Option<TwinWords<'_>>, AllocError>
+    // They are what the command finds.
+    ensures found { IfOk result (λ r. option_map (λ w. w.policy.now ∷ w.one.now ∷ w.other.now ∷ []) r ≡ taken (codes "twin") twin_places (map (λ w. string_bytes w) words.now)) }
+
+    // They are all words behind the tool's name but a first `--`, where in front of that no word is
+    // an option, and where they are as many as the places.
+    ensures plain { IfOk result (λ r. option_map (λ w. w.policy.now ∷ w.one.now ∷ w.other.now ∷ []) r ≡ of_number 3 (operands (drop 1 (map (λ w. string_bytes w) words.now)))) }
+{
+    match matches_of(alloc, "twin", &["POLICY", "A", "B"], words)? {
+        Some(matches) => Ok(twin_places(&matches)),
+        None => Ok(None),
+    }
+}
+
+/// The words in the places of `twin`.
+fn twin_places<'a>(matches: &ArgMatches<'a>) -> Option<TwinWords<'a>>
+    ensures { option_map (λ w. w.policy.now ∷ w.one.now ∷ w.other.now ∷ []) result ≡ words_at twin_places (rows_of (found_of matches.now)) }
+{
+    let policy = word_at(matches, "POLICY")?;
+    let one = word_at(matches, "A")?;
+    let other = word_at(matches, "B")?;
+    Some(TwinWords { policy, one, other })
+}
+
 /// The words of `sample N SEED`, the tool's name in front, where its command takes them. It fails where memory
 /// is refused.
 pub fn sample_words(alloc: Global, words: &[String]) -> Result<Option<SampleWords<'_>>, AllocError>
@@ -144,25 +147,10 @@ pub fn sample_words(alloc: Global, words: &[String]) -> Result<Option<SampleWord
     // an option, and where they are as many as the places.
     ensures plain { IfOk result (λ r. option_map (λ w. w.draws.now ∷ w.seed.now ∷ []) r ≡ of_number 2 (operands (drop 1 (map (λ w. string_bytes w) words.now)))) }
 {
-    match sample_matches(alloc, words) {
-        Ok(matches) => Ok(sample_places(&matches)),
-        Err(error) => {
-            if is_memory(&error) {
-                return Err(AllocError);
-            }
-            Ok(None)
-        }
+    match matches_of(alloc, "sample", &["N", "SEED"], words)? {
+        Some(matches) => Ok(sample_places(&matches)),
+        None => Ok(None),
     }
-}
-
-/// What the command of `sample` finds.
-fn sample_matches<'a>(alloc: Global, words: &'a [String]) -> Result<ArgMatches<'a>, Error>
-    ensures { Parses (codes "sample") sample_places (map (λ w. string_bytes w) words.now) result }
-{
-    let draws = place(alloc, "N");
-    let seed = place(alloc, "SEED");
-    let command = Command::new(alloc, "sample").arg(draws)?.arg(seed)?;
-    command.try_get_matches_from(words)
 }
 
 /// The words in the places of `sample`.
@@ -174,12 +162,62 @@ fn sample_places<'a>(matches: &ArgMatches<'a>) -> Option<SampleWords<'a>>
     Some(SampleWords { draws, seed })
 }
 
+/// What the command of a tool finds, where it takes the words. It fails where memory is refused.
+fn matches_of<'a>(
+    alloc: Global,
+    tool: &'a str,
+    places: &[&'a str],
+    words: &'a [String],
+) -> Result<Option<ArgMatches<'a>>, AllocError>
+    requires { IsOneWordEach tool.now (map (λ p. p.now) places.now) }
+    ensures found { IfOk result (λ r. words_found (map (λ p. p.now) places.now) r ≡ taken tool.now (map (λ p. p.now) places.now) (map (λ w. string_bytes w) words.now)) }
+    ensures plain { IfOk result (λ r. words_found (map (λ p. p.now) places.now) r ≡ of_number (length (map (λ p. p.now) places.now)) (operands (drop 1 (map (λ w. string_bytes w) words.now)))) }
+{
+    match parse(alloc, tool, places, words) {
+        Ok(matches) => Ok(Some(matches)),
+        Err(error) => {
+            if is_memory(&error) {
+                return Err(AllocError);
+            }
+            Ok(None)
+        }
+    }
+}
+
+/// What the command of a tool makes of words.
+fn parse<'a>(
+    alloc: Global,
+    tool: &'a str,
+    places: &[&'a str],
+    words: &'a [String],
+) -> Result<ArgMatches<'a>, Error>
+    requires { is_simple_and_free (command_of tool.now (map (λ p. p.now) places.now)) ≡ true }
+    ensures { Parses tool.now (map (λ p. p.now) places.now) (map (λ w. string_bytes w) words.now) result }
+{
+    tool_command(alloc, tool, places)?.try_get_matches_from(words)
+}
+
+/// The command of a tool.
+fn tool_command<'a>(
+    alloc: Global,
+    tool: &'a str,
+    places: &[&'a str],
+) -> Result<Command<'a>, AllocError>
+    ensures { IfOk result (λ c. app_of c ≡ command_of tool.now (map (λ p. p.now) places.now)) }
+{
+    let mut command = Command::new(alloc, tool);
+    for place in places {
+        command = command.arg(required(alloc, place))?;
+    }
+    Ok(command)
+}
+
 /// A place for a word that has to be there.
-fn place<'a>(alloc: Global, name: &'a str) -> Arg<'a>
-    ensures rule { rule_of result ≡ required_word name.entry.now }
+fn required<'a>(alloc: Global, place: &'a str) -> Arg<'a>
+    ensures rule { rule_of result ≡ required_word place.entry.now }
     ensures local { result.global ≡ false }
 {
-    Arg::new(alloc, name).required(true)
+    Arg::new(alloc, place).required(true)
 }
 
 /// Whether memory ran out.

@@ -1,18 +1,13 @@
-use Rattle.std.proofs.Common.{codes, ◌∙◌}
-use Rattle.tool_words.specs.Tools.{replay_places}
-use Rattle.tool_words.proofs.Parsing.{is_taken, not_taken}
-use Rattle.tool_words.proofs.OneWordEach.{replay_reads, utf8_behind}
+use Rattle.std.proofs.Common.{◌∙◌, ap, sym}
+use Rattle.tool_words.specs.Tools.{replay_places, words_found}
+use Rattle.tool_words.proofs.OneWordEach.{replay_one_each}
 use Rattle.tool_words.proofs.replay_words.Goals as goal
 
-pub returns-in-Ok-clause-found : goal.returns-in-Ok-clause-found
-returns-in-Ok-clause-found c = is_taken (codes "replay") replay_places _ c.in-Ok.matches _ c.in-Ok.ensures c.replay_places.ensures
+pub matches_of-requires : goal.matches_of-requires
+matches_of-requires c = replay_one_each
 
-pub returns-in-Ok-clause-plain : goal.returns-in-Ok-clause-plain
-returns-in-Ok-clause-plain c = is_taken (codes "replay") replay_places _ c.in-Ok.matches _ c.in-Ok.ensures c.replay_places.ensures ∙ replay_reads _ (utf8_behind c.args.words.now)
+pub returns-in-Some-clause-found : goal.returns-in-Some-clause-found
+returns-in-Some-clause-found c = c.replay_places.ensures ∙ sym (ap (words_found replay_places) c.in-Some.is) ∙ c.in_ok-matches.ensures.found
 
-pub returns-else-is_memory-clause-found : goal.returns-else-is_memory-clause-found
-returns-else-is_memory-clause-found c = not_taken (codes "replay") replay_places _ c.in-Err.error c.is_memory.result c.in-Err.ensures c.is_memory.ensures c.if-is_memory.false
-
-pub returns-else-is_memory-clause-plain : goal.returns-else-is_memory-clause-plain
-returns-else-is_memory-clause-plain c = not_taken (codes "replay") replay_places _ c.in-Err.error c.is_memory.result c.in-Err.ensures c.is_memory.ensures c.if-is_memory.false
-    ∙ replay_reads _ (utf8_behind c.args.words.now)
+pub returns-in-None-clause-found : goal.returns-in-None-clause-found
+returns-in-None-clause-found c = sym (ap (words_found replay_places) c.in-None.is) ∙ c.in_ok-matches.ensures.found
