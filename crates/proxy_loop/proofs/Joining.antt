@@ -21,6 +21,7 @@ use Rattle.proxy_loop.specs.Works.{Any, Only, Goes, OneRead, ShutWhere, ShutBoth
 use Rattle.proxy_loop.specs.Writing.{Written}
 use Rattle.proxy_loop.specs.Logging.{stopped_at, IsLogEnd, LogEnds, Logs}
 use Rattle.proxy_loop.specs.Runs.{Sound, WroteBoth, Reads, LogsIf, ReadPart, ReadsAndLogs, pick_side}
+use Rattle.proxy_loop.proofs.KindCases.{read_cases, write_cases}
 use Rattle.proxy_loop.proofs.Holding.{same_link_self, goes_then, goes_none, goes_map, all_joined, wrote_append, some_append}
 use Rattle.proxy_loop.proofs.Logged.{appends_none}
 
@@ -59,71 +60,17 @@ and_second false y h = cc
 
 -- what a call of one link is for another
 module _ (a b : Link) (apart : Apart a b) where
-  write_other_call : (call : Call) → write_call a call ≡ true → (write_call b call ≡ false) × (gone_call b call ≡ false)
-  write_other_call (WriteCall at) h = (apart.each at h, apart.each at h)
-  write_other_call (ReadCall at) h = cc
-  write_other_call (ConnectCall session) h = cc
-  write_other_call (AcceptCall listener) h = cc
-  write_other_call ListenCall h = cc
-
   pub write_other : (entry : Entry) → is_write a entry ≡ true → is_write b entry ≡ false
-  write_other (Wrote at bytes) h = apart.each at h
-  write_other (NotReady call) h = (write_other_call call h).0
-  write_other (Failed call) h = (write_other_call call h).0
-  write_other (Read at bytes) h = cc
-  write_other (Finished at) h = cc
-  write_other (Refused call) h = cc
-  write_other (Listened listener path) h = cc
-  write_other (Ready ready) h = cc
-  write_other (Accepted listener session) h = cc
-  write_other (Connected session path) h = cc
-  write_other (Shut at) h = cc
+  write_other entry h = write_cases (λ (e : Entry). is_write b e ≡ false) a entry h (λ at bytes same. apart.each at same) apart.each apart.each
 
   pub write_gone_other : (entry : Entry) → is_write a entry ≡ true → gone_by b entry ≡ false
-  write_gone_other (Wrote at bytes) h = refl
-  write_gone_other (NotReady call) h = refl
-  write_gone_other (Failed call) h = (write_other_call call h).1
-  write_gone_other (Read at bytes) h = cc
-  write_gone_other (Finished at) h = cc
-  write_gone_other (Refused call) h = cc
-  write_gone_other (Listened listener path) h = cc
-  write_gone_other (Ready ready) h = cc
-  write_gone_other (Accepted listener session) h = cc
-  write_gone_other (Connected session path) h = cc
-  write_gone_other (Shut at) h = cc
+  write_gone_other entry h = write_cases (λ (e : Entry). gone_by b e ≡ false) a entry h (λ at bytes same. refl) (λ at same. refl) apart.each
 
   write_wrote_other : (entry : Entry) → is_write a entry ≡ true → written_by b entry ≡ []
-  write_wrote_other (Wrote at bytes) h = rw (apart.each at h) refl
-  write_wrote_other (NotReady call) h = refl
-  write_wrote_other (Failed call) h = refl
-  write_wrote_other (Read at bytes) h = cc
-  write_wrote_other (Finished at) h = cc
-  write_wrote_other (Refused call) h = cc
-  write_wrote_other (Listened listener path) h = cc
-  write_wrote_other (Ready ready) h = cc
-  write_wrote_other (Accepted listener session) h = cc
-  write_wrote_other (Connected session path) h = cc
-  write_wrote_other (Shut at) h = cc
-
-  read_other_call : (call : Call) → read_call a call ≡ true → gone_call b call ≡ false
-  read_other_call (ReadCall at) h = apart.each at h
-  read_other_call (WriteCall at) h = cc
-  read_other_call (ConnectCall session) h = cc
-  read_other_call (AcceptCall listener) h = cc
-  read_other_call ListenCall h = cc
+  write_wrote_other entry h = write_cases (λ (e : Entry). written_by b e ≡ []) a entry h (λ at bytes same. rw (apart.each at same) refl) (λ at same. refl) (λ at same. refl)
 
   pub read_gone_other : (entry : Entry) → is_read a entry ≡ true → gone_by b entry ≡ false
-  read_gone_other (Read at bytes) h = refl
-  read_gone_other (Finished at) h = apart.each at h
-  read_gone_other (NotReady call) h = refl
-  read_gone_other (Failed call) h = read_other_call call h
-  read_gone_other (Wrote at bytes) h = cc
-  read_gone_other (Refused call) h = cc
-  read_gone_other (Listened listener path) h = cc
-  read_gone_other (Ready ready) h = cc
-  read_gone_other (Accepted listener session) h = cc
-  read_gone_other (Connected session path) h = cc
-  read_gone_other (Shut at) h = cc
+  read_gone_other entry h = read_cases (λ (e : Entry). gone_by b e ≡ false) a entry h (λ at bytes same. refl) apart.each (λ at same. refl) apart.each
 
   pub wrote_other : (added : Journal) → all_are (is_write a) added ≡ true → written b added ≡ []
   unfolding all_are

@@ -1,4 +1,5 @@
 pub mod Ends
+pub mod KindCases
 pub mod Holding
 pub mod Written
 pub mod Logged

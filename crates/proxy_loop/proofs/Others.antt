@@ -17,6 +17,7 @@ use Rattle.proxy_loop.specs.Kinds.{about, call_about, all_are, some_of, gone_by,
 use Rattle.proxy_loop.specs.Works.{link_at}
 use Rattle.proxy_loop.specs.Runs.{Served, ReadUnless}
 use Rattle.proxy_loop.specs.Servers.{touches, Fresh, listened_by, listener_of, Held, Stays}
+use Rattle.proxy_loop.proofs.KindCases.{read_cases, same_link_number, session_write_cases}
 use Rattle.proxy_loop.proofs.Holding.{same_number, all_joined, moves_quiet}
 use Rattle.proxy_loop.proofs.Joining.{all_implied, read_is}
 use Rattle.proxy_loop.proofs.Stopping.{AllStops}
@@ -192,55 +193,12 @@ listener_same m (entry ∷ added) journal a =
     ∙ listener_same m added journal (and_second (about m entry) (all_are (about m) added) a)
 
 -- what a turn does for one session is told of it alone
-writes_call_about : (n : ℕ) (call : Call) → writes_of n (NotReady call) ≡ true → call_about n call ≡ true
-writes_call_about n (WriteCall at) h = either_of n at h
-  where
-    either_of : (n : ℕ) (at : Link) → (nat_eq n at.session && same_side Client at.side) || (nat_eq n at.session && same_side Bus at.side) ≡ true → nat_eq at.session n ≡ true
-    either_of n at h = let t : nat_eq n at.session ≡ true = one (nat_eq n at.session) (same_side Client at.side) (same_side Bus at.side) h in grind (arith, nat_tests, t)
-      where
-        one : (x y z : Bool) → (x && y) || (x && z) ≡ true → x ≡ true
-        one true y z h = refl
-        one false y z h = cc
-writes_call_about n (ReadCall at) h = cc
-writes_call_about n (ConnectCall session) h = cc
-writes_call_about n (AcceptCall listener) h = cc
-writes_call_about n ListenCall h = cc
-
 writes_about : (n : ℕ) (entry : Entry) → writes_of n entry ≡ true → about n entry ≡ true
-writes_about n (Wrote at bytes) h = writes_call_about n (WriteCall at) h
-writes_about n (NotReady call) h = writes_call_about n call h
-writes_about n (Failed call) h = writes_call_about n call h
-writes_about n (Read at bytes) h = cc
-writes_about n (Finished at) h = cc
-writes_about n (Refused call) h = cc
-writes_about n (Listened listener path) h = cc
-writes_about n (Ready answer) h = cc
-writes_about n (Accepted listener session) h = cc
-writes_about n (Connected session path) h = cc
-writes_about n (Shut at) h = cc
-
-same_link_number : (link at : Link) → same_link link at ≡ true → nat_eq at.session link.session ≡ true
-same_link_number link at h = let t : nat_eq link.session at.session ≡ true = and_first (nat_eq link.session at.session) (same_side link.side at.side) h in grind (arith, nat_tests, t)
-
-read_call_about : (link : Link) (call : Call) → read_call link call ≡ true → call_about link.session call ≡ true
-read_call_about link (ReadCall at) h = same_link_number link at h
-read_call_about link (WriteCall at) h = cc
-read_call_about link (ConnectCall session) h = cc
-read_call_about link (AcceptCall listener) h = cc
-read_call_about link ListenCall h = cc
+writes_about n entry h = session_write_cases (λ (e : Entry). about n e ≡ true) n entry h (λ at bytes same. same) (λ at same. same) (λ at same. same)
 
 read_about : (link : Link) (entry : Entry) → is_read link entry ≡ true → about link.session entry ≡ true
-read_about link (Read at bytes) h = same_link_number link at h
-read_about link (Finished at) h = same_link_number link at h
-read_about link (NotReady call) h = read_call_about link call h
-read_about link (Failed call) h = read_call_about link call h
-read_about link (Wrote at bytes) h = cc
-read_about link (Refused call) h = cc
-read_about link (Listened listener path) h = cc
-read_about link (Ready answer) h = cc
-read_about link (Accepted listener session) h = cc
-read_about link (Connected session path) h = cc
-read_about link (Shut at) h = cc
+read_about link entry h =
+    read_cases (λ (e : Entry). about link.session e ≡ true) link entry h (λ at bytes same. same_link_number link at same) (same_link_number link) (same_link_number link) (same_link_number link)
 
 reads_about : (link : Link) (idle : Bool) (reads : Journal) → ReadUnless idle link reads → all_are (about link.session) reads ≡ true
 unfolding all_are

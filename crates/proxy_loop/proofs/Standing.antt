@@ -53,7 +53,7 @@ holds_moved policy n old new added was moves kept stops h = record {
       (with_stop_grow h.put (events_of n added) h.events (events_of n was) (λ e. stops (h.over e)) h.told);
   over = λ e. still_some old.ended new.ended kept (h.over e);
   stands = subst (λ (t : Taken). StandsFor policy new (events_of n added ++ h.events) t)
-      (ap₂ (λ (x y : List ℕ). record { bus_side = x; client_side = y; notes = h.notes }) (sym (wrote_append (bus_link n) added was)) (sym (wrote_append (client_link n) added was)))
+      (ap₂ (λ (x y : List ℕ). record { bus_side = x; client_side = y; notes = h.notes; visible = [] }) (sym (wrote_append (bus_link n) added was)) (sym (wrote_append (client_link n) added was)))
       (moves.each h.events (taken_of n h.notes was) h.stands);
 }
 
@@ -121,7 +121,7 @@ module _ (policy : Policy) (logs : Bool) (n : ℕ) (side : Side) (full : Bool) (
   stands_now : StandsFor policy s3 (events_of n late ++ (stop_events reads.stop ++ (events_of n early ++ h.events))) (taken_of n (h.notes ++ reads.taken) ((late ++ early) ++ was))
   stands_now =
       subst (λ (t : Taken). StandsFor policy s3 (events_of n late ++ (stop_events reads.stop ++ (events_of n early ++ h.events))) t)
-      (ap₂ (λ (x y : List ℕ). record { bus_side = x; client_side = y; notes = h.notes ++ reads.taken }) (words_now (bus_link n)) (words_now (client_link n)))
+      (ap₂ (λ (x y : List ℕ). record { bus_side = x; client_side = y; notes = h.notes ++ reads.taken; visible = [] }) (words_now (bus_link n)) (words_now (client_link n)))
       (after.each (stop_events reads.stop ++ (events_of n early ++ h.events)) (record (more_taken n early (taken_of n h.notes was)) { notes = h.notes ++ reads.taken })
       (reads.stands policy (events_of n early ++ h.events) (more_taken n early (taken_of n h.notes was)) (before.each h.events (taken_of n h.notes was) h.stands)))
 

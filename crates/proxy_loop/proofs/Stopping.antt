@@ -13,6 +13,7 @@ use Rattle.proxy_loop.specs.Sessions.{is_stop, events_of, events_by, failed_even
 use Rattle.proxy_loop.specs.Kinds.{writes_of, all_are}
 use Rattle.proxy_loop.specs.Works.{ShutBoth}
 use Rattle.proxy_loop.specs.Runs.{ReadUnless}
+use Rattle.proxy_loop.proofs.KindCases.{session_write_cases}
 use Rattle.proxy_loop.proofs.Holding.{events_append}
 
 abbrev pub AllStops : List Event → Type 0
@@ -39,25 +40,9 @@ one_if : (b : Bool) (end : End) → AllStops (if b then Stopped end ∷ [] else 
 one_if true end = refl
 one_if false end = refl
 
-call_stops : (n : ℕ) (call : Call) → writes_of n (Failed call) ≡ true → AllStops (failed_events n call)
-call_stops n (WriteCall at) h = one_if (nat_eq at.session n) (write_end at.side)
-call_stops n (ReadCall at) h = cc
-call_stops n (ConnectCall session) h = cc
-call_stops n (AcceptCall listener) h = cc
-call_stops n ListenCall h = cc
-
 write_stops : (n : ℕ) (entry : Entry) → writes_of n entry ≡ true → AllStops (events_by n entry)
-write_stops n (Wrote at bytes) h = refl
-write_stops n (NotReady call) h = refl
-write_stops n (Failed call) h = call_stops n call h
-write_stops n (Read at bytes) h = cc
-write_stops n (Finished at) h = cc
-write_stops n (Refused call) h = cc
-write_stops n (Listened listener path) h = cc
-write_stops n (Ready answer) h = cc
-write_stops n (Accepted listener session) h = cc
-write_stops n (Connected session path) h = cc
-write_stops n (Shut at) h = cc
+write_stops n entry h =
+    session_write_cases (λ (e : Entry). AllStops (events_by n e)) n entry h (λ at bytes same. refl) (λ at same. refl) (λ at same. one_if (nat_eq at.session n) (write_end at.side))
 
 pub writes_stop : (n : ℕ) (added : Journal) → all_are (writes_of n) added ≡ true → AllStops (events_of n added)
 unfolding all_are events_of

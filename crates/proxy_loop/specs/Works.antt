@@ -146,6 +146,7 @@ more_taken n added taken = record {
   bus_side = taken.bus_side ++ written (bus_link n) added;
   client_side = taken.client_side ++ written (client_link n) added;
   notes = taken.notes;
+  visible = taken.visible;
 }
 
 -- these entries' events came to a session, and what they wrote was taken from it

@@ -22,6 +22,7 @@ use Rattle.proxy_loop.specs.declared.serving.Running.{Running}
 use Rattle.proxy_loop.specs.Runs.{log_of, is_over}
 use Rattle.proxy_loop.specs.Tables.{Table, session_mode}
 use Rattle.proxy_loop.specs.Servers.{listener_of, BlockLogs, SessionLogged}
+use Rattle.proxy_loop.proofs.KindCases.{session_write_cases}
 use Rattle.proxy_loop.proofs.Holding.{events_append}
 use Rattle.proxy_loop.proofs.Joining.{all_implied}
 use Rattle.proxy_loop.proofs.Logged.{appends_none}
@@ -50,17 +51,7 @@ unread_log blocks (entry ∷ added) was cut got h l =
     (unread_log blocks added was cut got (and_second (is_unread entry) (all_are is_unread added) h) l)
 
 write_unread : (n : ℕ) (entry : Entry) → writes_of n entry ≡ true → is_unread entry ≡ true
-write_unread n (Wrote at bytes) h = refl
-write_unread n (NotReady call) h = refl
-write_unread n (Failed call) h = refl
-write_unread n (Read at bytes) h = cc
-write_unread n (Ended at) h = refl
-write_unread n (Refused call) h = refl
-write_unread n (Listened listener path) h = refl
-write_unread n (Ready answer) h = refl
-write_unread n (Accept listener session) h = refl
-write_unread n (Connected session path) h = refl
-write_unread n (Shut at) h = refl
+write_unread n entry h = session_write_cases (λ (e : Entry). is_unread e ≡ true) n entry h (λ at bytes same. refl) (λ at same. refl) (λ at same. refl)
 
 pub writes_unread : (n : ℕ) (added : Journal) → all_are (writes_of n) added ≡ true → all_are is_unread added ≡ true
 writes_unread n added h = all_implied (writes_of n) is_unread (write_unread n) added h
