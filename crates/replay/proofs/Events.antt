@@ -1,6 +1,6 @@
 -- The events so far, the newest first, and how many bytes they have.
 use Rattle.std.proofs.Common.{◌≡◌, ◌<◌, ◌+◌, ℕ, List, [], ◌∷◌, ◌++◌, ap, sym, ◌∙◌, length, take, map, reverse, get_or}
-use Rattle.std.proofs.lemmas.List.{take_more, reverse-append, map-append}
+use Rattle.std.proofs.lemmas.List.{take_more, take-map, reverse-append, map-append}
 use Rattle.std.proofs.lemmas.List.Sums.{sum_by_push}
 use Rattle.recording.specs.declared.Event.{Event as Declared}
 use Rattle.recording.specs.Recording.{Event as Recorded}
@@ -21,3 +21,6 @@ next-event es i e lt is = ap events_of (so-far es i e lt is) ∙ events-last (ma
 
 pub next-size : (es : List Declared) (i : ℕ) (e : Declared) → i < length es → e ≡ get_or es i e → size (map seen (take (i + 1) es)) ≡ size (map seen (take i es)) + size_of (seen e)
 next-size es i e lt is = ap size (so-far es i e lt is) ∙ size-last (map seen (take i es)) (seen e)
+
+pub event-played : (es : List Declared) (i : ℕ) (e : Declared) → i < length es → e ≡ get_or es i e → events_of (take (i + 1) (map seen es)) ≡ event_of (seen e) ∷ events_of (take i (map seen es))
+event-played es i e lt is = ap events_of (take-map seen (i + 1) es) ∙ next-event es i e lt is ∙ ap (λ xs. event_of (seen e) ∷ events_of xs) (sym (take-map seen i es))

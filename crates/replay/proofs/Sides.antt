@@ -61,5 +61,6 @@ few policy start after came first light most = omega (arith, light.weighs, first
 pub lights : (policy : Policy) (a b c : SessionView) (n m k : ℕ) → k ≡ n + m → IsLight policy n a b → IsLight policy m b c → IsLight policy k a c
 lights policy a b c n m k e p q = record {
   mode = q.mode ∙ p.mode;
+  watches = q.watches ∙ p.watches;
   weighs = omega (arith, e, p.weighs, q.weighs);
 }

@@ -1,3 +1,5 @@
 pub mod Output
 pub mod Waiting
 pub mod Explained
+pub mod Twins
+pub mod Watching

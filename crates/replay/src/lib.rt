@@ -8,12 +8,17 @@
 //! Where the policy's words ask for a log, a line for each message of the session is written first,
 //! to a sink of its own. One message alone can be explained: its line, and the entry of the policy
 //! on which its decision rests.
+//!
+//! Two recordings can be compared: whether what the policy lets be seen of either is the same, and
+//! else where it first differs.
 #![tactic(auto)]
 
+mod comparing;
 mod explaining;
 mod listing;
 mod logging;
 mod playing;
+mod watching;
 mod writing;
 
 ghost use Rattle.std.specs.Prelude.{◌≡◌, ◌≤◌, ◌⊎◌, ℕ, true, List, Some, None, IfOk, OnOk, IsErrOf, IfSome};
@@ -24,6 +29,7 @@ ghost use Rattle.policy_view.specs.Notes.{notes as notes_of};
 ghost use Rattle.replay.specs.Output.{history_of, output_of_recording, log_of_recording};
 ghost use Rattle.replay.specs.Explained.{explained, with_log};
 
+pub use comparing::{TwinAnswer, twin};
 use explaining::{note_of, write_explanation};
 use link_traits::Sink;
 pub use listing::NoteList;

@@ -3,6 +3,7 @@ ghost use Rattle.std.specs.Prelude.{◌≡◌, ◌≤◌, ◌<◌, ◌+◌, ◌*
 ghost use Rattle.explain_log.specs.Lines.{log};
 ghost use Rattle.policy_args.specs.Policy.{Policy as PolicyValue};
 ghost use Rattle.policy_args.specs.Seen.{options_seen};
+ghost use Rattle.policy_view.specs.Elements.{BringsBytes};
 ghost use Rattle.policy_view.specs.History.{Event as SessionEvent, Bytes, Finished};
 ghost use Rattle.policy_view.specs.Notes.{notes};
 ghost use Rattle.proxy_core.specs.Sessions.{StandsFor, Taken, nothing, is_memory as ended_for_memory};
@@ -23,6 +24,7 @@ pub const MOST_BYTES: u64 = 1_335_229_682;
 
 /// A piece of a side's stream came.
 fn feed(session: &mut Session, policy: &Policy, side: Side, piece: &[u8])
+    ensures bytes { BringsBytes (Bytes (side_of side) piece.now) }
     ensures stands { (events : List SessionEvent) (taken : Taken) → StandsFor policy.now session.old events taken → StandsFor policy.now session.new (Bytes (side_of side) piece.now ∷ events) taken }
     ensures light { IsLight policy.now (length piece.now) session.old session.new }
 {
@@ -44,7 +46,8 @@ fn finish(session: &mut Session, side: Side)
 }
 
 /// Plays one event. A session that has ended takes it without an effect.
-fn play_event(session: &mut Session, policy: &Policy, event: &Event)
+pub fn play_event(session: &mut Session, policy: &Policy, event: &Event)
+    ensures bytes { BringsBytes (event_of (seen event.now)) }
     ensures stands { (events : List SessionEvent) (taken : Taken) → StandsFor policy.now session.old events taken → StandsFor policy.now session.new (event_of (seen event.now) ∷ events) taken }
     ensures light { IsLight policy.now (size_of (seen event.now)) session.old session.new }
 {
@@ -65,7 +68,7 @@ fn play_events(session: &mut Session, policy: &Policy, events: &[Event])
 }
 
 /// Whether a session ended for want of memory.
-fn is_memory(ended: Option<End>) -> bool
+pub fn is_memory(ended: Option<End>) -> bool
     ensures { result ≡ ended_for_memory ended }
 {
     match ended {

@@ -14,11 +14,13 @@ use std::thread::Threads;
 use test_tables::plain;
 
 /// The sizes of the pieces in which the streams come: byte by byte, a few, and as they stand.
-const SIZES: [usize; 3] = [1, 7, 100_000];
+pub const SIZES: [usize; 3] = [1, 7, 100_000];
 
+/// What is given to a session, and what is to come of it.
 #[derive(Drop)]
-struct Case {
-    policy: Vec<u8>,
+pub struct Case {
+    /// The bytes of the policy file.
+    pub policy: Vec<u8>,
     auth: u8,
     came: Vec<Came>,
     to_bus: Vec<u8>,
@@ -34,8 +36,9 @@ struct Came {
     bytes: Vec<u8>,
 }
 
-fn case_of(alloc: Global, text: &str) -> Result<Case, AllocError> {
-    let mut case = Case {
+/// A case of which nothing is said.
+pub fn empty_case(alloc: Global) -> Case {
+    Case {
         policy: Vec::new(alloc),
         auth: 0,
         came: Vec::new(alloc),
@@ -43,7 +46,11 @@ fn case_of(alloc: Global, text: &str) -> Result<Case, AllocError> {
         to_client: Vec::new(alloc),
         end: Vec::new(alloc),
         log: String::new(alloc),
-    };
+    }
+}
+
+fn case_of(alloc: Global, text: &str) -> Result<Case, AllocError> {
+    let mut case = empty_case(alloc);
     for line in text.lines() {
         add_line(alloc, &mut case, line)?;
     }
@@ -51,7 +58,7 @@ fn case_of(alloc: Global, text: &str) -> Result<Case, AllocError> {
 }
 
 /// Adds a line to a case. A line that is none of those makes a policy that is refused.
-fn add_line(alloc: Global, case: &mut Case, line: &str) -> Result<(), AllocError> {
+pub fn add_line(alloc: Global, case: &mut Case, line: &str) -> Result<(), AllocError> {
     let (what, text) = line.split_once(' ').unwrap_or((line, ""));
     match what {
         "policy" => add_words(&mut case.policy, text),
@@ -96,7 +103,7 @@ fn add_record(into: &mut Vec<u8>, kind: u8, bytes: &[u8]) -> Result<(), AllocErr
 }
 
 /// The recording of what came, in pieces of so many bytes at most.
-fn recording_of(alloc: Global, case: &Case, size: usize) -> Result<Vec<u8>, AllocError> {
+pub fn recording_of(alloc: Global, case: &Case, size: usize) -> Result<Vec<u8>, AllocError> {
     let mut recording = Vec::from_slice(alloc, &[b'D', b'B', b'P', b'R', 1, case.auth])?;
     for came in &case.came {
         add_records(&mut recording, came, size)?;

@@ -22,4 +22,6 @@ mod runs;
 #[cfg(test)]
 mod sessions;
 #[cfg(test)]
+mod twins;
+#[cfg(test)]
 mod values;

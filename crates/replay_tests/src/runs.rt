@@ -30,8 +30,43 @@ pub fn replay<R: Threads + Sync>(
     recording: &[u8],
     room: usize,
 ) -> Result<Ended, AllocError> {
-    let mut files = MemFiles::new(both(alloc, policy, recording)?);
-    let words = words(alloc)?;
+    let mut files = Vec::new(alloc);
+    files.push(file(alloc, "policy", policy)?)?;
+    files.push(file(alloc, "recording", recording)?)?;
+    run_over(rt, alloc, &["replay", "policy", "recording"], files, room)
+}
+
+/// A comparison of two recordings under a policy.
+pub fn twin<R: Threads + Sync>(
+    rt: &R,
+    alloc: Global,
+    policy: &[u8],
+    one: &[u8],
+    other: &[u8],
+) -> Result<Ended, AllocError> {
+    let mut files = Vec::new(alloc);
+    files.push(file(alloc, "policy", policy)?)?;
+    files.push(file(alloc, "one", one)?)?;
+    files.push(file(alloc, "other", other)?)?;
+    run_over(
+        rt,
+        alloc,
+        &["twin", "policy", "one", "other"],
+        files,
+        10_000,
+    )
+}
+
+/// A run of a tool over files, with room for so many bytes of output.
+fn run_over<R: Threads + Sync>(
+    rt: &R,
+    alloc: Global,
+    words: &[&str],
+    files: Vec<MemFile>,
+    room: usize,
+) -> Result<Ended, AllocError> {
+    let words = strings(alloc, words)?;
+    let mut files = MemFiles::new(files);
     let mut out = MemSink::new(alloc, room)?;
     let mut err = MemSink::new(alloc, 10_000)?;
     let mut net = net_of(alloc, "")?;
@@ -40,17 +75,10 @@ pub fn replay<R: Threads + Sync>(
     Ok(Ended { code, out, err })
 }
 
-fn both(alloc: Global, policy: &[u8], recording: &[u8]) -> Result<Vec<MemFile>, AllocError> {
-    let mut files = Vec::new(alloc);
-    files.push(file(alloc, "policy", policy)?)?;
-    files.push(file(alloc, "recording", recording)?)?;
-    Ok(files)
-}
-
-fn words(alloc: Global) -> Result<Vec<String>, AllocError> {
-    let mut words = Vec::new(alloc);
-    for word in ["replay", "policy", "recording"] {
-        words.push(String::from_str(alloc, word)?)?;
+fn strings(alloc: Global, words: &[&str]) -> Result<Vec<String>, AllocError> {
+    let mut strings = Vec::new(alloc);
+    for word in words {
+        strings.push(String::from_str(alloc, word)?)?;
     }
-    Ok(words)
+    Ok(strings)
 }

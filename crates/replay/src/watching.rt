@@ -1,0 +1,102 @@
+//! A recording of which the visible part is given element by element, as its events are played.
+ghost use Rattle.std.specs.Prelude.{◌≡◌, ◌<◌, ◌+◌, List, [], None, false, IfOk, length};
+ghost use Rattle.policy_args.specs.Policy.{Policy as PolicyValue};
+ghost use Rattle.policy_view.specs.declared.visible.Visible.{Visible as Element};
+ghost use Rattle.proxy_core.specs.Sessions.{is_memory as ended_for_memory};
+ghost use Rattle.recording.specs.Recording.{Recording as RecordingValue};
+ghost use Rattle.recording.specs.Seen.{recording_seen};
+ghost use Rattle.replay.specs.Watching.{Gave, GaveNext, GaveWaiting};
+
+use crate::playing::{is_memory, play_event};
+use policy_args::Policy;
+use policy_view::{End, Visible};
+use proxy_core::Session;
+use recording::Recording;
+use std::alloc::{AllocError, Global};
+
+/// The session of a recording, and how many of its events were played. Between two events it has nothing that waits for either side,
+/// and of the visible part no more than what the last event brought.
+#[derive(Drop)]
+pub struct Watched {
+    session: Session,
+    played: usize,
+}
+
+impl Watched {
+    /// Nothing was played yet.
+    pub fn new(alloc: Global, policy: &Policy, recording: &Recording) -> Result<Watched, AllocError>
+        ensures { IfOk result (λ watched. Gave policy.now (recording_seen recording.now) watched []) }
+    {
+        Ok(Watched {
+            session: Session::watching(alloc, policy, recording.auth)?,
+            played: 0,
+        })
+    }
+
+    /// Lets go the bytes that wait for either side.
+    fn let_go_bytes(&mut self)
+        ensures gave { (policy : PolicyValue) (recording : RecordingValue) (given : List Element) → Gave policy recording self.old given → Gave policy recording self.new given }
+        ensures played { self.new.played ≡ self.old.played }
+    {
+        let for_bus = self.session.bus_waits();
+        self.session.took_bus(for_bus as usize);
+        let for_client = self.session.client_waits();
+        self.session.took_client(for_client as usize);
+    }
+
+    /// Plays the next event.
+    fn play_next(&mut self, policy: &Policy, recording: &Recording)
+        requires { self.old.played < length recording.now.events.items }
+        ensures gave { (given : List Element) → Gave policy.now (recording_seen recording.now) self.old given → Gave policy.now (recording_seen recording.now) self.new given }
+        ensures played { self.new.played ≡ self.old.played + 1 }
+    {
+        play_event(&mut self.session, policy, &recording.events[self.played]);
+        self.played += 1;
+        self.let_go_bytes();
+    }
+
+    /// The next element that waits.
+    fn next_waiting(&mut self) -> Option<Visible>
+        ensures gave { (policy : PolicyValue) (recording : RecordingValue) (given : List Element) → Gave policy recording self.old given → GaveWaiting policy recording self.new given result }
+        ensures played { self.new.played ≡ self.old.played }
+    {
+        self.session.next_visible()
+    }
+
+    /// The next element of the visible part, or none where there are no more. Refused where memory is; also where the session ended
+    /// so.
+    pub fn next_element(
+        &mut self,
+        policy: &Policy,
+        recording: &Recording,
+    ) -> Result<Option<Visible>, AllocError>
+        ensures { (given : List Element) → Gave policy.now (recording_seen recording.now) self.old given → IfOk result (λ next. GaveNext policy.now (recording_seen recording.now) self.new given next) }
+    {
+        loop {
+            if let Some(element) = self.next_waiting() {
+                return Ok(Some(element));
+            }
+            if self.played >= recording.events.len() {
+                return none_unless_memory(self.session.ended());
+            }
+            self.play_next(policy, recording);
+        }
+    }
+
+    /// Why the session ended.
+    pub fn ended(&self) -> Option<End>
+        ensures { result ≡ self.now.session.ended }
+    {
+        self.session.ended()
+    }
+}
+
+/// No element, unless the session ended for want of memory.
+fn none_unless_memory(ended: Option<End>) -> Result<Option<Visible>, AllocError>
+    ensures { IfOk result (λ next. (next ≡ None) × (ended_for_memory ended ≡ false)) }
+{
+    if is_memory(ended) {
+        return Err(AllocError);
+    }
+    Ok(None)
+}
