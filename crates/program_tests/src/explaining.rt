@@ -8,7 +8,7 @@ use std::thread::Threads;
 use test_tables::{plain, wrong_row};
 
 /// A recording of a call of org.a.I.M at org.a.S.
-const SEEN: &[u8] = b"DBPR\x01\0\
+pub const SEEN: &[u8] = b"DBPR\x01\0\
 \0\x50\0\0\0l\x01\0\x01\0\0\0\0\x01\0\0\0\x40\0\0\0\
 \x01\x01o\0\x02\0\0\0/p\0\0\0\0\0\0\
 \x02\x01s\0\x07\0\0\0org.a.I\0\
@@ -16,7 +16,7 @@ const SEEN: &[u8] = b"DBPR\x01\0\
 \x06\x01s\0\x07\0\0\0org.a.S\0";
 
 /// A policy under which the name is seen, and no more.
-const SEE: &[u8] = b"--filter\0--see=org.a.S";
+pub const SEE: &[u8] = b"--filter\0--see=org.a.S";
 
 /// What is said of the call: it is answered with an error, since an entry only lets the name be seen.
 const SEEN_LINES: &[u8] =

@@ -15,3 +15,5 @@ mod sampling;
 mod serving;
 #[cfg(test)]
 mod texts;
+#[cfg(test)]
+mod twins;

@@ -5,7 +5,7 @@ use proxy_main::{HELP, VERSION};
 use std::alloc::{AllocError, Global};
 use std::test::Fail;
 use std::thread::Threads;
-use tool_words::{explain_words, replay_words, sample_words};
+use tool_words::{explain_words, replay_words, sample_words, twin_words};
 
 /// Each option of a policy file, as the help shows it, and a word of it.
 const OPTIONS: [(&str, &str); 7] = [
@@ -22,16 +22,17 @@ const OPTIONS: [(&str, &str); 7] = [
 const LINE_OPTIONS: [&str; 2] = ["--sessions=N", "--args-file=FILE"];
 
 /// Each tool with its words, and what else the program is asked for.
-const TOOLS: [&str; 5] = [
+const TOOLS: [&str; 6] = [
     "replay POLICY RECORDING",
     "explain POLICY RECORDING N",
+    "twin POLICY A B",
     "sample N SEED",
     "--help",
     "--version",
 ];
 
 /// Each status.
-const STATUSES: [u8; 9] = [0, 1, 2, 3, 4, 5, 6, 8, 9];
+const STATUSES: [u8; 10] = [0, 1, 2, 3, 4, 5, 6, 7, 8, 9];
 
 /// How many lines of the help begin so.
 fn lines_with(start: &str) -> usize {
@@ -57,6 +58,7 @@ fn is_taken(alloc: Global, words: &[String]) -> Result<bool, AllocError> {
     Ok(match words {
         [tool, ..] if tool.as_str() == "replay" => replay_words(alloc, words)?.is_some(),
         [tool, ..] if tool.as_str() == "explain" => explain_words(alloc, words)?.is_some(),
+        [tool, ..] if tool.as_str() == "twin" => twin_words(alloc, words)?.is_some(),
         [tool, ..] if tool.as_str() == "sample" => sample_words(alloc, words)?.is_some(),
         [tool] => tool.starts_with("--"),
         _ => false,

@@ -1,36 +1,54 @@
 -- From why a run stopped to how it ended.
-use Rattle.std.proofs.Common.{◌≡◌, ◌≤◌, ◌<◌, ◌^◌, ◌-◌, inl, inr, ℕ, List, Option, ap, sym, ◌∙◌, subst, arith}
+use Rattle.std.proofs.Common.{◌≡◌, ◌≤◌, ◌<◌, ◌^◌, ◌-◌, inl, inr, ℕ, List, Option, None, Some, IfSome, ap, refl, sym, ◌∙◌, subst, arith}
 use Rattle.link_traits.specs.Told.{added, Part, Rose}
 use Rattle.policy_args.specs.Words.{PolicyOptions}
 use Rattle.recording.specs.Recording.{Recording}
-use Rattle.replay.specs.Output.{output_of_recording, log_of_recording}
+use Rattle.replay.specs.Output.{output_of_recording}
 use Rattle.proxy_main.specs.declared.Stop.{Stop}
 use Rattle.proxy_main.specs.declared.Stop.TheVariants as stop
 use Rattle.proxy_main.specs.Words.{Command}
-use Rattle.proxy_main.specs.Answers.{Answer, Wrote, replayed, answer_to, IsSettled, Agrees, out_of, code_of}
+use Rattle.proxy_main.specs.Answers.{Answer, replayed, explaining, answer_to, IsSettled, Agrees, HasCode, HasOut, IsWork, GivesOutTheSame}
 use Rattle.proxy_main.specs.Lines.{refusal_line, file_line, memory_line}
-use Rattle.proxy_main.specs.Loads.{StopsBy, CausedBy, Keeps, KeepsLog, IsDone, IsFront, IsLogFront}
+use Rattle.proxy_main.specs.Loads.{StopsBy, CausedBy, Keeps, KeepsLog, IsDone, IsWritten, IsFront, IsLogFront}
 use Rattle.proxy_main.specs.Endings.{Ends, Refuses, NoFile, OutFails, LogFails, NoMemory, Said, Whole, Cut, StopTold}
 use Rattle.proxy_main.proofs.Logs.{front_none}
 
--- ---- the work
+-- ---- an answer that agrees with another
 
-wrote : (a : Answer) (o : PolicyOptions) (r : Recording) → Agrees a (replayed o r) → IsSettled a → a ≡ Wrote (output_of_recording o r) (log_of_recording o r)
-unfolding replayed
-wrote a o r agrees settled = agrees settled
+done_as : (a b : Answer) (out new_out : Option (List ℕ)) (code : ℕ) → Agrees a b → IsDone b out new_out code → IsDone a out new_out code
+done_as a b out new_out code agrees done = λ settled.
+    let is = agrees settled in
+    subst (λ x. HasCode x code × IsWritten x out new_out × (code ≡ 0 → GivesOutTheSame x)) (sym is) (done (subst IsSettled is settled))
+
+pub front_as : (a b : Answer) (out new_out : Option (List ℕ)) → Agrees a b → IsFront b out new_out → IsFront a out new_out
+front_as a b out new_out agrees front = λ settled.
+    let is = agrees settled in
+    subst (λ x. (bytes : List ℕ) × HasOut x bytes × Part out new_out bytes) (sym is) (front (subst IsSettled is settled))
+
+work_as : (a b : Answer) → Agrees a b → IsWork b → IsSettled a → IsWork a
+work_as a b agrees work settled = subst IsWork (sym (agrees settled)) work
+
+-- ---- a replay
 
 pub done_of : (a : Answer) (o : PolicyOptions) (r : Recording) (out new_out : Option (List ℕ)) → Agrees a (replayed o r) →
-    new_out ≡ added (output_of_recording o r) out → IsDone a out new_out
-done_of a o r out new_out agrees got = λ settled.
-    let is = wrote a o r agrees settled in
-    (ap code_of is, got ∙ ap (λ x. added (out_of x) out) (sym is))
+    new_out ≡ added (output_of_recording o r) out → IsDone a out new_out 0
+unfolding replayed
+done_of a o r out new_out agrees got = done_as a (replayed o r) out new_out 0 agrees (λ settled. (refl, (output_of_recording o r, refl, got), λ zero. tt))
 
 pub front_of : (a : Answer) (o : PolicyOptions) (r : Recording) (out new_out : Option (List ℕ)) → Agrees a (replayed o r) →
     Part out new_out (output_of_recording o r) → IsFront a out new_out
-front_of a o r out new_out agrees got = λ settled. subst (λ x. Part out new_out (out_of x)) (sym (wrote a o r agrees settled)) got
+unfolding replayed
+front_of a o r out new_out agrees got = front_as a (replayed o r) out new_out agrees (λ settled. (output_of_recording o r, refl, got))
 
-pub zero_of : (a : Answer) (o : PolicyOptions) (r : Recording) → Agrees a (replayed o r) → IsSettled a → code_of a ≡ 0
-zero_of a o r agrees settled = ap code_of (wrote a o r agrees settled)
+pub work_of : (a : Answer) (o : PolicyOptions) (r : Recording) → Agrees a (replayed o r) → IsSettled a → IsWork a
+unfolding replayed
+work_of a o r agrees settled = work_as a (replayed o r) agrees tt settled
+
+-- ---- an explanation
+
+pub explaining_front : (x : Option (List ℕ)) (out new_out : Option (List ℕ)) → IfSome x (Part out new_out) → (x ≡ None → ⊥) → IsFront (explaining x) out new_out
+explaining_front None out new_out part some = absurd (some refl)
+explaining_front (Some bytes) out new_out part some = λ settled. (bytes, refl, part)
 
 -- ---- err's count of faults, over the work and then the line
 

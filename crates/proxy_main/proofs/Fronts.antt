@@ -1,22 +1,22 @@
 -- Whatever the ending, out got a front of the answer's output, and err a front of the log and then of the status's line.
-use Rattle.std.proofs.Common.{inl, inr, ℕ, List, [], Option, refl}
+use Rattle.std.proofs.Common.{◌≡◌, ◌⊎◌, inl, inr, ℕ, List, [], Option, refl}
 use Rattle.link_traits.specs.Told.{Part}
 use Rattle.link_traits.proofs.Parts.{part_all, part_none}
 use Rattle.proxy_main.specs.Words.{Command}
-use Rattle.proxy_main.specs.Answers.{answer_to, IsSettled, out_of}
+use Rattle.proxy_main.specs.Answers.{answer_to}
 use Rattle.proxy_main.specs.Lines.{refusal_line, file_line, memory_line}
-use Rattle.proxy_main.specs.Loads.{IsLogFront, IsLogged}
+use Rattle.proxy_main.specs.Loads.{IsEnd, IsFront, IsLogFront, IsLogged}
 use Rattle.proxy_main.specs.Endings.{Ends, Done, Refuses, NoFile, OutFails, LogFails, NoMemory, Said, Whole, Cut, LineOf, NoLine, OfRefusal, OfFile, OfMemory, ErrFront}
 use Rattle.proxy_main.proofs.Logs.{front_none}
 
 pub out_front : (told : List ℕ → Option (List ℕ)) (command : Option Command) (f o e : Type 0) (out new_out err new_err : Option (List ℕ)) (code : ℕ) →
-    Ends told command f o e out new_out err new_err code → IsSettled (answer_to told command) → Part out new_out (out_of (answer_to told command))
-out_front told command f o e out new_out err new_err code (Done is done log) settled = part_all _ _ _ (done settled).1
-out_front told command f o e out new_out err new_err code (Refuses r is agrees words kept said) settled = part_none _ _ _ kept
-out_front told command f o e out new_out err new_err code (NoFile path is rose needs kept said) settled = part_none _ _ _ kept
-out_front told command f o e out new_out err new_err code (OutFails is rose work front log) settled = front settled
-out_front told command f o e out new_out err new_err code (LogFails is rose asked work kept log) settled = part_none _ _ _ kept
-out_front told command f o e out new_out err new_err code (NoMemory is kept said) settled = part_none _ _ _ kept
+    Ends told command f o e out new_out err new_err code → (new_out ≡ out) ⊎ IsFront (answer_to told command) out new_out
+out_front told command f o e out new_out err new_err code (Done is done log) = inr (λ settled. let written = (done settled).1 in (written.0, written.1, part_all _ _ _ written.2))
+out_front told command f o e out new_out err new_err code (Refuses r is agrees words kept said) = inl kept
+out_front told command f o e out new_out err new_err code (NoFile path is rose needs kept said) = inl kept
+out_front told command f o e out new_out err new_err code (OutFails is rose work front log) = inr front
+out_front told command f o e out new_out err new_err code (LogFails is rose asked work kept log) = inl kept
+out_front told command f o e out new_out err new_err code (NoMemory is kept said) = inl kept
 
 said_front : (rose : Type 0) (old new : Option (List ℕ)) (line : List ℕ) → Said rose old new line → Part old new line
 said_front rose old new line (Whole is) = part_all _ _ _ is
@@ -32,12 +32,17 @@ line_alone told command rose err new_err code line is said =
 whole_front : (told : List ℕ → Option (List ℕ)) (command : Option Command) (err new_err : Option (List ℕ)) → IsLogged told command err new_err → IsLogFront told command err new_err
 whole_front told command err new_err log = (log.0, log.1, part_all _ _ _ log.2)
 
+-- work that is done has no line
+end_line : (command : Option Command) (code : ℕ) → IsEnd command code → LineOf code []
+end_line command code (inl is) = NoLine (inl is) refl
+end_line command code (inr is) = NoLine (inr (inr is.0)) refl
+
 pub err_front : (told : List ℕ → Option (List ℕ)) (command : Option Command) (f o e : Type 0) (out new_out err new_err : Option (List ℕ)) (code : ℕ) →
     Ends told command f o e out new_out err new_err code → ErrFront told command err new_err code
-err_front told command f o e out new_out err new_err code (Done is done log) = log_alone told command err new_err code (NoLine (inl is) refl) (whole_front told command err new_err log)
+err_front told command f o e out new_out err new_err code (Done is done log) = log_alone told command err new_err code (end_line command code is) (whole_front told command err new_err log)
 err_front told command f o e out new_out err new_err code (Refuses r is agrees words kept said) = line_alone told command e err new_err code (refusal_line r) (OfRefusal r is refl) said
 err_front told command f o e out new_out err new_err code (NoFile path is rose needs kept said) = line_alone told command e err new_err code (file_line path) (OfFile path is refl) said
-err_front told command f o e out new_out err new_err code (OutFails is rose work front log) = log_alone told command err new_err code (NoLine (inr is) refl) (whole_front told command err new_err log)
-err_front told command f o e out new_out err new_err code (LogFails is rose asked work kept log) = log_alone told command err new_err code (NoLine (inr is) refl) log
+err_front told command f o e out new_out err new_err code (OutFails is rose work front log) = log_alone told command err new_err code (NoLine (inr (inl is)) refl) (whole_front told command err new_err log)
+err_front told command f o e out new_out err new_err code (LogFails is rose asked work kept log) = log_alone told command err new_err code (NoLine (inr (inl is)) refl) log
 err_front told command f o e out new_out err new_err code (NoMemory is kept said) =
     record { between = said.between; log = said.log; line = memory_line; is_line = OfMemory is refl; front = said_front e said.between new_err memory_line said.said }

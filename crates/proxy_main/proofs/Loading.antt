@@ -9,12 +9,13 @@ use Rattle.recording.specs.declared.BadRecording.{BadRecording}
 use Rattle.recording.specs.declared.TheConstants.{RECORDING_LIMIT}
 use Rattle.recording.specs.Recording.{Recording, recording_of}
 use Rattle.proxy_main.specs.declared.Refusal.{Refusal}
-use Rattle.proxy_main.specs.declared.Refusal.TheVariants.{PolicyWord, PolicyTooLong, Recording as BadFile}
+use Rattle.proxy_main.specs.declared.Refusal.TheVariants.{Usage, LineWord, ArgsTooLong, PolicyWord, PolicyTooLong, Recording as BadFile, NoSuchMessage}
 use Rattle.proxy_main.specs.declared.TheConstants.{POLICY_LIMIT}
 use Rattle.proxy_main.specs.declared.Stop.{Stop}
 use Rattle.proxy_main.specs.declared.Stop.TheVariants as stop
-use Rattle.proxy_main.specs.Answers.{Answer, Untold, Refused, then_go, then_read, options_in, checked_policy, checked_recording, or_refused, Agrees, IsSettled, without, then_load}
-use Rattle.proxy_main.specs.Loads.{LoadStops, FilesStop}
+use Rattle.proxy_main.specs.Words.{Command, Twin}
+use Rattle.proxy_main.specs.Answers.{Answer, Untold, Refused, Compared, then_go, then_read, options_in, checked_policy, checked_recording, or_refused, Agrees, IsSettled, without, then_load, then_compare, answer_to}
+use Rattle.proxy_main.specs.Loads.{LoadStops, FilesStop, IsOfFile, IsOfWords, StopsBy}
 
 -- what was read is what is told
 pub read_told : {A : Type 0} (limit : ℕ) (told : Option (List ℕ)) (items : List ℕ) (check : List ℕ → Result A Refusal) (x : Result A Refusal) →
@@ -100,3 +101,45 @@ stops_recording told t p r o (stop.File path) ok same is =
 stops_recording told t p r o stop.Output ok same is = absurd is
 stops_recording told t p r o stop.Log ok same is = absurd is
 stops_recording told t p r o stop.Memory ok same is = tt
+
+-- ---- the files of a comparison
+
+-- a refusal of a file is one whatever the words
+of_file : (r : Refusal) (command : Option Command) → IsOfFile r → IsOfWords r command
+of_file Usage command is = absurd is
+of_file (LineWord bad) command is = absurd is
+of_file ArgsTooLong command is = absurd is
+of_file (PolicyWord bad) command is = tt
+of_file PolicyTooLong command is = tt
+of_file (BadFile fault) command is = tt
+of_file NoSuchMessage command is = absurd is
+
+-- what is told of the other recording when it is read, t, is what was told before
+pub twins_loaded : (told : List ℕ → Option (List ℕ)) (t : Option (List ℕ)) (p a b : List ℕ) (o : PolicyOptions) (x y : Recording) →
+    ((work : PolicyOptions → Recording → Answer) → Agrees (then_load told p a work) (work o x)) → t ≡ told b → IfSome t (λ bytes. checked_recording bytes ≡ Ok y) →
+    Agrees (answer_to told (Some (Twin p a b))) (Compared o.policy x y)
+twins_loaded told t p a b o x y loaded same is =
+    agrees-then _ _ _ (loaded (then_compare told b)) (read_ok (told b) checked_recording y (Compared o.policy x) (subst (λ u. IfSome u (λ bytes. checked_recording bytes ≡ Ok y)) same is))
+
+pub twins_stop_first : (told : List ℕ → Option (List ℕ)) (p a b : List ℕ) (s : Stop) → FilesStop told p a s → StopsBy told (Some (Twin p a b)) s
+twins_stop_first told p a b (stop.Refused refusal) is = (is.0 (then_compare told b), of_file refusal (Some (Twin p a b)) is.1)
+twins_stop_first told p a b (stop.File path) is = is (then_compare (without path.now told) b)
+twins_stop_first told p a b stop.Output is = absurd is
+twins_stop_first told p a b stop.Log is = absurd is
+twins_stop_first told p a b stop.Memory is = tt
+
+pub twins_stop_other : (told : List ℕ → Option (List ℕ)) (t : Option (List ℕ)) (p a b : List ℕ) (o : PolicyOptions) (x : Recording) (s : Stop) → IfSome (told p) (λ bytes. checked_policy bytes ≡ Ok o) →
+    IfSome (told a) (λ bytes. checked_recording bytes ≡ Ok x) → t ≡ told b → LoadStops checked_recording t b s → StopsBy told (Some (Twin p a b)) s
+twins_stop_other told t p a b o x (stop.Refused refusal) ok one same is = (
+  agrees-then _ _ _ (loaded_both told (told a) p a o x ok refl one (then_compare told b))
+      (read_err (told b) checked_recording refusal (Compared o.policy x) (subst (λ u. IfSome u (λ bytes. checked_recording bytes ≡ Err refusal)) same is.0)),
+  of_file refusal (Some (Twin p a b)) is.1,
+)
+twins_stop_other told t p a b o x (stop.File path) ok one same is =
+    subst (λ q. then_load (without q told) p a (then_compare (without q told) b) ≡ Untold) (sym is)
+    (untold-second (bytes_eq p b) (told p) checked_policy o _ ok
+    (λ y. untold-second (bytes_eq a b) (told a) checked_recording x (then_compare (without b told) b y) one
+    (λ z. untold-first _ checked_recording _ (without-path b told))))
+twins_stop_other told t p a b o x stop.Output ok one same is = absurd is
+twins_stop_other told t p a b o x stop.Log ok one same is = absurd is
+twins_stop_other told t p a b o x stop.Memory ok one same is = tt

@@ -8,7 +8,7 @@ use Rattle.recording.specs.Recording.{Recording}
 use Rattle.replay.specs.Output.{log_of_recording}
 use Rattle.replay.specs.Explained.{explained}
 use Rattle.proxy_main.specs.declared.Refusal.{Refusal}
-use Rattle.proxy_main.specs.Words.{Command, Replay, Explain, Sample, Help, Version}
+use Rattle.proxy_main.specs.Words.{Command, Replay, Explain, Twin, Sample, Help, Version}
 use Rattle.proxy_main.specs.Answers.{Answer, then_go, then_read, replayed, explaining, answer_to, Agrees, log_of, checked_policy, checked_recording, asks_for_log, may_ask_for_log, may_log, IsLog}
 use Rattle.proxy_main.specs.declared.Stop.{Stop}
 use Rattle.proxy_main.specs.declared.Stop.TheVariants as stop
@@ -56,6 +56,7 @@ unasked : (told : List ℕ → Option (List ℕ)) (command : Option Command) →
 unasked told None is = refl
 unasked told (Some (Replay p r)) is = answer_unasked (told p) (told r) is
 unasked told (Some (Explain p r number)) is = read_none (told p) checked_policy _ (λ o. read_none (told r) checked_recording _ (λ x. explaining_none (explained o x number)))
+unasked told (Some (Twin p a b)) is = read_none (told p) checked_policy _ (λ o. read_none (told a) checked_recording _ (λ x. read_none (told b) checked_recording _ (λ y. refl)))
 unasked told (Some (Sample n seed)) is = refl
 unasked told (Some Help) is = refl
 unasked told (Some Version) is = refl
@@ -86,12 +87,12 @@ none_kept told command files out err new_err stop.Output is cause same = none_lo
 none_kept told command files out err new_err stop.Log is cause same = absurd cause
 none_kept told command files out err new_err stop.Memory is cause same = front_none told command err new_err same
 
-pub quiet_done : (result : Result (Unit {0}) Stop) (told : List ℕ → Option (List ℕ)) (command : Option Command) (err : Option (List ℕ)) → may_log told command ≡ false →
+pub quiet_done : {A : Type 0} (result : Result A Stop) (told : List ℕ → Option (List ℕ)) (command : Option Command) (err : Option (List ℕ)) → may_log told command ≡ false →
     OnOk result (IsLogged told command err err)
 quiet_done (Ok done) told command err is = none_logged told command err err is refl
 quiet_done (Err stop) told command err is = tt
 
-pub quiet_stop : (result : Result (Unit {0}) Stop) (told : List ℕ → Option (List ℕ)) (command : Option Command) (files out : Type 0) (err new_err : Option (List ℕ)) → may_log told command ≡ false →
+pub quiet_stop : {A : Type 0} (result : Result A Stop) (told : List ℕ → Option (List ℕ)) (command : Option Command) (files out : Type 0) (err new_err : Option (List ℕ)) → may_log told command ≡ false →
     IfErr result (λ stop. CausedBy files out ⊥ stop) → new_err ≡ err → IfErr result (λ stop. KeepsLog told command err new_err stop)
 quiet_stop (Ok done) told command files out err new_err is cause same = tt
 quiet_stop (Err stop) told command files out err new_err is cause same = none_kept told command files out err new_err stop is cause same

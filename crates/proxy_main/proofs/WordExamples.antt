@@ -1,7 +1,7 @@
 -- Worked examples of the words of the command line.
 use Rattle.std.proofs.Common.{◌≡◌, [], ◌∷◌, Some, None, codes, map, refl}
 use Rattle.tool_words.proofs.OnLiterals.{words_on_literals}
-use Rattle.proxy_main.specs.Words.{Replay, Explain, Sample, Help, Version, reading}
+use Rattle.proxy_main.specs.Words.{Replay, Explain, Twin, Sample, Help, Version, reading}
 
 paths : map reading ((codes "replay" ∷ codes "p" ∷ codes "r" ∷ []) ∷ (codes "replay" ∷ codes "-p" ∷ codes "r" ∷ []) ∷ (codes "replay" ∷ codes "--" ∷ codes "-p" ∷ codes "-" ∷ []) ∷ (codes "play" ∷ codes "p" ∷ codes "r" ∷ []) ∷ [])
     ≡ Some (Replay (codes "p") (codes "r")) ∷ None ∷ Some (Replay (codes "-p") (codes "-")) ∷ None ∷ []
@@ -14,6 +14,11 @@ numbers : map (λ number. reading (codes "explain" ∷ codes "p" ∷ codes "r" �
     ∷ None ∷ None ∷ None ∷ None ∷ None ∷ None ∷ []
 unfolding words_on_literals
 numbers = refl
+
+recordings : map reading ((codes "twin" ∷ codes "p" ∷ codes "a" ∷ codes "b" ∷ []) ∷ (codes "twin" ∷ codes "p" ∷ codes "a" ∷ []) ∷ (codes "twin" ∷ codes "p" ∷ codes "a" ∷ codes "-b" ∷ []) ∷ (codes "twin" ∷ []) ∷ [])
+    ≡ Some (Twin (codes "p") (codes "a") (codes "b")) ∷ None ∷ None ∷ None ∷ []
+unfolding words_on_literals
+recordings = refl
 
 draws : map (λ number. reading (codes "sample" ∷ number ∷ codes "7" ∷ [])) (codes "0" ∷ codes "100000" ∷ codes "100001" ∷ codes "00" ∷ [])
     ≡ Some (Sample 0 7) ∷ Some (Sample 100000 7) ∷ None ∷ None ∷ []

@@ -1,12 +1,17 @@
 -- What a run answers, by its words and by what is told of the files.
 --
 -- The files are read in the order of the words, and each is read and checked before the next. The first fault is the answer.
-use Rattle.std.specs.Prelude.{◌≡◌, ℕ, Bool, true, false, nat_lt, List, [], ◌++◌, length, codes, Option, Some, None, Result, Ok, Err, if◌then◌else◌}
+use Rattle.std.specs.Prelude.{◌≡◌, ◌≢◌, ◌⊎◌, ℕ, Bool, true, false, nat_lt, List, [], ◌++◌, length, codes, Option, Some, None, Result, Ok, Err, if◌then◌else◌}
+use Rattle.std.specs.Fmt.{decimal}
 use Rattle.policy_args.specs.declared.BadWord.{BadWord}
+use Rattle.policy_args.specs.Policy.{Policy}
 use Rattle.policy_args.specs.Words.{PolicyOptions, options_of, words_in, ◌>>=◌}
 use Rattle.recording.specs.Recording.{Recording, recording_of}
 use Rattle.replay.specs.Output.{output_of_recording, log_of_recording, history_of}
 use Rattle.replay.specs.Explained.{explained}
+use Rattle.replay.specs.Twins.{compared_under, part_of_recording, Compares}
+use Rattle.replay.specs.declared.comparing.TwinAnswer.{TwinAnswer}
+use Rattle.replay.specs.declared.comparing.TwinAnswer.TheVariants.{Same, Differ}
 use Rattle.sample.specs.Sample.{sample}
 use Rattle.sample.specs.Summary.{sample_options, summary_of}
 pub use Rattle.line_words.specs.Stops.{without}
@@ -15,7 +20,7 @@ use Rattle.proxy_main.specs.declared.Refusal.TheVariants.{Usage, LineWord, ArgsT
 use Rattle.proxy_main.specs.declared.TheConstants.{POLICY_LIMIT}
 use Rattle.proxy_main.specs.declared.texts.TheConstants.{HELP, VERSION}
 use Rattle.proxy_main.specs.Lines.{is_policy_kind}
-use Rattle.proxy_main.specs.Words.{Command, Replay, Explain, Sample, Help, Version, reading}
+use Rattle.proxy_main.specs.Words.{Command, Replay, Explain, Twin, Sample, Help, Version, reading}
 
 pub data Answer : Type 0 where
   -- a file is needed of which nothing is told: the answer is not settled
@@ -24,6 +29,8 @@ pub data Answer : Type 0 where
   Refused : Refusal → Answer
   -- the work is done, and these are the bytes of its output and of its log
   Wrote : List ℕ → List ℕ → Answer
+  -- two recordings are compared under a policy
+  Compared : Policy → Recording → Recording → Answer
 
 -- ---- reading and checking
 
@@ -79,10 +86,15 @@ version_line = codes "zamtigarn " ++ VERSION.now ++ codes "\n"
 abbrev pub then_load : (List ℕ → Option (List ℕ)) → List ℕ → List ℕ → (PolicyOptions → Recording → Answer) → Answer
 then_load told policy recording work = then_read (told policy) checked_policy (λ options. then_read (told recording) checked_recording (λ events. work options events))
 
+-- .. and then the other recording, before both are compared
+abbrev pub then_compare : (List ℕ → Option (List ℕ)) → List ℕ → PolicyOptions → Recording → Answer
+then_compare told other options one = then_read (told other) checked_recording (Compared options.policy one)
+
 abbrev pub answer_to : (List ℕ → Option (List ℕ)) → Option Command → Answer
 answer_to told None = Refused Usage
 answer_to told (Some (Replay policy recording)) = then_load told policy recording replayed
 answer_to told (Some (Explain policy recording number)) = then_load told policy recording (explained_at number)
+answer_to told (Some (Twin policy one other)) = then_load told policy one (then_compare told other)
 answer_to told (Some (Sample n seed)) = sampled n seed
 answer_to told (Some Help) = Wrote HELP.now []
 answer_to told (Some Version) = Wrote version_line []
@@ -95,6 +107,7 @@ abbrev pub IsSettled : Answer → Type 0
 IsSettled Untold = ⊥
 IsSettled (Refused refusal) = Unit {0}
 IsSettled (Wrote out log) = Unit {0}
+IsSettled (Compared policy one other) = Unit {0}
 
 -- where the answer is settled it is this one
 abbrev pub Agrees : Answer → Answer → Type 0
@@ -112,23 +125,50 @@ refusal_code PolicyTooLong = 2
 refusal_code (BadFile fault) = 3
 refusal_code NoSuchMessage = 9
 
--- the status of an answer
-abbrev pub code_of : Answer → ℕ
-code_of Untold = 0
-code_of (Refused refusal) = refusal_code refusal
-code_of (Wrote out log) = 0
+-- an answer has this status; of two recordings, by whether the same is left of both when all that the policy hides is erased
+abbrev pub HasCode : Answer → ℕ → Type 0
+HasCode Untold code = ⊥
+HasCode (Refused refusal) code = refusal_code refusal ≡ code
+HasCode (Wrote out log) code = 0 ≡ code
+HasCode (Compared policy one other) code =
+    ((part_of_recording policy one ≡ part_of_recording policy other) × (0 ≡ code)) ⊎ ((part_of_recording policy one ≢ part_of_recording policy other) × (7 ≡ code))
 
--- the output of an answer
-abbrev pub out_of : Answer → List ℕ
-out_of Untold = []
-out_of (Refused refusal) = []
-out_of (Wrote out log) = out
+-- the status of a comparison, and its line
+abbrev pub twin_code : TwinAnswer → ℕ
+twin_code Same = 0
+twin_code (Differ place) = 7
+
+abbrev pub twin_line : TwinAnswer → List ℕ
+twin_line Same = codes "same\n"
+twin_line (Differ place) = codes "differ " ++ decimal place ++ codes "\n"
+
+-- an answer has these bytes of output
+abbrev pub HasOut : Answer → List ℕ → Type 0
+HasOut Untold bytes = ⊥
+HasOut (Refused refusal) bytes = [] ≡ bytes
+HasOut (Wrote out log) bytes = out ≡ bytes
+HasOut (Compared policy one other) bytes = (answer : TwinAnswer) × Compares (part_of_recording policy one) (part_of_recording policy other) answer × (twin_line answer ≡ bytes)
+
+-- neither the words nor a file are refused: the work is done, whatever it comes to
+abbrev pub IsWork : Answer → Type 0
+IsWork Untold = ⊥
+IsWork (Refused refusal) = ⊥
+IsWork (Wrote out log) = Unit {0}
+IsWork (Compared policy one other) = Unit {0}
+
+-- where two recordings are compared, all bytes that either gives out are those of the other
+abbrev pub GivesOutTheSame : Answer → Type 0
+GivesOutTheSame Untold = Unit {0}
+GivesOutTheSame (Refused refusal) = Unit {0}
+GivesOutTheSame (Wrote out log) = Unit {0}
+GivesOutTheSame (Compared policy one other) = output_of_recording (compared_under policy) one ≡ output_of_recording (compared_under policy) other
 
 -- the log of an answer
 abbrev pub log_of : Answer → List ℕ
 log_of Untold = []
 log_of (Refused refusal) = []
 log_of (Wrote out log) = log
+log_of (Compared policy one other) = []
 
 -- ---- the log
 
@@ -146,6 +186,7 @@ abbrev pub may_log : (List ℕ → Option (List ℕ)) → Option Command → Boo
 may_log told None = false
 may_log told (Some (Replay policy recording)) = may_ask_for_log (told policy)
 may_log told (Some (Explain policy recording number)) = false
+may_log told (Some (Twin policy one other)) = false
 may_log told (Some (Sample n seed)) = false
 may_log told (Some Help) = false
 may_log told (Some Version) = false

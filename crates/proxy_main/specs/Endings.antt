@@ -1,11 +1,12 @@
 -- The ways in which a run ends.
 --
---     0    the whole output was written, and on err the whole log
+--     0    the whole output was written, and on err the whole log; of two recordings, that they are the same to the policy
 --     1    the words name nothing
 --     2    the policy file is refused
---     3    the recording is refused
+--     3    a recording is refused
 --     4    a file could not be read
 --     6    the output or the log could not be written
+--     7    two recordings differ to the policy, and the whole line that says where was written
 --     8    memory ran out
 --     9    the recording has no message of the number
 --
@@ -17,9 +18,9 @@ use Rattle.proxy_main.specs.declared.Refusal.{Refusal}
 use Rattle.proxy_main.specs.declared.Stop.{Stop}
 use Rattle.proxy_main.specs.declared.Stop.TheVariants as stop
 use Rattle.proxy_main.specs.Words.{Command}
-use Rattle.proxy_main.specs.Answers.{Untold, Refused, answer_to, IsSettled, Agrees, without, code_of, refusal_code, may_log}
+use Rattle.proxy_main.specs.Answers.{Untold, Refused, answer_to, IsSettled, Agrees, without, IsWork, refusal_code, may_log}
 use Rattle.proxy_main.specs.Lines.{refusal_line, file_line, memory_line}
-use Rattle.proxy_main.specs.Loads.{IsOfWords, IsDone, IsFront, IsLogged, IsLogFront}
+use Rattle.proxy_main.specs.Loads.{IsOfWords, IsEnd, IsDone, IsFront, IsLogged, IsLogFront}
 
 -- a sink got a line, or a front of it where its count of faults rose
 pub data Said (rose : Type 0) (old new : Option (List ℕ)) (line : List ℕ) : Type 0 where
@@ -35,8 +36,8 @@ pub record SaidAfterLog (told : List ℕ → Option (List ℕ)) (command : Optio
 -- how a run of these words ended, by what is told of the files, the counts of faults that rose, and what out and err tell
 pub data Ends (told : List ℕ → Option (List ℕ)) (command : Option Command) (files_rose out_rose err_rose : Type 0) (out new_out err new_err : Option (List ℕ)) (code : ℕ) : Type 0 where
   -- the whole log and the whole output were written
-  Done : code ≡ 0
-      → IsDone (answer_to told command) out new_out
+  Done : IsEnd command code
+      → IsDone (answer_to told command) out new_out code
       → IsLogged told command err new_err
       → Ends told command files_rose out_rose err_rose out new_out err new_err code
   -- the words or a file were refused
@@ -51,13 +52,13 @@ pub data Ends (told : List ℕ → Option (List ℕ)) (command : Option Command)
       → Ends told command files_rose out_rose err_rose out new_out err new_err code
   -- out failed while the output was written, after the whole log
   OutFails : code ≡ 6 → out_rose
-      → (IsSettled (answer_to told command) → code_of (answer_to told command) ≡ 0)
+      → (IsSettled (answer_to told command) → IsWork (answer_to told command))
       → IsFront (answer_to told command) out new_out
       → IsLogged told command err new_err
       → Ends told command files_rose out_rose err_rose out new_out err new_err code
   -- err failed while a log was written, before any output
   LogFails : code ≡ 6 → err_rose → may_log told command ≡ true
-      → (IsSettled (answer_to told command) → code_of (answer_to told command) ≡ 0)
+      → (IsSettled (answer_to told command) → IsWork (answer_to told command))
       → new_out ≡ out
       → IsLogFront told command err new_err
       → Ends told command files_rose out_rose err_rose out new_out err new_err code
@@ -68,9 +69,9 @@ pub data Ends (told : List ℕ → Option (List ℕ)) (command : Option Command)
 
 -- ---- what err got, whatever the ending
 
--- the line of a status: none with 0 and 6
+-- the line of a status: none with 0, 6 and 7
 pub data LineOf (code : ℕ) (line : List ℕ) : Type 0 where
-  NoLine : (code ≡ 0) ⊎ (code ≡ 6) → line ≡ [] → LineOf code line
+  NoLine : (code ≡ 0) ⊎ ((code ≡ 6) ⊎ (code ≡ 7)) → line ≡ [] → LineOf code line
   OfRefusal : (refusal : Refusal) → code ≡ refusal_code refusal → line ≡ refusal_line refusal → LineOf code line
   OfFile : (path : List ℕ) → code ≡ 4 → line ≡ file_line path → LineOf code line
   OfMemory : code ≡ 8 → line ≡ memory_line → LineOf code line
@@ -96,6 +97,10 @@ ExactlyOfFiles code this cause = (code ≡ this → cause) × (cause → (code �
 -- the statuses that a fault of the outside or of memory may give in place of another
 abbrev pub IsFree : ℕ → Type 0
 IsFree code = (code ≡ 4) ⊎ ((code ≡ 6) ⊎ (code ≡ 8))
+
+-- a status comes exactly where its cause stands, unless such a fault gave another
+abbrev pub ExactlyOfWork : ℕ → ℕ → Type 0 → Type 0
+ExactlyOfWork code this cause = (code ≡ this → cause) × (cause → (code ≡ this) ⊎ IsFree code)
 
 -- ---- saying why a run stopped
 

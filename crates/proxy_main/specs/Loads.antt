@@ -1,14 +1,14 @@
 -- What reading the files gives, and why a run stops before its work is done.
-use Rattle.std.specs.Prelude.{◌≡◌, ℕ, true, List, Option, Some, None, Result, Ok, Err, IfSome}
+use Rattle.std.specs.Prelude.{◌≡◌, ◌⊎◌, ℕ, true, List, Option, Some, None, Result, Ok, Err, IfSome}
 use Rattle.link_traits.specs.Told.{added, Part}
 use Rattle.proxy_main.specs.declared.Refusal.{Refusal}
 use Rattle.proxy_main.specs.declared.Refusal.TheVariants.{Usage, LineWord, ArgsTooLong, PolicyWord, PolicyTooLong, Recording, NoSuchMessage}
 use Rattle.proxy_main.specs.declared.Stop.{Stop}
 use Rattle.proxy_main.specs.declared.Stop.TheVariants.{Refused as Refuses, File, Output, Log, Memory}
-use Rattle.proxy_main.specs.Words.{Command, Replay, Explain, Sample, Help, Version}
+use Rattle.proxy_main.specs.Words.{Command, Replay, Explain, Twin, Sample, Help, Version}
 use Rattle.policy_args.specs.Words.{PolicyOptions}
 use Rattle.recording.specs.Recording.{Recording as RecordingValue}
-use Rattle.proxy_main.specs.Answers.{Answer, Untold, Refused, then_load, answer_to, Agrees, without, code_of, out_of, IsSettled, may_log, IsLog}
+use Rattle.proxy_main.specs.Answers.{Answer, Untold, Refused, then_load, answer_to, Agrees, without, HasCode, HasOut, IsWork, GivesOutTheSame, IsSettled, may_log, IsLog}
 
 -- ---- one file
 
@@ -52,6 +52,7 @@ abbrev pub IsExplain : Option Command → Type 0
 IsExplain None = ⊥
 IsExplain (Some (Replay policy recording)) = ⊥
 IsExplain (Some (Explain policy recording number)) = Unit {0}
+IsExplain (Some (Twin policy one other)) = ⊥
 IsExplain (Some (Sample n seed)) = ⊥
 IsExplain (Some Help) = ⊥
 IsExplain (Some Version) = ⊥
@@ -71,8 +72,8 @@ IsOfWords NoSuchMessage command = IsExplain command
 abbrev pub StopsBy : (List ℕ → Option (List ℕ)) → Option Command → Stop → Type 0
 StopsBy told command (Refuses refusal) = Agrees (answer_to told command) (Refused refusal) × IsOfWords refusal command
 StopsBy told command (File path) = answer_to (without path.now told) command ≡ Untold
-StopsBy told command Output = IsSettled (answer_to told command) → code_of (answer_to told command) ≡ 0
-StopsBy told command Log = (IsSettled (answer_to told command) → code_of (answer_to told command) ≡ 0) × (may_log told command ≡ true)
+StopsBy told command Output = IsSettled (answer_to told command) → IsWork (answer_to told command)
+StopsBy told command Log = (IsSettled (answer_to told command) → IsWork (answer_to told command)) × (may_log told command ≡ true)
 StopsBy told command Memory = Unit {0}
 
 -- the count of faults that rose
@@ -85,7 +86,7 @@ CausedBy files out err Memory = Unit {0}
 
 -- a front of the output was written
 abbrev pub IsFront : Answer → Option (List ℕ) → Option (List ℕ) → Type 0
-IsFront answer out new_out = IsSettled answer → Part out new_out (out_of answer)
+IsFront answer out new_out = IsSettled answer → (bytes : List ℕ) × HasOut answer bytes × Part out new_out bytes
 
 -- what out got before a run stopped: nothing, unless out itself failed
 abbrev pub Keeps : Answer → Option (List ℕ) → Option (List ℕ) → Stop → Type 0
@@ -96,8 +97,26 @@ Keeps answer out new_out Log = new_out ≡ out
 Keeps answer out new_out Memory = new_out ≡ out
 
 -- the whole output was written
-abbrev pub IsDone : Answer → Option (List ℕ) → Option (List ℕ) → Type 0
-IsDone answer out new_out = IsSettled answer → (code_of answer ≡ 0) × (new_out ≡ added (out_of answer) out)
+abbrev pub IsWritten : Answer → Option (List ℕ) → Option (List ℕ) → Type 0
+IsWritten answer out new_out = (bytes : List ℕ) × HasOut answer bytes × (new_out ≡ added bytes out)
+
+-- .. with this status of the answer
+abbrev pub IsDone : Answer → Option (List ℕ) → Option (List ℕ) → ℕ → Type 0
+IsDone answer out new_out code = IsSettled answer → HasCode answer code × IsWritten answer out new_out × (code ≡ 0 → GivesOutTheSame answer)
+
+-- the words ask for a comparison
+abbrev pub IsTwin : Option Command → Type 0
+IsTwin None = ⊥
+IsTwin (Some (Replay policy recording)) = ⊥
+IsTwin (Some (Explain policy recording number)) = ⊥
+IsTwin (Some (Twin policy one other)) = Unit {0}
+IsTwin (Some (Sample n seed)) = ⊥
+IsTwin (Some Help) = ⊥
+IsTwin (Some Version) = ⊥
+
+-- the status of work that is done: 0, or that of a difference where there is a comparison
+abbrev pub IsEnd : Option Command → ℕ → Type 0
+IsEnd command code = (code ≡ 0) ⊎ ((code ≡ 7) × IsTwin command)
 
 -- ---- the log
 

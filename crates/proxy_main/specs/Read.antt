@@ -5,12 +5,13 @@ use Rattle.std.specs.List.{list_all}
 use Rattle.policy_args.specs.ProxyLine.{digits_worth}
 use Rattle.proxy_main.specs.declared.words.CommandWords.{CommandWords}
 use Rattle.proxy_main.specs.declared.words.CommandWords.TheVariants as words
-use Rattle.proxy_main.specs.Words.{Command, Replay, Explain, Sample, Help, Version, most_draws}
+use Rattle.proxy_main.specs.Words.{Command, Replay, Explain, Twin, Sample, Help, Version, most_draws}
 
 -- the command that they name
 abbrev pub command_of : CommandWords → Command
 command_of (words.Replay policy recording) = Replay policy.now recording.now
 command_of (words.Explain policy recording number) = Explain policy.now recording.now number
+command_of (words.Twin policy one other) = Twin policy.now one.now other.now
 command_of (words.Sample n seed) = Sample n seed
 command_of words.Help = Help
 command_of words.Version = Version
@@ -19,6 +20,7 @@ command_of words.Version = Version
 abbrev pub HasFewDraws : CommandWords → Type 0
 HasFewDraws (words.Replay policy recording) = Unit {0}
 HasFewDraws (words.Explain policy recording number) = Unit {0}
+HasFewDraws (words.Twin policy one other) = Unit {0}
 HasFewDraws (words.Sample n seed) = n ≤ most_draws
 HasFewDraws words.Help = Unit {0}
 HasFewDraws words.Version = Unit {0}

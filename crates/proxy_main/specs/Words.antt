@@ -2,22 +2,25 @@
 --
 --     replay POLICY RECORDING       plays the recording of one file under the policy of another
 --     explain POLICY RECORDING N    tells what was decided there on the recording's message of number N, from 1, and by which entry
+--     twin POLICY A B               tells whether the recordings A and B are the same to the policy, or where they first differ
 --     sample N SEED                 plays a sample of N draws from a seed, and sums it up
 --     --help                        writes what the program can do
 --     --version                     writes its version
 --
--- The words of a tool are those that its command takes. POLICY and RECORDING are paths. Each number is decimal, in digits alone and with
+-- The words of a tool are those that its command takes. POLICY, RECORDING, A and B are paths. Each number is decimal, in digits alone and with
 -- no zero in front of others: the N of a sample is at most 100,000, and any other number is below 2^64. Words of any other form are
 -- none of a tool's.
 use Rattle.std.specs.Prelude.{ℕ, ◌-◌, ◌^◌, ◌||◌, nat_le, Bool, false, List, [], ◌∷◌, Option, Some, None, option_map, codes, bytes_eq, if◌then◌else◌}
 use Rattle.policy_args.specs.ProxyLine.{number_of}
-use Rattle.tool_words.specs.Tools.{taken, replay_places, explain_places, sample_places}
+use Rattle.tool_words.specs.Tools.{taken, replay_places, explain_places, twin_places, sample_places}
 
 pub data Command : Type 0 where
   -- the paths of the policy file and of the recording
   Replay : List ℕ → List ℕ → Command
   -- the same, and the number of a message
   Explain : List ℕ → List ℕ → ℕ → Command
+  -- the paths of the policy file and of both recordings
+  Twin : List ℕ → List ℕ → List ℕ → Command
   -- how many draws, and the seed
   Sample : ℕ → ℕ → Command
   -- what the program can do
@@ -51,6 +54,10 @@ abbrev pub explain_of : Option (List (List ℕ)) → Option Command
 explain_of (Some (policy ∷ recording ∷ number ∷ [])) = option_map (Explain policy recording) (number_within greatest number)
 explain_of taken = None
 
+abbrev pub twin_of : Option (List (List ℕ)) → Option Command
+twin_of (Some (policy ∷ one ∷ other ∷ [])) = Some (Twin policy one other)
+twin_of taken = None
+
 abbrev pub sample_by : Option ℕ → Option ℕ → Option Command
 sample_by None seed = None
 sample_by (Some n) None = None
@@ -75,8 +82,9 @@ abbrev pub named_by : List ℕ → List (List ℕ) → Option Command
 named_by tool words =
     if bytes_eq tool (codes "replay") then replay_of (taken (codes "replay") replay_places words)
     else (if bytes_eq tool (codes "explain") then explain_of (taken (codes "explain") explain_places words)
+    else (if bytes_eq tool (codes "twin") then twin_of (taken (codes "twin") twin_places words)
     else (if bytes_eq tool (codes "sample") then sample_of (taken (codes "sample") sample_places words)
-    else alone_of words))
+    else alone_of words)))
 
 -- the command that the words name, where they name one
 abbrev pub reading : List (List ℕ) → Option Command
@@ -85,7 +93,7 @@ reading (tool ∷ words) = named_by tool (tool ∷ words)
 
 -- a tool that is built
 abbrev pub is_tool_name : List ℕ → Bool
-is_tool_name word = bytes_eq word (codes "replay") || bytes_eq word (codes "explain") || bytes_eq word (codes "sample")
+is_tool_name word = bytes_eq word (codes "replay") || bytes_eq word (codes "explain") || bytes_eq word (codes "twin") || bytes_eq word (codes "sample")
 
 abbrev pub asks_alone : List (List ℕ) → Bool
 asks_alone (word ∷ []) = bytes_eq word (codes "--help") || bytes_eq word (codes "--version")

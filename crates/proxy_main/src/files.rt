@@ -1,13 +1,14 @@
 //! The files that the words name.
-ghost use Rattle.std.specs.Prelude.{◌≡◌, ◌≤◌, ◌<◌, ℕ, List, Ok, Err, IfOk, IfErr, IfSome, length};
+ghost use Rattle.std.specs.Prelude.{◌≡◌, ◌≤◌, ◌<◌, ℕ, List, Some, Ok, Err, IfOk, IfErr, IfSome, length};
 ghost use Rattle.link_traits.specs.Told.{Rose};
 ghost use Rattle.policy_args.specs.Gives.{Gives};
 ghost use Rattle.policy_args.specs.Seen.{options_seen};
 ghost use Rattle.policy_args.specs.Words.{PolicyOptions};
 ghost use Rattle.recording.specs.Recording.{Recording as RecordingValue, recording_of};
 ghost use Rattle.recording.specs.Seen.{recording_seen, size};
-ghost use Rattle.proxy_main.specs.Answers.{Answer, options_in, checked_policy, checked_recording, then_load, Agrees};
-ghost use Rattle.proxy_main.specs.Loads.{Loads, FilesStop, CausedBy};
+ghost use Rattle.proxy_main.specs.Words.{Twin};
+ghost use Rattle.proxy_main.specs.Answers.{Answer, Compared, options_in, checked_policy, checked_recording, then_load, answer_to, Agrees};
+ghost use Rattle.proxy_main.specs.Loads.{Loads, FilesStop, StopsBy, CausedBy};
 
 use crate::{POLICY_LIMIT, Refusal, Stop};
 use link_traits::{FileFault, Files, read_whole};
@@ -31,14 +32,49 @@ pub fn load<'a, F: Files>(
 ) -> Result<Loaded, Stop<'a>>
     ensures loaded { IfOk result (λ x. (work : PolicyOptions → RecordingValue → Answer) → Agrees (then_load (F.told files.old) policy.now recording.now work) (work (options_seen x.options) (recording_seen x.recording))) }
     ensures options { IfOk result (λ x. IfSome (F.told files.old policy.now) (λ bytes. checked_policy bytes ≡ Ok (options_seen x.options))) }
+    ensures recording { IfOk result (λ x. IfSome (F.told files.old recording.now) (λ bytes. checked_recording bytes ≡ Ok (recording_seen x.recording))) }
     ensures size { IfOk result (λ x. size (recording_seen x.recording).events ≤ RECORDING_LIMIT) }
     ensures stops { IfErr result (λ stop. FilesStop (F.told files.old) policy.now recording.now stop) }
     ensures cause { IfErr result (λ stop. CausedBy (Rose (F.faults files.old) (F.faults files.new)) ⊥ ⊥ stop) }
     ensures count { F.faults files.old ≤ F.faults files.new }
+    ensures kept { (p : List ℕ) → F.told files.new p ≡ F.told files.old p }
 {
     match load_policy(alloc, files, policy) {
         Ok(options) => match load_recording(alloc, files, recording) {
             Ok(recording) => Ok(Loaded { options, recording }),
+            Err(stop) => Err(stop),
+        },
+        Err(stop) => Err(stop),
+    }
+}
+
+/// What two recordings are compared under, and both of them.
+#[derive(Drop)]
+pub struct LoadedTwins {
+    pub options: Options,
+    pub one: Recording,
+    pub other: Recording,
+}
+
+/// Reads and checks the files of a comparison: the policy file, and then one recording after the other.
+pub fn load_twins<'a, F: Files>(
+    alloc: Global,
+    files: &mut F,
+    policy: &'a str,
+    one: &'a str,
+    other: &'a str,
+) -> Result<LoadedTwins, Stop<'a>>
+    ensures loaded { IfOk result (λ x. Agrees (answer_to (F.told files.old) (Some (Twin policy.now one.now other.now))) (Compared x.options.policy (recording_seen x.one) (recording_seen x.other))) }
+    ensures stops { IfErr result (λ stop. StopsBy (F.told files.old) (Some (Twin policy.now one.now other.now)) stop) }
+    ensures cause { IfErr result (λ stop. CausedBy (Rose (F.faults files.old) (F.faults files.new)) ⊥ ⊥ stop) }
+{
+    match load(alloc, files, policy, one) {
+        Ok(loaded) => match load_recording(alloc, files, other) {
+            Ok(other) => Ok(LoadedTwins {
+                options: loaded.options,
+                one: loaded.recording,
+                other,
+            }),
             Err(stop) => Err(stop),
         },
         Err(stop) => Err(stop),
@@ -86,6 +122,7 @@ fn load_recording<'a, F: Files>(
     ensures size { IfOk result (λ r. size (recording_seen r).events ≤ RECORDING_LIMIT) }
     ensures cause { IfErr result (λ stop. CausedBy (Rose (F.faults files.old) (F.faults files.new)) ⊥ ⊥ stop) }
     ensures count { F.faults files.old ≤ F.faults files.new }
+    ensures kept { (p : List ℕ) → F.told files.new p ≡ F.told files.old p }
 {
     match read_whole(alloc, files, path, RECORDING_LIMIT) {
         Ok(bytes) => match recording::read(alloc, &bytes) {

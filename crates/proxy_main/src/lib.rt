@@ -4,8 +4,9 @@
 //! between it and the bus at ADDRESS, by the block's options. The tools work on files. `replay POLICY RECORDING` plays a recorded session under a policy, and writes what its sides get
 //! on the standard output. Where the policy asks for a log, that is written first, on the standard
 //! error. `explain POLICY RECORDING N` plays it too, and writes what was decided on its message of
-//! number N, and the entry of the policy on which that rests. `sample N SEED` plays a generated
-//! session, and sums it up. `--help` and `--version` write what they say. A run ends with a status,
+//! number N, and the entry of the policy on which that rests. `twin POLICY A B` plays two, and writes
+//! whether they are the same to the policy, or where they first differ. `sample N SEED` plays a
+//! generated session, and sums it up. `--help` and `--version` write what they say. A run ends with a status,
 //! and with a line on the standard error where the status says that something is wrong.
 #![tactic(auto)]
 
@@ -73,9 +74,10 @@ pub(crate) enum Stop<'a> {
 /// The status of a run.
 ///
 /// 0: the whole log and the whole output were written, or nothing is left to be served. 1: the words
-/// are refused. 2: a word of the policy is refused. 3: the recording is refused. 4: a file was not read.
-/// 5: the net could not listen, or wait. 6: the output or the log of a tool was not written. 8: memory
-/// ran out. 9: the recording has no message of the number.
+/// are refused. 2: a word of the policy is refused. 3: a recording is refused. 4: a file was not read.
+/// 5: the net could not listen, or wait. 6: the output or the log of a tool was not written. 7: the parts
+/// differ that the policy leaves of two recordings. 8: memory ran out. 9: the recording has no message of
+/// the number.
 #[derive(Clone, Copy, Debug, PartialEq, Eq)]
 pub struct Status {
     /// The number that the process ends with.

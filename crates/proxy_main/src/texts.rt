@@ -9,6 +9,7 @@ Usage:
   zamtigarn ADDRESS PATH [OPTION]...    listens at PATH, and stands between each client that comes and the bus at ADDRESS
   zamtigarn replay POLICY RECORDING     plays a recording under a policy, and writes what each side gets
   zamtigarn explain POLICY RECORDING N  tells what was decided on its message of number N, and by which entry
+  zamtigarn twin POLICY A B             tells whether two recordings are the same to a policy, or where they first differ
   zamtigarn sample N SEED               plays a session of N draws from a seed, and sums it up
   zamtigarn --help                      writes this text
   zamtigarn --version                   writes the version
@@ -31,10 +32,11 @@ Status:
   0  the output was written, or nothing is left to be served
   1  the words are none of these
   2  the policy is refused
-  3  the recording is refused
+  3  a recording is refused
   4  a file could not be read
   5  the proxy could not listen, or wait
   6  the output or the log of a tool could not be written
+  7  the two recordings differ to the policy
   8  memory was refused
   9  the recording has no message of the number N
 ";

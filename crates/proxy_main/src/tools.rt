@@ -1,10 +1,10 @@
 //! The tools: what works on files.
 ghost use Rattle.std.specs.Prelude.{◌≡◌, ◌⊎◌, ◌↔◌, true, false, None, map, string_bytes, IfSome};
-ghost use Rattle.link_traits.specs.Told.{Rose, Part};
+ghost use Rattle.link_traits.specs.Told.{Rose};
 ghost use Rattle.proxy_main.specs.Words.{reading, names_tool};
-ghost use Rattle.proxy_main.specs.Answers.{answer_of, IsSettled, code_of, out_of, may_log};
-ghost use Rattle.proxy_main.specs.Loads.{IsDone, IsLogged};
-ghost use Rattle.proxy_main.specs.Endings.{Ends, ErrFront, Exactly, ExactlyOfFiles, IsFree};
+ghost use Rattle.proxy_main.specs.Answers.{answer_of, IsSettled, HasCode, may_log};
+ghost use Rattle.proxy_main.specs.Loads.{IsDone, IsFront, IsLogged, IsTwin};
+ghost use Rattle.proxy_main.specs.Endings.{Ends, ErrFront, Exactly, ExactlyOfFiles, ExactlyOfWork, IsFree};
 ghost use Rattle.proxy_main.specs.ToolRuns.{ToolRun};
 
 use crate::Status;
@@ -55,12 +55,18 @@ fn run_tool<F: Files, O: Sink, E: Sink>(
     // 1 comes exactly where the words name nothing.
     ensures usage { Exactly result.code 1 (reading (map (λ w. string_bytes w) words.now) ≡ None) }
 
-    // 2 comes exactly where the policy file is refused, and 3 exactly where the recording is.
-    ensures policy { IsSettled (answer_of (map (λ w. string_bytes w) words.now) (F.told files.old)) → ExactlyOfFiles result.code 2 (code_of (answer_of (map (λ w. string_bytes w) words.now) (F.told files.old)) ≡ 2) }
-    ensures recording { IsSettled (answer_of (map (λ w. string_bytes w) words.now) (F.told files.old)) → ExactlyOfFiles result.code 3 (code_of (answer_of (map (λ w. string_bytes w) words.now) (F.told files.old)) ≡ 3) }
+    // 2 comes exactly where the policy file is refused, and 3 exactly where a recording is.
+    ensures policy { IsSettled (answer_of (map (λ w. string_bytes w) words.now) (F.told files.old)) → ExactlyOfFiles result.code 2 (HasCode (answer_of (map (λ w. string_bytes w) words.now) (F.told files.old)) 2) }
+    ensures recording { IsSettled (answer_of (map (λ w. string_bytes w) words.now) (F.told files.old)) → ExactlyOfFiles result.code 3 (HasCode (answer_of (map (λ w. string_bytes w) words.now) (F.told files.old)) 3) }
 
     // 9 comes exactly where the recording has no message of the number.
-    ensures missing { IsSettled (answer_of (map (λ w. string_bytes w) words.now) (F.told files.old)) → ExactlyOfFiles result.code 9 (code_of (answer_of (map (λ w. string_bytes w) words.now) (F.told files.old)) ≡ 9) }
+    ensures missing { IsSettled (answer_of (map (λ w. string_bytes w) words.now) (F.told files.old)) → ExactlyOfFiles result.code 9 (HasCode (answer_of (map (λ w. string_bytes w) words.now) (F.told files.old)) 9) }
+
+    // 0 comes exactly where the answer is a whole output, and two recordings are the same to the
+    // policy. 7 comes exactly where they differ.
+    ensures whole { IsSettled (answer_of (map (λ w. string_bytes w) words.now) (F.told files.old)) → ExactlyOfWork result.code 0 (HasCode (answer_of (map (λ w. string_bytes w) words.now) (F.told files.old)) 0) }
+    ensures differ { IsSettled (answer_of (map (λ w. string_bytes w) words.now) (F.told files.old)) → ExactlyOfWork result.code 7 (HasCode (answer_of (map (λ w. string_bytes w) words.now) (F.told files.old)) 7) }
+    ensures compared { result.code ≡ 7 → IsTwin (reading (map (λ w. string_bytes w) words.now)) }
 
     // 4 comes only where the files failed, and 6 only where out did, or where err did and there may
     // be a log.
@@ -68,14 +74,16 @@ fn run_tool<F: Files, O: Sink, E: Sink>(
     ensures sink { result.code ≡ 6 → Rose (O.faults out.old) (O.faults out.new) ⊎ ((may_log (F.told files.old) (reading (map (λ w. string_bytes w) words.now)) ≡ true) × Rose (E.faults err.old) (E.faults err.new)) }
 
     // Unless a file, out, err or memory fails, the status is the answer's.
-    ensures complete { IsSettled (answer_of (map (λ w. string_bytes w) words.now) (F.told files.old)) → (result.code ≡ code_of (answer_of (map (λ w. string_bytes w) words.now) (F.told files.old))) ⊎ IsFree result.code }
+    ensures complete { IsSettled (answer_of (map (λ w. string_bytes w) words.now) (F.told files.old)) → HasCode (answer_of (map (λ w. string_bytes w) words.now) (F.told files.old)) result.code ⊎ IsFree result.code }
 
-    // With 0 out got the whole output, and err got the whole log and nothing else.
-    ensures done { result.code ≡ 0 → IsDone (answer_of (map (λ w. string_bytes w) words.now) (F.told files.old)) (O.told out.old) (O.told out.new) × IsLogged (F.told files.old) (reading (map (λ w. string_bytes w) words.now)) (E.told err.old) (E.told err.new) }
+    // With 0 and 7 out got the whole output, and err got the whole log and nothing else. With 0, two
+    // recordings that were compared give out the same bytes.
+    ensures done { (result.code ≡ 0) ⊎ (result.code ≡ 7) → IsDone (answer_of (map (λ w. string_bytes w) words.now) (F.told files.old)) (O.told out.old) (O.told out.new) result.code × IsLogged (F.told files.old) (reading (map (λ w. string_bytes w) words.now)) (E.told err.old) (E.told err.new) }
 
-    // In any case out got a front of the output, and nothing with another status than 0 and 6.
-    ensures front { IsSettled (answer_of (map (λ w. string_bytes w) words.now) (F.told files.old)) → Part (O.told out.old) (O.told out.new) (out_of (answer_of (map (λ w. string_bytes w) words.now) (F.told files.old))) }
-    ensures nothing { (result.code ≡ 0) ⊎ ((result.code ≡ 6) ⊎ (O.told out.new ≡ O.told out.old)) }
+    // In any case out got nothing or a front of the output, and nothing with another status than 0,
+    // 6 and 7.
+    ensures front { (O.told out.new ≡ O.told out.old) ⊎ IsFront (answer_of (map (λ w. string_bytes w) words.now) (F.told files.old)) (O.told out.old) (O.told out.new) }
+    ensures nothing { (result.code ≡ 0) ⊎ ((result.code ≡ 6) ⊎ ((result.code ≡ 7) ⊎ (O.told out.new ≡ O.told out.old))) }
 
     // The log is first: out got nothing unless err has the whole log and nothing else.
     ensures first { (O.told out.new ≡ O.told out.old) ⊎ IsLogged (F.told files.old) (reading (map (λ w. string_bytes w) words.now)) (E.told err.old) (E.told err.new) }
@@ -96,8 +104,8 @@ fn run_to_end<F: Files, O: Sink, E: Sink>(
 ) -> Status
     ensures { Ends (F.told files.old) (reading (map (λ w. string_bytes w) words.now)) (Rose (F.faults files.old) (F.faults files.new)) (Rose (O.faults out.old) (O.faults out.new)) (Rose (E.faults err.old) (E.faults err.new)) (O.told out.old) (O.told out.new) (E.told err.old) (E.told err.new) result.code }
 {
-    if let Err(stop) = work(alloc, words, files, out, err) {
-        return tell(alloc, stop, err);
+    match work(alloc, words, files, out, err) {
+        Ok(status) => status,
+        Err(stop) => tell(alloc, stop, err),
     }
-    Status { code: 0 }
 }

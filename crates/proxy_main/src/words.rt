@@ -1,14 +1,15 @@
 //! The words of the command line.
 ghost use Rattle.std.specs.Prelude.{◌≡◌, ◌≤◌, [], ◌∷◌, map, option_map, string_bytes, codes, IfOk, IfSome};
 ghost use Rattle.policy_args.specs.ProxyLine.{has_leading_zero as begins_with_zero};
-ghost use Rattle.tool_words.specs.Tools.{taken, replay_places, explain_places, sample_places};
-ghost use Rattle.proxy_main.specs.Words.{is_tool_name as is_name, asks_alone as asks_for_text, names_tool, reading, named_by, alone_of, text_of, replay_of, explain_of, sample_of, number_within};
+ghost use Rattle.tool_words.specs.Tools.{taken, replay_places, explain_places, twin_places, sample_places};
+ghost use Rattle.proxy_main.specs.Words.{is_tool_name as is_name, asks_alone as asks_for_text, names_tool, reading, named_by, alone_of, text_of, replay_of, explain_of, twin_of, sample_of, number_within};
 ghost use Rattle.proxy_main.specs.Read.{command_of, HasFewDraws, worth_within};
 
 use sample::MOST_DRAWS;
 use std::alloc::{AllocError, Global};
 use tool_words::{
-    ExplainWords, ReplayWords, SampleWords, explain_words, replay_words, sample_words,
+    ExplainWords, ReplayWords, SampleWords, TwinWords, explain_words, replay_words, sample_words,
+    twin_words,
 };
 
 /// The words of a command.
@@ -24,6 +25,12 @@ pub enum CommandWords<'a> {
         policy: &'a str,
         recording: &'a str,
         number: u64,
+    },
+    /// The paths of a policy file and of two recordings.
+    Twin {
+        policy: &'a str,
+        one: &'a str,
+        other: &'a str,
     },
     /// How many draws a sample has, and its seed.
     Sample {
@@ -50,7 +57,7 @@ pub fn is_tool(words: &[String]) -> bool
 fn is_tool_name(word: &str) -> bool
     ensures { result ≡ is_name word.now }
 {
-    word == "replay" || word == "explain" || word == "sample"
+    word == "replay" || word == "explain" || word == "twin" || word == "sample"
 }
 
 /// Whether the only word asks for a text.
@@ -89,6 +96,9 @@ fn read_tool<'a>(
     if tool == "explain" {
         return Ok(read_explain(explain_words(alloc, words)?));
     }
+    if tool == "twin" {
+        return Ok(read_twin(twin_words(alloc, words)?));
+    }
     if tool == "sample" {
         return Ok(read_sample(sample_words(alloc, words)?));
     }
@@ -117,6 +127,19 @@ fn read_explain<'a>(words: Option<ExplainWords<'a>>) -> Option<CommandWords<'a>>
         policy: words.policy,
         recording: words.recording,
         number: read_number(words.number, u64::MAX)?,
+    })
+}
+
+/// The reading of the words of `twin`.
+fn read_twin<'a>(words: Option<TwinWords<'a>>) -> Option<CommandWords<'a>>
+    ensures words { option_map command_of result ≡ twin_of (option_map (λ w. w.policy.now ∷ w.one.now ∷ w.other.now ∷ []) words.entry) }
+    ensures few { IfSome result HasFewDraws }
+{
+    let words = words?;
+    Some(CommandWords::Twin {
+        policy: words.policy,
+        one: words.one,
+        other: words.other,
     })
 }
 

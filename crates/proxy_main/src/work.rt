@@ -1,17 +1,20 @@
 //! The work that the words ask for.
-ghost use Rattle.std.specs.Prelude.{◌≡◌, ◌≤◌, ℕ, [], List, Option, Some, map, string_bytes, IfErr, IfOk, OnOk};
-ghost use Rattle.link_traits.specs.Told.{Rose};
-ghost use Rattle.proxy_main.specs.Words.{Command, reading, Replay, Explain, Sample};
+ghost use Rattle.std.specs.Prelude.{◌≡◌, ◌≤◌, ◌⊎◌, ℕ, [], List, Option, Some, map, string_bytes, IfErr, IfOk, OnOk};
+ghost use Rattle.link_traits.specs.Told.{Rose, added};
+ghost use Rattle.recording.specs.Seen.{recording_seen};
+ghost use Rattle.proxy_main.specs.Words.{Command, reading, Replay, Explain, Twin, Sample};
 ghost use Rattle.proxy_main.specs.Read.{command_of, HasFewDraws};
-ghost use Rattle.proxy_main.specs.Answers.{Wrote, answer_of, answer_to, code_of, sampled, version_line};
-ghost use Rattle.proxy_main.specs.Loads.{StopsBy, CausedBy, Keeps, KeepsLog, IsDone, IsLogged};
+ghost use Rattle.proxy_main.specs.Answers.{Wrote, Compared, answer_of, answer_to, IsSettled, IsWork, sampled, twin_code, twin_line, version_line};
+ghost use Rattle.proxy_main.specs.Loads.{StopsBy, CausedBy, Keeps, KeepsLog, IsDone, IsEnd, IsLogged};
 
-use crate::files::load;
+use crate::files::{load, load_twins};
 use crate::texts::{HELP, VERSION};
 use crate::words::{CommandWords, read_words};
-use crate::{Refusal, Stop};
+use crate::{Refusal, Status, Stop};
 use link_traits::{Files, Sink, write_all};
-use replay::{ExplainFault, ReplayFault, explain, replay};
+use policy_args::Policy;
+use recording::Recording;
+use replay::{ExplainFault, ReplayFault, TwinAnswer, explain, replay, twin};
 use sample::{MOST_DRAWS, SampleFault, summary};
 use std::alloc::{AllocError, Global};
 
@@ -22,8 +25,9 @@ pub fn work<'a, F: Files, O: Sink, E: Sink>(
     files: &mut F,
     out: &mut O,
     err: &mut E,
-) -> Result<(), Stop<'a>>
-    ensures done { OnOk result (IsDone (answer_of (map (λ w. string_bytes w) words.now) (F.told files.old)) (O.told out.old) (O.told out.new)) }
+) -> Result<Status, Stop<'a>>
+    ensures done { IfOk result (λ status. IsDone (answer_of (map (λ w. string_bytes w) words.now) (F.told files.old)) (O.told out.old) (O.told out.new) status.code) }
+    ensures end { IfOk result (λ status. IsEnd (reading (map (λ w. string_bytes w) words.now)) status.code) }
     ensures logged { OnOk result (IsLogged (F.told files.old) (reading (map (λ w. string_bytes w) words.now)) (E.told err.old) (E.told err.new)) }
     ensures stops { IfErr result (λ stop. StopsBy (F.told files.old) (reading (map (λ w. string_bytes w) words.now)) stop) }
     ensures cause { IfErr result (λ stop. CausedBy (Rose (F.faults files.old) (F.faults files.new)) (Rose (O.faults out.old) (O.faults out.new)) (Rose (E.faults err.old) (E.faults err.new)) stop) }
@@ -45,9 +49,10 @@ fn work_command<'a, F: Files, O: Sink, E: Sink>(
     files: &mut F,
     out: &mut O,
     err: &mut E,
-) -> Result<(), Stop<'a>>
+) -> Result<Status, Stop<'a>>
     requires { HasFewDraws command }
-    ensures done { OnOk result (IsDone (answer_to (F.told files.old) (Some (command_of command.entry))) (O.told out.old) (O.told out.new)) }
+    ensures done { IfOk result (λ status. IsDone (answer_to (F.told files.old) (Some (command_of command.entry))) (O.told out.old) (O.told out.new) status.code) }
+    ensures end { IfOk result (λ status. IsEnd (Some (command_of command.entry)) status.code) }
     ensures logged { OnOk result (IsLogged (F.told files.old) (Some (command_of command.entry)) (E.told err.old) (E.told err.new)) }
     ensures stops { IfErr result (λ stop. StopsBy (F.told files.old) (Some (command_of command.entry)) stop) }
     ensures cause { IfErr result (λ stop. CausedBy (Rose (F.faults files.old) (F.faults files.new)) (Rose (O.faults out.old) (O.faults out.new)) (Rose (E.faults err.old) (E.faults err.new)) stop) }
@@ -64,6 +69,9 @@ fn work_command<'a, F: Files, O: Sink, E: Sink>(
             recording,
             number,
         } => work_explain(alloc, policy, recording, number, files, out),
+        CommandWords::Twin { policy, one, other } => {
+            work_twin(alloc, policy, one, other, files, out)
+        }
         CommandWords::Sample { draws, seed } => work_sample(alloc, draws, seed, out),
         CommandWords::Help => work_text(HELP, out),
         CommandWords::Version => work_version(alloc, out),
@@ -78,8 +86,9 @@ fn work_replay<'a, F: Files, O: Sink, E: Sink>(
     files: &mut F,
     out: &mut O,
     err: &mut E,
-) -> Result<(), Stop<'a>>
-    ensures done { OnOk result (IsDone (answer_to (F.told files.old) (Some (Replay policy.now recording.now))) (O.told out.old) (O.told out.new)) }
+) -> Result<Status, Stop<'a>>
+    ensures done { IfOk result (λ status. IsDone (answer_to (F.told files.old) (Some (Replay policy.now recording.now))) (O.told out.old) (O.told out.new) status.code) }
+    ensures end { IfOk result (λ status. status.code ≡ 0) }
     ensures logged { OnOk result (IsLogged (F.told files.old) (Some (Replay policy.now recording.now)) (E.told err.old) (E.told err.new)) }
     ensures stops { IfErr result (λ stop. StopsBy (F.told files.old) (Some (Replay policy.now recording.now)) stop) }
     ensures cause { IfErr result (λ stop. CausedBy (Rose (F.faults files.old) (F.faults files.new)) (Rose (O.faults out.old) (O.faults out.new)) (Rose (E.faults err.old) (E.faults err.new)) stop) }
@@ -89,7 +98,7 @@ fn work_replay<'a, F: Files, O: Sink, E: Sink>(
 {
     match load(alloc, files, policy, recording) {
         Ok(loaded) => match replay(alloc, &loaded.options, &loaded.recording, out, err) {
-            Ok(()) => Ok(()),
+            Ok(()) => Ok(Status { code: 0 }),
             Err(ReplayFault::Out) => Err(Stop::Output),
             Err(ReplayFault::Err) => Err(Stop::Log),
             Err(ReplayFault::Memory) => Err(Stop::Memory),
@@ -106,20 +115,103 @@ fn work_explain<'a, F: Files, O: Sink>(
     number: u64,
     files: &mut F,
     out: &mut O,
-) -> Result<(), Stop<'a>>
-    ensures done { OnOk result (IsDone (answer_to (F.told files.old) (Some (Explain policy.now recording.now number))) (O.told out.old) (O.told out.new)) }
+) -> Result<Status, Stop<'a>>
+    ensures done { IfOk result (λ status. IsDone (answer_to (F.told files.old) (Some (Explain policy.now recording.now number))) (O.told out.old) (O.told out.new) status.code) }
+    ensures end { IfOk result (λ status. status.code ≡ 0) }
     ensures stops { IfErr result (λ stop. StopsBy (F.told files.old) (Some (Explain policy.now recording.now number)) stop) }
     ensures cause { IfErr result (λ stop. CausedBy (Rose (F.faults files.old) (F.faults files.new)) (Rose (O.faults out.old) (O.faults out.new)) ⊥ stop) }
     ensures keeps { IfErr result (λ stop. Keeps (answer_to (F.told files.old) (Some (Explain policy.now recording.now number))) (O.told out.old) (O.told out.new) stop) }
 {
     match load(alloc, files, policy, recording) {
         Ok(loaded) => match explain(alloc, &loaded.options, &loaded.recording, number, out) {
-            Ok(()) => Ok(()),
+            Ok(()) => Ok(Status { code: 0 }),
             Err(ExplainFault::NoSuchMessage) => Err(Stop::Refused(Refusal::NoSuchMessage)),
             Err(ExplainFault::Out) => Err(Stop::Output),
             Err(ExplainFault::Memory) => Err(Stop::Memory),
         },
         Err(stop) => Err(stop),
+    }
+}
+
+/// Reads the files of two recordings and compares them. It has no log.
+fn work_twin<'a, F: Files, O: Sink>(
+    alloc: Global,
+    policy: &'a str,
+    one: &'a str,
+    other: &'a str,
+    files: &mut F,
+    out: &mut O,
+) -> Result<Status, Stop<'a>>
+    ensures done { IfOk result (λ status. IsDone (answer_to (F.told files.old) (Some (Twin policy.now one.now other.now))) (O.told out.old) (O.told out.new) status.code) }
+    ensures end { IfOk result (λ status. (status.code ≡ 0) ⊎ (status.code ≡ 7)) }
+    ensures stops { IfErr result (λ stop. StopsBy (F.told files.old) (Some (Twin policy.now one.now other.now)) stop) }
+    ensures cause { IfErr result (λ stop. CausedBy (Rose (F.faults files.old) (F.faults files.new)) (Rose (O.faults out.old) (O.faults out.new)) ⊥ stop) }
+    ensures keeps { IfErr result (λ stop. Keeps (answer_to (F.told files.old) (Some (Twin policy.now one.now other.now))) (O.told out.old) (O.told out.new) stop) }
+{
+    match load_twins(alloc, files, policy, one, other) {
+        Ok(twins) => compare(alloc, &twins.options.policy, &twins.one, &twins.other, out),
+        Err(stop) => Err(stop),
+    }
+}
+
+/// Compares two recordings, and writes how they compare.
+fn compare<'a, O: Sink>(
+    alloc: Global,
+    policy: &Policy,
+    one: &Recording,
+    other: &Recording,
+    out: &mut O,
+) -> Result<Status, Stop<'a>>
+    ensures done { IfOk result (λ status. IsDone (Compared policy.now (recording_seen one.now) (recording_seen other.now)) (O.told out.old) (O.told out.new) status.code) }
+    ensures end { IfOk result (λ status. (status.code ≡ 0) ⊎ (status.code ≡ 7)) }
+    ensures stops { IfErr result (λ stop. (told : List ℕ → Option (List ℕ)) (command : Option Command) → (IsSettled (answer_to told command) → IsWork (answer_to told command)) → StopsBy told command stop) }
+    ensures cause { IfErr result (λ stop. CausedBy ⊥ (Rose (O.faults out.old) (O.faults out.new)) ⊥ stop) }
+    ensures keeps { IfErr result (λ stop. Keeps (Compared policy.now (recording_seen one.now) (recording_seen other.now)) (O.told out.old) (O.told out.new) stop) }
+{
+    match twin(alloc, policy, one, other) {
+        Ok(answer) => write_answer(alloc, answer, out),
+        Err(_) => Err(Stop::Memory),
+    }
+}
+
+/// Writes how two recordings compare.
+fn write_answer<'a, O: Sink>(
+    alloc: Global,
+    answer: TwinAnswer,
+    out: &mut O,
+) -> Result<Status, Stop<'a>>
+    ensures code { IfOk result (λ status. status.code ≡ twin_code answer) }
+    ensures line { OnOk result (O.told out.new ≡ added (twin_line answer) (O.told out.old)) }
+    ensures stops { IfErr result (λ stop. (told : List ℕ → Option (List ℕ)) (command : Option Command) → (IsSettled (answer_to told command) → IsWork (answer_to told command)) → StopsBy told command stop) }
+    ensures cause { IfErr result (λ stop. CausedBy ⊥ (Rose (O.faults out.old) (O.faults out.new)) ⊥ stop) }
+    ensures keeps { IfErr result (λ stop. Keeps (Wrote (twin_line answer) []) (O.told out.old) (O.told out.new) stop) }
+{
+    match twin_text(alloc, answer) {
+        Ok(text) => match write_all(out, text.as_bytes()) {
+            Ok(()) => Ok(twin_status(answer)),
+            Err(_) => Err(Stop::Output),
+        },
+        Err(_) => Err(Stop::Memory),
+    }
+}
+
+/// The line of a comparison.
+fn twin_text(alloc: Global, answer: TwinAnswer) -> Result<String, AllocError>
+    ensures { IfOk result (λ text. string_bytes text ≡ twin_line answer) }
+{
+    match answer {
+        TwinAnswer::Same => String::from_str(alloc, "same\n"),
+        TwinAnswer::Differ(place) => format!(in alloc; "differ {place}\n"),
+    }
+}
+
+/// The status of a comparison.
+fn twin_status(answer: TwinAnswer) -> Status
+    ensures { result.code ≡ twin_code answer }
+{
+    match answer {
+        TwinAnswer::Same => Status { code: 0 },
+        TwinAnswer::Differ(_) => Status { code: 7 },
     }
 }
 
@@ -129,24 +221,26 @@ fn work_sample<'a, O: Sink>(
     draws: u32,
     seed: u64,
     out: &mut O,
-) -> Result<(), Stop<'a>>
+) -> Result<Status, Stop<'a>>
     requires { draws ≤ MOST_DRAWS }
-    ensures done { OnOk result (IsDone (sampled draws seed) (O.told out.old) (O.told out.new)) }
+    ensures done { IfOk result (λ status. IsDone (sampled draws seed) (O.told out.old) (O.told out.new) status.code) }
+    ensures end { IfOk result (λ status. status.code ≡ 0) }
     ensures stops { IfErr result (λ stop. (told : List ℕ → Option (List ℕ)) → StopsBy told (Some (Sample draws seed)) stop) }
     ensures cause { IfErr result (λ stop. CausedBy ⊥ (Rose (O.faults out.old) (O.faults out.new)) ⊥ stop) }
     ensures keeps { IfErr result (λ stop. Keeps (sampled draws seed) (O.told out.old) (O.told out.new) stop) }
 {
     match summary(alloc, draws, seed, out) {
-        Ok(()) => Ok(()),
+        Ok(()) => Ok(Status { code: 0 }),
         Err(SampleFault::Out) => Err(Stop::Output),
         Err(SampleFault::Memory) => Err(Stop::Memory),
     }
 }
 
 /// Writes the version.
-fn work_version<'a, O: Sink>(alloc: Global, out: &mut O) -> Result<(), Stop<'a>>
-    ensures done { OnOk result (IsDone (Wrote version_line []) (O.told out.old) (O.told out.new)) }
-    ensures stops { IfErr result (λ stop. (told : List ℕ → Option (List ℕ)) (command : Option Command) → code_of (answer_to told command) ≡ 0 → StopsBy told command stop) }
+fn work_version<'a, O: Sink>(alloc: Global, out: &mut O) -> Result<Status, Stop<'a>>
+    ensures done { IfOk result (λ status. IsDone (Wrote version_line []) (O.told out.old) (O.told out.new) status.code) }
+    ensures end { IfOk result (λ status. status.code ≡ 0) }
+    ensures stops { IfErr result (λ stop. (told : List ℕ → Option (List ℕ)) (command : Option Command) → IsWork (answer_to told command) → StopsBy told command stop) }
     ensures cause { IfErr result (λ stop. CausedBy ⊥ (Rose (O.faults out.old) (O.faults out.new)) ⊥ stop) }
     ensures keeps { IfErr result (λ stop. Keeps (Wrote version_line []) (O.told out.old) (O.told out.new) stop) }
 {
@@ -164,14 +258,15 @@ fn version_text(alloc: Global) -> Result<String, AllocError>
 }
 
 /// Writes a text. There is no log.
-fn work_text<'a, O: Sink>(text: &str, out: &mut O) -> Result<(), Stop<'a>>
-    ensures done { OnOk result (IsDone (Wrote text.now []) (O.told out.old) (O.told out.new)) }
-    ensures stops { IfErr result (λ stop. (told : List ℕ → Option (List ℕ)) (command : Option Command) → code_of (answer_to told command) ≡ 0 → StopsBy told command stop) }
+fn work_text<'a, O: Sink>(text: &str, out: &mut O) -> Result<Status, Stop<'a>>
+    ensures done { IfOk result (λ status. IsDone (Wrote text.now []) (O.told out.old) (O.told out.new) status.code) }
+    ensures end { IfOk result (λ status. status.code ≡ 0) }
+    ensures stops { IfErr result (λ stop. (told : List ℕ → Option (List ℕ)) (command : Option Command) → IsWork (answer_to told command) → StopsBy told command stop) }
     ensures cause { IfErr result (λ stop. CausedBy ⊥ (Rose (O.faults out.old) (O.faults out.new)) ⊥ stop) }
     ensures keeps { IfErr result (λ stop. Keeps (Wrote text.now []) (O.told out.old) (O.told out.new) stop) }
 {
     match write_all(out, text.as_bytes()) {
-        Ok(()) => Ok(()),
+        Ok(()) => Ok(Status { code: 0 }),
         Err(_) => Err(Stop::Output),
     }
 }

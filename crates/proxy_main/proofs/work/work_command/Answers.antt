@@ -1,15 +1,25 @@
-use Rattle.std.proofs.Common.{Some, OnOk, ap, refl, subst, sym}
+use Rattle.std.proofs.Common.{Some, IfOk, ap, refl, subst, sym}
 use Rattle.proxy_main.specs.Answers.{Answer, answer_to, may_log}
 use Rattle.proxy_main.specs.Loads.{IsDone}
 use Rattle.proxy_main.specs.Read.{command_of}
 use Rattle.proxy_main.specs.declared.words.CommandWords.{CommandWords}
-use Rattle.proxy_main.proofs.Logs.{quiet_stop}
+use Rattle.proxy_main.proofs.Logs.{quiet_done, quiet_stop}
 use Rattle.proxy_main.proofs.work.work_command.Goals as goal
 
 pub returns-in-Explain-clause-log : goal.returns-in-Explain-clause-log
 returns-in-Explain-clause-log g c =
     let unasked = ap (λ (w : CommandWords). may_log (g.F.Files.told c.args.files.now) (Some (command_of w))) c.in-Explain.is in
     quiet_stop c.work_explain.result (g.F.Files.told c.args.files.now) _ _ _ _ _ unasked c.work_explain.ensures.cause refl
+
+pub returns-in-Twin-clause-logged : goal.returns-in-Twin-clause-logged
+returns-in-Twin-clause-logged g c =
+    let unasked = ap (λ (w : CommandWords). may_log (g.F.Files.told c.args.files.now) (Some (command_of w))) c.in-Twin.is in
+    quiet_done c.work_twin.result (g.F.Files.told c.args.files.now) _ _ unasked
+
+pub returns-in-Twin-clause-log : goal.returns-in-Twin-clause-log
+returns-in-Twin-clause-log g c =
+    let unasked = ap (λ (w : CommandWords). may_log (g.F.Files.told c.args.files.now) (Some (command_of w))) c.in-Twin.is in
+    quiet_stop c.work_twin.result (g.F.Files.told c.args.files.now) _ _ _ _ _ unasked c.work_twin.ensures.cause refl
 
 pub returns-in-Sample-clause-log : goal.returns-in-Sample-clause-log
 returns-in-Sample-clause-log g c =
@@ -19,7 +29,7 @@ returns-in-Sample-clause-log g c =
 pub returns-in-Help-clause-done : goal.returns-in-Help-clause-done
 returns-in-Help-clause-done g c =
     let answer = ap (λ (w : CommandWords). answer_to (g.F.Files.told c.args.files.now) (Some (command_of w))) c.in-Help.is in
-    subst (λ (a : Answer). OnOk c.work_text.result (IsDone a (g.O.Sink.told c.args.out.now) (g.O.Sink.told c.work_text.new.out))) (sym answer) c.work_text.ensures.done
+    subst (λ (a : Answer). IfOk c.work_text.result (λ status. IsDone a (g.O.Sink.told c.args.out.now) (g.O.Sink.told c.work_text.new.out) status.code)) (sym answer) c.work_text.ensures.done
 
 pub returns-in-Help-clause-log : goal.returns-in-Help-clause-log
 returns-in-Help-clause-log g c =

@@ -3,7 +3,7 @@ use Rattle.policy_args.specs.Seen.{options_seen}
 use Rattle.recording.specs.Seen.{recording_seen}
 use Rattle.proxy_main.specs.Words.{Replay}
 use Rattle.proxy_main.specs.Answers.{answer_to, replayed}
-use Rattle.proxy_main.proofs.Endings.{done_of, front_of, zero_of}
+use Rattle.proxy_main.proofs.Endings.{done_of, front_of, work_of}
 use Rattle.proxy_main.proofs.Logs.{log_early, logged_of, log_front_of, may_log_played}
 use Rattle.proxy_main.proofs.work.work_replay.Goals as goal
 
@@ -19,7 +19,7 @@ returns-in-Ok-replay-clause-logged g c =
 
 pub returns-in-Err-Out-clause-stops : goal.returns-in-Err-Out-clause-stops
 returns-in-Err-Out-clause-stops g c =
-    zero_of (answer_to (g.F.Files.told c.args.files.now) (Some (Replay c.args.policy.now c.args.recording.now)))
+    work_of (answer_to (g.F.Files.told c.args.files.now) (Some (Replay c.args.policy.now c.args.recording.now)))
     (options_seen c.in-Ok.loaded.options) (recording_seen c.in-Ok.loaded.recording) (c.in-Ok.ensures.loaded replayed)
 
 pub returns-in-Err-Out-clause-keeps : goal.returns-in-Err-Out-clause-keeps
@@ -34,7 +34,7 @@ returns-in-Err-Out-clause-log g c =
 
 pub returns-in-Err-Err-clause-stops : goal.returns-in-Err-Err-clause-stops
 returns-in-Err-Err-clause-stops g c = (
-  zero_of (answer_to (g.F.Files.told c.args.files.now) (Some (Replay c.args.policy.now c.args.recording.now)))
+  work_of (answer_to (g.F.Files.told c.args.files.now) (Some (Replay c.args.policy.now c.args.recording.now)))
       (options_seen c.in-Ok.loaded.options) (recording_seen c.in-Ok.loaded.recording) (c.in-Ok.ensures.loaded replayed),
   may_log_played (g.F.Files.told c.args.files.now) c.args.policy.now c.args.recording.now (options_seen c.in-Ok.loaded.options) c.in-Ok.ensures.options (c.in-Err-Err.ensures.asked (ap Err c.in-Err-Err.field-0-is)),
 )

@@ -1,0 +1,20 @@
+use Rattle.std.proofs.Common.{◌≡◌, ◌⊎◌, inl, inr, Result, Err, IsErrOf}
+use Rattle.policy_args.specs.Seen.{options_seen}
+use Rattle.recording.specs.Seen.{recording_seen}
+use Rattle.replay.specs.Explained.{explained}
+use Rattle.replay.specs.declared.ExplainFault.{ExplainFault}
+use Rattle.replay.specs.declared.ExplainFault.TheVariants.{NoSuchMessage, Out, Memory}
+use Rattle.proxy_main.specs.Answers.{explained_at}
+use Rattle.proxy_main.proofs.Endings.{explaining_front, front_as}
+use Rattle.proxy_main.proofs.work.work_explain.Goals as goal
+
+-- one fault is no other
+no_other : (fault : ExplainFault) (r : Result (Unit {0}) ExplainFault) → r ≡ Err fault → fault ≡ Out → IsErrOf r NoSuchMessage ⊎ IsErrOf r Memory → ⊥
+no_other fault r is out (inl other) = cc
+no_other fault r is out (inr other) = cc
+
+pub returns-in-Err-Out-clause-keeps : goal.returns-in-Err-Out-clause-keeps
+returns-in-Err-Out-clause-keeps g c =
+    front_as _ (explained_at c.args.number (options_seen c.in-Ok.loaded.options) (recording_seen c.in-Ok.loaded.recording)) _ _ (c.in-Ok.ensures.loaded (explained_at c.args.number))
+    (explaining_front (explained (options_seen c.in-Ok.loaded.options) (recording_seen c.in-Ok.loaded.recording) c.args.number) _ _ c.explain.ensures.part
+    (λ none. no_other c.in-Err-Out.field-0 c.explain.result c.in-Err-Out.is c.in-Err-Out.field-0-is (c.explain.ensures.none none)))
