@@ -68,7 +68,11 @@ fn told(alloc: Global, ended: &Ended) -> Result<String, AllocError> {
 fn told_files<R: Threads + Sync>(rt: &R, alloc: Global, files: &str) -> Result<String, AllocError> {
     let (policy, recordings) = files.split_once(' ').unwrap_or((files, ""));
     let (one, other) = recordings.split_once(' ').unwrap_or((recordings, ""));
-    let (policy, one, other) = (plain(alloc, policy)?, plain(alloc, one)?, plain(alloc, other)?);
+    let (policy, one, other) = (
+        plain(alloc, policy)?,
+        plain(alloc, one)?,
+        plain(alloc, other)?,
+    );
     told(alloc, &compared(rt, alloc, &policy, &one, &other, 100)?)
 }
 
