@@ -75,11 +75,11 @@ module _ (bytes : List ℕ) where
   partial_cases (inl lt) (Some x) e = let f = front_parts bytes x.0 x.1 e in absurd (omega (arith, lt, f.long))
   partial_cases (inr lt) (Some x) e = let f = front_parts bytes x.0 x.1 e in let less : length bytes < whole_len bytes = lt.1 in absurd (omega (arith, less, f.stands))
 
-  pub partial-front : IsPartial bytes → front bytes ≡ None
+  partial-front : IsPartial bytes → front bytes ≡ None
   partial-front p = partial_cases p (front bytes) refl
 
   -- and there is no fault yet
-  pub partial-fault : IsPartial bytes → fault bytes ≡ None
+  partial-fault : IsPartial bytes → fault bytes ≡ None
   unfolding fault
   partial-fault (inl lt) =
       ap (λ (b : Bool). cond b None (cond (is_some (head_fault bytes)) (head_fault bytes) (cond (nat_lt (length bytes) (whole_len bytes)) None (fault_in (whole (take (whole_len bytes) bytes)))))) (lt-ltb (length bytes) 16 lt)
@@ -88,11 +88,8 @@ module _ (bytes : List ℕ) where
       ∙ ap (λ (b : Bool). cond (nat_lt (length bytes) 16) None (cond b None (fault_in (whole (take (whole_len bytes) bytes))))) (lt-ltb (length bytes) (whole_len bytes) lt.1)
       ∙ none_both (nat_lt (length bytes) 16)
 
-abbrev pub AtRest : List ℕ → List ℕ → Type 0
-AtRest old new = IsPartial old × (front old ≡ None) × (fault old ≡ None) × (new ≡ old)
-
-pub at_rest : (bytes : List ℕ) → IsPartial bytes → AtRest bytes bytes
-at_rest bytes p = (p, partial-front bytes p, partial-fault bytes p, refl)
+pub at_rest : (bytes : List ℕ) → IsPartial bytes → IsPartial bytes × (front bytes ≡ None) × (fault bytes ≡ None)
+at_rest bytes p = (p, partial-front bytes p, partial-fault bytes p)
 
 pub too_short : (bytes : List ℕ) (len : ℕ) → Head bytes len → length bytes < len → IsPartial bytes
 too_short bytes len head lt = inr (head.good, subst (λ (n : ℕ). length bytes < n) (sym head.states) lt)

@@ -6,10 +6,19 @@ use Rattle.dbus_header.specs.Malformed.{front, fault, head_fault, whole_len}
 use Rattle.dbus_header.specs.Stream.{messages, bad}
 use Rattle.dbus_framing.specs.declared.Next.{Next}
 use Rattle.dbus_framing.specs.declared.Next.TheVariants.{Whole, Rest, Bad}
+use Rattle.dbus_framing.specs.declared.Front.{Front}
+use Rattle.dbus_framing.specs.declared.Front.TheVariants as looks
+use Rattle.dbus_framing.specs.Knows.{IsWhole}
 
 -- the beginning of a message at most: fewer bytes than a head has, or than a good head states
 abbrev pub IsPartial : List ℕ → Type 0
 IsPartial left = (length left < 16) ⊎ ((head_fault left ≡ None) × (length left < whole_len left))
+
+-- what the head in front says of the bytes
+abbrev pub Looks : List ℕ → Front → Type 0
+Looks left (looks.Whole len) = IsWhole left len
+Looks left looks.Rest = IsPartial left × (front left ≡ None) × (fault left ≡ None)
+Looks left (looks.Bad f) = fault left ≡ Some f
 
 -- the frame spells the valid message in front, and the new bytes follow it
 pub record Takes (old frame new : List ℕ) (m : Message) : Type 0 where

@@ -10,6 +10,11 @@ pub record Head (left : List ℕ) (len : ℕ) : Type 0 where
   pub good : head_fault left ≡ None
   pub states : whole_len left ≡ len
 
+-- and as many bytes stand in front as it states
+pub record IsWhole (left : List ℕ) (len : ℕ) : Type 0 where
+  pub head : Head left len
+  pub stands : len ≤ length left
+
 abbrev pub Knows : State → List ℕ → Type 0
 Knows AwaitsHead left = Unit {0}
 Knows (AwaitsMessage len) left = Head left len

@@ -1,23 +1,23 @@
 //! The bytes that came and weren't given yet.
-ghost use Rattle.std.specs.Prelude.{◌≡◌, ◌==◌, ◌^◌, ◌<◌, ◌≤◌, ◌++◌, [], Some, None, IfSome, IfOk, OnOk, OnErr, length, take, drop};
+ghost use Rattle.std.specs.Prelude.{◌≡◌, ◌==◌, ◌^◌, ◌<◌, ◌≤◌, ◌++◌, [], Some, IfOk, IfErr, OnOk, OnErr, length, drop};
 ghost use Rattle.dbus_header.specs.Message.{Message as MessageTree};
 ghost use Rattle.dbus_header.specs.Malformed.{fault};
 ghost use Rattle.dbus_header.specs.declared.Malformed.{Malformed as Fault};
-ghost use Rattle.dbus_framing.specs.Framing.{Gives, Takes};
-ghost use Rattle.dbus_framing.specs.Knows.{Head, Knows};
+ghost use Rattle.dbus_framing.specs.Framing.{Gives, Looks, Takes};
+ghost use Rattle.dbus_framing.specs.Knows.{IsWhole, Knows};
 ghost use Rattle.dbus_framing.specs.declared.state.State.TheVariants.{AwaitsHead};
 
-use crate::Next;
 use crate::state::State;
+use crate::{Front, Next};
 use bytes::{Bytes, BytesMut};
-use dbus_header::{Malformed, decode};
+use dbus_header::{Malformed, Message, decode};
 use std::alloc::{AllocError, Global};
 use std::marker::Model;
 
 /// A stream that waits keeps the memory of at most so many bytes beside those of a message that hasn't come whole.
 const KEPT: usize = 4096;
 
-/// A stream of messages: pieces come in by `push`, and messages are taken by `next`.
+/// A stream of messages: pieces come in by `push`; `front` says what stands in front, `message` reads it in place, and `take` takes it.
 ///
 /// ```text
 ///   given      message in front   what follows
@@ -47,43 +47,32 @@ impl Model for Framer {
     ghost invariant = { λ f. Knows f.state f.bytes.items };
 }
 
-/// What is wrong with the whole message of that length in front, or nothing where it is valid.
-fn message_fault(left: &[u8], len: usize) -> Option<Malformed>
-    requires head { Head left.now len }
-    requires stands { len ≤ length left.now }
-    ensures valid { result ≡ None
-        → (m : MessageTree) × Takes left.now (take len left.now) (drop len left.now) m }
-    ensures bad { IfSome result (λ f. fault left.now ≡ Some f) }
+/// What stands in front, by what its head says.
+fn looked(state: State, left: &[u8]) -> Front
+    requires known { Knows state left.now }
+    requires short { state ≡ AwaitsHead → length left.now < 16 }
+    ensures { Looks left.now result }
 {
-    let (message, _) = left.split_at(len);
-    match decode(message) {
-        Ok(_) => None,
-        Err(fault) => Some(fault),
+    match state {
+        State::AwaitsHead => Front::Rest,
+        State::Bad(fault) => Front::Bad(fault),
+        State::AwaitsMessage(len) => {
+            if left.len() < len {
+                return Front::Rest;
+            }
+            Front::Whole(len)
+        }
     }
 }
 
-/// Takes the message in front, where it is whole and valid.
-fn take_message(alloc: Global, bytes: &mut BytesMut, state: State) -> Result<Next, AllocError>
-    requires known { Knows state bytes.old.items }
-    requires short { state ≡ AwaitsHead → length bytes.old.items < 16 }
-    ensures gives { IfOk result (λ next. Gives bytes.old.items next bytes.new.items) }
-    ensures err { OnErr result (bytes.new.items ≡ bytes.old.items) }
+/// The message of that length in front, or what is wrong with it.
+fn message_in_front(left: &[u8], len: usize) -> Result<Message<'_>, Malformed>
+    requires { IsWhole left.now len }
+    ensures valid { IfOk result (λ message. (m : MessageTree) × Takes left.now message.bytes.now (drop len left.now) m) }
+    ensures bad { IfErr result (λ f. fault left.now ≡ Some f) }
 {
-    let len = match state {
-        State::AwaitsHead => return Ok(Next::Rest),
-        State::Bad(fault) => return Ok(Next::Bad(fault)),
-        State::AwaitsMessage(len) => len,
-    };
-    let left = bytes.as_slice();
-    if left.len() < len {
-        return Ok(Next::Rest);
-    }
-    if let Some(fault) = message_fault(left, len) {
-        return Ok(Next::Bad(fault));
-    }
-    let frame = Bytes::copy_from_slice(alloc, &left[..len])?;
-    bytes.advance(len);
-    Ok(Next::Whole(frame))
+    let (message, _) = left.split_at(len);
+    decode(message)
 }
 
 /// Frees the memory of what was given, where that is more than is kept and more than has to be copied. Where memory is
@@ -164,21 +153,56 @@ impl Framer {
         self.bytes.extend_from_slice(piece)
     }
 
-    /// What stands in front. A whole message is taken; else nothing changes, and after `Bad` each answer is the same.
+    /// What stands in front, of which only the head is looked at, and that once. Nothing changes.
+    pub fn front(&mut self) -> Front
+        ensures looks { Looks self.old result }
+        ensures stays { self.new ≡ self.old }
+    {
+        let state = self.state.with_head(self.bytes.as_slice());
+        self.state = state;
+        let front = looked(state, self.bytes.as_slice());
+        if let Front::Rest = front {
+            self.given = renew(self.alloc, &mut self.bytes, self.given);
+        }
+        front
+    }
+
+    /// The message in front, of as many bytes as `front` said, read in place; or what is wrong with it.
+    pub fn message(&self, len: usize) -> Result<Message<'_>, Malformed>
+        requires { IsWhole self.now len }
+        ensures valid { IfOk result (λ message. (m : MessageTree) × Takes self.now message.bytes.now (drop len self.now) m) }
+        ensures bad { IfErr result (λ f. fault self.now ≡ Some f) }
+    {
+        message_in_front(self.bytes.as_slice(), len)
+    }
+
+    /// Takes that many bytes from the front.
+    pub fn take(&mut self, len: usize)
+        requires { len ≤ length self.old }
+        ensures { self.new ≡ drop len self.old }
+    {
+        self.bytes.advance(len);
+        self.state = State::AwaitsHead;
+        self.given = self.given.saturating_add(len);
+    }
+
+    /// Takes the message in front, where it is whole and valid, as bytes of its own. Else nothing changes, and after `Bad` each
+    /// answer is the same.
     pub fn next(&mut self) -> Result<Next, AllocError>
         ensures gives { IfOk result (λ next. Gives self.old next self.new) }
         ensures err { OnErr result (self.new ≡ self.old) }
     {
-        let state = self.state.with_head(self.bytes.as_slice());
-        self.state = state;
-        let next = take_message(self.alloc, &mut self.bytes, state)?;
-        self.state = state.after(&next);
-        match &next {
-            Next::Whole(frame) => self.given = self.given.saturating_add(frame.len()),
-            Next::Rest => self.given = renew(self.alloc, &mut self.bytes, self.given),
-            Next::Bad(_) => {}
-        }
-        Ok(next)
+        let len = match self.front() {
+            Front::Whole(len) => len,
+            Front::Rest => return Ok(Next::Rest),
+            Front::Bad(fault) => return Ok(Next::Bad(fault)),
+        };
+        let frame = match self.message(len) {
+            Ok(message) => Bytes::copy_from_slice(self.alloc, message.bytes)?,
+            Err(fault) => return Ok(Next::Bad(fault)),
+        };
+        self.take(len);
+        Ok(Next::Whole(frame))
     }
 
     /// Gives all bytes that came and weren't given yet, whatever they hold: nothing is left. None is copied. An error says

@@ -10,7 +10,18 @@ use dbus_header::Malformed;
 pub use framer::Framer;
 pub use laws::{bad_is_given_again, given_are_messages, more_is_pushed, next_is_given};
 
-/// What stands in front of a stream.
+/// What stands in front of a stream, by its head.
+#[derive(Clone, Copy, Debug, PartialEq, Eq)]
+pub enum Front {
+    /// As many bytes as a good head states, which are this many. Whether they are a valid message isn't looked at yet.
+    Whole(usize),
+    /// The beginning of a message at most: fewer than 16 bytes, or fewer than its head states.
+    Rest,
+    /// A head that is no valid message's.
+    Bad(Malformed),
+}
+
+/// What is taken from the front of a stream.
 #[derive(Debug, PartialEq, Eq, Drop)]
 pub enum Next {
     /// A valid message, which is taken from the stream.

@@ -1,20 +1,18 @@
 //! What is known of the message in front.
-ghost use Rattle.std.specs.Prelude.{◌≡◌, ◌<◌, ℕ, List, length};
-ghost use Rattle.dbus_framing.specs.Framing.{Gives};
+ghost use Rattle.std.specs.Prelude.{◌≡◌, ◌<◌, length};
 ghost use Rattle.dbus_framing.specs.Knows.{Knows};
 ghost use Rattle.dbus_framing.specs.declared.state.State.TheVariants.{AwaitsHead};
 
-use crate::Next;
 use dbus_header::Malformed;
 
-/// What is known of the message in front, so that each head and each message is looked at once.
+/// What is known of the message in front, so that each head is looked at once.
 #[derive(Clone, Copy)]
 pub(crate) enum State {
     /// Nothing: its head may not stand yet.
     AwaitsHead,
     /// Its head is good and states this length of the whole message.
     AwaitsMessage(usize),
-    /// It is no valid message.
+    /// Its head is no valid message's.
     Bad(Malformed),
 }
 
@@ -42,17 +40,6 @@ impl State {
         match self {
             State::AwaitsHead => read_head(left),
             _ => self,
-        }
-    }
-
-    /// What is known once this was given.
-    pub(crate) fn after(self, next: &Next) -> State
-        ensures { (old new : List ℕ) → Knows self old → Gives old next.now new → Knows result new }
-    {
-        match next {
-            Next::Whole(_) => State::AwaitsHead,
-            Next::Rest => self,
-            Next::Bad(fault) => State::Bad(*fault),
         }
     }
 }

@@ -3,7 +3,7 @@ ghost use Rattle.std.specs.Prelude.{◌≡◌, ◌<◌, ◌+◌, ◌^◌, OnOk, 
 ghost use Rattle.sasl_watch.specs.Watching.{came};
 
 use bytes::Bytes;
-use sasl_watch::{BusLines, ClientLines, NextLine, for_bus};
+use sasl_watch::{Lines, NextLine, for_bus};
 use std::alloc::{AllocError, Global};
 use std::test::Fail;
 use test_tables::{add_text, plain, text_of, wrong_row};
@@ -72,11 +72,11 @@ AUTH EXTERNAL%0D%0A => AUTH EXTERNAL%0D%0A
 type Told = (Vec<Bytes>, NextLine, Vec<u8>);
 
 /// Takes all that stands in front of the client's stream.
-fn take_client(lines: &mut ClientLines, given: &mut Vec<Bytes>) -> Result<NextLine, AllocError>
+fn take_client(lines: &mut Lines, given: &mut Vec<Bytes>) -> Result<NextLine, AllocError>
     ensures { came lines.new ≡ came lines.old }
 {
     loop {
-        match lines.next()? {
+        match lines.next_of_client()? {
             NextLine::Nul => given.push(Bytes::from_static(b"\0"))?,
             NextLine::Line(line) => given.push(line)?,
             last => return Ok(last),
@@ -86,7 +86,7 @@ fn take_client(lines: &mut ClientLines, given: &mut Vec<Bytes>) -> Result<NextLi
 
 /// Takes all that stands in front of the client's stream when a piece comes.
 fn client_step(
-    lines: &mut ClientLines,
+    lines: &mut Lines,
     piece: &[u8],
     given: &mut Vec<Bytes>,
 ) -> Result<NextLine, AllocError>
@@ -101,7 +101,7 @@ fn client_step(
 fn client_told(alloc: Global, stream: &[u8], size: usize) -> Result<Told, AllocError>
     requires { 0 < size }
 {
-    let mut lines = ClientLines::new(alloc);
+    let mut lines = Lines::new(alloc);
     let mut given = Vec::new(alloc);
     let mut last = NextLine::Rest;
     let mut rest = stream;
@@ -120,7 +120,7 @@ fn client_told(alloc: Global, stream: &[u8], size: usize) -> Result<Told, AllocE
 
 /// Takes all that stands in front of the bus's stream, where so many lines wait for their answer.
 fn take_bus(
-    lines: &mut BusLines,
+    lines: &mut Lines,
     unanswered: &mut u64,
     begun: bool,
     given: &mut Vec<Bytes>,
@@ -128,7 +128,7 @@ fn take_bus(
     ensures { came lines.new ≡ came lines.old }
 {
     loop {
-        match lines.next(*unanswered, begun)? {
+        match lines.next_of_bus(*unanswered, begun)? {
             NextLine::Line(line) => {
                 given.push(line)?;
                 *unanswered = unanswered.saturating_sub(1);
@@ -140,7 +140,7 @@ fn take_bus(
 
 /// Takes all that stands in front of the bus's stream when a piece comes.
 fn bus_step(
-    lines: &mut BusLines,
+    lines: &mut Lines,
     piece: &[u8],
     unanswered: &mut u64,
     begun: bool,
@@ -163,7 +163,7 @@ fn bus_told(
 ) -> Result<Told, AllocError>
     requires { 0 < size }
 {
-    let mut lines = BusLines::new(alloc);
+    let mut lines = Lines::new(alloc);
     let mut given = Vec::new(alloc);
     let mut last = NextLine::Rest;
     let mut unanswered = asked;
@@ -307,7 +307,7 @@ fn descriptors_are_not_asked_for(rt: HostRuntime) -> Result<(), Fail> {
 
 /// The answers where a line comes from the bus before it was asked for, what was left then, and how much is left.
 fn told_early(alloc: Global) -> Result<String, AllocError> {
-    let mut lines = BusLines::new(alloc);
+    let mut lines = Lines::new(alloc);
     let mut told = String::new(alloc);
     add_answer(&mut told, alloc, &mut lines, 0, false)?;
     lines.push(b"OK\r\n")?;
@@ -321,18 +321,18 @@ fn told_early(alloc: Global) -> Result<String, AllocError> {
 fn add_answer(
     told: &mut String,
     alloc: Global,
-    lines: &mut BusLines,
+    lines: &mut Lines,
     unanswered: u64,
     begun: bool,
 ) -> Result<(), AllocError>
     ensures { came lines.new ≡ came lines.old }
 {
-    let next = lines.next(unanswered, begun)?;
+    let next = lines.next_of_bus(unanswered, begun)?;
     told.push_str(&told_next(alloc, &next)?)?;
     told.push_str(", ")
 }
 
-fn add_left(told: &mut String, alloc: Global, lines: &mut BusLines) -> Result<(), AllocError> {
+fn add_left(told: &mut String, alloc: Global, lines: &mut Lines) -> Result<(), AllocError> {
     let before = lines.len();
     let left = text_of(alloc, lines.left()?.as_slice())?;
     told.push_str(&format!(in alloc; "{before} {left} {}", lines.len())?)

@@ -2,24 +2,18 @@
 use Rattle.std.proofs.Common.{ℕ, zero, suc, ◌≡◌, ◌+◌, ◌-◌, ◌*◌, ◌≤◌, ◌<◌, Bool, true, false, cond, List, [], ◌∷◌, ◌++◌, length, Option, Some, None, refl, ap, ◌∙◌, sym, subst, arith, length-append, inl, inr}
 use Rattle.std.specs.Prelude.{◌==◌, is_none, is_some, not}
 use Rattle.dbus_names.specs.Names.{is_empty}
-use Rattle.dbus_header.specs.Message.{Message, Valid, spell}
+use Rattle.dbus_header.specs.Message.{Message, spell}
 use Rattle.dbus_header.specs.Malformed.{front, fault}
 use Rattle.dbus_header.specs.declared.Malformed.{Malformed}
-use Rattle.dbus_header.proofs.FaultStays.{fault_front}
 use Rattle.dbus_framing.specs.Framing.{Takes}
-use Rattle.dbus_framing.specs.declared.Next.{Next}
-use Rattle.dbus_framing.specs.declared.Next.TheVariants.{Whole, Bad}
-use Rattle.proxy_core.specs.Seen.{Given}
 use Rattle.policy_args.specs.Policy.{Policy}
-use Rattle.policy_view.specs.History.{malformed}
 use Rattle.policy_view.specs.Notes.{Note}
-use Rattle.policy_view.specs.declared.Fault.TheVariants.{Message as OfMessage}
 use Rattle.policy_view.specs.declared.visible.Visible.{Visible as Element}
 use Rattle.policy_view.specs.declared.Side.{Side}
 use Rattle.policy_view.specs.declared.Side.TheVariants.{Client, Bus}
 use Rattle.policy_view.specs.declared.End.{End}
 use Rattle.policy_view.specs.declared.End.TheVariants.{Memory}
-use Rattle.proxy_core.specs.Streams.{StreamView, Phase, InLines, InMessages, pushed, GaveMessage}
+use Rattle.proxy_core.specs.Streams.{StreamView, Phase, InLines, InMessages, pushed}
 use Rattle.proxy_core.specs.Sessions.{SessionView, stream_of, IsFront}
 use Rattle.proxy_core.specs.Messages.{ended_by, with_watched_message, KeepsSides}
 use Rattle.proxy_core.specs.Steps.{with_stream, with_left, with_fault, and_runs, with_front, with_raw, raw_step, step_at, step_of, more_if, drained, with_more, with_bytes, TookMessage, IsRefused, Took, Stepped, Did, own_to_come, weight, IsLight}
@@ -89,7 +83,7 @@ left_weighs policy Bus left n view e = by _ _ _ _ _ e
     by : (sides whole left other own : ℕ) → whole ≡ n + left → sides + 19 * (other + left) + own + 19 * n ≡ sides + 19 * (other + whole) + own
     by sides whole left other own e = omega arith
 
-no_more : (new mid n : ℕ) → new ≡ mid → new ≤ mid + n
+pub no_more : (new mid n : ℕ) → new ≡ mid → new ≤ mid + n
 no_more new mid n e = omega arith
 
 -- ---- bytes at which nobody looks
@@ -226,15 +220,7 @@ module _ (policy : Policy) (side : Side) where
             }
       ]
 
-  -- ---- what else stands in front
-
-  pub bad_step : (old mid new : SessionView) (left : List ℕ) (f : Malformed) → InMessagesNow old → front (left_of side old) ≡ None → fault (left_of side old) ≡ Some f → left ≡ left_of side old → mid ≡ with_left side left old
-      → new ≡ ended_by (malformed side (OfMessage f)) mid → Stepped (step_of policy side old) old new false
-  bad_step old mid new left f p none wrong same is e =
-      let mid_is : mid ≡ old = is ∙ ap (λ (xs : List ℕ). with_left side xs old) same ∙ same_left side old in
-      let step : step_of policy side old ≡ (ended_by (malformed side (OfMessage f)) old, false) =
-      message_step old p ∙ ap (λ (o : Option (Message × List ℕ)). with_front policy side o old) none ∙ ap (λ (o : Option Malformed). (with_fault side o old, false)) wrong in
-      inl (e ∙ ap (ended_by (malformed side (OfMessage f))) mid_is ∙ ap (λ (x : SessionView × Bool). x.0) (sym step), ap (λ (x : SessionView × Bool). x.1) (sym step))
+  -- ---- memory that was refused before anything was done
 
   pub refused_step : (old mid new : SessionView) → old.ended ≡ None → mid ≡ old → new ≡ ended_by Memory mid → Stepped (step_of policy side old) old new false
   refused_step old mid new runs same e =
@@ -336,42 +322,7 @@ module _ (policy : Policy) (side : Side) (old mid new : SessionView) (bytes : Li
       raw_greeted Client = refl
       raw_greeted Bus = refl
 
--- ---- what a side's stream gave
-
-pub given_client : (view v : SessionView) (side : Side) (next : Next) (new : StreamView) → side ≡ Client → view ≡ v → GaveMessage view.client next new → Given side v next (record view { client = new })
-given_client view v side next new is same gave = subst (λ (s : Side). Given s v next (record view { client = new })) (sym is)
-    (subst (λ (w : SessionView). Given Client w next (record view { client = new })) same (record { stream = new; gives = gave; is = refl }))
-
-pub given_bus : (view v : SessionView) (side : Side) (next : Next) (new : StreamView) → side ≡ Bus → view ≡ v → GaveMessage view.bus next new → Given side v next (record view { bus = new })
-given_bus view v side next new is same gave = subst (λ (s : Side). Given s v next (record view { bus = new })) (sym is)
-    (subst (λ (w : SessionView). Given Bus w next (record view { bus = new })) same (record { stream = new; gives = gave; is = refl }))
-
--- ---- by what stands in front
-
-module _ (policy : Policy) (side : Side) (old : SessionView) (runs : old.ended ≡ None) (filters : old.mode.filter ≡ true) where
-  abbrev Kept : List ℕ → SessionView → SessionView → Type 0
-  Kept frame mid new = (m : Message) → Valid m → frame ≡ spell m → TookMessage (with_watched_message policy side m mid) mid new
-
-  with_given : {mid : SessionView} {s : StreamView} {left : List ℕ} → mid ≡ with_stream side s old → s ≡ record (stream_of side old) { left = left } → mid ≡ with_left side left old
-  with_given e f = e ∙ ap (λ (x : StreamView). with_stream side x old) f
-
-  pub whole_taken : (next : Next) (mid new : SessionView) (frame : List ℕ) → next ≡ Whole frame → Given side old next mid → Kept frame mid new → Stepped (step_of policy side old) old new (is_none new.ended)
-  whole_taken next mid new frame e g took =
-      let h : Given side old (Whole frame) mid = subst (λ (n : Next). Given side old n mid) e g in
-      let t = h.gives.given in
-      whole_step policy side old mid new frame h.gives.left t.0 runs (record { phase = h.gives.before; filters = filters }) t.1 (with_given h.is h.gives.is) (took t.0 t.1.valid t.1.spelled)
-
-  pub whole_weighs : (next : Next) (mid new : SessionView) (frame : List ℕ) → next ≡ Whole frame → Given side old next mid → Kept frame mid new → IsLight policy 0 old new
-  whole_weighs next mid new frame e g took =
-      let h : Given side old (Whole frame) mid = subst (λ (n : Next). Given side old n mid) e g in
-      let t = h.gives.given in
-      whole_light policy side old mid new frame h.gives.left t.0 t.1 (with_given h.is h.gives.is) (took t.0 t.1.valid t.1.spelled)
-
-  pub bad_taken : (next : Next) (mid new : SessionView) (f : Malformed) (end : End) → next ≡ Bad f → Given side old next mid → end ≡ malformed side (OfMessage f) → new ≡ ended_by end mid → Stepped (step_of policy side old) old new false
-  bad_taken next mid new f end e g wrong is =
-      let h : Given side old (Bad f) mid = subst (λ (n : Next). Given side old n mid) e g in
-      let t = h.gives.given in
-      bad_step policy side old mid new h.gives.left f (record { phase = h.gives.before; filters = filters }) (fault_front (left_of side old) f t.0) t.0 t.1 (with_given h.is h.gives.is) (is ∙ ap (λ (x : End). ended_by x mid) wrong)
+-- ---- whether the session runs
 
 pub runs_by : (o p : Option End) (b : Bool) → is_some o ≡ not b → o ≡ p → b ≡ is_none p
 runs_by None p b e f = flip b e ∙ ap is_none f

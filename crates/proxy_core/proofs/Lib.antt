@@ -22,4 +22,5 @@ pub mod KeptElements
 pub mod Taken
 pub mod Weights
 pub mod Draining
+pub mod Lent
 pub mod Streams

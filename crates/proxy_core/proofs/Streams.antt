@@ -1,31 +1,11 @@
 -- What the code's streams give, on what they are seen as.
-use Rattle.std.proofs.Common.{ℕ, ◌≡◌, ◌+◌, Bool, List, refl, ap, ◌∙◌, sym, subst, arith}
-use Rattle.dbus_framing.specs.Framing.{Gives}
-use Rattle.dbus_framing.specs.declared.Next.{Next}
-use Rattle.sasl_watch.specs.Watching.{Watch, ClientGives, BusGives}
+use Rattle.std.proofs.Common.{ℕ, ◌≡◌, ◌+◌, refl, ap, ◌∙◌, sym, subst, arith}
+use Rattle.sasl_watch.specs.Watching.{Watch}
 use Rattle.sasl_watch.specs.declared.NextLine.{NextLine}
 use Rattle.sasl_watch.specs.declared.NextLine.TheVariants.{Nul, Line, Begin, Done, Rest, Bad}
-use Rattle.proxy_core.specs.Streams.{StreamView, InLines, InMessages, counted, GaveLine, GaveMessage, client_phase, client_left, bus_phase, bus_left}
-use Rattle.proxy_core.specs.declared.client_stream.ClientContent.{ClientContent}
-use Rattle.proxy_core.specs.declared.client_stream.ClientContent.TheVariants as client
-use Rattle.proxy_core.specs.declared.bus_stream.BusContent.{BusContent}
-use Rattle.proxy_core.specs.declared.bus_stream.BusContent.TheVariants as bus
-
-message_gave : (came lines : ℕ) (old new : List ℕ) (v : StreamView) (next : Next) → record { came = came; phase = InMessages; left = old; lines = lines } ≡ v
-    → Gives old next new → GaveMessage v next (record { came = came; phase = InMessages; left = new; lines = lines })
-message_gave came lines old new v next same g = subst (λ (x : StreamView). GaveMessage x next (record { came = came; phase = InMessages; left = new; lines = lines })) same (record { left = new; before = refl; given = g; is = refl })
-
-pub client_gave : (came lines : ℕ) (content : ClientContent) (old new : List ℕ) (v : StreamView) (next : Next) → content ≡ client.Messages old
-    → record { came = came; phase = client_phase content; left = client_left content; lines = lines } ≡ v
-    → Gives old next new → GaveMessage v next (record { came = came; phase = InMessages; left = new; lines = lines })
-client_gave came lines content old new v next is same g =
-    message_gave came lines old new v next (ap (λ (c : ClientContent). record { came = came; phase = client_phase c; left = client_left c; lines = lines }) (sym is) ∙ same) g
-
-pub bus_gave : (came lines : ℕ) (content : BusContent) (old new : List ℕ) (v : StreamView) (next : Next) → content ≡ bus.Messages old
-    → record { came = came; phase = bus_phase content; left = bus_left content; lines = lines } ≡ v
-    → Gives old next new → GaveMessage v next (record { came = came; phase = InMessages; left = new; lines = lines })
-bus_gave came lines content old new v next is same g =
-    message_gave came lines old new v next (ap (λ (c : BusContent). record { came = came; phase = bus_phase c; left = bus_left c; lines = lines }) (sym is) ∙ same) g
+use Rattle.proxy_core.specs.Streams.{StreamView, InLines, counted, GaveLine, phase_of, left_in}
+use Rattle.proxy_core.specs.declared.stream.Content.{Content}
+use Rattle.proxy_core.specs.declared.stream.Content.TheVariants as of
 
 -- ---- lines
 
@@ -44,17 +24,11 @@ line_gave G came lines n old new v next same g count =
     subst (λ (x : StreamView). GaveLine G x next (record { came = came; phase = InLines new.place new.bad; left = new.left; lines = lines + n })) same
     (record { place = old.place; told = old.bad; watch = new; before = refl; given = g; is = ap (λ (k : ℕ). record { came = came; phase = InLines new.place new.bad; left = new.left; lines = lines + k }) (sym count) })
 
-pub client_line_gave : (came lines n : ℕ) (content : ClientContent) (old new : Watch) (v : StreamView) (next : NextLine) → content ≡ client.Lines old
-    → record { came = came; phase = client_phase content; left = client_left content; lines = lines } ≡ v
-    → ClientGives old next new → counted next ≡ n → GaveLine ClientGives v next (record { came = came; phase = InLines new.place new.bad; left = new.left; lines = lines + n })
-client_line_gave came lines n content old new v next is same g count =
-    line_gave ClientGives came lines n old new v next (ap (λ (c : ClientContent). record { came = came; phase = client_phase c; left = client_left c; lines = lines }) (sym is) ∙ same) g count
-
-pub bus_line_gave : (unanswered : ℕ) (begun : Bool) (came lines n : ℕ) (content : BusContent) (old new : Watch) (v : StreamView) (next : NextLine) → content ≡ bus.Lines old
-    → record { came = came; phase = bus_phase content; left = bus_left content; lines = lines } ≡ v
-    → BusGives unanswered begun old next new → counted next ≡ n → GaveLine (BusGives unanswered begun) v next (record { came = came; phase = InLines new.place new.bad; left = new.left; lines = lines + n })
-bus_line_gave unanswered begun came lines n content old new v next is same g count =
-    line_gave (BusGives unanswered begun) came lines n old new v next (ap (λ (c : BusContent). record { came = came; phase = bus_phase c; left = bus_left c; lines = lines }) (sym is) ∙ same) g count
+pub lines_gave : (G : Watch → NextLine → Watch → Type 0) (came lines n : ℕ) (content : Content) (old new : Watch) (v : StreamView) (next : NextLine) → content ≡ of.Lines old
+    → record { came = came; phase = phase_of content; left = left_in content; lines = lines } ≡ v
+    → G old next new → counted next ≡ n → GaveLine G v next (record { came = came; phase = InLines new.place new.bad; left = new.left; lines = lines + n })
+lines_gave G came lines n content old new v next is same g count =
+    line_gave G came lines n old new v next (ap (λ (c : Content). record { came = came; phase = phase_of c; left = left_in c; lines = lines }) (sym is) ∙ same) g count
 
 -- where nothing was counted
 pub gave_none : (G : Watch → NextLine → Watch → Type 0) (came lines : ℕ) (new : Watch) (v : StreamView) (next : NextLine) → GaveLine G v next (record { came = came; phase = InLines new.place new.bad; left = new.left; lines = lines + 0 })

@@ -1,13 +1,28 @@
--- What a session's stream gives.
-use Rattle.std.specs.Prelude.{◌≡◌}
-use Rattle.dbus_framing.specs.declared.Next.{Next}
+-- What a session does with the first of the messages that are left of a side's stream, while these are lent out of it.
+use Rattle.std.specs.Prelude.{◌≡◌, ◌⊎◌, ℕ, Bool, false, List, None, is_none}
+use Rattle.dbus_framing.specs.Framing.{Takes}
+use Rattle.dbus_header.specs.Malformed.{fault, front}
+use Rattle.dbus_header.specs.Message.{Message}
+use Rattle.policy_args.specs.Policy.{Policy}
 use Rattle.policy_view.specs.declared.Side.{Side}
-use Rattle.proxy_core.specs.Streams.{StreamView, GaveMessage}
-use Rattle.proxy_core.specs.Sessions.{SessionView, stream_of}
-use Rattle.proxy_core.specs.Steps.{with_stream}
+use Rattle.proxy_core.specs.Sessions.{SessionView}
+use Rattle.proxy_core.specs.Messages.{with_watched_message}
+use Rattle.proxy_core.specs.Steps.{with_fault, TookMessage}
 
--- a side's stream gave this message, or has none in front, and nothing else changed
-pub record Given (side : Side) (old : SessionView) (next : Next) (new : SessionView) : Type 0 where
-  pub stream : StreamView
-  pub gives : GaveMessage (stream_of side old) next stream
-  pub is : new ≡ with_stream side stream old
+-- the message in front was taken, and the rest is left
+pub record TookWhole (policy : Policy) (side : Side) (left rest : List ℕ) (old new : SessionView) (more : Bool) : Type 0 where
+  pub message : Message
+  pub frame : List ℕ
+  pub takes : Takes left frame rest message
+  pub took : TookMessage (with_watched_message policy side message old) old new
+  pub runs : more ≡ is_none new.ended
+
+-- no message stands in front, and the fault, if there is one, is the session's End
+pub record TookNone (side : Side) (left rest : List ℕ) (old new : SessionView) (more : Bool) : Type 0 where
+  pub none : front left ≡ None
+  pub stays : rest ≡ left
+  pub ended : new ≡ with_fault side (fault left) old
+  pub stops : more ≡ false
+
+abbrev pub TookFirst : Policy → Side → List ℕ → List ℕ → SessionView → SessionView → Bool → Type 0
+TookFirst policy side left rest old new more = TookWhole policy side left rest old new more ⊎ TookNone side left rest old new more

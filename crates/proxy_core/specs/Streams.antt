@@ -1,16 +1,12 @@
 -- What a side's stream is seen as: lines first, where the session begins with them, and then messages.
 use Rattle.std.specs.Prelude.{◌≡◌, ◌≤◌, ℕ, ◌+◌, Bool, true, false, List, [], ◌++◌, length, Option, None}
-use Rattle.dbus_framing.specs.Framing.{Gives}
-use Rattle.dbus_framing.specs.declared.Next.{Next}
 use Rattle.sasl_watch.specs.declared.LineFault.{LineFault}
 use Rattle.sasl_watch.specs.declared.NextLine.{NextLine}
 use Rattle.sasl_watch.specs.declared.NextLine.TheVariants as gives
 use Rattle.sasl_watch.specs.Watching.{Watch}
 use Rattle.policy_view.specs.History.{longest_stream}
-use Rattle.proxy_core.specs.declared.client_stream.ClientContent.{ClientContent}
-use Rattle.proxy_core.specs.declared.client_stream.ClientContent.TheVariants as client
-use Rattle.proxy_core.specs.declared.bus_stream.BusContent.{BusContent}
-use Rattle.proxy_core.specs.declared.bus_stream.BusContent.TheVariants as bus
+use Rattle.proxy_core.specs.declared.stream.Content.{Content}
+use Rattle.proxy_core.specs.declared.stream.Content.TheVariants as of
 
 -- lines come, of which the next begins at the place, and a fault in them may have been told; or messages come
 pub data Phase : Type 0 where
@@ -61,35 +57,16 @@ pub record GaveLine (Gives : Watch → NextLine → Watch → Type 0) (old : Str
   pub given : Gives (watch_at place told old.left) next watch
   pub is : new ≡ record { came = old.came; phase = InLines watch.place watch.bad; left = watch.left; lines = old.lines + counted next }
 
--- the stream, which was in its messages, gave this
-pub record GaveMessage (old : StreamView) (next : Next) (new : StreamView) : Type 0 where
-  pub left : List ℕ
-  pub before : old.phase ≡ InMessages
-  pub given : Gives old.left next left
-  pub is : new ≡ record old { left = left }
+-- ---- the code's stream
 
--- ---- the code's streams
+abbrev pub phase_of : Content → Phase
+phase_of (of.Lines w) = InLines w.place w.bad
+phase_of (of.Messages left) = InMessages
 
-abbrev pub client_phase : ClientContent → Phase
-client_phase (client.Lines w) = InLines w.place w.bad
-client_phase (client.Messages left) = InMessages
+abbrev pub left_in : Content → List ℕ
+left_in (of.Lines w) = w.left
+left_in (of.Messages left) = left
 
-abbrev pub client_left : ClientContent → List ℕ
-client_left (client.Lines w) = w.left
-client_left (client.Messages left) = left
-
-abbrev pub ClientSound : ℕ → ClientContent → ℕ → Type 0
-ClientSound came (client.Lines w) lines = (came ≤ longest_stream) × (w.place + length w.left ≤ came) × (lines ≤ w.place)
-ClientSound came (client.Messages left) lines = came ≤ longest_stream
-
-abbrev pub bus_phase : BusContent → Phase
-bus_phase (bus.Lines w) = InLines w.place w.bad
-bus_phase (bus.Messages left) = InMessages
-
-abbrev pub bus_left : BusContent → List ℕ
-bus_left (bus.Lines w) = w.left
-bus_left (bus.Messages left) = left
-
-abbrev pub BusSound : ℕ → BusContent → ℕ → Type 0
-BusSound came (bus.Lines w) lines = (came ≤ longest_stream) × (w.place + length w.left ≤ came) × (lines ≤ w.place)
-BusSound came (bus.Messages left) lines = came ≤ longest_stream
+abbrev pub Sound : ℕ → Content → ℕ → Type 0
+Sound came (of.Lines w) lines = (came ≤ longest_stream) × (w.place + length w.left ≤ came) × (lines ≤ w.place)
+Sound came (of.Messages left) lines = came ≤ longest_stream

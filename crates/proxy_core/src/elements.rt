@@ -1,7 +1,7 @@
 //! What is left of a message in the visible part of a session's history.
 ghost use Rattle.std.specs.Prelude.{◌≡◌, ◌∷◌, ◌==◌, ◌||◌, true, [], IfOk, IfSome, IsSome, Some, codes, flat_map, map, option_to_list};
 ghost use Rattle.std.specs.Option.{option_copied};
-ghost use Rattle.dbus_header.specs.Message.{Message as MessageTree, Valid, reply_serial as reply_serial_of, spell};
+ghost use Rattle.dbus_header.specs.Message.{reply_serial as reply_serial_of, spell};
 ghost use Rattle.dbus_header.specs.Seen.{text_seen};
 ghost use Rattle.policy_view.specs.Elements.{given_of};
 ghost use Rattle.policy_view.specs.Notes.{message_in};
@@ -21,49 +21,50 @@ use dbus_values::Texts;
 use name_filters::cut;
 use own_calls::asked;
 use policy_args::Policy;
-use policy_view::{NameList, Showing, Side, Visible, message_of};
+use policy_view::{NameList, Showing, Side, Visible};
 use reply_ledger::{Kind, Ledger};
 use std::alloc::{AllocError, Global};
 use unique_names::Tracker;
 use verdicts::show;
 
-/// What is left of a whole message of a side, where anything is, by what is known when it comes.
+/// What is left of a message of a side, where anything is, by what is known when it comes.
 pub(crate) fn element(
     alloc: Global,
     policy: &Policy,
     tracker: &Tracker,
     ledger: &Ledger,
     side: Side,
-    frame: &Bytes,
+    message: &Message<'_>,
 ) -> Result<Option<Visible>, AllocError>
-    requires { (m : MessageTree) × Valid m × (frame.now ≡ spell m) }
-    ensures { (m : MessageTree) → Valid m → frame.now ≡ spell m → IfOk result (λ r. option_to_list r ≡ elements_by policy.now tracker.now ledger.now side m) }
+    ensures { IfOk result (λ r. option_to_list r ≡ elements_by policy.now tracker.now ledger.now side (message_in message.now.bytes.now)) }
 {
     match side {
-        Side::Client => Ok(Some(Visible::Client(frame.clone()?))),
-        Side::Bus => {
-            let message = message_of(frame.as_slice());
-            bus_element(alloc, policy, tracker, ledger, frame, &message)
-        }
+        Side::Client => Ok(Some(Visible::Client(frame_of(alloc, message)?))),
+        Side::Bus => bus_element(alloc, policy, tracker, ledger, message),
     }
 }
 
-/// What is left of a whole message of the bus.
+/// The bytes of a message, kept.
+fn frame_of(alloc: Global, message: &Message<'_>) -> Result<Bytes, AllocError>
+    ensures { IfOk result (λ frame. frame ≡ spell (message_in message.now.bytes.now)) }
+{
+    is_spelled(message.bytes);
+    Bytes::copy_from_slice(alloc, message.bytes)
+}
+
+/// What is left of a message of the bus.
 fn bus_element(
     alloc: Global,
     policy: &Policy,
     tracker: &Tracker,
     ledger: &Ledger,
-    frame: &Bytes,
     message: &Message<'_>,
 ) -> Result<Option<Visible>, AllocError>
-    requires { frame.now ≡ message.now.bytes.now }
     ensures { IfOk result (λ r. option_to_list r ≡ elements_by policy.now tracker.now ledger.now Side.Bus (message_in message.now.bytes.now)) }
 {
-    is_spelled(message.bytes);
     match show(policy, tracker, ledger, message) {
-        Showing::Whole => shown_element(frame),
-        Showing::Reply(_) => shown_element(frame),
+        Showing::Whole => shown_element(alloc, message),
+        Showing::Reply(_) => shown_element(alloc, message),
         Showing::Cut(_) => Ok(Some(Visible::Cut(cut_list(alloc, policy, tracker, message)?))),
         Showing::Instead { .. } => Ok(Some(Visible::Ping {
             position: position(message),
@@ -74,10 +75,10 @@ fn bus_element(
 }
 
 /// What is left of a message that the client is shown.
-fn shown_element(frame: &Bytes) -> Result<Option<Visible>, AllocError>
-    ensures { IfOk result (λ r. option_to_list r ≡ element.Shown frame.now ∷ []) }
+fn shown_element(alloc: Global, message: &Message<'_>) -> Result<Option<Visible>, AllocError>
+    ensures { IfOk result (λ r. option_to_list r ≡ element.Shown (spell (message_in message.now.bytes.now)) ∷ []) }
 {
-    Ok(Some(Visible::Shown(frame.clone()?)))
+    Ok(Some(Visible::Shown(frame_of(alloc, message)?)))
 }
 
 /// The place among the messages that were sent to the bus which a message answers.

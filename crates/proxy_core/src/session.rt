@@ -11,8 +11,8 @@ ghost use Rattle.proxy_core.specs.Streams.{InMessages, is_in_lines as in_lines, 
 ghost use Rattle.proxy_core.specs.Sessions.{StandsFor, Taken, nothing, at_start, watching_at_start, stream_of, answer_of, is_from_outside, IsFront};
 ghost use Rattle.proxy_core.specs.Messages.{ended_by};
 ghost use Rattle.proxy_core.specs.Steps.{with_stream, with_left, step_of, drained, with_bytes, with_piece, Took, Stepped, IsLight, weight};
-ghost use Rattle.proxy_core.specs.Seen.{Given};
 
+mod fronts;
 mod lines;
 mod noting;
 mod raw;
@@ -20,10 +20,8 @@ mod receiving;
 mod sending;
 mod watching;
 
-use crate::bus_stream::BusStream;
-use crate::client_stream::ClientStream;
+use crate::stream::Stream;
 use crate::watch::{Watch, next_of};
-use dbus_framing::Next;
 use out_queue::OutQueue;
 use own_calls::after_hello_len;
 use policy_args::Policy;
@@ -48,8 +46,8 @@ pub struct Session {
     to_bus: OutQueue,
     to_client: OutQueue,
     ended: Option<End>,
-    client: ClientStream,
-    bus: BusStream,
+    client: Stream,
+    bus: Stream,
     serials: Serials,
     greeted: bool,
     ledger: Ledger,
@@ -122,8 +120,8 @@ impl Session {
             to_bus: OutQueue::new(alloc),
             to_client: OutQueue::new(alloc),
             ended: None,
-            client: ClientStream::new(alloc, mode.auth),
-            bus: BusStream::new(alloc, mode.auth),
+            client: Stream::new(alloc, mode.auth),
+            bus: Stream::new(alloc, mode.auth),
             serials: Serials::new(),
             greeted: false,
             ledger: Ledger::new(alloc),
@@ -295,44 +293,6 @@ impl Session {
         ensures { self.new ≡ ended_by end self.old }
     {
         self.ended = Some(end);
-    }
-
-    /// What stands in front of the messages of a side's stream.
-    fn next_message(&mut self, side: Side) -> Result<Next, AllocError>
-        requires { (stream_of side self.old).phase ≡ InMessages }
-        ensures ok { IfOk result (λ next. Given side self.old next self.new) }
-        ensures err { OnErr result (self.new ≡ self.old) }
-    {
-        match side {
-            Side::Client => self.client.next_message(),
-            Side::Bus => self.bus.next_message(),
-        }
-    }
-
-    /// Takes the message in front of a side's stream, or ends the session where a fault stands there. Tells whether more
-    /// may follow.
-    fn take_front_message(&mut self, policy: &Policy, side: Side) -> bool
-        requires running { self.old.ended ≡ None }
-        requires messages { (stream_of side self.old).phase ≡ InMessages }
-        requires filtered { self.old.mode.filter ≡ true }
-        ensures step { Stepped (step_of policy.now side self.old) self.old self.new result }
-        ensures light { IsLight policy.now 0 self.old self.new }
-    {
-        match self.next_message(side) {
-            Ok(Next::Whole(frame)) => {
-                self.take_frame(policy, side, frame);
-                self.ended.is_none()
-            }
-            Ok(Next::Rest) => false,
-            Ok(Next::Bad(fault)) => {
-                self.end_with(malformed(side, Fault::Message(fault)));
-                false
-            }
-            Err(_) => {
-                self.end_with(End::Memory);
-                false
-            }
-        }
     }
 
     /// Whether the lines of a side's stream come.

@@ -116,7 +116,7 @@ impl Session {
         ensures light { IsLight policy.now 0 self.old self.new }
     {
         let _policy = policy;
-        match self.client.next_line() {
+        match self.client.next_client_line() {
             Ok(NextLine::Nul) => self.send_nul(),
             Ok(NextLine::Line(line)) => self.send_line(&line),
             Ok(NextLine::Begin(line)) => self.send_begin(line),
@@ -143,7 +143,7 @@ impl Session {
     {
         let _policy = policy;
         let (unanswered, begun) = (self.unanswered(), self.has_begun());
-        match self.bus.next_line(unanswered, begun) {
+        match self.bus.next_bus_line(unanswered, begun) {
             Ok(NextLine::Line(line)) => self.show_line(&line),
             Ok(NextLine::Done) => self.end_bus_lines(),
             Ok(NextLine::Nul | NextLine::Begin(_)) => unreachable!(),

@@ -2,30 +2,30 @@
 //! or fall together.
 ghost use Rattle.std.specs.Prelude.{◌≡◌, ◌<◌, ◌∷◌, ◌++◌, [], true, None, IfOk, OnOk, OnErr};
 ghost use Rattle.std.specs.VecDeque.{deque_capacity, deque_len};
-ghost use Rattle.dbus_header.specs.Message.{Message as MessageTree, Valid, spell};
+ghost use Rattle.policy_view.specs.Notes.{message_in};
 ghost use Rattle.proxy_core.specs.Messages.{decision_in, with_message, with_noted_message};
 ghost use Rattle.proxy_core.specs.Steps.{TookMessage};
 
 use super::Session;
+use crate::queue::is_spelled;
 use bytes::Bytes;
+use dbus_header::Message;
 use policy_args::Policy;
-use policy_view::{Decision, End, Note, Side, message_of};
+use policy_view::{Decision, End, Note, Side};
 use std::alloc::AllocError;
 use std::collections::VecDeque;
 use std::mem;
 
 impl Session {
-    /// Takes a whole message of a side. Answers what was decided on it.
-    fn take_message(&mut self, policy: &Policy, side: Side, frame: &[u8]) -> Decision
+    /// Takes a message of a side. Answers what was decided on it.
+    fn take_message(&mut self, policy: &Policy, side: Side, message: &Message<'_>) -> Decision
         requires running { self.old.ended ≡ None }
-        requires valid { (m : MessageTree) × Valid m × (frame.now ≡ spell m) }
-        ensures took { (m : MessageTree) → Valid m → frame.now ≡ spell m → TookMessage (with_message policy.now side m self.old) self.old self.new }
-        ensures decision { (m : MessageTree) → Valid m → frame.now ≡ spell m → result ≡ decision_in policy.now side m self.old }
+        ensures took { TookMessage (with_message policy.now side (message_in message.now.bytes.now) self.old) self.old self.new }
+        ensures decision { result ≡ decision_in policy.now side (message_in message.now.bytes.now) self.old }
     {
-        let message = message_of(frame);
         match side {
-            Side::Client => Decision::Judged(self.take_client_message(policy, &message)),
-            Side::Bus => Decision::Shown(self.take_bus_message(policy, &message)),
+            Side::Client => Decision::Judged(self.take_client_message(policy, message)),
+            Side::Bus => Decision::Shown(self.take_bus_message(policy, message)),
         }
     }
 
@@ -51,20 +51,23 @@ impl Session {
         self.notes = queue;
     }
 
-    /// Takes a whole message of a side and makes a note of it. One in whose place the session ended has none.
-    fn take_noted(&mut self, policy: &Policy, side: Side, frame: Bytes)
+    /// Takes a message of a side and makes a note of it. One in whose place the session ended has none.
+    fn take_noted(&mut self, policy: &Policy, side: Side, message: &Message<'_>)
         requires running { self.old.ended ≡ None }
         requires notes { self.old.mode.notes ≡ true }
-        requires valid { (m : MessageTree) × Valid m × (frame ≡ spell m) }
-        ensures { (m : MessageTree) → Valid m → frame ≡ spell m → TookMessage (with_noted_message policy.now side m self.old) self.old self.new }
+        ensures { TookMessage (with_noted_message policy.now side (message_in message.now.bytes.now) self.old) self.old self.new }
     {
+        is_spelled(message.bytes);
         let Some(number) = self.numbered.checked_add(1) else {
+            return self.end_with(End::Memory);
+        };
+        let Ok(frame) = Bytes::copy_from_slice(self.alloc, message.bytes) else {
             return self.end_with(End::Memory);
         };
         let Ok(queue) = self.reserved_notes() else {
             return self.end_with(End::Memory);
         };
-        let decision = self.take_message(policy, side, frame.as_slice());
+        let decision = self.take_message(policy, side, message);
         if self.ended.is_some() {
             self.notes = queue;
             return;
@@ -72,15 +75,14 @@ impl Session {
         self.put_note(queue, Note::new(number, side, frame, decision));
     }
 
-    /// Takes a whole message of a side, and makes a note of it where the session makes notes.
-    pub(super) fn take_unwatched(&mut self, policy: &Policy, side: Side, frame: Bytes)
+    /// Takes a message of a side, and makes a note of it where the session makes notes.
+    pub(super) fn take_unwatched(&mut self, policy: &Policy, side: Side, message: &Message<'_>)
         requires running { self.old.ended ≡ None }
-        requires valid { (m : MessageTree) × Valid m × (frame ≡ spell m) }
-        ensures { (m : MessageTree) → Valid m → frame ≡ spell m → TookMessage (with_noted_message policy.now side m self.old) self.old self.new }
+        ensures { TookMessage (with_noted_message policy.now side (message_in message.now.bytes.now) self.old) self.old self.new }
     {
         if self.mode.notes {
-            return self.take_noted(policy, side, frame);
+            return self.take_noted(policy, side, message);
         }
-        let _decision = self.take_message(policy, side, frame.as_slice());
+        let _decision = self.take_message(policy, side, message);
     }
 }

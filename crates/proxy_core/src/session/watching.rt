@@ -1,6 +1,6 @@
 //! What is left of lines and messages in the visible part of a session's history, kept where the session watches.
 ghost use Rattle.std.specs.Prelude.{◌≡◌, ◌∷◌, ◌++◌, [], true, None, OnErr, OnOk};
-ghost use Rattle.dbus_header.specs.Message.{Message as MessageTree, Valid, spell};
+ghost use Rattle.policy_view.specs.Notes.{message_in};
 ghost use Rattle.policy_view.specs.declared.visible.Visible.TheVariants as element;
 ghost use Rattle.proxy_core.specs.Messages.{elements_in, unless_ended, with_elements, with_noted_message, with_watched_message};
 ghost use Rattle.proxy_core.specs.Steps.{Did, TookMessage};
@@ -8,7 +8,7 @@ ghost use Rattle.proxy_core.specs.Steps.{Did, TookMessage};
 use super::Session;
 use crate::elements::element;
 use crate::watch::Watch;
-use bytes::Bytes;
+use dbus_header::Message;
 use policy_args::Policy;
 use policy_view::{End, Side};
 use std::alloc::AllocError;
@@ -25,37 +25,48 @@ impl Session {
         self.goes_on(done)
     }
 
-    /// What is left of a whole message of a side is kept.
+    /// What is left of a message of a side is kept.
     fn keep_message(
         &self,
         policy: &Policy,
         side: Side,
-        frame: &Bytes,
+        message: &Message<'_>,
         watch: &mut Watch,
     ) -> Result<(), AllocError>
-        requires { (m : MessageTree) × Valid m × (frame.now ≡ spell m) }
-        ensures ok { (m : MessageTree) → Valid m → frame.now ≡ spell m → OnOk result (watch.new ≡ watch.old ++ elements_in policy.now side m self.now) }
+        ensures ok { OnOk result (watch.new ≡ watch.old ++ elements_in policy.now side (message_in message.now.bytes.now) self.now) }
         ensures err { OnErr result (watch.new ≡ watch.old) }
     {
-        match element(self.alloc, policy, &self.tracker, &self.ledger, side, frame)? {
+        match element(
+            self.alloc,
+            policy,
+            &self.tracker,
+            &self.ledger,
+            side,
+            message,
+        )? {
             Some(element) => watch.push(element),
             None => Ok(()),
         }
     }
 
-    /// Takes a whole message of a side, and keeps what is left of it. The memory for that is taken first, so that it and what the
+    /// Takes a message of a side, and keeps what is left of it. The memory for that is taken first, so that it and what the
     /// message does stand or fall together; one in whose place the session ended leaves nothing.
-    fn take_watched(&mut self, policy: &Policy, side: Side, frame: Bytes, watch: &mut Watch)
+    fn take_watched(
+        &mut self,
+        policy: &Policy,
+        side: Side,
+        message: &Message<'_>,
+        watch: &mut Watch,
+    )
         requires running { self.old.ended ≡ None }
-        requires valid { (m : MessageTree) × Valid m × (frame ≡ spell m) }
-        ensures took { (m : MessageTree) → Valid m → frame ≡ spell m → TookMessage (with_noted_message policy.now side m self.old) self.old self.new }
-        ensures kept { (m : MessageTree) → Valid m → frame ≡ spell m → watch.new ≡ watch.old ++ unless_ended self.new.ended (elements_in policy.now side m self.old) }
+        ensures took { TookMessage (with_noted_message policy.now side (message_in message.now.bytes.now) self.old) self.old self.new }
+        ensures kept { watch.new ≡ watch.old ++ unless_ended self.new.ended (elements_in policy.now side (message_in message.now.bytes.now) self.old) }
     {
         let earlier = watch.len();
-        let Ok(()) = self.keep_message(policy, side, &frame, watch) else {
+        let Ok(()) = self.keep_message(policy, side, message, watch) else {
             return self.end_with(End::Memory);
         };
-        self.take_unwatched(policy, side, frame);
+        self.take_unwatched(policy, side, message);
         watch.truncate_unless(self.ended.is_none(), earlier);
     }
 
@@ -66,17 +77,16 @@ impl Session {
         self.watch = Some(watch);
     }
 
-    /// Takes a whole message of a side, makes a note of it where the session makes notes, and keeps what is left of it where the session
+    /// Takes a message of a side, makes a note of it where the session makes notes, and keeps what is left of it where the session
     /// watches. What is kept stands outside meanwhile.
-    pub(super) fn take_frame(&mut self, policy: &Policy, side: Side, frame: Bytes)
-        requires running { self.old.ended ≡ None }
-        requires valid { (m : MessageTree) × Valid m × (frame ≡ spell m) }
-        ensures { (m : MessageTree) → Valid m → frame ≡ spell m → TookMessage (with_watched_message policy.now side m self.old) self.old self.new }
+    pub(super) fn take_whole(&mut self, policy: &Policy, side: Side, message: &Message<'_>)
+        requires { self.old.ended ≡ None }
+        ensures { TookMessage (with_watched_message policy.now side (message_in message.now.bytes.now) self.old) self.old self.new }
     {
         match self.watch.take() {
-            None => self.take_unwatched(policy, side, frame),
+            None => self.take_unwatched(policy, side, message),
             Some(mut watch) => {
-                self.take_watched(policy, side, frame, &mut watch);
+                self.take_watched(policy, side, message, &mut watch);
                 self.put_watch(watch);
             }
         }

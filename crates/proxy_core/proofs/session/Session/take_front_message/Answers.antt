@@ -1,20 +1,20 @@
-use Rattle.std.proofs.Common.{ap}
-use Rattle.proxy_core.specs.Sessions.{SessionView}
-use Rattle.proxy_core.proofs.Draining.{whole_taken, whole_weighs, bad_taken, refused_step, runs_by, stepped_as}
+use Rattle.std.proofs.Common.{◌∙◌}
+use Rattle.proxy_core.specs.Sessions.{stream_of}
+use Rattle.proxy_core.proofs.Lent.{first_light, first_phase, first_step, lent_first}
 use Rattle.proxy_core.proofs.session.Session.take_front_message.Goals as goal
 
-pub returns-in-Ok-Whole-clause-step : goal.returns-in-Ok-Whole-clause-step
-returns-in-Ok-Whole-clause-step c =
-    stepped_as _ _ _ c.is_none.result _ (runs_by c.self.inside.ended _ c.is_none.result c.is_none.ensures (ap (λ (v : SessionView). v.ended) c.self.view_is))
-    (whole_taken c.args.policy.now c.args.side c.args.self.now c.requires.running c.requires.filtered c.in-Ok-Whole.field-0 c.next_message.new.self c.take_frame.new.self c.in-Ok-Whole.frame c.in-Ok-Whole.field-0-is c.in-Ok-Whole.ensures.ok c.take_frame.ensures)
+pub put_messages-requires : goal.put_messages-requires
+put_messages-requires c =
+    first_phase c.args.policy.now c.args.side (stream_of c.args.side c.args.self.now).left c.take_first-more.new.messages c.args.self.now c.take_first-more.new.self c.take_first-more.result
+    (lent_first c.args.policy.now c.args.side c.args.self.now c.lend_messages-messages.new.self c.take_first-more.new.self c.lend_messages-messages.result c.take_first-more.new.messages c.take_first-more.result c.lend_messages-messages.ensures.left c.lend_messages-messages.ensures.rest c.take_first-more.ensures)
+    ∙ c.requires.messages
 
-pub returns-in-Ok-Whole-clause-light : goal.returns-in-Ok-Whole-clause-light
-returns-in-Ok-Whole-clause-light c =
-    whole_weighs c.args.policy.now c.args.side c.args.self.now c.requires.running c.requires.filtered c.in-Ok-Whole.field-0 c.next_message.new.self c.take_frame.new.self c.in-Ok-Whole.frame c.in-Ok-Whole.field-0-is c.in-Ok-Whole.ensures.ok c.take_frame.ensures
+pub returns-clause-step : goal.returns-clause-step
+returns-clause-step c =
+    first_step c.args.policy.now c.args.side c.args.self.now c.take_first-more.new.self c.put_messages.new.self c.take_first-more.new.messages c.take_first-more.result c.put_messages.ensures c.requires.running (record { phase = c.requires.messages; filters = c.requires.filtered })
+    (lent_first c.args.policy.now c.args.side c.args.self.now c.lend_messages-messages.new.self c.take_first-more.new.self c.lend_messages-messages.result c.take_first-more.new.messages c.take_first-more.result c.lend_messages-messages.ensures.left c.lend_messages-messages.ensures.rest c.take_first-more.ensures)
 
-pub returns-in-Ok-Bad-clause-step : goal.returns-in-Ok-Bad-clause-step
-returns-in-Ok-Bad-clause-step c =
-    bad_taken c.args.policy.now c.args.side c.args.self.now c.requires.running c.requires.filtered c.in-Ok-Bad.field-0 c.next_message.new.self c.end_with.new.self c.in-Ok-Bad.fault c.malformed.result c.in-Ok-Bad.field-0-is c.in-Ok-Bad.ensures.ok c.malformed.ensures c.end_with.ensures
-
-pub returns-in-Err-clause-step : goal.returns-in-Err-clause-step
-returns-in-Err-clause-step c = refused_step c.args.policy.now c.args.side c.args.self.now c.next_message.new.self c.end_with-in-Err.new.self c.requires.running c.in-Err.ensures.err c.end_with-in-Err.ensures
+pub returns-clause-light : goal.returns-clause-light
+returns-clause-light c =
+    first_light c.args.policy.now c.args.side c.args.self.now c.take_first-more.new.self c.put_messages.new.self c.take_first-more.new.messages c.take_first-more.result c.put_messages.ensures
+    (lent_first c.args.policy.now c.args.side c.args.self.now c.lend_messages-messages.new.self c.take_first-more.new.self c.lend_messages-messages.result c.take_first-more.new.messages c.take_first-more.result c.lend_messages-messages.ensures.left c.lend_messages-messages.ensures.rest c.take_first-more.ensures)

@@ -1,29 +1,27 @@
-use Rattle.std.proofs.Common.{◌≡◌, ap, subst, ◌∙◌, sym}
-use Rattle.dbus_header.specs.Message.{Message}
+use Rattle.std.proofs.Common.{◌≡◌, ap, subst, sym}
 use Rattle.policy_view.specs.declared.Decision.TheVariants.{Judged, Shown}
 use Rattle.policy_view.specs.declared.Side.{Side}
-use Rattle.policy_view.specs.declared.Side.TheVariants.{Client, Bus}
 use Rattle.proxy_core.specs.Messages.{decision_in, with_message}
 use Rattle.proxy_core.specs.Steps.{TookMessage}
-use Rattle.proxy_core.proofs.Taking.{spelled_in}
+use Rattle.proxy_core.proofs.Taking.{tree}
 use Rattle.proxy_core.proofs.session.Session.take_message.Goals as goal
 
 pub returns-in-Client-clause-took : goal.returns-in-Client-clause-took
-returns-in-Client-clause-took c = λ m valid is.
-    subst (λ (s : Side). TookMessage (with_message c.args.policy.now s m c.args.self.now) c.args.self.now c.take_client_message.new.self) (sym c.in-Client.is)
-    (subst (λ (k : Message). TookMessage (with_message c.args.policy.now Client k c.args.self.now) c.args.self.now c.take_client_message.new.self) (spelled_in c.message_of-message.result.bytes.now m valid (c.message_of-message.ensures.bytes ∙ is)) c.take_client_message.ensures.took)
+returns-in-Client-clause-took c =
+    subst (λ (s : Side). TookMessage (with_message c.args.policy.now s (tree c.args.message.now) c.args.self.now) c.args.self.now c.take_client_message.new.self) (sym c.in-Client.is)
+    c.take_client_message.ensures.took
 
 pub returns-in-Bus-clause-took : goal.returns-in-Bus-clause-took
-returns-in-Bus-clause-took c = λ m valid is.
-    subst (λ (s : Side). TookMessage (with_message c.args.policy.now s m c.args.self.now) c.args.self.now c.take_bus_message.new.self) (sym c.in-Bus.is)
-    (subst (λ (k : Message). TookMessage (with_message c.args.policy.now Bus k c.args.self.now) c.args.self.now c.take_bus_message.new.self) (spelled_in c.message_of-message.result.bytes.now m valid (c.message_of-message.ensures.bytes ∙ is)) c.take_bus_message.ensures.took)
+returns-in-Bus-clause-took c =
+    subst (λ (s : Side). TookMessage (with_message c.args.policy.now s (tree c.args.message.now) c.args.self.now) c.args.self.now c.take_bus_message.new.self) (sym c.in-Bus.is)
+    c.take_bus_message.ensures.took
 
 pub returns-in-Client-clause-decision : goal.returns-in-Client-clause-decision
-returns-in-Client-clause-decision c = λ m valid is.
-    subst (λ (s : Side). Judged c.take_client_message.result ≡ decision_in c.args.policy.now s m c.args.self.now) (sym c.in-Client.is)
-    (subst (λ (k : Message). Judged c.take_client_message.result ≡ decision_in c.args.policy.now Client k c.args.self.now) (spelled_in c.message_of-message.result.bytes.now m valid (c.message_of-message.ensures.bytes ∙ is)) (ap Judged c.take_client_message.ensures.decision))
+returns-in-Client-clause-decision c =
+    subst (λ (s : Side). Judged c.take_client_message.result ≡ decision_in c.args.policy.now s (tree c.args.message.now) c.args.self.now) (sym c.in-Client.is)
+    (ap Judged c.take_client_message.ensures.decision)
 
 pub returns-in-Bus-clause-decision : goal.returns-in-Bus-clause-decision
-returns-in-Bus-clause-decision c = λ m valid is.
-    subst (λ (s : Side). Shown c.take_bus_message.result ≡ decision_in c.args.policy.now s m c.args.self.now) (sym c.in-Bus.is)
-    (subst (λ (k : Message). Shown c.take_bus_message.result ≡ decision_in c.args.policy.now Bus k c.args.self.now) (spelled_in c.message_of-message.result.bytes.now m valid (c.message_of-message.ensures.bytes ∙ is)) (ap Shown c.take_bus_message.ensures.decision))
+returns-in-Bus-clause-decision c =
+    subst (λ (s : Side). Shown c.take_bus_message.result ≡ decision_in c.args.policy.now s (tree c.args.message.now) c.args.self.now) (sym c.in-Bus.is)
+    (ap Shown c.take_bus_message.ensures.decision)

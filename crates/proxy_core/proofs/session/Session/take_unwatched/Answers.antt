@@ -1,9 +1,10 @@
 use Rattle.std.proofs.Common.{ap, ◌∙◌, sym}
 use Rattle.proxy_core.specs.Sessions.{SessionView}
 use Rattle.proxy_core.proofs.Noting.{unnoted}
+use Rattle.proxy_core.proofs.Taking.{tree}
 use Rattle.proxy_core.proofs.session.Session.take_unwatched.Goals as goal
 
 pub returns : goal.returns
-returns c = λ m valid is.
-    unnoted c.args.policy.now c.args.side m c.args.self.now c.take_message-decision.new.self (ap (λ (v : SessionView). v.mode.notes) (sym c.self.view_is) ∙ c.if-self.false)
-    (c.take_message-decision.ensures.took m valid (c.as_slice.ensures ∙ is))
+returns c =
+    unnoted c.args.policy.now c.args.side (tree c.args.message.now) c.args.self.now c.take_message-decision.new.self (ap (λ (v : SessionView). v.mode.notes) (sym c.self.view_is) ∙ c.if-self.false)
+    c.take_message-decision.ensures.took

@@ -1,6 +1,6 @@
-//! The bytes of a side that came and weren't given yet.
+//! The lines of a side: the bytes that came and weren't given yet.
 ghost use Rattle.std.specs.Prelude.{◌≡◌, ◌^◌, ◌<◌, ◌≤◌, ◌+◌, ◌++◌, [], Some, None, IfOk, OnOk, OnErr, length, take, drop, slice_get};
-ghost use Rattle.sasl_watch.specs.Watching.{at_start};
+ghost use Rattle.sasl_watch.specs.Watching.{at_start, came};
 ghost use Rattle.sasl_watch.specs.Fronts.{IsFront};
 
 use crate::front::{Front, line_in_front, plain_len};
@@ -13,7 +13,9 @@ use std::marker::Model;
 /// stream that has given many lines doesn't keep their memory.
 const RENEWAL: usize = 65_536;
 
-/// The stream of a side: pieces come in by `push`, and lines are taken from the front.
+/// A side of the authentication phase (D-Bus Specification, "Authentication Protocol"): pieces of its stream come in by `push`. Of the
+/// client's, the NUL and the lines up to BEGIN are taken by `next_of_client`; of the bus's, the lines by which it answers them by
+/// `next_of_bus`.
 ///
 /// ```text
 ///   given   line in front         what follows
@@ -23,7 +25,7 @@ const RENEWAL: usize = 65_536;
 ///           bytes                              ^ push
 /// ```
 #[derive(Drop)]
-pub(crate) struct Stream {
+pub struct Lines {
     bytes: BytesMut,
     /// How many bytes of the stream were given.
     place: u64,
@@ -36,7 +38,7 @@ pub(crate) struct Stream {
     alloc: Global,
 }
 
-impl Model for Stream {
+impl Model for Lines {
     ghost use Rattle.std.specs.Prelude.{◌+◌, ◌<◌, ◌^◌, length};
     ghost use Rattle.sasl_watch.specs.Watching.{Watch};
 
@@ -66,11 +68,12 @@ fn renew(alloc: Global, bytes: &mut BytesMut, used: usize) -> usize
     }
 }
 
-impl Stream {
-    pub(crate) fn new(alloc: Global) -> Stream
+impl Lines {
+    /// It takes no memory before the first piece.
+    pub fn new(alloc: Global) -> Lines
         ensures { result ≡ at_start }
     {
-        Stream {
+        Lines {
             bytes: BytesMut::new(alloc),
             place: 0,
             plain: 0,
@@ -80,8 +83,8 @@ impl Stream {
         }
     }
 
-    /// How many bytes are left.
-    pub(crate) fn len(&self) -> usize
+    /// How many bytes came and weren't given yet.
+    pub fn len(&self) -> usize
         ensures value { result ≡ length self.now.left }
         ensures bound { result < 2 ^ 63 }
     {
@@ -117,9 +120,9 @@ impl Stream {
         &self.bytes.as_slice()[..len]
     }
 
-    /// Puts a piece behind what came before.
-    pub(crate) fn push(&mut self, piece: &[u8]) -> Result<(), AllocError>
-        requires { self.old.place + length self.old.left + length piece.now < 2 ^ 64 }
+    /// Puts a piece of the stream behind what came before. An error says that memory ran out; then nothing changes.
+    pub fn push(&mut self, piece: &[u8]) -> Result<(), AllocError>
+        requires { came self.old + length piece.now < 2 ^ 64 }
         ensures ok { OnOk result (self.new ≡ record self.old { left = self.old.left ++ piece.now }) }
         ensures err { OnErr result (self.new ≡ self.old) }
     {
@@ -148,6 +151,18 @@ impl Stream {
         self.place += len as u64;
         self.used = renew(self.alloc, &mut self.bytes, self.used.saturating_add(len));
         Ok(front)
+    }
+
+    /// Gives all bytes that are left, after the lines those of the messages. None is copied. An error says that memory ran out; then
+    /// nothing changes.
+    pub fn left(&mut self) -> Result<Bytes, AllocError>
+        ensures bytes { IfOk result (λ bytes. bytes ≡ self.old.left) }
+        ensures ok { OnOk result (self.new
+            ≡ record { place = self.old.place + length self.old.left; left = []; bad = self.old.bad }) }
+        ensures err { OnErr result (self.new ≡ self.old) }
+    {
+        let len = self.len();
+        self.take(len)
     }
 
     /// Passes over so many bytes, as `take` does, with no memory.

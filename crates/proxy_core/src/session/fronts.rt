@@ -1,0 +1,84 @@
+//! The message in front of a side's stream. What is left of the stream is lent out of the session meanwhile, so that the message is read
+//! where it stands, once.
+ghost use Rattle.std.specs.Prelude.{◌≡◌, [], false, true, None};
+ghost use Rattle.policy_view.specs.History.{malformed as malformed_by};
+ghost use Rattle.policy_view.specs.declared.Fault.TheVariants.{Message as OfMessage};
+ghost use Rattle.proxy_core.specs.Messages.{ended_by};
+ghost use Rattle.proxy_core.specs.Seen.{TookFirst};
+ghost use Rattle.proxy_core.specs.Sessions.{stream_of};
+ghost use Rattle.proxy_core.specs.Steps.{with_left, step_of, Stepped, IsLight};
+ghost use Rattle.proxy_core.specs.Streams.{InMessages};
+
+use super::{Session, malformed};
+use dbus_framing::{Framer, Front};
+use dbus_header::Malformed;
+use policy_args::Policy;
+use policy_view::{Fault, Side};
+
+impl Session {
+    /// Lends out what is left of the messages of a side's stream. None is left in the session meanwhile.
+    fn lend_messages(&mut self, side: Side) -> Framer
+        requires { (stream_of side self.old).phase ≡ InMessages }
+        ensures left { result ≡ (stream_of side self.old).left }
+        ensures rest { self.new ≡ with_left side [] self.old }
+    {
+        match side {
+            Side::Client => self.client.lend_messages(),
+            Side::Bus => self.bus.lend_messages(),
+        }
+    }
+
+    /// Puts back what is left of what was lent.
+    fn put_messages(&mut self, side: Side, messages: Framer)
+        requires { (stream_of side self.old).phase ≡ InMessages }
+        ensures { self.new ≡ with_left side messages self.old }
+    {
+        match side {
+            Side::Client => self.client.put_messages(messages),
+            Side::Bus => self.bus.put_messages(messages),
+        }
+    }
+
+    /// A fault of a side's stream ends the session. Tells that no more may follow.
+    fn end_malformed(&mut self, side: Side, fault: Malformed) -> bool
+        ensures ended { self.new ≡ ended_by (malformed_by side (OfMessage fault)) self.old }
+        ensures stops { result ≡ false }
+    {
+        self.end_with(malformed(side, Fault::Message(fault)));
+        false
+    }
+
+    /// Takes the first of a side's messages, or ends the session where a fault stands in front. Tells whether more may follow.
+    fn take_first(&mut self, policy: &Policy, side: Side, messages: &mut Framer) -> bool
+        requires { self.old.ended ≡ None }
+        ensures { TookFirst policy.now side messages.old messages.new self.old self.new result }
+    {
+        match messages.front() {
+            Front::Whole(len) => match messages.message(len) {
+                Ok(message) => {
+                    self.take_whole(policy, side, &message);
+                    messages.take(len);
+                    self.ended.is_none()
+                }
+                Err(fault) => self.end_malformed(side, fault),
+            },
+            Front::Rest => false,
+            Front::Bad(fault) => self.end_malformed(side, fault),
+        }
+    }
+
+    /// Takes the message in front of a side's stream, or ends the session where a fault stands there. Tells whether more
+    /// may follow.
+    pub(super) fn take_front_message(&mut self, policy: &Policy, side: Side) -> bool
+        requires running { self.old.ended ≡ None }
+        requires messages { (stream_of side self.old).phase ≡ InMessages }
+        requires filtered { self.old.mode.filter ≡ true }
+        ensures step { Stepped (step_of policy.now side self.old) self.old self.new result }
+        ensures light { IsLight policy.now 0 self.old self.new }
+    {
+        let mut messages = self.lend_messages(side);
+        let more = self.take_first(policy, side, &mut messages);
+        self.put_messages(side, messages);
+        more
+    }
+}

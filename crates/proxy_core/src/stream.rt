@@ -1,0 +1,198 @@
+//! The stream of a side: the lines of authentication, where the session begins with them, and then messages.
+ghost use Rattle.std.specs.Prelude.{◌≡◌, ◌≤◌, ◌<◌, ◌+◌, ◌^◌, [], true, IsTrue, IfOk, OnOk, OnErr, length};
+ghost use Rattle.sasl_watch.specs.Watching.{BusGives, ClientGives};
+ghost use Rattle.policy_view.specs.History.{longest_stream};
+ghost use Rattle.proxy_core.specs.Streams.{InMessages, GaveLine, is_in_lines as in_lines, new_stream, pushed};
+
+use bytes::Bytes;
+use dbus_framing::Framer;
+use sasl_watch::{Lines, NextLine};
+use std::alloc::{AllocError, Global};
+use std::marker::Model;
+use std::mem;
+
+/// What is taken from the front of the stream.
+#[derive(Drop)]
+pub(crate) enum Content {
+    Lines(Lines),
+    Messages(Framer),
+}
+
+/// The stream of a side. Its lines are the client's up to BEGIN, or the bus's as many as answer the client's.
+#[derive(Drop)]
+pub(crate) struct Stream {
+    /// How many bytes came.
+    came: u64,
+    content: Content,
+    /// How many lines were given: of the client's without the NUL and BEGIN.
+    lines: u64,
+    alloc: Global,
+}
+
+impl Model for Stream {
+    ghost use Rattle.proxy_core.specs.Streams.{StreamView, phase_of, left_in, Sound};
+
+    ghost Value = { StreamView };
+
+    ghost view = { λ s. record { came = s.came; phase = phase_of s.content; left = left_in s.content; lines = s.lines } };
+
+    ghost invariant = { λ s. Sound s.came s.content s.lines };
+}
+
+impl Stream {
+    /// A stream to which nothing came.
+    pub(crate) fn new(alloc: Global, auth: bool) -> Stream
+        ensures { result ≡ new_stream auth }
+    {
+        let content = if auth {
+            Content::Lines(Lines::new(alloc))
+        } else {
+            Content::Messages(Framer::new(alloc))
+        };
+        Stream {
+            came: 0,
+            content,
+            lines: 0,
+            alloc,
+        }
+    }
+
+    /// How many bytes came.
+    pub(crate) fn came(&self) -> u64
+        ensures value { result ≡ self.now.came }
+        ensures bound { result ≤ longest_stream }
+    {
+        self.came
+    }
+
+    /// How many lines were given.
+    pub(crate) fn lines(&self) -> u64
+        ensures { result ≡ self.now.lines }
+    {
+        self.lines
+    }
+
+    /// How many bytes are no whole line or message yet.
+    pub(crate) fn len(&self) -> usize
+        ensures value { result ≡ length self.now.left }
+        ensures bound { result < 2 ^ 63 }
+    {
+        match &self.content {
+            Content::Lines(lines) => lines.len(),
+            Content::Messages(framer) => framer.len(),
+        }
+    }
+
+    /// Whether lines come.
+    pub(crate) fn is_in_lines(&self) -> bool
+        ensures { result ≡ in_lines self.now.phase }
+    {
+        match &self.content {
+            Content::Lines(_) => true,
+            Content::Messages(_) => false,
+        }
+    }
+
+    /// Puts bytes behind what is left.
+    pub(crate) fn push(&mut self, bytes: &[u8]) -> Result<(), AllocError>
+        requires { self.old.came + length bytes.now ≤ longest_stream }
+        ensures ok { OnOk result (self.new ≡ pushed bytes.now self.old) }
+        ensures err { OnErr result (self.new ≡ self.old) }
+    {
+        match &mut self.content {
+            Content::Lines(lines) => lines.push(bytes)?,
+            Content::Messages(framer) => framer.push(bytes)?,
+        }
+        self.came += bytes.len() as u64;
+        Ok(())
+    }
+
+    /// What stands in front of the client's stream while lines come.
+    pub(crate) fn next_client_line(&mut self) -> Result<NextLine, AllocError>
+        requires { in_lines self.old.phase ≡ true }
+        ensures ok { IfOk result (λ next. GaveLine ClientGives self.old next self.new) }
+        ensures err { OnErr result (self.new ≡ self.old) }
+    {
+        let next = match &mut self.content {
+            Content::Lines(lines) => lines.next_of_client()?,
+            Content::Messages(_) => unreachable!(),
+        };
+        if let NextLine::Line(_) = &next {
+            self.lines += 1;
+        }
+        Ok(next)
+    }
+
+    /// What stands in front of the bus's stream while lines come, where so many lines of the client wait for their answer and the client has
+    /// sent BEGIN or not.
+    pub(crate) fn next_bus_line(
+        &mut self,
+        unanswered: u64,
+        begun: bool,
+    ) -> Result<NextLine, AllocError>
+        requires { in_lines self.old.phase ≡ true }
+        ensures ok { IfOk result (λ next. GaveLine (BusGives unanswered begun) self.old next self.new) }
+        ensures err { OnErr result (self.new ≡ self.old) }
+    {
+        let next = match &mut self.content {
+            Content::Lines(lines) => lines.next_of_bus(unanswered, begun)?,
+            Content::Messages(_) => unreachable!(),
+        };
+        if let NextLine::Line(_) = &next {
+            self.lines += 1;
+        }
+        Ok(next)
+    }
+
+    /// Lends out what is left while messages come. None is left here meanwhile.
+    pub(crate) fn lend_messages(&mut self) -> Framer
+        requires { self.old.phase ≡ InMessages }
+        ensures left { result ≡ self.old.left }
+        ensures rest { self.new ≡ record self.old { left = [] } }
+    {
+        match &mut self.content {
+            Content::Lines(_) => unreachable!(),
+            Content::Messages(framer) => mem::replace(framer, Framer::new(self.alloc)),
+        }
+    }
+
+    /// Puts back what is left of what was lent.
+    pub(crate) fn put_messages(&mut self, framer: Framer)
+        requires { self.old.phase ≡ InMessages }
+        ensures { self.new ≡ record self.old { left = framer } }
+    {
+        match &mut self.content {
+            Content::Lines(_) => unreachable!(),
+            Content::Messages(left) => *left = framer,
+        }
+    }
+
+    /// All bytes that are left while messages come, whatever they hold. None is left then.
+    pub(crate) fn left(&mut self) -> Result<Bytes, AllocError>
+        requires { self.old.phase ≡ InMessages }
+        ensures bytes { IfOk result (λ bytes. bytes ≡ self.old.left) }
+        ensures ok { OnOk result (self.new ≡ record self.old { left = [] }) }
+        ensures err { OnErr result (self.new ≡ self.old) }
+    {
+        match &mut self.content {
+            Content::Lines(_) => unreachable!(),
+            Content::Messages(framer) => framer.left(),
+        }
+    }
+
+    /// The lines end here, and messages begin. Where memory is short, bytes may be lost.
+    pub(crate) fn begin_messages(&mut self) -> Result<(), AllocError>
+        requires { in_lines self.old.phase ≡ true }
+        ensures ok { OnOk result (self.new ≡ record self.old { phase = InMessages }) }
+        ensures err { OnErr result (length self.new.left ≤ length self.old.left) }
+    {
+        let left = match &mut self.content {
+            Content::Lines(lines) => lines.left()?,
+            Content::Messages(_) => unreachable!(),
+        };
+        // The lines' buffer is given up, so that what is left of it has one owner and isn't copied.
+        self.content = Content::Messages(Framer::new(self.alloc));
+        self.content = Content::Messages(Framer::with_bytes(self.alloc, left)?);
+        Ok(())
+    }
+}
