@@ -12,17 +12,21 @@ mod values;
 pub use laws::{read_values_are_spelled, spelled_values_are_read, unread_values_are_not_spelled};
 pub use steps::{is_zero, padding};
 pub use texts::{Texts, first_text, text_list, texts3};
+use thiserror::Error;
 pub use values::value_end;
 
 /// The byte order of a message (D-Bus Specification, "Message Format": `l` is little, `B` is big).
 #[derive(Clone, Copy, Debug, PartialEq, Eq)]
 pub enum Order {
+    /// `l`: the least significant byte stands first.
     Little,
+    /// `B`: the most significant byte stands first.
     Big,
 }
 
 /// Bytes that aren't the values of a signature (D-Bus Specification, "Type System", "Marshaling").
-#[derive(Clone, Copy, Debug, PartialEq, Eq)]
+#[derive(Clone, Copy, Debug, PartialEq, Eq, Error)]
+#[error("byte {at}: no value of the signature's next type")]
 pub struct BadValue {
     /// Where the last valid value of the signature's own types ended; where none did, where they were to begin.
     pub at: usize,

@@ -10,6 +10,7 @@ use crate::Order;
 use crate::containers::front_code;
 use crate::cursor::Cursor;
 use dbus_types::Signature;
+use std::alloc::AllocError;
 use std::marker::Model;
 use std::str;
 
@@ -64,7 +65,7 @@ pub fn texts3<'a>(order: Order, body: &'a [u8]) -> [&'a str; 3]
 }
 
 /// The strings of an array, one after the other.
-#[derive(Clone, Drop)]
+#[derive(Drop)]
 pub struct Texts<'a> {
     order: Order,
     at: Cursor<'a>,
@@ -80,6 +81,21 @@ impl<'a> Model for Texts<'a> {
     ghost view = { λ t. texts_or_none (texts_in t.order (place_seen t.at)) };
 
     ghost invariant = { λ t. IsSome (texts_in t.order (place_seen t.at)) };
+}
+
+impl<'a> Clone for Texts<'a> {
+    ghost use Rattle.std.specs.Prelude.{◌≡◌, ⊤};
+
+    ghost is_clone = { λ texts copy. copy ≡ texts };
+
+    ghost is_infallible = { λ _. ⊤ };
+
+    fn clone(&self) -> Result<Texts<'a>, AllocError> {
+        Ok(Texts {
+            order: self.order,
+            at: self.at,
+        })
+    }
 }
 
 impl<'a> Iterator for Texts<'a> {
