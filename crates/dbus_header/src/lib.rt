@@ -20,32 +20,45 @@ pub use head::length;
 pub use kinds::{ERROR, METHOD_CALL, METHOD_RETURN, NO_AUTO_START, NO_REPLY_EXPECTED, SIGNAL};
 pub use message::Message;
 pub use numbers::{SERIAL_PLACE, set_reply_serial, set_serial, write_u32};
+use thiserror::Error;
 
 /// What is wrong with a message that isn't valid (D-Bus Specification, "Message Format").
-#[derive(Clone, Copy, Debug, PartialEq, Eq)]
+#[derive(Clone, Copy, Debug, PartialEq, Eq, Error)]
 pub enum MalformedKind {
     /// The first byte is neither `l` nor `B`.
+    #[error("the byte order is unknown")]
     ByteOrder,
     /// The message type is 0, which is invalid.
+    #[error("the message type is 0")]
     MessageType,
     /// The protocol version isn't 1.
+    #[error("the protocol version isn't 1")]
     Version,
-    /// The header fields are longer than 2^26 bytes, or the whole message than 2^27.
+    /// The header fields are longer than 2^26 bytes, which is the maximum length of an array, or the whole message than
+    /// 2^27.
+    #[error("the header fields or the message are too long")]
     Length,
     /// The serial is 0.
+    #[error("the serial is 0")]
     Serial,
-    /// The header fields aren't a spelled `a(yv)`, one of them is invalid, or the padding after them isn't zero.
+    /// The header fields aren't a spelled `a(yv)`, one of them is invalid or stands twice, or the padding after them isn't
+    /// zero ("Header Fields"; "Valid Names").
+    #[error("the header fields are invalid")]
     Fields,
-    /// A header field that the type needs is absent.
+    /// A header field that the type needs is absent ("Header Fields").
+    #[error("a required header field is absent")]
     Required,
-    /// The body isn't exactly the values that SIGNATURE states.
+    /// The body isn't exactly the values that SIGNATURE states ("Type System", "Marshaling").
+    #[error("the body isn't the values of its signature")]
     Body,
-    /// UNIX_FDS stands and isn't 0: descriptors aren't passed on.
+    /// UNIX_FDS stands and isn't 0: descriptors aren't passed on ("Header Fields").
+    #[error("the message comes with file descriptors")]
     Descriptors,
 }
 
 /// A message that isn't valid, by what is wrong with it and the place in its bytes, from 0.
-#[derive(Clone, Copy, Debug, PartialEq, Eq)]
+#[derive(Clone, Copy, Debug, PartialEq, Eq, Error)]
+#[error("byte {at}: {kind}")]
 pub struct Malformed {
     pub kind: MalformedKind,
     pub at: u32,
