@@ -25,6 +25,7 @@ pub use line::{Block, ProxyLine, read_line};
 pub use options::{Options, read_options};
 pub use policy::Policy;
 pub use refusals::LineRefusal;
+use thiserror::Error;
 pub use words::words_of;
 
 /// How far a policy lets a name be used (xdg-dbus-proxy(1), "Filtering").
@@ -69,29 +70,39 @@ impl Level {
 }
 
 /// What is wrong with a word.
-#[derive(Clone, Copy, Debug, PartialEq, Eq)]
+#[derive(Clone, Copy, Debug, PartialEq, Eq, Error)]
 pub enum WordKind {
-    /// The word is no option.
+    /// The word is no option (xdg-dbus-proxy(1), "Options").
+    #[error("unknown option")]
     UnknownOption,
-    /// An option's name is no bus name that the option takes.
+    /// An option's name is no bus name that the option takes (xdg-dbus-proxy(1), "Filtering"; D-Bus
+    /// Specification, "Valid Names").
+    #[error("the option's name is no bus name that it takes")]
     BadName,
-    /// An option's rule is none.
+    /// An option's rule is none (xdg-dbus-proxy(1), `--call`).
+    #[error("the option's rule is no rule of calls")]
     BadRule,
-    /// A bus address is none.
+    /// A bus address is none (D-Bus Specification, "Server Addresses").
+    #[error("the word is no bus address with the path of a socket")]
     BadAddress,
-    /// No path follows a bus address.
+    /// No path follows a bus address (xdg-dbus-proxy(1), "Synopsis").
+    #[error("no path follows the bus address")]
     NoPath,
-    /// An option stands before the first bus address.
+    /// An option stands before the first bus address (xdg-dbus-proxy(1), "Synopsis").
+    #[error("an option stands before the first bus address")]
     OptionBeforeAddress,
     /// An option's number is none, or out of its range.
+    #[error("the option has no number in its range")]
     BadNumber,
     /// The word would give one more entry than the 65,535 that a policy may have, or one more block
     /// than the 65,535 that a line may have.
+    #[error("more than 65,535 entries or blocks")]
     TooMany,
 }
 
 /// The first bad word.
-#[derive(Clone, Copy, Debug, PartialEq, Eq)]
+#[derive(Clone, Copy, Debug, PartialEq, Eq, Error)]
+#[error("word {index}: {kind}")]
 pub struct BadWord {
     /// Its place among the words, from 0. A path that is missing behind the last word stands behind
     /// it, and an address that is missing since there are no words stands at 0.

@@ -4,13 +4,16 @@ ghost use Rattle.policy_args.specs.Gives.{refusal_at};
 
 use crate::{BadWord, WordKind};
 use std::alloc::{AllocError, AllocFailed};
+use thiserror::Error;
 
 /// Why words were not read.
-#[derive(Debug, Drop)]
+#[derive(Debug, Drop, Error)]
 pub enum LineRefusal {
     /// A word is none of the options, or not as its option wants it.
+    #[error(transparent)]
     Bad(BadWord),
     /// Memory ran out.
+    #[error("out of memory")]
     Memory,
 }
 
@@ -37,7 +40,9 @@ impl<T: Drop> From<AllocFailed<T>> for LineRefusal {
 // Why one word was refused.
 #[derive(Drop)]
 pub(crate) enum WordRefusal {
+    // It is none of the options, or not as its option wants it.
     Bad(WordKind),
+    // Memory ran out.
     Memory,
 }
 
