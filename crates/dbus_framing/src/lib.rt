@@ -1,4 +1,6 @@
 //! The messages of a stream that comes in pieces (D-Bus Specification, "Message Format").
+//!
+//! A `Framer` is driven by `push` with each piece, and then by `front`, `message` and `take` until nothing whole is left.
 #![tactic(auto)]
 
 mod framer;

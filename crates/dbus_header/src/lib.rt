@@ -1,4 +1,6 @@
 //! D-Bus messages: their parts, their spelling, which are valid, and the laws between spelling and reading.
+//!
+//! It is driven by `length`, with the first sixteen bytes of a message, and then by `decode`, with the whole of it; a `Message` lends its parts.
 #![tactic(auto)]
 
 mod bodies;

@@ -1,4 +1,6 @@
 //! D-Bus types and signatures: their trees, their one spelling, and the laws between the two.
+//!
+//! It is driven by `Signature::read`; `behind_type` passes over one type of a signature.
 #![tactic(auto)]
 
 mod codes;

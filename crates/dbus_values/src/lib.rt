@@ -1,4 +1,7 @@
 //! D-Bus values: how one is spelled at a place of a message, how it is read from bytes, and the laws between the two.
+//!
+//! It is driven by `value_end`, which passes over the values of a signature; the texts of a body that was so passed over are read by `first_text`,
+//! `texts3` and `text_list`.
 #![tactic(auto)]
 
 mod basic;

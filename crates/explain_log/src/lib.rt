@@ -1,4 +1,6 @@
 //! The lines of the log: what was decided on each message of a session, and the entry of the policy on which that rests.
+//!
+//! It is driven by `line` with each note of a session, and by `entry_line` where the entry is to be shown too.
 #![tactic(auto)]
 
 mod decisions;

@@ -1,5 +1,7 @@
 //! The definitions of a filtering D-Bus proxy: what a session's events make of its history, what is sent to the bus and
 //! what the client is shown; the plain types in which the other crates speak of it; and the laws of the definitions.
+//!
+//! It is read more than called: the crates that stand on it are proved against its `specs`.
 #![tactic(auto)]
 
 mod note;

@@ -1,4 +1,7 @@
 //! The session: what comes of either side goes in, and what is to be sent to either side comes out.
+//!
+//! A `Session` is driven by `feed_client` and `feed_bus` with each piece that came; `to_bus` and `to_client` have what waits, and `took_bus` and `took_client`
+//! are told what was written of it.
 #![tactic(auto)]
 
 mod elements;

@@ -1,4 +1,6 @@
 //! The net of a proxy over Unix sockets.
+//!
+//! A `MioNet` is driven by the calls of `link_traits::Net`.
 #![tactic(auto)]
 
 mod link_sockets;

@@ -1,4 +1,6 @@
 //! A filtering D-Bus proxy: its program.
+//!
+//! It gives the words, the disk's files, the Unix sockets and the standard streams to `proxy_main::run`, and ends with the status that this answers.
 #![tactic(auto)]
 
 use proxy_main::{DiskFiles, StdSink, run};
