@@ -21,6 +21,7 @@ use dbus_header::{Instead, Malformed};
 use dbus_values::Order;
 pub use note::{Note, message_of};
 use sasl_watch::LineFault;
+use thiserror::Error;
 pub use visible::{NameList, Visible};
 
 /// A side of a session.
@@ -118,40 +119,54 @@ pub enum Decision {
 }
 
 /// What is wrong with a side's stream.
-#[derive(Clone, Copy, Debug, PartialEq, Eq)]
+#[derive(Clone, Copy, Debug, PartialEq, Eq, Error)]
 pub enum Fault {
-    /// A line of the authentication protocol that isn't one.
+    /// A line that isn't one (D-Bus Specification, "Authentication Protocol").
+    #[error("line: {0}")]
     Line(LineFault),
-    /// A message that isn't valid.
+    /// A message that isn't valid (D-Bus Specification, "Message Format").
+    #[error("message: {0}")]
     Message(Malformed),
 }
 
 /// Why a session ended.
-#[derive(Clone, Copy, Debug, PartialEq, Eq)]
+#[derive(Clone, Copy, Debug, PartialEq, Eq, Error)]
 pub enum End {
     /// The client's stream is malformed.
+    #[error("the client's stream is malformed: {0}")]
     ClientMalformed(Fault),
     /// The bus's stream is malformed.
+    #[error("the bus's stream is malformed: {0}")]
     BusMalformed(Fault),
     /// The client's stream ended.
+    #[error("the client's stream ended")]
     ClientEnd,
     /// The bus's stream ended.
+    #[error("the bus's stream ended")]
     BusEnd,
     /// There is no serial left for a message that is due.
+    #[error("all serials were given")]
     SerialsSpent,
     /// Memory was refused.
+    #[error("out of memory")]
     Memory,
     /// The client's link could not be read.
+    #[error("the client's link could not be read")]
     ClientRead,
     /// The client's link could not be written.
+    #[error("the client's link could not be written")]
     ClientWrite,
     /// The bus's link could not be read.
+    #[error("the bus's link could not be read")]
     BusRead,
     /// The bus's link could not be written.
+    #[error("the bus's link could not be written")]
     BusWrite,
     /// The bus could not be connected.
+    #[error("the bus could not be connected")]
     BusConnect,
     /// The log could not be written.
+    #[error("the log could not be written")]
     LogFault,
 }
 
