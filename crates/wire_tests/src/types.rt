@@ -1,4 +1,6 @@
 //! Which bytes are signatures, and what follows a type.
+ghost use Rattle.std.specs.Prelude.{◌≡◌, ◌↔◌, IsTrue};
+
 use dbus_types::{BadSignature, Signature, behind_type};
 use std::alloc::{AllocError, Global};
 use std::str;
@@ -75,6 +77,13 @@ fn told_reason(alloc: Global, why: BadSignature) -> Result<String, AllocError> {
     format!(in alloc; "{why:?}")
 }
 
+/// Refusals are equal exactly where they are the same.
+fn are_equal(one: BadSignature, other: BadSignature) -> bool
+    ensures { IsTrue result ↔ (one ≡ other) }
+{
+    one == other
+}
+
 fn told_repeated(alloc: Global, row: &str) -> Result<String, AllocError> {
     let mut text = String::new(alloc);
     for word in row.split(' ') {
@@ -106,5 +115,18 @@ fn signatures_are_within_their_limits(rt: HostRuntime) -> Result<(), Fail> {
 #[test]
 fn what_is_behind_a_type(rt: HostRuntime) -> Result<(), Fail> {
     assert_eq!(rt; wrong_row(rt.alloc(), BEHIND, &told_behind)?, None);
+    Ok(())
+}
+
+#[test]
+fn refused_signatures_are_told(rt: HostRuntime) -> Result<(), Fail> {
+    let long = BadSignature::TooLong;
+    let told = format!(in rt.alloc(); "{long}; {}; {}", BadSignature::Depth, BadSignature::Form);
+    let expected = "the signature is longer than 255 bytes; \
+        the signature is more than 32 arrays or 32 structs deep; \
+        the signature is no list of complete types";
+    assert_eq!(rt; told?.as_str(), expected);
+    assert_eq!(rt; are_equal(long, BadSignature::TooLong), true, "the same");
+    assert_eq!(rt; are_equal(long, BadSignature::Depth), false, "another");
     Ok(())
 }

@@ -122,10 +122,14 @@ fn told_texts(alloc: Global) -> Result<String, AllocError> {
     format!(in alloc; "{first}|{one}|{two}|{three}")
 }
 
+/// The strings of a list, where one was taken from a clone of it.
 fn told_list(alloc: Global) -> Result<String, AllocError> {
     let list = b"\x0f\0\0\0\x01\0\0\0a\0\0\0\x02\0\0\0bc\0";
+    let texts = text_list(Order::Little, list);
     let mut told = String::new(alloc);
-    for text in text_list(Order::Little, list) {
+    told.push_str(texts.clone()?.next().unwrap_or("-"))?;
+    told.push(' ')?;
+    for text in texts {
         told.push_str(text)?;
         told.push('|')?;
     }
@@ -135,6 +139,14 @@ fn told_list(alloc: Global) -> Result<String, AllocError> {
 #[test]
 fn texts_of_a_body_are_lent(rt: HostRuntime) -> Result<(), Fail> {
     assert_eq!(rt; told_texts(rt.alloc())?.as_str(), "a|a||bc", "sss");
-    assert_eq!(rt; told_list(rt.alloc())?.as_str(), "a|bc|", "as");
+    assert_eq!(rt; told_list(rt.alloc())?.as_str(), "a a|bc|", "as");
+    Ok(())
+}
+
+#[test]
+fn a_bad_value_is_told(rt: HostRuntime) -> Result<(), Fail> {
+    let told = format!(in rt.alloc(); "{}", BadValue { at: 8 });
+    let expected = "byte 8: no value of the signature's next type";
+    assert_eq!(rt; told?.as_str(), expected);
     Ok(())
 }
