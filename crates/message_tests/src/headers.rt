@@ -1,7 +1,8 @@
 //! What bytes are as messages, what is wrong with others, and the numbers that are changed in place.
 use crate::messages::{changed, is_whole};
 use dbus_header::{
-    Malformed, Message, SERIAL_PLACE, decode, length, set_reply_serial, set_serial, write_u32,
+    Malformed, MalformedKind, Message, SERIAL_PLACE, decode, length, set_reply_serial, set_serial,
+    write_u32,
 };
 use dbus_values::Order;
 use std::alloc::{AllocError, Global};
@@ -221,4 +222,13 @@ fn a_number_is_written_in_its_order(rt: HostRuntime) {
         write_u32(order, &mut bytes, SERIAL_PLACE, 258);
         assert_eq!(rt; &bytes[7..13], expected.as_slice());
     }
+}
+
+#[test]
+fn says_what_is_wrong(rt: HostRuntime) -> Result<(), Fail> {
+    let kind = MalformedKind::Length;
+    let told = format!(in rt.alloc(); "{}", Malformed { kind, at: 12 });
+    let expected = "byte 12: the header fields or the message are too long";
+    assert_eq!(rt; told?.as_str(), expected);
+    Ok(())
 }
