@@ -1,7 +1,7 @@
 //! What policy files and proxy lines say, and the first bad word of others.
 use policy_args::{
-    Block, Entry, Grant, Level, LineRefusal, Options, Policy, ProxyLine, read_line, read_options,
-    words_of,
+    BadWord, Block, Entry, Grant, Level, LineRefusal, Options, Policy, ProxyLine, WordKind,
+    read_line, read_options, words_of,
 };
 use std::alloc::{AllocError, Global};
 use std::test::Fail;
@@ -408,5 +408,15 @@ fn words_end_at_nul(rt: HostRuntime) -> Result<(), Fail> {
     for (file, expected) in rows {
         assert_eq!(rt; told_words(rt.alloc(), file)?.as_str(), expected);
     }
+    Ok(())
+}
+
+#[test]
+fn refused_words_are_told(rt: HostRuntime) -> Result<(), Fail> {
+    let kind = WordKind::NoPath;
+    let refusal = LineRefusal::Bad(BadWord { index: 1, kind });
+    let told = format!(in rt.alloc(); "{refusal}, {}", LineRefusal::Memory);
+    let expected = "word 1: no path follows the bus address, out of memory";
+    assert_eq!(rt; told?.as_str(), expected);
     Ok(())
 }
