@@ -4,25 +4,31 @@ ghost use Rattle.link_traits.specs.Told.{Rose};
 ghost use Rattle.policy_args.specs.Reading.{line_seen};
 ghost use Rattle.policy_args.specs.Words.{words_in};
 ghost use Rattle.line_words.specs.Words.{args_path, Reads, line_in};
+ghost use Rattle.line_words.specs.FilesRead.{paths_in, ReadUntil, IsNamedBy};
 ghost use Rattle.line_words.specs.Stops.{Agrees, StopsBy, StopsFrom, FileStops, IsBehind, Expands, CausedBy};
 
 use link_traits::{FileFault, Files, read_whole};
 use policy_args::{BadWord, LineRefusal, ProxyLine, read_line, words_of};
 use std::alloc::{AllocError, Global};
+use thiserror::Error;
 
 /// The most bytes that a file of words may have, 16 MiB, as a policy file.
 pub const ARGS_LIMIT: usize = 16_777_216;
 
 /// Why words give no proxy line.
-#[derive(Clone, Copy, Debug, PartialEq, Eq)]
+#[derive(Clone, Copy, Debug, PartialEq, Eq, Error)]
 pub enum LineStop<'a> {
     /// The file at this path, which a word names, was not read.
+    #[error("the file {0} could not be read")]
     File(&'a str),
     /// A file of words has more than `ARGS_LIMIT` bytes.
+    #[error("a file of words has too many bytes")]
     TooLong,
     /// A word is bad. Its index counts the words of each file in the place of the word that names it.
+    #[error("the word at index {} is bad", .0.index)]
     Bad(BadWord),
     /// Memory was refused.
+    #[error("out of memory")]
     Memory,
 }
 
@@ -37,6 +43,11 @@ pub fn read_words<'a, F: Files>(
     ensures stops { IfErr result (λ stop. StopsBy (F.told files.old) (map (λ w. string_bytes w) words.now) stop) }
     ensures cause { IfErr result (λ stop. CausedBy (Rose (F.faults files.old) (F.faults files.new)) stop) }
     ensures count { F.faults files.old ≤ F.faults files.new }
+
+    // Each file that the words name was read once, in the order of the words, and no other. Where they
+    // stop, a front of these was, up to the one that could not be.
+    ensures read { OnOk result (F.reads files.new ≡ F.reads files.old ++ paths_in (map (λ w. string_bytes w) words.now)) }
+    ensures until { IfErr result (λ stop. ReadUntil (paths_in (map (λ w. string_bytes w) words.now)) (F.reads files.old) (F.reads files.new) stop) }
 {
     match expand(alloc, files, words) {
         Ok(all) => match read_line(alloc, &all) {
@@ -58,6 +69,8 @@ fn expand<'a, F: Files>(
     ensures stops { IfErr result (λ stop. StopsBy (F.told files.old) (map (λ w. string_bytes w) words.now) stop) }
     ensures cause { IfErr result (λ stop. CausedBy (Rose (F.faults files.old) (F.faults files.new)) stop) }
     ensures count { F.faults files.old ≤ F.faults files.new }
+    ensures read { OnOk result (F.reads files.new ≡ F.reads files.old ++ paths_in (map (λ w. string_bytes w) words.now)) }
+    ensures until { IfErr result (λ stop. ReadUntil (paths_in (map (λ w. string_bytes w) words.now)) (F.reads files.old) (F.reads files.new) stop) }
 {
     let mut all = Vec::new(alloc);
     for word in words {
@@ -81,6 +94,8 @@ fn add_word<'a, F: Files>(
     ensures cause { IfErr result (λ stop. CausedBy (Rose (F.faults files.old) (F.faults files.new)) stop) }
     ensures count { F.faults files.old ≤ F.faults files.new }
     ensures kept { (p : List ℕ) → F.told files.new p ≡ F.told files.old p }
+    ensures read { F.reads files.new ≡ F.reads files.old ++ paths_in (word.now ∷ []) }
+    ensures named { IfErr result (λ stop. IsNamedBy word.now stop) }
 {
     match path_in(word) {
         Some(path) => match file_words(alloc, files, path) {
@@ -139,6 +154,7 @@ fn file_words<'a, F: Files>(
     ensures cause { IfErr result (λ stop. CausedBy (Rose (F.faults files.old) (F.faults files.new)) stop) }
     ensures count { F.faults files.old ≤ F.faults files.new }
     ensures kept { (p : List ℕ) → F.told files.new p ≡ F.told files.old p }
+    ensures read { F.reads files.new ≡ F.reads files.old ++ path.now ∷ [] }
 {
     match read_whole(alloc, files, path, ARGS_LIMIT) {
         Ok(bytes) => match words_of(alloc, &bytes) {

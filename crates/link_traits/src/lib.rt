@@ -3,7 +3,7 @@
 //! in memory.
 //!
 //! What files and sinks hold is said by `told`, as far as it is known: what is told in memory is all of it, and a disk tells
-//! nothing. Of links the journal is told in the same way: what the net's calls answered. Counts of faults say when the outside
+//! nothing. Which files were read is told too, by their paths. Of links the journal is told in the same way: what the net's calls answered. Counts of faults say when the outside
 //! failed.
 #![tactic(auto)]
 
@@ -12,6 +12,7 @@ pub mod links;
 pub mod mem_net;
 pub mod memory;
 pub mod outside;
+pub mod read_paths;
 pub mod scripts;
 pub mod tables;
 mod transcripts;
@@ -21,5 +22,6 @@ pub use links::{Accepted, Call, Count, Got, Link, Net, NetFault, Ready, Side, To
 pub use mem_net::MemNet;
 pub use memory::{MemFile, MemFiles, MemSink};
 pub use outside::{FileFault, Files, Sink, SinkFault, read_whole, write_all};
+pub use read_paths::ReadPaths;
 pub use scripts::{Exception, Script};
 pub use tables::LinkTable;

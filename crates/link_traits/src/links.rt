@@ -8,6 +8,8 @@ ghost use Rattle.link_traits.specs.Answers.{listen_entry, accept_entry, connect_
 ghost use Rattle.link_traits.specs.declared.links.Count.{Count};
 ghost use Rattle.link_traits.specs.declared.links.Wishes.{Wishes};
 
+use thiserror::Error;
+
 /// A side of a session.
 #[derive(Clone, Copy, Debug, PartialEq, Eq)]
 pub enum Side {
@@ -75,11 +77,13 @@ pub enum Took {
 }
 
 /// Why a listen or a connect was refused.
-#[derive(Clone, Copy, Debug, PartialEq, Eq)]
+#[derive(Clone, Copy, Debug, PartialEq, Eq, Error)]
 pub enum NetFault {
     /// It failed. The net's own count rises where it was a listen, and that of the session's bus link where it was a connect.
+    #[error("the net failed")]
     Failed,
     /// Memory was refused.
+    #[error("out of memory")]
     Memory,
 }
 

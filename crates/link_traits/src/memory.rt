@@ -1,9 +1,10 @@
 //! Files and a sink in memory, which tell all that they hold.
-ghost use Rattle.std.specs.Prelude.{◌≡◌, ◌≤◌, ◌<◌, ◌+◌, ◌-◌, ◌++◌, ◌↔◌, ℕ, List, [], Some, OnOk, OnErr, IfOk, IfSome, IsErr, IsErrOf, is_ok, length, take, min, vec_len, vec_capacity, option_map, if◌then◌else◌};
+ghost use Rattle.std.specs.Prelude.{◌≡◌, ◌≤◌, ◌<◌, ◌+◌, ◌-◌, ◌++◌, ◌∷◌, ◌↔◌, ℕ, List, [], Some, OnOk, OnErr, IfOk, IfSome, IsErr, IsErrOf, is_ok, length, take, min, vec_len, vec_capacity, option_map, if◌then◌else◌};
 ghost use Rattle.link_traits.specs.Memory.{file_of, told_of, read_of, Reads, one_more, faults_after};
 ghost use Rattle.link_traits.specs.Told.{added, Rose, Given};
 
 use crate::outside::{FileFault, Files, Sink, SinkFault};
+use crate::read_paths::ReadPaths;
 use std::alloc::{AllocError, Global};
 
 /// A file in memory.
@@ -24,6 +25,8 @@ pub struct MemFiles {
     pub files: Vec<MemFile>,
     /// How many reads have failed, up to the greatest `u64`.
     pub faults: u64,
+    /// The paths that were read.
+    pub reads: ReadPaths,
 }
 
 impl MemFiles {
@@ -31,8 +34,13 @@ impl MemFiles {
     pub fn new(files: Vec<MemFile>) -> MemFiles
         ensures files { result.files.items ≡ files.items }
         ensures faults { result.faults ≡ 0 }
+        ensures reads { result.reads.paths ≡ [] }
     {
-        MemFiles { files, faults: 0 }
+        MemFiles {
+            files,
+            faults: 0,
+            reads: ReadPaths::new(),
+        }
     }
 }
 
@@ -55,6 +63,8 @@ impl Files for MemFiles {
 
     ghost faults = { λ m. m.faults };
 
+    ghost reads = { λ m. m.reads.paths };
+
     /// It fails where no file has the path, and where the first that has it fails; else it is refused as too long where the
     /// file has more bytes than the limit.
     fn read(&mut self, path: &str, limit: usize, into: &mut Vec<u8>) -> Result<(), FileFault>
@@ -69,7 +79,9 @@ impl Files for MemFiles {
         ensures err { OnErr result (into.new.items ≡ into.old.items) }
         ensures count { self.old.faults ≤ self.new.faults }
         ensures kept { (p : List ℕ) → told_of self.new.files.items p ≡ told_of self.old.files.items p }
+        ensures path { self.new.reads.paths ≡ self.old.reads.paths ++ path.now ∷ [] }
     {
+        self.reads.add(path);
         match find(&self.files, path) {
             Some(file) if !file.fails => {
                 if file.bytes.len() > limit {

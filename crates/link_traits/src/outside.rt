@@ -1,22 +1,27 @@
 //! Files, sinks, and what is done with them whatever they are.
-ghost use Rattle.std.specs.Prelude.{◌≡◌, ◌≤◌, ◌<◌, ℕ, List, [], Option, Err, length, take, OnOk, OnErr, IfOk, IfErr, IfSome, IsErrOf};
+ghost use Rattle.std.specs.Prelude.{◌≡◌, ◌≤◌, ◌<◌, ◌++◌, ◌∷◌, ℕ, List, [], Option, Err, length, take, OnOk, OnErr, IfOk, IfErr, IfSome, IsErrOf};
 ghost use Rattle.link_traits.specs.Told.{added, Rose, Part, Given};
 
 use std::alloc::Global;
+use thiserror::Error;
 
 /// Why a file was not read.
-#[derive(Clone, Copy, Debug, PartialEq, Eq)]
+#[derive(Clone, Copy, Debug, PartialEq, Eq, Error)]
 pub enum FileFault {
     /// There is no such file, or it could not be read. The count of faults rises.
+    #[error("the file could not be read")]
     Failed,
     /// The file has more bytes than the limit.
+    #[error("the file has too many bytes")]
     TooLong,
     /// Memory was refused.
+    #[error("out of memory")]
     Memory,
 }
 
 /// A sink took nothing of a piece that has bytes. Its count of faults rises.
-#[derive(Clone, Copy, Debug, PartialEq, Eq)]
+#[derive(Clone, Copy, Debug, PartialEq, Eq, Error)]
+#[error("the bytes could not be written")]
 pub struct SinkFault;
 
 /// Files by their paths.
@@ -27,6 +32,9 @@ pub trait Files {
     /// How often a read has failed, up to the greatest number that the count has.
     ghost faults: { Self → ℕ };
 
+    /// The paths that were read, in order: each read is in it once, whatever it answered.
+    ghost reads: { Self → List (List ℕ) };
+
     /// Puts the whole file behind what `into` holds, in the caller's memory. A file of more than
     /// `limit` bytes is refused, and what `into` held stays where a read is refused or fails.
     fn read(&mut self, path: &str, limit: usize, into: &mut Vec<u8>) -> Result<(), FileFault>
@@ -35,7 +43,8 @@ pub trait Files {
         ensures cause { IsErrOf result FileFault.Failed → Rose (faults self.old) (faults self.new) }
         ensures err { OnErr result (into.new.items ≡ into.old.items) }
         ensures count { faults self.old ≤ faults self.new }
-        ensures kept { (p : List ℕ) → told self.new p ≡ told self.old p };
+        ensures kept { (p : List ℕ) → told self.new p ≡ told self.old p }
+        ensures path { reads self.new ≡ reads self.old ++ path.now ∷ [] };
 }
 
 /// Where bytes are written, in pieces.
@@ -69,6 +78,7 @@ pub fn read_whole<F: Files>(
     ensures cause { IsErrOf result FileFault.Failed → Rose (F.faults files.old) (F.faults files.new) }
     ensures count { F.faults files.old ≤ F.faults files.new }
     ensures kept { (p : List ℕ) → F.told files.new p ≡ F.told files.old p }
+    ensures path { F.reads files.new ≡ F.reads files.old ++ path.now ∷ [] }
 {
     let mut bytes = Vec::new(alloc);
     match files.read(path, limit, &mut bytes) {
