@@ -1,5 +1,5 @@
 -- From why a run stopped to how it ended.
-use Rattle.std.proofs.Common.{◌≡◌, ◌≤◌, ◌<◌, ◌^◌, ◌-◌, inl, inr, ℕ, List, Option, None, Some, IfSome, ap, refl, sym, ◌∙◌, subst, arith}
+use Rattle.std.proofs.Common.{◌≡◌, ◌≤◌, ◌<◌, ◌^◌, ◌-◌, inl, inr, ℕ, List, Option, None, Some, IfSome, refl, sym, ◌∙◌, subst, arith}
 use Rattle.link_traits.specs.Told.{added, Part, Rose}
 use Rattle.policy_args.specs.Words.{PolicyOptions}
 use Rattle.recording.specs.Recording.{Recording}
@@ -63,7 +63,7 @@ said_over a b c old new line le (Whole is) = Whole is
 said_over a b c old new line le (Cut rose part) = Cut (rose_earlier a b c le rose) part
 
 -- a line alone
-said_first : (a b c : ℕ) (old between new : Option (List ℕ)) (line : List ℕ) → a ≤ b → between ≡ old → Said (Rose b c) between new line → Said (Rose a c) old new line
+pub said_first : (a b c : ℕ) (old between new : Option (List ℕ)) (line : List ℕ) → a ≤ b → between ≡ old → Said (Rose b c) between new line → Said (Rose a c) old new line
 said_first a b c old between new line le same said = subst (λ told. Said (Rose a c) told new line) same (said_over a b c between new line le said)
 
 -- ---- how a run that stopped ended

@@ -1,5 +1,5 @@
 -- How the run of a proxy line ends, and what follows from it.
-use Rattle.std.proofs.Common.{◌≡◌, ◌≤◌, ◌⊎◌, inl, inr, ℕ, Bool, true, false, if◌then◌else◌, List, Option, Some, Ok, Err, ap, sym, ◌∙◌, subst, refl, arith}
+use Rattle.std.proofs.Common.{◌≡◌, ◌≤◌, ◌⊎◌, ◌++◌, inl, inr, ℕ, Bool, true, false, if◌then◌else◌, List, Option, Some, Ok, Err, ap, sym, ◌∙◌, subst, refl, arith}
 use Rattle.link_traits.specs.Told.{Rose}
 use Rattle.link_traits.specs.Views.{NetView, RoseAt}
 use Rattle.link_traits.specs.declared.links.Count.TheVariants.{Own as OfNet}
@@ -12,12 +12,14 @@ use Rattle.line_words.specs.declared.reading.LineStop.{LineStop}
 use Rattle.line_words.specs.declared.reading.LineStop.TheVariants as line_stop
 use Rattle.line_words.specs.Words.{Line, Untold, TooLong, Bad, Reads, line_in}
 use Rattle.line_words.specs.Stops.{IsSettled, Agrees, StopsBy, CausedBy, without}
+use Rattle.line_words.specs.FilesRead.{paths_in}
 use Rattle.proxy_main.specs.declared.Refusal.{Refusal}
 use Rattle.proxy_main.specs.declared.Refusal.TheVariants.{Usage, LineWord, ArgsTooLong, PolicyWord, PolicyTooLong, Recording as BadFile, NoSuchMessage}
 use Rattle.proxy_main.specs.declared.Stop.{Stop}
 use Rattle.proxy_main.specs.Answers.{refusal_code}
 use Rattle.proxy_main.specs.Lines.{refusal_line, file_line, memory_line, listen_line, wait_line, is_policy_kind}
 use Rattle.proxy_main.specs.Endings.{StopTold, IsTold, ExactlyOfFiles}
+use Rattle.proxy_main.specs.FilesRead.{LineReads}
 use Rattle.proxy_main.specs.LineRuns.{refusal_of, RefusedBy, code_by, words_code, Served, EndSaid, LineServed, LineEnds, Refuses, NoFile, NoMemory, Serves, LineRun, IsLineFree, IsToldAs}
 use Rattle.proxy_main.proofs.Endings.{said_over}
 
@@ -88,7 +90,7 @@ module _ {A : Type 0} where
   plain_code code this (inr (inr h)) (inr (inr (inl c))) e = absurd (omega arith)
   plain_code code this (inr (inr h)) (inr (inr (inr c))) e = absurd (omega arith)
 
-  refused_code : (refusal : Refusal) (this : ℕ) → (this ≡ 0) ⊎ ((this ≡ 4) ⊎ (this ≡ 5)) → refusal_code refusal ≡ this → A
+  pub refused_code : (refusal : Refusal) (this : ℕ) → (this ≡ 0) ⊎ ((this ≡ 4) ⊎ (this ≡ 5)) → refusal_code refusal ≡ this → A
   refused_code Usage this h e = plain_code 1 this h (inl refl) e
   refused_code (LineWord bad) this h e = word_code (is_policy_kind bad.kind) this h e
   refused_code ArgsTooLong this h e = plain_code 1 this h (inl refl) e
@@ -193,8 +195,9 @@ module _ (told : List ℕ → Option (List ℕ)) (words : List (List ℕ)) (file
   unserves (NoMemory is net said) = inl net
   unserves (Serves s) = inr s
 
-  pub line_run : LineEnds told words files err before after first last code → LineRun told words files err before after first last code
-  line_run ends = record {
+  pub line_run : (reads new_reads : List (List ℕ)) → LineEnds told words files err before after first last code → LineReads (paths_in words) reads new_reads err first.told last.told code →
+      (after ≡ before) ⊎ (new_reads ≡ reads ++ paths_in words) → LineRun told words reads new_reads files err before after first last code
+  line_run reads new_reads ends named read_first = record {
     ends = ends;
     words_refused = λ settled. exactly 1 (inl refl) ends settled;
     policy_refused = λ settled. exactly 2 (inr refl) ends settled;
@@ -203,4 +206,6 @@ module _ (told : List ℕ → Option (List ℕ)) (words : List (List ℕ)) (file
     complete = completes ends;
     done = code_0 ends;
     unserved = unserves ends;
+    reads_named = named;
+    reads_first = read_first;
   }

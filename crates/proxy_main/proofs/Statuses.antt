@@ -1,5 +1,5 @@
 -- Whatever the ending, what its status says of the answer.
-use Rattle.std.proofs.Common.{◌≡◌, ◌⊎◌, ◌<◌, inl, inr, ℕ, List, Option, sym, ◌∙◌, subst, arith}
+use Rattle.std.proofs.Common.{◌≡◌, ◌⊎◌, inl, inr, ℕ, List, Option, sym, ◌∙◌, subst}
 use Rattle.proxy_main.specs.Words.{Command}
 use Rattle.proxy_main.specs.Answers.{Answer, Untold, Refused, Wrote, Compared, answer_to, IsSettled, HasCode, IsWork}
 use Rattle.proxy_main.specs.Endings.{Ends, Done, Refuses, NoFile, OutFails, LogFails, NoMemory, IsFree, ExactlyOfFiles, ExactlyOfWork}

@@ -6,7 +6,7 @@
 --     4    a file of words could not be read
 --     5    the net could not listen, or wait
 --     8    memory ran out
-use Rattle.std.specs.Prelude.{◌≡◌, ◌⊎◌, ℕ, List, Option, Some, None, Ok, Err}
+use Rattle.std.specs.Prelude.{◌≡◌, ◌⊎◌, ◌++◌, ℕ, List, Option, Some, None, Ok, Err}
 use Rattle.link_traits.specs.Views.{NetView, RoseAt}
 use Rattle.link_traits.specs.declared.links.Count.TheVariants.{Own as OfNet}
 use Rattle.policy_args.specs.declared.line.ProxyLine.{ProxyLine}
@@ -17,6 +17,7 @@ use Rattle.proxy_run.specs.Runs.{RunEnd, RunDid, RunLinks}
 use Rattle.proxy_run.specs.Logs.{RunLogs}
 use Rattle.line_words.specs.Words.{Line, Untold, TooLong, Bad, Reads, line_in}
 use Rattle.line_words.specs.Stops.{IsSettled, Agrees, without}
+use Rattle.line_words.specs.FilesRead.{paths_in}
 use Rattle.line_words.specs.declared.reading.LineStop.{LineStop}
 use Rattle.line_words.specs.declared.reading.LineStop.TheVariants as line_stop
 use Rattle.proxy_main.specs.declared.Stop.{Stop}
@@ -26,6 +27,7 @@ use Rattle.proxy_main.specs.declared.Refusal.TheVariants.{LineWord, ArgsTooLong}
 use Rattle.proxy_main.specs.Answers.{refusal_code}
 use Rattle.proxy_main.specs.Lines.{refusal_line, file_line, memory_line, listen_line, wait_line}
 use Rattle.proxy_main.specs.Endings.{Said, ExactlyOfFiles}
+use Rattle.proxy_main.specs.FilesRead.{LineReads}
 
 -- ---- the words
 
@@ -103,7 +105,7 @@ pub data LineEnds (told : List ℕ → Option (List ℕ)) (words : List (List �
 abbrev pub IsLineFree : ℕ → Type 0
 IsLineFree code = (code ≡ 4) ⊎ ((code ≡ 5) ⊎ (code ≡ 8))
 
-pub record LineRun (told : List ℕ → Option (List ℕ)) (words : List (List ℕ)) (files_rose err_rose : Type 0) (before after : NetView) (first last : SinkView) (code : ℕ) : Type 0 where
+pub record LineRun (told : List ℕ → Option (List ℕ)) (words reads new_reads : List (List ℕ)) (files_rose err_rose : Type 0) (before after : NetView) (first last : SinkView) (code : ℕ) : Type 0 where
   -- It ends in one of four ways, each with its cause and with what the net did and err got.
   pub ends : LineEnds told words files_rose err_rose before after first last code
   -- 1 and 2 come exactly where the words are refused so.
@@ -118,3 +120,7 @@ pub record LineRun (told : List ℕ → Option (List ℕ)) (words : List (List �
   pub done : code ≡ 0 → (line : ProxyLine) × Agrees (line_in told words) (Reads (line_seen line)) × Served line before after first last (Ok tt)
   -- Unless a line was served, nothing was done over the net.
   pub unserved : (after ≡ before) ⊎ LineServed told words err_rose before after first last code
+  -- No file was read beside those that the words name by --args-file: a front of these, each once and in their order; and nothing was done
+  -- over the net unless all were.
+  pub reads_named : LineReads (paths_in words) reads new_reads err_rose first.told last.told code
+  pub reads_first : (after ≡ before) ⊎ (new_reads ≡ reads ++ paths_in words)

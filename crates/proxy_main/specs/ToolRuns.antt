@@ -3,10 +3,12 @@ use Rattle.std.specs.Prelude.{◌≡◌, ◌⊎◌, ℕ, true, List, Option, Non
 use Rattle.proxy_main.specs.Words.{reading}
 use Rattle.proxy_main.specs.Answers.{answer_of, IsSettled, HasCode, may_log}
 use Rattle.proxy_main.specs.Loads.{IsDone, IsFront, IsLogged, IsTwin}
+use Rattle.proxy_main.specs.FilesRead.{paths_of, ToolReads}
 use Rattle.proxy_main.specs.Endings.{Ends, ErrFront, Exactly, ExactlyOfFiles, ExactlyOfWork, IsFree}
 
--- of a run of these words, by what is told of the files, the counts of faults that rose, what out and err tell, and the status
-pub record ToolRun (told : List ℕ → Option (List ℕ)) (words : List (List ℕ)) (files_rose out_rose err_rose : Type 0) (out new_out err new_err : Option (List ℕ)) (code : ℕ) : Type 0 where
+-- of a run of these words, by what is told of the files, the paths that were read, the counts of faults that rose, what out and err tell,
+-- and the status
+pub record ToolRun (told : List ℕ → Option (List ℕ)) (words reads new_reads : List (List ℕ)) (files_rose out_rose err_rose : Type 0) (out new_out err new_err : Option (List ℕ)) (code : ℕ) : Type 0 where
   -- It ends in one of six ways, each with its cause and with what out and err got.
   pub ends : Ends told (reading words) files_rose out_rose err_rose out new_out err new_err code
   -- 1 comes exactly where the words aren't the tool's.
@@ -35,3 +37,5 @@ pub record ToolRun (told : List ℕ → Option (List ℕ)) (words : List (List �
   pub first : (new_out ≡ out) ⊎ IsLogged told (reading words) err new_err
   -- In any case err got a front of the log, and then a front of the status's line.
   pub said : ErrFront told (reading words) err new_err code
+  -- No file was read beside those that the words name: a front of these, each once and in their order.
+  pub reads_named : ToolReads (paths_of (reading words)) reads new_reads err_rose err new_err code

@@ -1,25 +1,34 @@
 //! Files on a disk.
-ghost use Rattle.std.specs.Prelude.{◌≡◌, ◌≤◌, IfOk, length};
+ghost use Rattle.std.specs.Prelude.{◌≡◌, ◌≤◌, [], IfOk, length};
 
-use link_traits::{FileFault, Files};
+use link_traits::{FileFault, Files, ReadPaths};
 use std::alloc::Global;
 use std::fs::File;
 use std::io::Read;
 
 /// The files of the system by their paths. What they hold is not told, since others may write to
 /// them at any time.
+///
+/// That the paths in `reads` are those that were read is trusted, and rests on the first two lines of `read`: it opens the path that
+/// it adds, and nothing else here opens a file.
 #[derive(Drop)]
 pub struct DiskFiles<'a> {
     rt: &'a HostRuntime,
     faults: u64,
+    reads: ReadPaths,
 }
 
 impl<'a> DiskFiles<'a> {
     /// The files of the system that the runtime stands for, before any has failed.
     pub fn new(rt: &'a HostRuntime) -> DiskFiles<'a>
-        ensures { result.faults ≡ 0 }
+        ensures faults { result.faults ≡ 0 }
+        ensures reads { result.reads.paths ≡ [] }
     {
-        DiskFiles { rt, faults: 0 }
+        DiskFiles {
+            rt,
+            faults: 0,
+            reads: ReadPaths::new(),
+        }
     }
 }
 
@@ -30,7 +39,10 @@ impl<'a> Files for DiskFiles<'a> {
 
     ghost faults = { λ m. m.faults };
 
+    ghost reads = { λ m. m.reads.paths };
+
     fn read(&mut self, path: &str, limit: usize, into: &mut Vec<u8>) -> Result<(), FileFault> {
+        self.reads.add(path);
         match read_path(self.rt, path, limit) {
             Ok(bytes) => match into.extend_from_slice(&bytes) {
                 Ok(()) => Ok(()),

@@ -1,5 +1,5 @@
 //! The files that the words name.
-ghost use Rattle.std.specs.Prelude.{◌≡◌, ◌≤◌, ◌<◌, ℕ, List, Some, Ok, Err, IfOk, IfErr, IfSome, length};
+ghost use Rattle.std.specs.Prelude.{◌≡◌, ◌≤◌, ◌<◌, ◌++◌, ◌∷◌, ℕ, List, [], Some, Ok, Err, IfOk, IfErr, IfSome, OnOk, length};
 ghost use Rattle.link_traits.specs.Told.{Rose};
 ghost use Rattle.policy_args.specs.Gives.{Gives};
 ghost use Rattle.policy_args.specs.Seen.{options_seen};
@@ -8,6 +8,7 @@ ghost use Rattle.recording.specs.Recording.{Recording as RecordingValue, recordi
 ghost use Rattle.recording.specs.Seen.{recording_seen, size};
 ghost use Rattle.proxy_main.specs.Words.{Twin};
 ghost use Rattle.proxy_main.specs.Answers.{Answer, Compared, options_in, checked_policy, checked_recording, then_load, answer_to, Agrees};
+ghost use Rattle.proxy_main.specs.FilesRead.{IsOfPolicy, IsOfRecording, StopsAt, ReadUntil};
 ghost use Rattle.proxy_main.specs.Loads.{Loads, FilesStop, StopsBy, CausedBy};
 
 use crate::{POLICY_LIMIT, Refusal, Stop};
@@ -38,6 +39,8 @@ pub fn load<'a, F: Files>(
     ensures cause { IfErr result (λ stop. CausedBy (Rose (F.faults files.old) (F.faults files.new)) ⊥ ⊥ stop) }
     ensures count { F.faults files.old ≤ F.faults files.new }
     ensures kept { (p : List ℕ) → F.told files.new p ≡ F.told files.old p }
+    ensures read { OnOk result (F.reads files.new ≡ F.reads files.old ++ policy.now ∷ recording.now ∷ []) }
+    ensures until { IfErr result (λ stop. (after : List (List ℕ)) → ReadUntil (policy.now ∷ recording.now ∷ after) (F.reads files.old) (F.reads files.new) stop) }
 {
     match load_policy(alloc, files, policy) {
         Ok(options) => match load_recording(alloc, files, recording) {
@@ -67,6 +70,8 @@ pub fn load_twins<'a, F: Files>(
     ensures loaded { IfOk result (λ x. Agrees (answer_to (F.told files.old) (Some (Twin policy.now one.now other.now))) (Compared x.options.policy (recording_seen x.one) (recording_seen x.other))) }
     ensures stops { IfErr result (λ stop. StopsBy (F.told files.old) (Some (Twin policy.now one.now other.now)) stop) }
     ensures cause { IfErr result (λ stop. CausedBy (Rose (F.faults files.old) (F.faults files.new)) ⊥ ⊥ stop) }
+    ensures read { OnOk result (F.reads files.new ≡ F.reads files.old ++ policy.now ∷ one.now ∷ other.now ∷ []) }
+    ensures until { IfErr result (ReadUntil (policy.now ∷ one.now ∷ other.now ∷ []) (F.reads files.old) (F.reads files.new)) }
 {
     match load(alloc, files, policy, one) {
         Ok(loaded) => match load_recording(alloc, files, other) {
@@ -91,6 +96,8 @@ fn load_policy<'a, F: Files>(
     ensures cause { IfErr result (λ stop. CausedBy (Rose (F.faults files.old) (F.faults files.new)) ⊥ ⊥ stop) }
     ensures count { F.faults files.old ≤ F.faults files.new }
     ensures kept { (p : List ℕ) → F.told files.new p ≡ F.told files.old p }
+    ensures read { F.reads files.new ≡ F.reads files.old ++ path.now ∷ [] }
+    ensures at { IfErr result (StopsAt IsOfPolicy path.now) }
 {
     match read_whole(alloc, files, path, POLICY_LIMIT) {
         Ok(bytes) => match policy_options(alloc, &bytes) {
@@ -123,6 +130,8 @@ fn load_recording<'a, F: Files>(
     ensures cause { IfErr result (λ stop. CausedBy (Rose (F.faults files.old) (F.faults files.new)) ⊥ ⊥ stop) }
     ensures count { F.faults files.old ≤ F.faults files.new }
     ensures kept { (p : List ℕ) → F.told files.new p ≡ F.told files.old p }
+    ensures read { F.reads files.new ≡ F.reads files.old ++ path.now ∷ [] }
+    ensures at { IfErr result (StopsAt IsOfRecording path.now) }
 {
     match read_whole(alloc, files, path, RECORDING_LIMIT) {
         Ok(bytes) => match recording::read(alloc, &bytes) {

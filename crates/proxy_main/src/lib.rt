@@ -30,6 +30,7 @@ pub use program::run;
 use recording::BadRecording;
 pub use std_sink::StdSink;
 pub use texts::{HELP, VERSION};
+use thiserror::Error;
 pub use tools::tool;
 
 /// The most bytes that a policy file may have, 16 MiB: far more than the 65,535 entries of a
@@ -37,22 +38,29 @@ pub use tools::tool;
 pub const POLICY_LIMIT: usize = 16_777_216;
 
 /// Why the words or a file are refused.
-#[derive(Clone, Copy, Debug, PartialEq, Eq)]
+#[derive(Clone, Copy, Debug, PartialEq, Eq, Error)]
 pub enum Refusal {
     /// The words of a tool aren't those that it takes.
+    #[error("the words are not those that the tool takes")]
     Usage,
     /// A word of a proxy line is bad.
+    #[error("the word at index {} of the proxy line is bad", .0.index)]
     LineWord(BadWord),
     /// A file of words of a proxy line has more than `line_words::ARGS_LIMIT` bytes.
+    #[error("a file of words has too many bytes")]
     ArgsTooLong,
     /// A word of the policy file is bad.
+    #[error("the word at index {} of the policy file is bad", .0.index)]
     PolicyWord(BadWord),
     /// The policy file has more than `POLICY_LIMIT` bytes.
+    #[error("the policy file has too many bytes")]
     PolicyTooLong,
     /// The recording has this first fault, which may be that it has more than
     /// `recording::RECORDING_LIMIT` bytes.
+    #[error("the recording is bad at {}", .0.at)]
     Recording(BadRecording),
     /// The recording has no message of the number.
+    #[error("the recording has no message of the number")]
     NoSuchMessage,
 }
 

@@ -1,8 +1,10 @@
 //! The run of a proxy line.
-ghost use Rattle.std.specs.Prelude.{◌≡◌, ◌≤◌, map, string_bytes};
+ghost use Rattle.std.specs.Prelude.{◌≡◌, ◌≤◌, ◌⊎◌, ◌++◌, map, string_bytes};
 ghost use Rattle.link_traits.specs.Told.{Rose};
 ghost use Rattle.proxy_loop.specs.Sinks.{sink_of};
 ghost use Rattle.proxy_main.specs.Endings.{Said};
+ghost use Rattle.line_words.specs.FilesRead.{paths_in};
+ghost use Rattle.proxy_main.specs.FilesRead.{LineReads};
 ghost use Rattle.proxy_main.specs.LineRuns.{LineRun, LineEnds, EndSaid, IsToldAs};
 
 use crate::lines::say;
@@ -22,7 +24,7 @@ pub fn serve_words<F: Files, N: Net, E: Sink>(
     net: &mut N,
     err: &mut E,
 ) -> Status
-    ensures { LineRun (F.told files.old) (map (λ w. string_bytes w) words.now) (Rose (F.faults files.old) (F.faults files.new)) (Rose (E.faults err.old) (E.faults err.new)) (N.view net.old) (N.view net.new) (sink_of (E.told err.old) (E.faults err.old)) (sink_of (E.told err.new) (E.faults err.new)) result.code }
+    ensures { LineRun (F.told files.old) (map (λ w. string_bytes w) words.now) (F.reads files.old) (F.reads files.new) (Rose (F.faults files.old) (F.faults files.new)) (Rose (E.faults err.old) (E.faults err.new)) (N.view net.old) (N.view net.new) (sink_of (E.told err.old) (E.faults err.old)) (sink_of (E.told err.new) (E.faults err.new)) result.code }
 {
     serve_to_end(alloc, words, files, net, err)
 }
@@ -35,7 +37,9 @@ fn serve_to_end<F: Files, N: Net, E: Sink>(
     net: &mut N,
     err: &mut E,
 ) -> Status
-    ensures { LineEnds (F.told files.old) (map (λ w. string_bytes w) words.now) (Rose (F.faults files.old) (F.faults files.new)) (Rose (E.faults err.old) (E.faults err.new)) (N.view net.old) (N.view net.new) (sink_of (E.told err.old) (E.faults err.old)) (sink_of (E.told err.new) (E.faults err.new)) result.code }
+    ensures ends { LineEnds (F.told files.old) (map (λ w. string_bytes w) words.now) (Rose (F.faults files.old) (F.faults files.new)) (Rose (E.faults err.old) (E.faults err.new)) (N.view net.old) (N.view net.new) (sink_of (E.told err.old) (E.faults err.old)) (sink_of (E.told err.new) (E.faults err.new)) result.code }
+    ensures reads_named { LineReads (paths_in (map (λ w. string_bytes w) words.now)) (F.reads files.old) (F.reads files.new) (Rose (E.faults err.old) (E.faults err.new)) (E.told err.old) (E.told err.new) result.code }
+    ensures reads_first { (N.view net.new ≡ N.view net.old) ⊎ (F.reads files.new ≡ F.reads files.old ++ paths_in (map (λ w. string_bytes w) words.now)) }
 {
     match read_words(alloc, files, words) {
         Ok(line) => {

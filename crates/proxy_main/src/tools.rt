@@ -5,6 +5,7 @@ ghost use Rattle.proxy_main.specs.Words.{reading, names_tool};
 ghost use Rattle.proxy_main.specs.Answers.{answer_of, IsSettled, HasCode, may_log};
 ghost use Rattle.proxy_main.specs.Loads.{IsDone, IsFront, IsLogged, IsTwin};
 ghost use Rattle.proxy_main.specs.Endings.{Ends, ErrFront, Exactly, ExactlyOfFiles, ExactlyOfWork, IsFree};
+ghost use Rattle.proxy_main.specs.FilesRead.{paths_of, ToolReads};
 ghost use Rattle.proxy_main.specs.ToolRuns.{ToolRun};
 
 use crate::Status;
@@ -30,7 +31,7 @@ pub fn tool<R: Threads + Sync, G: Gate + Sync, F: Files, O: Sink, E: Sink>(
     err: &mut E,
 ) -> Option<Status>
     ensures none { (names_tool (map (λ w. string_bytes w) words.now) ≡ false) ↔ (result ≡ None) }
-    ensures runs { IfSome result (λ status. ToolRun (F.told files.old) (map (λ w. string_bytes w) words.now) (Rose (F.faults files.old) (F.faults files.new)) (Rose (O.faults out.old) (O.faults out.new)) (Rose (E.faults err.old) (E.faults err.new)) (O.told out.old) (O.told out.new) (E.told err.old) (E.told err.new) status.code) }
+    ensures runs { IfSome result (λ status. ToolRun (F.told files.old) (map (λ w. string_bytes w) words.now) (F.reads files.old) (F.reads files.new) (Rose (F.faults files.old) (F.faults files.new)) (Rose (O.faults out.old) (O.faults out.new)) (Rose (E.faults err.old) (E.faults err.new)) (O.told out.old) (O.told out.new) (E.told err.old) (E.told err.new) status.code) }
     ensures files { result ≡ None → files.new ≡ files.old }
     ensures out { result ≡ None → out.new ≡ out.old }
     ensures err { result ≡ None → err.new ≡ err.old }
@@ -90,6 +91,10 @@ fn run_tool<F: Files, O: Sink, E: Sink>(
 
     // In any case err got a front of the log, and then a front of the status's line.
     ensures said { ErrFront (F.told files.old) (reading (map (λ w. string_bytes w) words.now)) (E.told err.old) (E.told err.new) result.code }
+
+    // No file was read beside those that the words name: a front of these, each once and in their
+    // order.
+    ensures reads_named { ToolReads (paths_of (reading (map (λ w. string_bytes w) words.now))) (F.reads files.old) (F.reads files.new) (Rose (E.faults err.old) (E.faults err.new)) (E.told err.old) (E.told err.new) result.code }
 {
     run_to_end(alloc, words, files, out, err)
 }
@@ -102,7 +107,8 @@ fn run_to_end<F: Files, O: Sink, E: Sink>(
     out: &mut O,
     err: &mut E,
 ) -> Status
-    ensures { Ends (F.told files.old) (reading (map (λ w. string_bytes w) words.now)) (Rose (F.faults files.old) (F.faults files.new)) (Rose (O.faults out.old) (O.faults out.new)) (Rose (E.faults err.old) (E.faults err.new)) (O.told out.old) (O.told out.new) (E.told err.old) (E.told err.new) result.code }
+    ensures ends { Ends (F.told files.old) (reading (map (λ w. string_bytes w) words.now)) (Rose (F.faults files.old) (F.faults files.new)) (Rose (O.faults out.old) (O.faults out.new)) (Rose (E.faults err.old) (E.faults err.new)) (O.told out.old) (O.told out.new) (E.told err.old) (E.told err.new) result.code }
+    ensures reads_named { ToolReads (paths_of (reading (map (λ w. string_bytes w) words.now))) (F.reads files.old) (F.reads files.new) (Rose (E.faults err.old) (E.faults err.new)) (E.told err.old) (E.told err.new) result.code }
 {
     match work(alloc, words, files, out, err) {
         Ok(status) => status,

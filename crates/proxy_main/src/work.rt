@@ -1,10 +1,11 @@
 //! The work that the words ask for.
-ghost use Rattle.std.specs.Prelude.{◌≡◌, ◌≤◌, ◌⊎◌, ℕ, [], List, Option, Some, map, string_bytes, IfErr, IfOk, OnOk};
+ghost use Rattle.std.specs.Prelude.{◌≡◌, ◌≤◌, ◌⊎◌, ◌++◌, ℕ, [], List, Option, Some, map, string_bytes, IfErr, IfOk, OnOk};
 ghost use Rattle.link_traits.specs.Told.{Rose, added};
 ghost use Rattle.recording.specs.Seen.{recording_seen};
 ghost use Rattle.proxy_main.specs.Words.{Command, reading, Replay, Explain, Twin, Sample};
 ghost use Rattle.proxy_main.specs.Read.{command_of, HasFewDraws};
 ghost use Rattle.proxy_main.specs.Answers.{Wrote, Compared, answer_of, answer_to, IsSettled, IsWork, sampled, twin_code, twin_line, version_line};
+ghost use Rattle.proxy_main.specs.FilesRead.{paths_of, ReadUntil, StopsWork};
 ghost use Rattle.proxy_main.specs.Loads.{StopsBy, CausedBy, Keeps, KeepsLog, IsDone, IsEnd, IsLogged};
 
 use crate::files::{load, load_twins};
@@ -34,6 +35,8 @@ pub fn work<'a, F: Files, O: Sink, E: Sink>(
     ensures keeps { IfErr result (λ stop. Keeps (answer_of (map (λ w. string_bytes w) words.now) (F.told files.old)) (O.told out.old) (O.told out.new) stop) }
     ensures log { IfErr result (λ stop. KeepsLog (F.told files.old) (reading (map (λ w. string_bytes w) words.now)) (E.told err.old) (E.told err.new) stop) }
     ensures count { E.faults err.old ≤ E.faults err.new }
+    ensures read { OnOk result (F.reads files.new ≡ F.reads files.old ++ paths_of (reading (map (λ w. string_bytes w) words.now))) }
+    ensures until { IfErr result (ReadUntil (paths_of (reading (map (λ w. string_bytes w) words.now))) (F.reads files.old) (F.reads files.new)) }
 {
     match read_words(alloc, words) {
         Ok(Some(command)) => work_command(alloc, command, files, out, err),
@@ -59,6 +62,8 @@ fn work_command<'a, F: Files, O: Sink, E: Sink>(
     ensures keeps { IfErr result (λ stop. Keeps (answer_to (F.told files.old) (Some (command_of command.entry))) (O.told out.old) (O.told out.new) stop) }
     ensures log { IfErr result (λ stop. KeepsLog (F.told files.old) (Some (command_of command.entry)) (E.told err.old) (E.told err.new) stop) }
     ensures count { E.faults err.old ≤ E.faults err.new }
+    ensures read { OnOk result (F.reads files.new ≡ F.reads files.old ++ paths_of (Some (command_of command.entry))) }
+    ensures until { IfErr result (ReadUntil (paths_of (Some (command_of command.entry))) (F.reads files.old) (F.reads files.new)) }
 {
     match command {
         CommandWords::Replay { policy, recording } => {
@@ -95,6 +100,8 @@ fn work_replay<'a, F: Files, O: Sink, E: Sink>(
     ensures keeps { IfErr result (λ stop. Keeps (answer_to (F.told files.old) (Some (Replay policy.now recording.now))) (O.told out.old) (O.told out.new) stop) }
     ensures log { IfErr result (λ stop. KeepsLog (F.told files.old) (Some (Replay policy.now recording.now)) (E.told err.old) (E.told err.new) stop) }
     ensures count { E.faults err.old ≤ E.faults err.new }
+    ensures read { OnOk result (F.reads files.new ≡ F.reads files.old ++ paths_of (Some (Replay policy.now recording.now))) }
+    ensures until { IfErr result (ReadUntil (paths_of (Some (Replay policy.now recording.now))) (F.reads files.old) (F.reads files.new)) }
 {
     match load(alloc, files, policy, recording) {
         Ok(loaded) => match replay(alloc, &loaded.options, &loaded.recording, out, err) {
@@ -121,6 +128,8 @@ fn work_explain<'a, F: Files, O: Sink>(
     ensures stops { IfErr result (λ stop. StopsBy (F.told files.old) (Some (Explain policy.now recording.now number)) stop) }
     ensures cause { IfErr result (λ stop. CausedBy (Rose (F.faults files.old) (F.faults files.new)) (Rose (O.faults out.old) (O.faults out.new)) ⊥ stop) }
     ensures keeps { IfErr result (λ stop. Keeps (answer_to (F.told files.old) (Some (Explain policy.now recording.now number))) (O.told out.old) (O.told out.new) stop) }
+    ensures read { OnOk result (F.reads files.new ≡ F.reads files.old ++ paths_of (Some (Explain policy.now recording.now number))) }
+    ensures until { IfErr result (ReadUntil (paths_of (Some (Explain policy.now recording.now number))) (F.reads files.old) (F.reads files.new)) }
 {
     match load(alloc, files, policy, recording) {
         Ok(loaded) => match explain(alloc, &loaded.options, &loaded.recording, number, out) {
@@ -147,6 +156,8 @@ fn work_twin<'a, F: Files, O: Sink>(
     ensures stops { IfErr result (λ stop. StopsBy (F.told files.old) (Some (Twin policy.now one.now other.now)) stop) }
     ensures cause { IfErr result (λ stop. CausedBy (Rose (F.faults files.old) (F.faults files.new)) (Rose (O.faults out.old) (O.faults out.new)) ⊥ stop) }
     ensures keeps { IfErr result (λ stop. Keeps (answer_to (F.told files.old) (Some (Twin policy.now one.now other.now))) (O.told out.old) (O.told out.new) stop) }
+    ensures read { OnOk result (F.reads files.new ≡ F.reads files.old ++ paths_of (Some (Twin policy.now one.now other.now))) }
+    ensures until { IfErr result (ReadUntil (paths_of (Some (Twin policy.now one.now other.now))) (F.reads files.old) (F.reads files.new)) }
 {
     match load_twins(alloc, files, policy, one, other) {
         Ok(twins) => compare(alloc, &twins.options.policy, &twins.one, &twins.other, out),
@@ -167,6 +178,7 @@ fn compare<'a, O: Sink>(
     ensures stops { IfErr result (λ stop. (told : List ℕ → Option (List ℕ)) (command : Option Command) → (IsSettled (answer_to told command) → IsWork (answer_to told command)) → StopsBy told command stop) }
     ensures cause { IfErr result (λ stop. CausedBy ⊥ (Rose (O.faults out.old) (O.faults out.new)) ⊥ stop) }
     ensures keeps { IfErr result (λ stop. Keeps (Compared policy.now (recording_seen one.now) (recording_seen other.now)) (O.told out.old) (O.told out.new) stop) }
+    ensures work { IfErr result StopsWork }
 {
     match twin(alloc, policy, one, other) {
         Ok(answer) => write_answer(alloc, answer, out),
@@ -185,6 +197,7 @@ fn write_answer<'a, O: Sink>(
     ensures stops { IfErr result (λ stop. (told : List ℕ → Option (List ℕ)) (command : Option Command) → (IsSettled (answer_to told command) → IsWork (answer_to told command)) → StopsBy told command stop) }
     ensures cause { IfErr result (λ stop. CausedBy ⊥ (Rose (O.faults out.old) (O.faults out.new)) ⊥ stop) }
     ensures keeps { IfErr result (λ stop. Keeps (Wrote (twin_line answer) []) (O.told out.old) (O.told out.new) stop) }
+    ensures work { IfErr result StopsWork }
 {
     match twin_text(alloc, answer) {
         Ok(text) => match write_all(out, text.as_bytes()) {
@@ -228,6 +241,7 @@ fn work_sample<'a, O: Sink>(
     ensures stops { IfErr result (λ stop. (told : List ℕ → Option (List ℕ)) → StopsBy told (Some (Sample draws seed)) stop) }
     ensures cause { IfErr result (λ stop. CausedBy ⊥ (Rose (O.faults out.old) (O.faults out.new)) ⊥ stop) }
     ensures keeps { IfErr result (λ stop. Keeps (sampled draws seed) (O.told out.old) (O.told out.new) stop) }
+    ensures work { IfErr result StopsWork }
 {
     match summary(alloc, draws, seed, out) {
         Ok(()) => Ok(Status { code: 0 }),
@@ -243,6 +257,7 @@ fn work_version<'a, O: Sink>(alloc: Global, out: &mut O) -> Result<Status, Stop<
     ensures stops { IfErr result (λ stop. (told : List ℕ → Option (List ℕ)) (command : Option Command) → IsWork (answer_to told command) → StopsBy told command stop) }
     ensures cause { IfErr result (λ stop. CausedBy ⊥ (Rose (O.faults out.old) (O.faults out.new)) ⊥ stop) }
     ensures keeps { IfErr result (λ stop. Keeps (Wrote version_line []) (O.told out.old) (O.told out.new) stop) }
+    ensures work { IfErr result StopsWork }
 {
     if let Ok(text) = version_text(alloc) {
         return work_text(text.as_str(), out);
@@ -264,6 +279,7 @@ fn work_text<'a, O: Sink>(text: &str, out: &mut O) -> Result<Status, Stop<'a>>
     ensures stops { IfErr result (λ stop. (told : List ℕ → Option (List ℕ)) (command : Option Command) → IsWork (answer_to told command) → StopsBy told command stop) }
     ensures cause { IfErr result (λ stop. CausedBy ⊥ (Rose (O.faults out.old) (O.faults out.new)) ⊥ stop) }
     ensures keeps { IfErr result (λ stop. Keeps (Wrote text.now []) (O.told out.old) (O.told out.new) stop) }
+    ensures work { IfErr result StopsWork }
 {
     match write_all(out, text.as_bytes()) {
         Ok(()) => Ok(Status { code: 0 }),

@@ -1,6 +1,8 @@
+use Rattle.std.proofs.Common.{[], ◌∷◌}
 use Rattle.policy_args.specs.Seen.{options_seen}
 use Rattle.recording.specs.Seen.{recording_seen}
 use Rattle.proxy_main.proofs.Loading.{loaded_both, stops_policy, stops_recording}
+use Rattle.proxy_main.proofs.ReadFiles.{then_read, recording_stops, policy_stops}
 use Rattle.proxy_main.proofs.files.load.Goals as goal
 
 pub returns-in-Ok-load_recording-clause-loaded : goal.returns-in-Ok-load_recording-clause-loaded
@@ -15,3 +17,17 @@ returns-in-Err-load_recording-clause-stops g c =
 
 pub returns-in-Err-clause-stops : goal.returns-in-Err-clause-stops
 returns-in-Err-clause-stops g c = stops_policy (g.F.Files.told c.args.files.now) c.args.policy.now c.args.recording.now c.in-Err.stop c.in-Err.ensures.loads
+
+pub returns-in-Ok-load_recording-clause-read : goal.returns-in-Ok-load_recording-clause-read
+returns-in-Ok-load_recording-clause-read g c =
+    then_read (g.F.Files.reads c.args.files.now) (c.args.policy.now ∷ []) (g.F.Files.reads c.load_policy.new.files) (g.F.Files.reads c.load_recording.new.files) c.args.recording.now
+    c.load_policy.ensures.read c.load_recording.ensures.read
+
+pub returns-in-Err-load_recording-clause-until : goal.returns-in-Err-load_recording-clause-until
+returns-in-Err-load_recording-clause-until g c = λ after.
+    recording_stops (c.args.policy.now ∷ []) after (g.F.Files.reads c.args.files.now) (g.F.Files.reads c.load_policy.new.files) (g.F.Files.reads c.load_recording.new.files) c.args.recording.now
+    c.load_policy.ensures.read c.load_recording.ensures.read c.in-Err-load_recording.stop c.in-Err-load_recording.ensures.at
+
+pub returns-in-Err-clause-until : goal.returns-in-Err-clause-until
+returns-in-Err-clause-until g c = λ after.
+    policy_stops (c.args.recording.now ∷ after) (g.F.Files.reads c.args.files.now) (g.F.Files.reads c.load_policy.new.files) c.args.policy.now c.load_policy.ensures.read c.in-Err.stop c.in-Err.ensures.at

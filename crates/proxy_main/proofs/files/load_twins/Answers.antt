@@ -1,6 +1,8 @@
+use Rattle.std.proofs.Common.{[], ◌∷◌}
 use Rattle.policy_args.specs.Seen.{options_seen}
 use Rattle.recording.specs.Seen.{recording_seen}
 use Rattle.proxy_main.proofs.Loading.{twins_loaded, twins_stop_first, twins_stop_other}
+use Rattle.proxy_main.proofs.ReadFiles.{then_read, recording_stops}
 use Rattle.proxy_main.proofs.files.load_twins.Goals as goal
 
 pub returns-in-Ok-load_recording-clause-loaded : goal.returns-in-Ok-load_recording-clause-loaded
@@ -15,3 +17,16 @@ returns-in-Err-load_recording-clause-stops g c =
 
 pub returns-in-Err-clause-stops : goal.returns-in-Err-clause-stops
 returns-in-Err-clause-stops g c = twins_stop_first (g.F.Files.told c.args.files.now) c.args.policy.now c.args.one.now c.args.other.now c.in-Err.stop c.in-Err.ensures.stops
+
+pub returns-in-Ok-load_recording-clause-read : goal.returns-in-Ok-load_recording-clause-read
+returns-in-Ok-load_recording-clause-read g c =
+    then_read (g.F.Files.reads c.args.files.now) (c.args.policy.now ∷ c.args.one.now ∷ []) (g.F.Files.reads c.load.new.files) (g.F.Files.reads c.load_recording.new.files) c.args.other.now
+    c.in-Ok.ensures.read c.load_recording.ensures.read
+
+pub returns-in-Err-load_recording-clause-until : goal.returns-in-Err-load_recording-clause-until
+returns-in-Err-load_recording-clause-until g c =
+    recording_stops (c.args.policy.now ∷ c.args.one.now ∷ []) [] (g.F.Files.reads c.args.files.now) (g.F.Files.reads c.load.new.files) (g.F.Files.reads c.load_recording.new.files) c.args.other.now
+    c.in-Ok.ensures.read c.load_recording.ensures.read c.in-Err-load_recording.stop c.in-Err-load_recording.ensures.at
+
+pub returns-in-Err-clause-until : goal.returns-in-Err-clause-until
+returns-in-Err-clause-until g c = c.in-Err.ensures.until (c.args.other.now ∷ [])

@@ -1,7 +1,20 @@
+use Rattle.std.proofs.Common.{map, string_bytes}
+use Rattle.proxy_main.specs.Words.{reading}
+use Rattle.proxy_main.specs.FilesRead.{paths_of}
 use Rattle.proxy_main.proofs.Endings.{ends_stop}
+use Rattle.proxy_main.proofs.ReadFiles.{done_reads, stop_reads}
 use Rattle.proxy_main.proofs.tools.run_to_end.Goals as goal
 
-pub returns-in-Err : goal.returns-in-Err
-returns-in-Err g c =
+pub returns-in-Err-clause-ends : goal.returns-in-Err-clause-ends
+returns-in-Err-clause-ends g c =
     ends_stop _ _ _ _ _ _ _ _ _ _ _ _ _ c.in-Err.stop c.work.ensures.count c.tell.ensures.count c.in-Err.ensures.stops c.in-Err.ensures.cause c.in-Err.ensures.keeps c.in-Err.ensures.log
     c.tell.ensures.told
+
+pub returns-in-Ok-clause-reads_named : goal.returns-in-Ok-clause-reads_named
+returns-in-Ok-clause-reads_named g c =
+    done_reads (paths_of (reading (map (λ w. string_bytes w) c.args.words.now))) (g.F.Files.reads c.args.files.now) (g.F.Files.reads c.work.new.files) _ _ _ _ c.in-Ok.ensures.read c.in-Ok.ensures.end
+
+pub returns-in-Err-clause-reads_named : goal.returns-in-Err-clause-reads_named
+returns-in-Err-clause-reads_named g c =
+    stop_reads (g.F.Files.told c.args.files.now) (reading (map (λ w. string_bytes w) c.args.words.now)) (paths_of (reading (map (λ w. string_bytes w) c.args.words.now))) (g.F.Files.reads c.args.files.now)
+    (g.F.Files.reads c.work.new.files) _ _ _ _ _ _ _ c.in-Err.stop c.work.ensures.count c.in-Err.ensures.until c.in-Err.ensures.log c.tell.ensures.told

@@ -4,25 +4,25 @@ use Rattle.proxy_main.proofs.Statuses.{complete, exactly_of_files, exactly_of_wo
 use Rattle.proxy_main.proofs.tools.run_tool.Goals as goal
 
 pub returns-clause-policy : goal.returns-clause-policy
-returns-clause-policy g c = λ settled. exactly_of_files _ _ _ _ _ _ _ _ _ _ c.run_to_end.ensures settled 2 (λ free. omega arith) (λ work. omega arith)
+returns-clause-policy g c = λ settled. exactly_of_files _ _ _ _ _ _ _ _ _ _ c.run_to_end.ensures.ends settled 2 (λ free. omega arith) (λ work. omega arith)
 
 pub returns-clause-recording : goal.returns-clause-recording
-returns-clause-recording g c = λ settled. exactly_of_files _ _ _ _ _ _ _ _ _ _ c.run_to_end.ensures settled 3 (λ free. omega arith) (λ work. omega arith)
+returns-clause-recording g c = λ settled. exactly_of_files _ _ _ _ _ _ _ _ _ _ c.run_to_end.ensures.ends settled 3 (λ free. omega arith) (λ work. omega arith)
 
 pub returns-clause-missing : goal.returns-clause-missing
-returns-clause-missing g c = λ settled. exactly_of_files _ _ _ _ _ _ _ _ _ _ c.run_to_end.ensures settled 9 (λ free. omega arith) (λ work. omega arith)
+returns-clause-missing g c = λ settled. exactly_of_files _ _ _ _ _ _ _ _ _ _ c.run_to_end.ensures.ends settled 9 (λ free. omega arith) (λ work. omega arith)
 
 pub returns-clause-whole : goal.returns-clause-whole
-returns-clause-whole g c = λ settled. exactly_of_work _ _ _ _ _ _ _ _ _ _ c.run_to_end.ensures settled 0 (λ free. omega arith)
+returns-clause-whole g c = λ settled. exactly_of_work _ _ _ _ _ _ _ _ _ _ c.run_to_end.ensures.ends settled 0 (λ free. omega arith)
 
 pub returns-clause-differ : goal.returns-clause-differ
-returns-clause-differ g c = λ settled. exactly_of_work _ _ _ _ _ _ _ _ _ _ c.run_to_end.ensures settled 7 (λ free. omega arith)
+returns-clause-differ g c = λ settled. exactly_of_work _ _ _ _ _ _ _ _ _ _ c.run_to_end.ensures.ends settled 7 (λ free. omega arith)
 
 pub returns-clause-complete : goal.returns-clause-complete
-returns-clause-complete g c = λ settled. complete _ _ _ _ _ _ _ _ _ _ c.run_to_end.ensures settled
+returns-clause-complete g c = λ settled. complete _ _ _ _ _ _ _ _ _ _ c.run_to_end.ensures.ends settled
 
 pub returns-clause-front : goal.returns-clause-front
-returns-clause-front g c = out_front _ _ _ _ _ _ _ _ _ _ c.run_to_end.ensures
+returns-clause-front g c = out_front _ _ _ _ _ _ _ _ _ _ c.run_to_end.ensures.ends
 
 pub returns-clause-said : goal.returns-clause-said
-returns-clause-said g c = err_front _ _ _ _ _ _ _ _ _ _ c.run_to_end.ensures
+returns-clause-said g c = err_front _ _ _ _ _ _ _ _ _ _ c.run_to_end.ensures.ends

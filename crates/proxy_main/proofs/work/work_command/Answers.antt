@@ -3,6 +3,8 @@ use Rattle.proxy_main.specs.Answers.{Answer, answer_to, may_log}
 use Rattle.proxy_main.specs.Loads.{IsDone}
 use Rattle.proxy_main.specs.Read.{command_of}
 use Rattle.proxy_main.specs.declared.words.CommandWords.{CommandWords}
+use Rattle.proxy_main.specs.FilesRead.{paths_of}
+use Rattle.proxy_main.proofs.ReadFiles.{unread, work_done, work_ends}
 use Rattle.proxy_main.proofs.Logs.{quiet_done, quiet_stop}
 use Rattle.proxy_main.proofs.work.work_command.Goals as goal
 
@@ -35,3 +37,33 @@ pub returns-in-Help-clause-log : goal.returns-in-Help-clause-log
 returns-in-Help-clause-log g c =
     let unasked = ap (λ (w : CommandWords). may_log (g.F.Files.told c.args.files.now) (Some (command_of w))) c.in-Help.is in
     quiet_stop c.work_text.result (g.F.Files.told c.args.files.now) _ _ _ _ _ unasked c.work_text.ensures.cause refl
+
+pub returns-in-Sample-clause-read : goal.returns-in-Sample-clause-read
+returns-in-Sample-clause-read g c =
+    let none = ap (λ (w : CommandWords). paths_of (Some (command_of w))) c.in-Sample.is in
+    work_done _ (g.F.Files.reads c.args.files.now) (g.F.Files.reads c.args.files.now) (unread _ (g.F.Files.reads c.args.files.now) none) c.work_sample.result
+
+pub returns-in-Sample-clause-until : goal.returns-in-Sample-clause-until
+returns-in-Sample-clause-until g c =
+    let none = ap (λ (w : CommandWords). paths_of (Some (command_of w))) c.in-Sample.is in
+    work_ends _ (g.F.Files.reads c.args.files.now) (g.F.Files.reads c.args.files.now) (unread _ (g.F.Files.reads c.args.files.now) none) c.work_sample.result c.work_sample.ensures.work
+
+pub returns-in-Help-clause-read : goal.returns-in-Help-clause-read
+returns-in-Help-clause-read g c =
+    let none = ap (λ (w : CommandWords). paths_of (Some (command_of w))) c.in-Help.is in
+    work_done _ (g.F.Files.reads c.args.files.now) (g.F.Files.reads c.args.files.now) (unread _ (g.F.Files.reads c.args.files.now) none) c.work_text.result
+
+pub returns-in-Help-clause-until : goal.returns-in-Help-clause-until
+returns-in-Help-clause-until g c =
+    let none = ap (λ (w : CommandWords). paths_of (Some (command_of w))) c.in-Help.is in
+    work_ends _ (g.F.Files.reads c.args.files.now) (g.F.Files.reads c.args.files.now) (unread _ (g.F.Files.reads c.args.files.now) none) c.work_text.result c.work_text.ensures.work
+
+pub returns-in-Version-clause-read : goal.returns-in-Version-clause-read
+returns-in-Version-clause-read g c =
+    let none = ap (λ (w : CommandWords). paths_of (Some (command_of w))) c.in-Version.is in
+    work_done _ (g.F.Files.reads c.args.files.now) (g.F.Files.reads c.args.files.now) (unread _ (g.F.Files.reads c.args.files.now) none) c.work_version.result
+
+pub returns-in-Version-clause-until : goal.returns-in-Version-clause-until
+returns-in-Version-clause-until g c =
+    let none = ap (λ (w : CommandWords). paths_of (Some (command_of w))) c.in-Version.is in
+    work_ends _ (g.F.Files.reads c.args.files.now) (g.F.Files.reads c.args.files.now) (unread _ (g.F.Files.reads c.args.files.now) none) c.work_version.result c.work_version.ensures.work

@@ -1,4 +1,5 @@
-use Rattle.std.proofs.Common.{◌≡◌, ◌⊎◌, inl, inr, Result, Err, IsErrOf}
+use Rattle.std.proofs.Common.{[], ◌∷◌, ◌≡◌, ◌⊎◌, inl, inr, Result, Err, IsErrOf}
+use Rattle.line_words.proofs.ReadLaws.{read_all}
 use Rattle.policy_args.specs.Seen.{options_seen}
 use Rattle.recording.specs.Seen.{recording_seen}
 use Rattle.replay.specs.Explained.{explained}
@@ -18,3 +19,9 @@ returns-in-Err-Out-clause-keeps g c =
     front_as _ (explained_at c.args.number (options_seen c.in-Ok.loaded.options) (recording_seen c.in-Ok.loaded.recording)) _ _ (c.in-Ok.ensures.loaded (explained_at c.args.number))
     (explaining_front (explained (options_seen c.in-Ok.loaded.options) (recording_seen c.in-Ok.loaded.recording) c.args.number) _ _ c.explain.ensures.part
     (λ none. no_other c.in-Err-Out.field-0 c.explain.result c.in-Err-Out.is c.in-Err-Out.field-0-is (c.explain.ensures.none none)))
+
+pub returns-in-Ok-clause-until : goal.returns-in-Ok-clause-until
+returns-in-Ok-clause-until g c = read_all (c.args.policy.now ∷ c.args.recording.now ∷ []) (g.F.Files.reads c.args.files.now) (g.F.Files.reads c.load.new.files) c.in-Ok.ensures.read
+
+pub returns-clause-until : goal.returns-clause-until
+returns-clause-until g c = c.in-Err.ensures.until []

@@ -1,4 +1,5 @@
-use Rattle.std.proofs.Common.{Some, ap, Err, refl}
+use Rattle.std.proofs.Common.{[], ◌∷◌, Some, ap, Err, refl}
+use Rattle.line_words.proofs.ReadLaws.{read_all}
 use Rattle.policy_args.specs.Seen.{options_seen}
 use Rattle.recording.specs.Seen.{recording_seen}
 use Rattle.proxy_main.specs.Words.{Replay}
@@ -51,3 +52,9 @@ returns-in-Ok-clause-log g c =
 
 pub returns-clause-log : goal.returns-clause-log
 returns-clause-log g c = log_early (g.F.Files.told c.args.files.now) (Some (Replay c.args.policy.now c.args.recording.now)) _ _ _ c.in-Err.stop c.in-Err.ensures.cause refl
+
+pub returns-in-Ok-clause-until : goal.returns-in-Ok-clause-until
+returns-in-Ok-clause-until g c = read_all (c.args.policy.now ∷ c.args.recording.now ∷ []) (g.F.Files.reads c.args.files.now) (g.F.Files.reads c.load.new.files) c.in-Ok.ensures.read
+
+pub returns-clause-until : goal.returns-clause-until
+returns-clause-until g c = c.in-Err.ensures.until []

@@ -1,0 +1,258 @@
+-- Which files were read when a run ended.
+use Rattle.std.proofs.Common.{◌≡◌, ◌≤◌, ◌⊎◌, inl, inr, ℕ, ◌+◌, Bool, true, false, List, [], ◌∷◌, ◌++◌, Option, Some, Result, Ok, Err, IfErr, OnOk, ap, sym, ◌∙◌, subst, refl, arith, length, take, append_assoc}
+use Rattle.std.proofs.Math.Seq.{take-append-add}
+use Rattle.std.proofs.lemmas.List.{append-nil}
+use Rattle.std.specs.Prelude.{◌==◌, ◌||◌}
+use Rattle.link_traits.specs.Told.{ReadFront, ReadTo, Rose}
+use Rattle.proxy_loop.specs.declared.turns.ServerEnd.TheVariants.{Listen, Wait, Memory as NoMemory}
+use Rattle.proxy_loop.specs.Sinks.{SinkView}
+use Rattle.proxy_run.specs.Runs.{RunEnd}
+use Rattle.line_words.specs.declared.reading.LineStop.{LineStop}
+use Rattle.line_words.specs.declared.reading.LineStop.TheVariants as line_stop
+use Rattle.line_words.specs.FilesRead.{ReadUntil as LineReadUntil}
+use Rattle.line_words.proofs.ReadLaws.{read_all}
+use Rattle.proxy_main.specs.declared.Refusal.{Refusal}
+use Rattle.proxy_main.specs.declared.Refusal.TheVariants.{Usage, LineWord, ArgsTooLong, PolicyWord, PolicyTooLong, Recording, NoSuchMessage}
+use Rattle.proxy_main.specs.declared.Stop.{Stop}
+use Rattle.proxy_main.specs.declared.Stop.TheVariants.{Refused as Refuses, File, Output, Log, Memory}
+use Rattle.proxy_main.specs.Words.{Command}
+use Rattle.proxy_main.specs.Answers.{refusal_code}
+use Rattle.proxy_main.specs.Lines.{refusal_line, file_line}
+use Rattle.proxy_main.specs.Loads.{KeepsLog}
+use Rattle.proxy_main.specs.Endings.{Said, IsTold, StopTold}
+use Rattle.proxy_main.specs.LineRuns.{EndSaid, IsToldAs}
+use Rattle.proxy_main.specs.FilesRead.{paths_of, ToolReads, LineReads, IsOfPolicy, IsOfRecording, StopsAt, StopsWork, ReadBefore, ReadUntil}
+use Rattle.proxy_main.proofs.Endings.{said_first}
+use Rattle.proxy_main.proofs.LineEndings.{refused_code}
+
+-- ---- files one after the other
+
+pub then_read : (reads before now new_reads : List (List ℕ)) (path : List ℕ) → now ≡ reads ++ before → new_reads ≡ now ++ path ∷ [] → new_reads ≡ reads ++ (before ++ path ∷ [])
+then_read reads before now new_reads path so_far next = next ∙ ap (λ (paths : List (List ℕ)). paths ++ path ∷ []) so_far ∙ append_assoc reads before (path ∷ [])
+
+pub none_read : (named reads : List (List ℕ)) → ReadFront named reads reads
+none_read named reads = record { count = 0; are = sym (append-nil reads) }
+
+pub none_named : (reads : List (List ℕ)) → reads ≡ reads ++ []
+none_named reads = sym (append-nil reads)
+
+-- a command that names no file
+pub unread : (command : Command) (reads : List (List ℕ)) → paths_of (Some command) ≡ [] → reads ≡ reads ++ paths_of (Some command)
+unread command reads e = sym (append-nil reads) ∙ ap (λ (paths : List (List ℕ)). reads ++ paths) (sym e)
+
+to_front : (path : List ℕ) (named reads new_reads : List (List ℕ)) → ReadTo path named reads new_reads → ReadFront named reads new_reads
+to_front path named reads new_reads to = record {
+  count = length to.before + 1;
+  are = to.are ∙ append_assoc reads to.before (path ∷ [])
+      ∙ ap (λ (paths : List (List ℕ)). reads ++ paths) (sym (ap (take (length to.before + 1)) to.among ∙ take-append-add to.before (path ∷ to.after) 1));
+}
+
+-- a file is why a run stopped, behind those before
+module _ (before after reads now new_reads : List (List ℕ)) (path : List ℕ) (so_far : now ≡ reads ++ before) (next : new_reads ≡ now ++ path ∷ []) where
+  to_path : (p : List ℕ) → p ≡ path → ReadTo p (before ++ path ∷ after) reads new_reads
+  to_path p e = record {
+    before = before;
+    after = after;
+    among = ap (λ (x : List ℕ). before ++ x ∷ after) (sym e);
+    are = next ∙ ap (λ (paths : List (List ℕ)). paths ++ path ∷ []) so_far ∙ ap (λ (x : List ℕ). reads ++ before ++ x ∷ []) (sym e);
+  }
+
+  front : ReadFront (before ++ path ∷ after) reads new_reads
+  front = to_front path (before ++ path ∷ after) reads new_reads (to_path path refl)
+
+  refused_recording : (refusal : Refusal) → IsOfRecording refusal → ReadBefore (before ++ path ∷ after) reads new_reads refusal
+  refused_recording Usage h = absurd h
+  refused_recording (LineWord bad) h = absurd h
+  refused_recording ArgsTooLong h = absurd h
+  refused_recording (PolicyWord bad) h = absurd h
+  refused_recording PolicyTooLong h = absurd h
+  refused_recording (Recording fault) h = front
+  refused_recording NoSuchMessage h = absurd h
+
+  pub recording_stops : (s : Stop) → StopsAt IsOfRecording path s → ReadUntil (before ++ path ∷ after) reads new_reads s
+  recording_stops (Refuses refusal) h = refused_recording refusal h
+  recording_stops (File p) h = to_path p.now h
+  recording_stops Output h = absurd h
+  recording_stops Log h = absurd h
+  recording_stops Memory h = front
+
+-- the policy file is why, which is the first
+module _ (after reads new_reads : List (List ℕ)) (path : List ℕ) (next : new_reads ≡ reads ++ path ∷ []) where
+  refused_policy : (refusal : Refusal) → IsOfPolicy refusal → ReadBefore (path ∷ after) reads new_reads refusal
+  refused_policy Usage h = absurd h
+  refused_policy (LineWord bad) h = absurd h
+  refused_policy ArgsTooLong h = absurd h
+  refused_policy (PolicyWord bad) h = next
+  refused_policy PolicyTooLong h = next
+  refused_policy (Recording fault) h = absurd h
+  refused_policy NoSuchMessage h = absurd h
+
+  pub policy_stops : (s : Stop) → StopsAt IsOfPolicy path s → ReadUntil (path ∷ after) reads new_reads s
+  policy_stops (Refuses refusal) h = refused_policy refusal h
+  policy_stops (File p) h = to_path [] after reads reads new_reads path (none_named reads) next p.now h
+  policy_stops Output h = absurd h
+  policy_stops Log h = absurd h
+  policy_stops Memory h = front [] after reads reads new_reads path (none_named reads) next
+
+-- the work is why, once all were read
+module _ (named reads new_reads : List (List ℕ)) (all : new_reads ≡ reads ++ named) where
+  refused_work : (refusal : Refusal) → StopsWork (Refuses refusal) → ReadBefore named reads new_reads refusal
+  refused_work Usage h = absurd h
+  refused_work (LineWord bad) h = absurd h
+  refused_work ArgsTooLong h = absurd h
+  refused_work (PolicyWord bad) h = absurd h
+  refused_work PolicyTooLong h = absurd h
+  refused_work (Recording fault) h = absurd h
+  refused_work NoSuchMessage h = all
+
+  pub work_stops : (s : Stop) → StopsWork s → ReadUntil named reads new_reads s
+  work_stops (Refuses refusal) h = refused_work refusal h
+  work_stops (File p) h = absurd h
+  work_stops Output h = all
+  work_stops Log h = all
+  work_stops Memory h = read_all named reads new_reads all
+
+  pub work_ends : {A : Type 0} (result : Result A Stop) → IfErr result StopsWork → IfErr result (ReadUntil named reads new_reads)
+  work_ends (Ok x) h = tt
+  work_ends (Err s) h = work_stops s h
+
+  pub work_done : {A : Type 0} (result : Result A Stop) → OnOk result (new_reads ≡ reads ++ named)
+  work_done (Ok x) = all
+  work_done (Err s) = tt
+
+-- ---- a tool's status
+
+-- the statuses with which all files were read
+abbrev is_late : ℕ → Bool
+is_late code = (code == 0) || (code == 6) || (code == 7) || (code == 9)
+
+late : (code : ℕ) → (code ≡ 0) ⊎ ((code ≡ 6) ⊎ ((code ≡ 7) ⊎ (code ≡ 9))) → is_late code ≡ true
+late code (inl e) = ap is_late e
+late code (inr (inl e)) = ap is_late e
+late code (inr (inr (inl e))) = ap is_late e
+late code (inr (inr (inr e))) = ap is_late e
+
+not_late : {A : Type 0} (code this : ℕ) → code ≡ this → is_late this ≡ false → (code ≡ 0) ⊎ ((code ≡ 6) ⊎ ((code ≡ 7) ⊎ (code ≡ 9))) → A
+not_late code this e early h = let same : false ≡ true = sym early ∙ ap is_late (sym e) ∙ late code h in cc
+
+module _ (named reads new_reads : List (List ℕ)) (rose : Type 0) (err new_err : Option (List ℕ)) (code : ℕ) where
+  -- with a status with which all were
+  reads_all : new_reads ≡ reads ++ named → (code ≡ 2 → ⊥) → (code ≡ 4 → ⊥) → ToolReads named reads new_reads rose err new_err code
+  reads_all all no_2 no_4 = record {
+    front = read_all named reads new_reads all;
+    all = λ late. all;
+    policy = λ is. absurd (no_2 is);
+    last = λ is. absurd (no_4 is);
+  }
+
+  -- with a status that says no more
+  reads_front : ReadFront named reads new_reads → (this : ℕ) → code ≡ this → is_late this ≡ false → (code ≡ 2 → ⊥) → (code ≡ 4 → ⊥) → ToolReads named reads new_reads rose err new_err code
+  reads_front some this is early no_2 no_4 = record {
+    front = some;
+    all = not_late code this is early;
+    policy = λ is. absurd (no_2 is);
+    last = λ is. absurd (no_4 is);
+  }
+
+  reads_policy : new_reads ≡ reads ++ take 1 named → code ≡ 2 → ToolReads named reads new_reads rose err new_err code
+  reads_policy one is = record {
+    front = record { count = 1; are = one };
+    all = not_late code 2 is refl;
+    policy = λ this. one;
+    last = λ four. absurd (omega arith);
+  }
+
+  reads_to : (path : List ℕ) → ReadTo path named reads new_reads → Said rose err new_err (file_line path) → code ≡ 4 → ToolReads named reads new_reads rose err new_err code
+  reads_to path to said is = record {
+    front = to_front path named reads new_reads to;
+    all = not_late code 4 is refl;
+    policy = λ two. absurd (omega arith);
+    last = λ this. (path, to, said);
+  }
+
+  pub done_reads : new_reads ≡ reads ++ named → {T : Type 0} → (code ≡ 0) ⊎ ((code ≡ 7) × T) → ToolReads named reads new_reads rose err new_err code
+  done_reads all (inl is) = reads_all all (λ two. omega arith) (λ four. omega arith)
+  done_reads all (inr is) = let seven : code ≡ 7 = is.0 in reads_all all (λ two. omega arith) (λ four. omega arith)
+
+  refusal_reads : (refusal : Refusal) → ReadBefore named reads new_reads refusal → code ≡ refusal_code refusal → ToolReads named reads new_reads rose err new_err code
+  refusal_reads Usage h is = reads_front h 1 is refl (λ two. omega arith) (λ four. omega arith)
+  refusal_reads (LineWord bad) h is = absurd h
+  refusal_reads ArgsTooLong h is = absurd h
+  refusal_reads (PolicyWord bad) h is = reads_policy h is
+  refusal_reads PolicyTooLong h is = reads_policy h is
+  refusal_reads (Recording fault) h is = reads_front h 3 is refl (λ two. omega arith) (λ four. omega arith)
+  refusal_reads NoSuchMessage h is = reads_all h (λ two. omega arith) (λ four. omega arith)
+
+  refusal_front : (refusal : Refusal) → ReadBefore named reads new_reads refusal → ReadFront named reads new_reads
+  refusal_front Usage h = h
+  refusal_front (LineWord bad) h = absurd h
+  refusal_front ArgsTooLong h = absurd h
+  refusal_front (PolicyWord bad) h = record { count = 1; are = h }
+  refusal_front PolicyTooLong h = record { count = 1; are = h }
+  refusal_front (Recording fault) h = h
+  refusal_front NoSuchMessage h = read_all named reads new_reads h
+
+-- the count of err's faults is a at the start, b behind the work and c behind the line
+pub stop_reads : (told : List ℕ → Option (List ℕ)) (command : Option Command) (named reads new_reads : List (List ℕ)) (err between new_err : Option (List ℕ)) (a b c code : ℕ) (s : Stop) → a ≤ b →
+    ReadUntil named reads new_reads s → KeepsLog told command err between s → StopTold (Rose b c) between new_err code s → ToolReads named reads new_reads (Rose a c) err new_err code
+stop_reads told command named reads new_reads err between new_err a b c code (Refuses refusal) le until log (inl t) =
+    refusal_reads named reads new_reads (Rose a c) err new_err code refusal until t.0
+stop_reads told command named reads new_reads err between new_err a b c code (Refuses refusal) le until log (inr t) =
+    reads_front named reads new_reads (Rose a c) err new_err code (refusal_front named reads new_reads (Rose a c) err new_err code refusal until) 8 t.0 refl (λ two. omega (arith, t.0, two)) (λ four. omega (arith, t.0, four))
+stop_reads told command named reads new_reads err between new_err a b c code (File path) le until log (inl t) =
+    reads_to named reads new_reads (Rose a c) err new_err code path.now until (said_first a b c err between new_err (file_line path.now) le log t.1) t.0
+stop_reads told command named reads new_reads err between new_err a b c code (File path) le until log (inr t) =
+    reads_front named reads new_reads (Rose a c) err new_err code (to_front path.now named reads new_reads until) 8 t.0 refl (λ two. omega (arith, t.0, two)) (λ four. omega (arith, t.0, four))
+stop_reads told command named reads new_reads err between new_err a b c code Output le until log t = reads_all named reads new_reads (Rose a c) err new_err code until (λ two. omega (arith, t.0, two)) (λ four. omega (arith, t.0, four))
+stop_reads told command named reads new_reads err between new_err a b c code Log le until log t = reads_all named reads new_reads (Rose a c) err new_err code until (λ two. omega (arith, t.0, two)) (λ four. omega (arith, t.0, four))
+stop_reads told command named reads new_reads err between new_err a b c code Memory le until log t = reads_front named reads new_reads (Rose a c) err new_err code until 8 t.0 refl (λ two. omega (arith, t.0, two)) (λ four. omega (arith, t.0, four))
+
+-- ---- the status of a proxy line's run
+
+module _ (named reads new_reads : List (List ℕ)) (rose : Type 0) (err new_err : Option (List ℕ)) (code : ℕ) where
+  line_memory : ReadFront named reads new_reads → code ≡ 8 → LineReads named reads new_reads rose err new_err code
+  line_memory some is = record { front = some; all = by; last = λ four. absurd (omega arith) }
+    where
+      by : (code ≡ 0) ⊎ (code ≡ 5) → new_reads ≡ reads ++ named
+      by (inl e) = absurd (omega arith)
+      by (inr e) = absurd (omega arith)
+
+  line_refused : (refusal : Refusal) → ReadFront named reads new_reads → IsTold (refusal_code refusal) (refusal_line refusal) rose err new_err code → LineReads named reads new_reads rose err new_err code
+  line_refused refusal some (inr t) = line_memory some t.0
+  line_refused refusal some (inl t) = record {
+    front = some;
+    all = by;
+    last = λ is. refused_code refusal 4 (inr (inl refl)) (sym t.0 ∙ is);
+  }
+    where
+      by : (code ≡ 0) ⊎ (code ≡ 5) → new_reads ≡ reads ++ named
+      by (inl is) = refused_code refusal 0 (inl refl) (sym t.0 ∙ is)
+      by (inr is) = refused_code refusal 5 (inr (inr refl)) (sym t.0 ∙ is)
+
+  line_to : (path : List ℕ) → ReadTo path named reads new_reads → IsTold 4 (file_line path) rose err new_err code → LineReads named reads new_reads rose err new_err code
+  line_to path to (inr t) = line_memory (to_front path named reads new_reads to) t.0
+  line_to path to (inl t) = record {
+    front = to_front path named reads new_reads to;
+    all = by;
+    last = λ is. (path, to, t.1);
+  }
+    where
+      by : (code ≡ 0) ⊎ (code ≡ 5) → new_reads ≡ reads ++ named
+      by (inl is) = absurd (omega (arith, t.0, is))
+      by (inr is) = absurd (omega (arith, t.0, is))
+
+  pub line_stop_reads : (why : LineStop) (stop : Stop) → LineReadUntil named reads new_reads why → IsToldAs why stop → StopTold rose err new_err code stop → LineReads named reads new_reads rose err new_err code
+  line_stop_reads (line_stop.File path) stop until same t = line_to path.now until (subst (λ (s : Stop). StopTold rose err new_err code s) same t)
+  line_stop_reads line_stop.TooLong stop until same t = line_refused ArgsTooLong until (subst (λ (s : Stop). StopTold rose err new_err code s) same t)
+  line_stop_reads (line_stop.Bad bad) stop until same t = line_refused (LineWord bad) until (subst (λ (s : Stop). StopTold rose err new_err code s) same t)
+  line_stop_reads line_stop.Memory stop until same t = let m = subst (λ (s : Stop). StopTold rose err new_err code s) same t in line_memory until m.0
+
+  -- all were read where the line is served
+  line_all : new_reads ≡ reads ++ named → (code ≡ 4 → ⊥) → LineReads named reads new_reads rose err new_err code
+  line_all all no_4 = record { front = read_all named reads new_reads all; all = λ served. all; last = λ is. absurd (no_4 is) }
+
+  pub line_end_reads : (said : Type 0) (mid last : SinkView) (end : RunEnd) → new_reads ≡ reads ++ named → EndSaid said mid last code end → LineReads named reads new_reads rose err new_err code
+  line_end_reads said mid last (Ok done) all e = line_all all (λ four. omega (arith, e.0, four))
+  line_end_reads said mid last (Err (Listen k)) all e = line_all all (λ four. omega (arith, e.0, four))
+  line_end_reads said mid last (Err Wait) all e = line_all all (λ four. omega (arith, e.0, four))
+  line_end_reads said mid last (Err NoMemory) all e = line_all all (λ four. omega (arith, e.0, four))

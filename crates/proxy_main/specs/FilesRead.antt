@@ -1,0 +1,109 @@
+-- The files that a run reads: those that its words name and no other, each once and in the order of the words, up to the one at which it stops.
+use Rattle.std.specs.Prelude.{◌≡◌, ◌⊎◌, ℕ, List, [], ◌∷◌, ◌++◌, take, Option, Some, None}
+use Rattle.link_traits.specs.Told.{ReadFront, ReadTo}
+use Rattle.proxy_main.specs.declared.Refusal.{Refusal}
+use Rattle.proxy_main.specs.declared.Refusal.TheVariants.{Usage, LineWord, ArgsTooLong, PolicyWord, PolicyTooLong, Recording, NoSuchMessage}
+use Rattle.proxy_main.specs.declared.Stop.{Stop}
+use Rattle.proxy_main.specs.declared.Stop.TheVariants.{Refused as Refuses, File, Output, Log, Memory}
+use Rattle.proxy_main.specs.Words.{Command, Replay, Explain, Twin, Sample, Help, Version}
+use Rattle.proxy_main.specs.Lines.{file_line}
+use Rattle.proxy_main.specs.Endings.{Said}
+
+-- the paths that a command names, in the order in which they are read
+abbrev pub paths_of : Option Command → List (List ℕ)
+paths_of None = []
+paths_of (Some (Replay policy recording)) = policy ∷ recording ∷ []
+paths_of (Some (Explain policy recording number)) = policy ∷ recording ∷ []
+paths_of (Some (Twin policy one other)) = policy ∷ one ∷ other ∷ []
+paths_of (Some (Sample n seed)) = []
+paths_of (Some Help) = []
+paths_of (Some Version) = []
+
+-- ---- where a run stopped
+
+-- a file that was not read was the last, and err got its line
+abbrev pub LastFailed : List (List ℕ) → List (List ℕ) → List (List ℕ) → Type 0 → Option (List ℕ) → Option (List ℕ) → Type 0
+LastFailed named reads new_reads err_rose err new_err = (path : List ℕ) × ReadTo path named reads new_reads × Said err_rose err new_err (file_line path)
+
+-- which files a tool's run read of those that its words name, by its status
+pub record ToolReads (named reads new_reads : List (List ℕ)) (err_rose : Type 0) (err new_err : Option (List ℕ)) (code : ℕ) : Type 0 where
+  -- Those that were read are a front of them, and no other file was read.
+  pub front : ReadFront named reads new_reads
+  -- With 0, 6, 7 and 9 all were, with 2 the policy file alone, and with 4 the last is the one that could not be.
+  pub all : (code ≡ 0) ⊎ ((code ≡ 6) ⊎ ((code ≡ 7) ⊎ (code ≡ 9))) → new_reads ≡ reads ++ named
+  pub policy : code ≡ 2 → new_reads ≡ reads ++ take 1 named
+  pub last : code ≡ 4 → LastFailed named reads new_reads err_rose err new_err
+
+-- which files of words a proxy line's run read, by its status
+pub record LineReads (named reads new_reads : List (List ℕ)) (err_rose : Type 0) (err new_err : Option (List ℕ)) (code : ℕ) : Type 0 where
+  -- Those that were read are a front of those that the words name, and no other file was read.
+  pub front : ReadFront named reads new_reads
+  -- With 0 and 5 all were, and with 4 the last is the one that could not be.
+  pub all : (code ≡ 0) ⊎ (code ≡ 5) → new_reads ≡ reads ++ named
+  pub last : code ≡ 4 → LastFailed named reads new_reads err_rose err new_err
+
+-- ---- why a run stopped
+
+-- a refusal of a policy file
+abbrev pub IsOfPolicy : Refusal → Type 0
+IsOfPolicy Usage = ⊥
+IsOfPolicy (LineWord bad) = ⊥
+IsOfPolicy ArgsTooLong = ⊥
+IsOfPolicy (PolicyWord bad) = Unit {0}
+IsOfPolicy PolicyTooLong = Unit {0}
+IsOfPolicy (Recording fault) = ⊥
+IsOfPolicy NoSuchMessage = ⊥
+
+-- a refusal of a recording
+abbrev pub IsOfRecording : Refusal → Type 0
+IsOfRecording Usage = ⊥
+IsOfRecording (LineWord bad) = ⊥
+IsOfRecording ArgsTooLong = ⊥
+IsOfRecording (PolicyWord bad) = ⊥
+IsOfRecording PolicyTooLong = ⊥
+IsOfRecording (Recording fault) = Unit {0}
+IsOfRecording NoSuchMessage = ⊥
+
+-- a refusal of a message's number
+abbrev pub IsOfMessage : Refusal → Type 0
+IsOfMessage Usage = ⊥
+IsOfMessage (LineWord bad) = ⊥
+IsOfMessage ArgsTooLong = ⊥
+IsOfMessage (PolicyWord bad) = ⊥
+IsOfMessage PolicyTooLong = ⊥
+IsOfMessage (Recording fault) = ⊥
+IsOfMessage NoSuchMessage = Unit {0}
+
+-- the file at the path is why, or memory
+abbrev pub StopsAt : (Refusal → Type 0) → List ℕ → Stop → Type 0
+StopsAt refuses path (Refuses refusal) = refuses refusal
+StopsAt refuses path (File p) = p.now ≡ path
+StopsAt refuses path Output = ⊥
+StopsAt refuses path Log = ⊥
+StopsAt refuses path Memory = Unit {0}
+
+-- what is done once all files are read is why
+abbrev pub StopsWork : Stop → Type 0
+StopsWork (Refuses refusal) = IsOfMessage refusal
+StopsWork (File path) = ⊥
+StopsWork Output = Unit {0}
+StopsWork Log = Unit {0}
+StopsWork Memory = Unit {0}
+
+-- what was read of the named files before a refusal ..
+abbrev pub ReadBefore : List (List ℕ) → List (List ℕ) → List (List ℕ) → Refusal → Type 0
+ReadBefore named reads new_reads Usage = ReadFront named reads new_reads
+ReadBefore named reads new_reads (LineWord bad) = ⊥
+ReadBefore named reads new_reads ArgsTooLong = ⊥
+ReadBefore named reads new_reads (PolicyWord bad) = new_reads ≡ reads ++ take 1 named
+ReadBefore named reads new_reads PolicyTooLong = new_reads ≡ reads ++ take 1 named
+ReadBefore named reads new_reads (Recording fault) = ReadFront named reads new_reads
+ReadBefore named reads new_reads NoSuchMessage = new_reads ≡ reads ++ named
+
+-- .. and before a tool's run stopped
+abbrev pub ReadUntil : List (List ℕ) → List (List ℕ) → List (List ℕ) → Stop → Type 0
+ReadUntil named reads new_reads (Refuses refusal) = ReadBefore named reads new_reads refusal
+ReadUntil named reads new_reads (File path) = ReadTo path.now named reads new_reads
+ReadUntil named reads new_reads Output = new_reads ≡ reads ++ named
+ReadUntil named reads new_reads Log = new_reads ≡ reads ++ named
+ReadUntil named reads new_reads Memory = ReadFront named reads new_reads
