@@ -93,3 +93,29 @@ fn both_peers_gone(rt: HostRuntime) -> Result<(), Fail> {
     assert_eq!(rt; net.write(client(1), b"x"), Took::Failed);
     Ok(())
 }
+
+/// A link whose peer closed, and which is read to its end without a wish for that, is named so that its writes fail.
+#[test]
+fn read_unwished(rt: HostRuntime) -> Result<(), Fail> {
+    let mut net = listening(&rt, "read_unwished")?;
+    let stream = two_sessions(&rt, &mut net, "read_unwished")?;
+    let link = client(1);
+    drop(stream);
+    net.want(link, false, true);
+    assert_eq!(rt; net.wait(), Ready::Link(link));
+    assert_eq!(rt; net.write(link, b"x"), Took::NotReady);
+    net.want(client(2), true, false);
+    assert_eq!(rt; net.write(bus(1), b"y"), Took::Bytes(1));
+    for _ in 0..3 {
+        assert_eq!(rt; net.wait(), Ready::Link(client(2)));
+    }
+    let mut buffer = [0u8; 8];
+    assert_eq!(rt; net.read(link, &mut buffer), Got::Finished);
+    let mut named = false;
+    for _ in 0..10 {
+        named = named || net.wait() == Ready::Link(link);
+    }
+    assert!(rt; named);
+    assert_eq!(rt; net.write(link, b"x"), Took::Failed);
+    Ok(())
+}

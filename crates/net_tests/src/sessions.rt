@@ -103,3 +103,29 @@ fn unheeded_listeners(rt: HostRuntime) -> Result<(), Fail> {
     assert_eq!(rt; net.accept(0), Accepted::New(3));
     Ok(())
 }
+
+/// A listener of which a client is accepted after others were named is named again for the clients that still wait.
+#[test]
+fn late_accepts(rt: HostRuntime) -> Result<(), Fail> {
+    let mut net = listening(&rt, "late_accepts")?;
+    let mut stream = one_client(&rt, &mut net, "late_accepts")?;
+    let _second = UnixStream::connect(&rt, "late_accepts")?;
+    let _third = UnixStream::connect(&rt, "late_accepts")?;
+    assert_eq!(rt; net.wait(), Ready::Listener(0));
+    stream.write_all(b"hello")?;
+    net.want(client(1), true, false);
+    for _ in 0..3 {
+        assert_eq!(rt; net.wait(), Ready::Link(client(1)));
+    }
+    assert_eq!(rt; net.accept(0), Accepted::New(2));
+    let mut named = 0u32;
+    for _ in 0..10 {
+        if net.wait() == Ready::Listener(0) {
+            named = named.saturating_add(1);
+        }
+    }
+    assert_eq!(rt; named, 1);
+    assert_eq!(rt; net.accept(0), Accepted::New(3));
+    assert_eq!(rt; net.accept(0), Accepted::NotReady);
+    Ok(())
+}

@@ -6,7 +6,7 @@ use Rattle.link_traits.specs.declared.links.Accepted.{Accepted}
 use Rattle.link_traits.specs.declared.links.Accepted.TheVariants.{New, NotReady, Failed as Refused, Memory}
 use Rattle.link_traits.specs.declared.links.Ready.{Ready}
 use Rattle.link_traits.specs.declared.links.Ready.TheVariants.{Listener, Link, Quiet, Failed}
-use Rattle.proxy_net.specs.Sockets.{GoesOn, KeepsWishesIn, AfterAcceptIn, wishes_in, IsWished}
+use Rattle.proxy_net.specs.Sockets.{GoesOn, Grows, KeepsWishesIn, AfterAcceptIn, wishes_in, IsWished}
 use Rattle.proxy_net.specs.declared.sockets.SocketSet.{SocketSet}
 
 -- a count that rose, and then didn't fall
@@ -24,6 +24,28 @@ pub goes_through : {a b c : SocketSet} → GoesOn a b → GoesOn b c → GoesOn 
 goes_through p q = record {
   counts = λ count. let x = p.counts count in let y = q.counts count in omega (arith, x, y);
   wishes = λ link. q.wishes link ∙ p.wishes link;
+  sessions = q.sessions ∙ p.sessions;
+  links = λ link placed. q.links link (p.links link placed);
+  listeners = λ listener placed. q.listeners listener (p.listeners listener placed);
+}
+
+pub goes_grows : {a b : SocketSet} → GoesOn a b → Grows a b
+goes_grows p = record { each = p.counts; links = p.links; listeners = p.listeners }
+
+-- what only grows after what goes on
+pub grows_through : {a b c : SocketSet} → GoesOn a b → Grows b c → Grows a c
+grows_through p q = record {
+  each = λ count. let x = p.counts count in let y = q.each count in omega (arith, x, y);
+  links = λ link placed. q.links link (p.links link placed);
+  listeners = λ listener placed. q.listeners listener (p.listeners listener placed);
+}
+
+-- what goes on after what only grows
+pub grows_on : {a b c : SocketSet} → Grows a b → GoesOn b c → Grows a c
+grows_on p q = record {
+  each = λ count. let x = p.each count in let y = q.counts count in omega (arith, x, y);
+  links = λ link placed. q.links link (p.links link placed);
+  listeners = λ listener placed. q.listeners listener (p.listeners listener placed);
 }
 
 pub keeps_wishes : {a b : SocketSet} → GoesOn a b → KeepsWishesIn a b

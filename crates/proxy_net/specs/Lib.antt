@@ -1,1 +1,3 @@
 pub mod Sockets
+pub mod Naming
+pub mod Connecting

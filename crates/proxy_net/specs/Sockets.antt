@@ -1,5 +1,5 @@
 -- What a set of sockets shows, and how that goes on from call to call. It tells no journal.
-use Rattle.std.specs.Prelude.{ℕ, ◌≡◌, ◌≤◌, false, Option, None, slice_get, unwrap_or}
+use Rattle.std.specs.Prelude.{ℕ, ◌≡◌, ◌≤◌, ◌+◌, ◌-◌, ◌%◌, nat_eq, if◌then◌else◌, false, true, Bool, Option, None, slice_get, unwrap_or}
 use Rattle.std.specs.Option.{option_map}
 use Rattle.std.specs.Ordering.{nat_cmp}
 use Rattle.std.specs.BTreeMap as tree
@@ -17,6 +17,8 @@ use Rattle.link_traits.specs.declared.links.Ready.TheVariants.{Listener as OfLis
 use Rattle.link_traits.specs.declared.links.Accepted.{Accepted}
 use Rattle.link_traits.specs.declared.links.Accepted.TheVariants.{New, NotReady, Failed as Refused, Memory}
 use Rattle.link_traits.specs.Answers.{client_link}
+use Rattle.proxy_net.specs.Naming.{is_link_placed, is_listener_placed, is_link_closed, is_to_fail}
+use Rattle.proxy_net.specs.Connecting.{is_pending}
 use Rattle.proxy_net.specs.declared.link_sockets.LinkSocket.{LinkSocket}
 use Rattle.proxy_net.specs.declared.listeners.ListenerSocket.{ListenerSocket}
 use Rattle.proxy_net.specs.declared.sockets.SocketSet.{SocketSet}
@@ -24,6 +26,10 @@ use Rattle.proxy_net.specs.declared.sockets.SocketSet.{SocketSet}
 -- the socket of a link that was made and isn't shut
 abbrev pub socket_in : SocketSet → Link → Option LinkSocket
 socket_in sockets link = tree.get nat_cmp sockets.links (number_of link)
+
+-- a link that isn't connected yet
+abbrev pub is_pending_in : SocketSet → Link → Bool
+is_pending_in sockets link = unwrap_or (option_map (λ (s : LinkSocket). is_pending s.connection) (socket_in sockets link)) false
 
 abbrev pub wishes_in : SocketSet → Link → Option Wishes
 wishes_in sockets link = option_map (λ (s : LinkSocket). s.wishes) (socket_in sockets link)
@@ -45,14 +51,28 @@ shown sockets = record {
 abbrev pub RoseIn : Count → SocketSet → SocketSet → Type 0
 RoseIn count old new = Rose (count_in old count) (count_in new count)
 
--- no count falls
+-- a link that is ready for what is wished has a place in the queue
+abbrev pub has_link_placed : SocketSet → Link → Bool
+has_link_placed sockets link = is_link_placed (socket_in sockets link)
+
+-- a listener that is to be named has a place in the queue
+abbrev pub has_listener_placed : SocketSet → ℕ → Bool
+has_listener_placed sockets listener = is_listener_placed (slice_get sockets.listeners.items listener)
+
+-- no count falls, and nothing that is ready for a wish falls out of the queue
 pub record Grows (old new : SocketSet) : Type 0 where
   pub each : (count : Count) → count_in old count ≤ count_in new count
+  pub links : (link : Link) → has_link_placed old link ≡ true → has_link_placed new link ≡ true
+  pub listeners : (listener : ℕ) → has_listener_placed old listener ≡ true → has_listener_placed new listener ≡ true
 
--- no count falls, and the wishes of all links are as before
+-- no count falls, the wishes of all links and the number of sessions are as before, and nothing that
+-- is ready for a wish falls out of the queue
 pub record GoesOn (old new : SocketSet) : Type 0 where
   pub counts : (count : Count) → count_in old count ≤ count_in new count
   pub wishes : (link : Link) → wishes_in new link ≡ wishes_in old link
+  pub sessions : new.sessions ≡ old.sessions
+  pub links : (link : Link) → has_link_placed old link ≡ true → has_link_placed new link ≡ true
+  pub listeners : (listener : ℕ) → has_listener_placed old listener ≡ true → has_listener_placed new listener ≡ true
 
 -- the wishes of all links are as before
 pub record KeepsWishesIn (old new : SocketSet) : Type 0 where
@@ -68,6 +88,22 @@ AfterAcceptIn (New session) old new = KeepsOthersIn (client_link session) old ne
 AfterAcceptIn NotReady old new = KeepsWishesIn old new
 AfterAcceptIn Refused old new = KeepsWishesIn old new
 AfterAcceptIn Memory old new = KeepsWishesIn old new
+
+-- the number of the other link of a session
+abbrev pub other_of : ℕ → ℕ
+other_of number = if nat_eq (number % 2) 0 then number + 1 else number - 1
+
+-- whether the writes of the link of a number fail by now, where there is one
+abbrev pub given_up_at : SocketSet → ℕ → Option Bool
+given_up_at sockets number = option_map (λ (s : LinkSocket). s.given_up) (tree.get nat_cmp sockets.links number)
+
+-- nothing more passes between the link of a number and its peer, or there is no such link
+abbrev pub is_closed_at : SocketSet → ℕ → Bool
+is_closed_at sockets number = unwrap_or (option_map is_link_closed (tree.get nat_cmp sockets.links number)) true
+
+-- the writes of the link of a number are to fail, or there is no such link
+abbrev pub is_to_fail_at : SocketSet → ℕ → Bool
+is_to_fail_at sockets number = unwrap_or (option_map (is_to_fail (is_closed_at sockets (other_of number))) (tree.get nat_cmp sockets.links number)) true
 
 -- nothing was counted, and there is no link
 pub record IsUnused (net : NetView) : Type 0 where

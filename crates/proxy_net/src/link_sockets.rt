@@ -1,8 +1,12 @@
 //! What is kept of each link: its wishes, its faults and its socket.
-ghost use Rattle.std.specs.Prelude.{◌≡◌, ◌≤◌, ◌<◌, ◌&&◌, ◌||◌, not, ℕ, Some, length, true};
+ghost use Rattle.std.specs.Prelude.{◌≡◌, ◌≢◌, ◌≤◌, ◌<◌, ◌+◌, ◌*◌, ◌&&◌, ◌||◌, ◌⊎◌, ◌↔◌, not, ℕ, Some, IfSome, IsTrue, length, true, false};
 ghost use Rattle.link_traits.specs.Told.{Rose};
 ghost use Rattle.link_traits.specs.Tables.{HasWish};
 ghost use Rattle.link_traits.specs.Answers.{no_wishes};
+ghost use Rattle.proxy_net.specs.Naming.{is_ready, is_link_placed, is_link_closed, is_to_fail};
+ghost use Rattle.proxy_net.specs.Connecting.{IsLater, is_pending, is_given_up as is_failed, due_of};
+ghost use Rattle.std.specs.Time.{instant_nanos};
+ghost use Rattle.std.specs.Duration.{as_nanos};
 
 use crate::streams::{StreamRead, StreamWrite, read_stream, write_stream};
 use link_traits::{Got, Wishes};
@@ -106,7 +110,12 @@ pub struct LinkSocket {
 
 impl Retry {
     /// A connect that had no room now.
-    pub fn new(path: String, now: Instant) -> Retry {
+    pub fn new(path: String, now: Instant) -> Retry
+        ensures path { result.path ≡ path }
+        ensures delay { result.delay ≡ FIRST_DELAY }
+        ensures due { IsLater now (FIRST_DELAY * 1_000_000) result.due }
+        ensures until { IsLater now (TRIED_FOR * 1_000_000_000) result.until }
+    {
         Retry {
             path,
             delay: FIRST_DELAY,
@@ -116,14 +125,20 @@ impl Retry {
     }
 
     /// Tries again to connect, where it is time to.
-    fn connect(&mut self, rt: &HostRuntime, now: Instant) -> Connected {
+    fn connect(&mut self, rt: &HostRuntime, now: Instant) -> Connected
+        ensures early { instant_nanos now < instant_nanos self.old.due → (result ≡ Connected.NotDue) × (self.new ≡ self.old) }
+        ensures again { result ≡ Connected.WouldBlock → instant_nanos now ≤ instant_nanos self.old.until }
+        ensures due { result ≡ Connected.WouldBlock → IsLater now (self.new.delay * 1_000_000) self.new.due }
+        ensures tried { result ≢ Connected.Before }
+        ensures rest { self.new ≡ record self.old { delay = self.new.delay; due = self.new.due } }
+    {
         if now < self.due {
             return Connected::NotDue;
         }
         match UnixStream::connect(rt, self.path.as_str()) {
             Ok(stream) => Connected::To(stream),
             Err(error) => {
-                if is_put_off(error.kind()) && now < self.until {
+                if is_put_off(error.kind()) && self.has_time(now) {
                     self.put_off(now);
                     return Connected::WouldBlock;
                 }
@@ -132,15 +147,30 @@ impl Retry {
         }
     }
 
+    /// Whether it may be tried again.
+    fn has_time(&self, now: Instant) -> bool
+        ensures yes { result ≡ true → instant_nanos now ≤ instant_nanos self.now.until }
+        ensures no { instant_nanos now < instant_nanos self.now.until → result ≡ true }
+    {
+        now < self.until
+    }
+
     /// Puts the next try off.
-    fn put_off(&mut self, now: Instant) {
+    fn put_off(&mut self, now: Instant)
+        ensures short { self.old.delay * 2 ≤ LONGEST_DELAY → self.new.delay ≡ self.old.delay * 2 }
+        ensures long { LONGEST_DELAY < self.old.delay * 2 → self.new.delay ≡ LONGEST_DELAY }
+        ensures due { IsLater now (self.new.delay * 1_000_000) self.new.due }
+        ensures rest { self.new ≡ record self.old { delay = self.new.delay; due = self.new.due } }
+    {
         self.delay = self.delay.saturating_mul(2).min(LONGEST_DELAY);
         self.due = later(now, Duration::from_millis(self.delay));
     }
 }
 
 /// The time after so long, or the same time where the clock ends.
-fn later(now: Instant, duration: Duration) -> Instant {
+fn later(now: Instant, duration: Duration) -> Instant
+    ensures { IsLater now (as_nanos duration) result }
+{
     match now.checked_add(duration) {
         Some(time) => time,
         None => now,
@@ -148,7 +178,9 @@ fn later(now: Instant, duration: Duration) -> Instant {
 }
 
 /// Whether a connect that was refused so is to be tried again.
-pub fn is_put_off(kind: ErrorKind) -> bool {
+pub fn is_put_off(kind: ErrorKind) -> bool
+    ensures { IsTrue result ↔ ((kind ≡ ErrorKind.WouldBlock) ⊎ (kind ≡ ErrorKind.Interrupted)) }
+{
     kind == ErrorKind::WouldBlock || kind == ErrorKind::Interrupted
 }
 
@@ -157,6 +189,9 @@ impl LinkSocket {
     pub fn new(faults: u64, connection: Connection) -> LinkSocket
         ensures wishes { result.wishes ≡ no_wishes }
         ensures faults { result.faults ≡ faults }
+        ensures connection { result.connection ≡ connection }
+        ensures quiet { (result.queued ≡ false) × (result.readable ≡ false) × (result.given_up ≡ false) }
+        ensures open { (result.peer_closed ≡ false) × (result.end_read ≡ false) }
     {
         let writable = matches!(connection, Connection::Open(_));
         LinkSocket {
@@ -180,6 +215,12 @@ impl LinkSocket {
         ensures within { (n : ℕ) → result ≡ Got.Bytes n → n ≤ length into.new }
         ensures progress { (n : ℕ) → result ≡ Got.Bytes n → 0 < length into.new → 0 < n }
         ensures failed { result ≡ Got.Failed → Rose self.old.faults self.new.faults }
+        ensures pending { is_pending self.old.connection ≡ true → result ≡ Got.NotReady }
+        ensures never { is_failed self.old.connection ≡ true → result ≡ Got.Failed }
+        ensures finished { result ≡ Got.Finished → (self.new.end_read ≡ true) × (self.new.given_up ≡ self.old.peer_closed) }
+        ensures goes_on { result ≢ Got.Finished → (self.new.end_read ≡ self.old.end_read) × (self.new.given_up ≡ self.old.given_up) }
+        ensures readable { result ≢ Got.NotReady → self.new.readable ≡ self.old.readable }
+        ensures rest { (self.new.writable ≡ self.old.writable) × (self.new.peer_closed ≡ self.old.peer_closed) }
         ensures faults { self.old.faults ≤ self.new.faults }
         ensures wishes { self.new.wishes ≡ self.old.wishes }
     {
@@ -205,8 +246,9 @@ impl LinkSocket {
     fn read_connection(&mut self, into: &mut [u8]) -> StreamRead
         ensures within { (n : ℕ) → result ≡ StreamRead.Bytes n → n ≤ length into.new }
         ensures progress { (n : ℕ) → result ≡ StreamRead.Bytes n → 0 < length into.new → 0 < n }
-        ensures faults { self.new.faults ≡ self.old.faults }
-        ensures wishes { self.new.wishes ≡ self.old.wishes }
+        ensures pending { is_pending self.old.connection ≡ true → result ≡ StreamRead.Nothing }
+        ensures never { is_failed self.old.connection ≡ true → result ≡ StreamRead.Fault }
+        ensures rest { self.new ≡ record self.old { connection = self.new.connection } }
     {
         match &mut self.connection {
             Connection::Open(stream) => read_stream(stream, into),
@@ -221,6 +263,11 @@ impl LinkSocket {
         ensures progress { (n : ℕ) → result ≡ LinkWrite.Bytes n → 0 < length piece.now → 0 < n }
         ensures failed { result ≡ LinkWrite.Failed → Rose self.old.faults self.new.faults }
         ensures closed { result ≡ LinkWrite.PeerClosed → Rose self.old.faults self.new.faults }
+        ensures pending { is_pending self.old.connection ≡ true → result ≡ LinkWrite.NotReady }
+        ensures never { is_failed self.old.connection ≡ true → result ≡ LinkWrite.Failed }
+        ensures peer { result ≡ LinkWrite.PeerClosed → (self.new.peer_closed ≡ true) × (self.new.readable ≡ true) }
+        ensures goes_on { result ≢ LinkWrite.PeerClosed → (self.new.peer_closed ≡ self.old.peer_closed) × (self.new.readable ≡ self.old.readable) }
+        ensures end { self.new.end_read ≡ self.old.end_read }
         ensures faults { self.old.faults ≤ self.new.faults }
         ensures wishes { self.new.wishes ≡ self.old.wishes }
     {
@@ -242,8 +289,9 @@ impl LinkSocket {
     fn write_connection(&mut self, piece: &[u8]) -> StreamWrite
         ensures within { (n : ℕ) → result ≡ StreamWrite.Bytes n → n ≤ length piece.now }
         ensures progress { (n : ℕ) → result ≡ StreamWrite.Bytes n → 0 < length piece.now → 0 < n }
-        ensures faults { self.new.faults ≡ self.old.faults }
-        ensures wishes { self.new.wishes ≡ self.old.wishes }
+        ensures pending { is_pending self.old.connection ≡ true → result ≡ StreamWrite.Again }
+        ensures never { is_failed self.old.connection ≡ true → result ≡ StreamWrite.Fault }
+        ensures rest { self.new ≡ record self.old { connection = self.new.connection } }
     {
         match &mut self.connection {
             Connection::Open(stream) => write_stream(stream, piece),
@@ -256,7 +304,7 @@ impl LinkSocket {
     fn note_closed(&mut self)
         ensures rose { Rose self.old.faults self.new.faults }
         ensures faults { self.old.faults ≤ self.new.faults }
-        ensures wishes { self.new.wishes ≡ self.old.wishes }
+        ensures closed { self.new ≡ record self.old { faults = self.new.faults; peer_closed = true; readable = true; writable = false; given_up = self.old.end_read } }
     {
         self.faults = raised(self.faults);
         self.peer_closed = true;
@@ -271,7 +319,7 @@ impl LinkSocket {
         ensures failed { result ≡ LinkWrite.Failed → Rose self.old.faults self.new.faults }
         ensures closed { result ≡ LinkWrite.PeerClosed → ⊥ }
         ensures faults { self.old.faults ≤ self.new.faults }
-        ensures wishes { self.new.wishes ≡ self.old.wishes }
+        ensures rest { self.new ≡ record self.old { faults = self.new.faults; writable = false } }
     {
         if self.writable {
             self.writable = false;
@@ -285,8 +333,7 @@ impl LinkSocket {
 
     /// Changes what the system reports. Answers whether it could.
     fn watch(&mut self, registry: &Registry, number: u64, interest: Interest) -> bool
-        ensures faults { self.new.faults ≡ self.old.faults }
-        ensures wishes { self.new.wishes ≡ self.old.wishes }
+        ensures { self.new ≡ self.old }
     {
         match &mut self.connection {
             Connection::Open(stream) => registry
@@ -298,8 +345,10 @@ impl LinkSocket {
 
     /// Notes what the system reports. One that can't be watched on counts a fault.
     pub fn note(&mut self, registry: &Registry, number: u64, readable: bool, writable: bool)
+        ensures readable { self.new.readable ≡ (self.old.readable || readable) }
+        ensures writable { self.new.writable ≡ (self.old.writable || (writable && not self.old.peer_closed)) }
+        ensures rest { self.new ≡ record self.old { faults = self.new.faults; readable = self.new.readable; writable = self.new.writable } }
         ensures faults { self.old.faults ≤ self.new.faults }
-        ensures wishes { self.new.wishes ≡ self.old.wishes }
     {
         self.readable = self.readable || readable;
         if writable && !self.writable && !self.peer_closed {
@@ -319,7 +368,7 @@ impl LinkSocket {
 
     /// Whether nothing more passes between it and its peer.
     pub fn is_closed(&self) -> bool
-        ensures { result ≡ (self.now.peer_closed || self.now.end_read) }
+        ensures { result ≡ is_link_closed self.now }
     {
         self.peer_closed || self.end_read
     }
@@ -333,9 +382,8 @@ impl LinkSocket {
 
     /// Judges whether its writes are to fail, by whether its session's other link is shut or closed.
     pub fn judge(&mut self, is_other_closed: bool)
-        ensures given_up { self.new.given_up ≡ (self.old.peer_closed && (self.old.end_read || (not self.old.wishes.read && is_other_closed))) }
-        ensures faults { self.new.faults ≡ self.old.faults }
-        ensures wishes { self.new.wishes ≡ self.old.wishes }
+        ensures given_up { self.new.given_up ≡ is_to_fail is_other_closed self.old }
+        ensures rest { self.new ≡ record self.old { given_up = self.new.given_up } }
     {
         let is_done = self.end_read || !self.wishes.read && is_other_closed;
         self.given_up = self.peer_closed && is_done;
@@ -343,7 +391,8 @@ impl LinkSocket {
 
     /// Whether it is ready for what is wished.
     pub fn is_nameable(&self) -> bool
-        ensures { result ≡ true → HasWish (Some self.now.wishes) }
+        ensures ready { result ≡ is_ready self.now }
+        ensures wished { result ≡ true → HasWish (Some self.now.wishes) }
     {
         let can_write = self.writable || self.given_up;
         self.wishes.read && self.readable || self.wishes.write && can_write
@@ -351,8 +400,10 @@ impl LinkSocket {
 
     /// Takes a place among what is to be named, where it is ready for what is wished and has none. Answers whether it took one.
     pub fn take_place(&mut self) -> bool
-        ensures faults { self.new.faults ≡ self.old.faults }
-        ensures wishes { self.new.wishes ≡ self.old.wishes }
+        ensures took { result ≡ (is_ready self.old && not self.old.queued) }
+        ensures placed { is_link_placed (Some self.new) ≡ true }
+        ensures given_up { self.new.given_up ≡ self.old.given_up }
+        ensures same { self.new ≡ record self.old { queued = self.old.queued || is_ready self.old } }
     {
         if self.queued || !self.is_nameable() {
             return false;
@@ -363,8 +414,7 @@ impl LinkSocket {
 
     /// Gives up its place among what is to be named.
     pub fn leave_place(&mut self)
-        ensures faults { self.new.faults ≡ self.old.faults }
-        ensures wishes { self.new.wishes ≡ self.old.wishes }
+        ensures { self.new ≡ record self.old { queued = false } }
     {
         self.queued = false;
     }
@@ -372,7 +422,9 @@ impl LinkSocket {
 
 impl LinkSocket {
     /// When the next try to connect is due, where there is one.
-    pub fn due(&self) -> Option<Instant> {
+    pub fn due(&self) -> Option<Instant>
+        ensures { result ≡ due_of self.now.connection }
+    {
         match &self.connection {
             Connection::Pending(retry) => Some(retry.due),
             Connection::Open(_) | Connection::Failed => None,
@@ -387,6 +439,9 @@ impl LinkSocket {
         number: u64,
         now: Option<Instant>,
     ) -> Attempt
+        ensures other { is_pending self.old.connection ≡ false → self.new ≡ self.old }
+        ensures done { result ≡ Attempt.Done → is_pending self.new.connection ≡ false }
+        ensures pending { result ≢ Attempt.Done → is_pending self.new.connection ≡ true }
         ensures faults { self.old.faults ≤ self.new.faults }
         ensures wishes { self.new.wishes ≡ self.old.wishes }
     {
@@ -406,20 +461,24 @@ impl LinkSocket {
     }
 
     fn connect(&mut self, rt: &HostRuntime, now: Option<Instant>) -> Connected
-        ensures faults { self.new.faults ≡ self.old.faults }
-        ensures wishes { self.new.wishes ≡ self.old.wishes }
+        ensures before { result ≡ Connected.Before → is_pending self.old.connection ≡ false }
+        ensures other { is_pending self.old.connection ≡ false → (result ≡ Connected.Before) × (self.new ≡ self.old) }
+        ensures pending { is_pending self.new.connection ≡ is_pending self.old.connection }
+        ensures rest { self.new ≡ record self.old { connection = self.new.connection } }
     {
-        let Some(now) = now else {
-            return Connected::Failed;
-        };
         match &mut self.connection {
-            Connection::Pending(retry) => retry.connect(rt, now),
+            Connection::Pending(retry) => match now {
+                Some(now) => retry.connect(rt, now),
+                None => Connected::Failed,
+            },
             Connection::Open(_) | Connection::Failed => Connected::Before,
         }
     }
 
     /// Goes on with a stream that was connected.
     fn open(&mut self, registry: &Registry, number: u64, stream: UnixStream)
+        ensures pending { is_pending self.new.connection ≡ false }
+        ensures writable { self.new.writable ≡ true }
         ensures faults { self.old.faults ≤ self.new.faults }
         ensures wishes { self.new.wishes ≡ self.old.wishes }
     {
@@ -433,9 +492,10 @@ impl LinkSocket {
     }
 
     /// Counts a fault, and has reads and writes fail from now on.
-    pub fn fail(&mut self)
+    fn fail(&mut self)
+        ensures failed { self.new ≡ record self.old { faults = self.new.faults; connection = Connection.Failed; readable = true; writable = true } }
+        ensures rose { Rose self.old.faults self.new.faults }
         ensures faults { self.old.faults ≤ self.new.faults }
-        ensures wishes { self.new.wishes ≡ self.old.wishes }
     {
         self.faults = raised(self.faults);
         self.connection = Connection::Failed;
@@ -445,7 +505,9 @@ impl LinkSocket {
 }
 
 /// Has the system report when there is something to read from a stream. `None` where it refuses to.
-pub fn watched(registry: &Registry, number: u64, stream: UnixStream) -> Option<UnixStream> {
+pub fn watched(registry: &Registry, number: u64, stream: UnixStream) -> Option<UnixStream>
+    ensures { IfSome result (λ watched. watched ≡ stream) }
+{
     let mut stream = stream;
     match registry.register(&mut stream, Token(number as usize), Interest::READABLE) {
         Ok(()) => Some(stream),

@@ -1,6 +1,7 @@
 //! The sockets that listen.
-ghost use Rattle.std.specs.Prelude.{◌≡◌, ◌≤◌, ◌&&◌, not, true, false};
+ghost use Rattle.std.specs.Prelude.{◌≡◌, ◌≢◌, ◌≤◌, ◌&&◌, ◌||◌, not, Some, true, false};
 ghost use Rattle.link_traits.specs.Told.{Rose};
+ghost use Rattle.proxy_net.specs.Naming.{is_awaited, is_listener_placed};
 
 use crate::link_sockets::raised;
 use mio::net::{UnixListener, UnixStream};
@@ -9,7 +10,8 @@ use std::io::ErrorKind;
 /// A socket that listens.
 ///
 /// One whose accept failed is stalled: mostly no descriptor is left. It isn't named again until a link is shut or another client
-/// comes, since to name it on would spin. Nor is one that was named and of which nothing was accepted, until another client comes.
+/// comes, since to name it on would spin. Nor is one that was named and of which nothing was accepted, until something is accepted
+/// or another client comes.
 #[derive(Drop)]
 pub struct ListenerSocket {
     /// How often it failed.
@@ -35,7 +37,9 @@ pub enum Arrival {
 impl ListenerSocket {
     /// A listener that nobody came to.
     pub fn new(faults: u64, listener: UnixListener) -> ListenerSocket
-        ensures { result.faults ≡ faults }
+        ensures faults { result.faults ≡ faults }
+        ensures quiet { (result.ready ≡ false) × (result.queued ≡ false) }
+        ensures listed { (result.listed ≡ false) × (result.stalled ≡ false) × (result.unheeded ≡ false) }
     {
         ListenerSocket {
             faults,
@@ -48,9 +52,22 @@ impl ListenerSocket {
         }
     }
 
-    /// Takes a client.
-    pub fn accept(&mut self) -> Arrival
+    /// Takes a client. Answers also whether it is to be queued.
+    pub fn accept(&mut self) -> (Arrival, bool)
+        ensures placed { is_listener_placed (Some self.new) ≡ true }
+        ensures queued { result.1 ≡ true → (self.new.queued ≡ true) × (self.old.queued ≡ false) }
+        ensures stays { result.1 ≡ false → self.new.queued ≡ self.old.queued }
+        ensures failed { result.0 ≡ Arrival.Failed → Rose self.old.faults self.new.faults }
+        ensures faults { self.old.faults ≤ self.new.faults }
+    {
+        let arrival = self.take_client();
+        (arrival, self.take_place())
+    }
+
+    fn take_client(&mut self) -> Arrival
         ensures heeded { self.new.unheeded ≡ false }
+        ensures ready { result ≢ Arrival.NotReady → self.new.ready ≡ self.old.ready }
+        ensures rest { self.new ≡ record self.old { faults = self.new.faults; ready = self.new.ready; unheeded = false } }
         ensures failed { result ≡ Arrival.Failed → Rose self.old.faults self.new.faults }
         ensures faults { self.old.faults ≤ self.new.faults }
     {
@@ -63,7 +80,8 @@ impl ListenerSocket {
 
     /// Answers an accept that the system refused.
     fn refuse(&mut self, kind: ErrorKind) -> Arrival
-        ensures heeded { self.new.unheeded ≡ self.old.unheeded }
+        ensures ready { result ≢ Arrival.NotReady → self.new.ready ≡ self.old.ready }
+        ensures rest { self.new ≡ record self.old { faults = self.new.faults; ready = self.new.ready } }
         ensures failed { result ≡ Arrival.Failed → Rose self.old.faults self.new.faults }
         ensures faults { self.old.faults ≤ self.new.faults }
     {
@@ -82,8 +100,8 @@ impl ListenerSocket {
 
     /// Isn't named until it is noted or revived. Answers whether it is to be listed as stalled.
     pub fn stall(&mut self) -> bool
-        ensures faults { self.new.faults ≡ self.old.faults }
-        ensures stalled { self.new.stalled ≡ true }
+        ensures listed { result ≡ not self.old.listed }
+        ensures stalled { self.new ≡ record self.old { stalled = true; listed = true } }
     {
         let was_listed = self.listed;
         self.stalled = true;
@@ -93,7 +111,9 @@ impl ListenerSocket {
 
     /// Is named again, where it was stalled. Answers whether it is to be queued.
     pub fn revive(&mut self) -> bool
-        ensures { self.new.faults ≡ self.old.faults }
+        ensures queued { result ≡ (self.old.stalled && not self.old.queued) }
+        ensures other { self.old.stalled ≡ false → self.new ≡ record self.old { listed = false } }
+        ensures stalled { self.old.stalled ≡ true → self.new ≡ record self.old { listed = false; ready = true; stalled = false; unheeded = false; queued = true } }
     {
         self.listed = false;
         if !self.stalled {
@@ -104,8 +124,8 @@ impl ListenerSocket {
 
     /// Notes that a client came. Answers whether it is to be queued.
     pub fn note(&mut self) -> bool
-        ensures faults { self.new.faults ≡ self.old.faults }
-        ensures noted { (self.new.ready ≡ true) × (self.new.stalled ≡ false) × (self.new.unheeded ≡ false) }
+        ensures queued { result ≡ not self.old.queued }
+        ensures noted { self.new ≡ record self.old { ready = true; stalled = false; unheeded = false; queued = true } }
     {
         let was_queued = self.queued;
         self.ready = true;
@@ -117,12 +137,30 @@ impl ListenerSocket {
 
     /// Whether it is to be named. One that isn't leaves its place in the queue.
     pub fn keeps_place(&mut self) -> bool
-        ensures faults { self.new.faults ≡ self.old.faults }
-        ensures place { result ≡ (self.old.ready && (not self.old.stalled && not self.old.unheeded)) }
-        ensures named { self.new.unheeded ≡ result }
+        ensures place { result ≡ is_awaited self.old }
+        ensures named { self.new ≡ record self.old { queued = is_awaited self.old; unheeded = self.old.unheeded || is_awaited self.old } }
     {
-        self.queued = self.ready && !self.stalled && !self.unheeded;
-        self.unheeded = self.queued;
+        self.queued = self.is_awaited();
+        self.unheeded = self.unheeded || self.queued;
         self.queued
+    }
+
+    fn is_awaited(&self) -> bool
+        ensures { result ≡ is_awaited self.now }
+    {
+        self.ready && !self.stalled && !self.unheeded
+    }
+
+    /// Takes a place among what is to be named, where it is to be named and has none. Answers whether it took one.
+    fn take_place(&mut self) -> bool
+        ensures took { result ≡ (is_awaited self.old && not self.old.queued) }
+        ensures placed { is_listener_placed (Some self.new) ≡ true }
+        ensures same { self.new ≡ record self.old { queued = self.old.queued || is_awaited self.old } }
+    {
+        if self.queued || !self.is_awaited() {
+            return false;
+        }
+        self.queued = true;
+        true
     }
 }

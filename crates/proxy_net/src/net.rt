@@ -12,7 +12,8 @@ const EVENTS: usize = 256;
 /// A net over Unix sockets. What its links carry is not told.
 ///
 /// It names a link only for a wish that is true. A thing that is ready goes on being named, in turn with the others, until it
-/// answered that it would wait. A listener of which nothing is accepted when it is named isn't named again until another client comes.
+/// answered that it would wait. A listener of which nothing is accepted when it is named isn't named again until something is
+/// accepted of it or another client comes.
 ///
 /// Nothing that a client wrote before it closed is lost: a write to it isn't ready until what it wrote was read to its end, and
 /// then fails. Each such write counts as one that would have waited and as a fault of its link. Where the link isn't wished to be
@@ -67,15 +68,29 @@ impl<'a> MioNet<'a> {
 }
 
 impl<'a> Net for MioNet<'a> {
-    ghost use Rattle.std.specs.Prelude.{◌≢◌, [], ◌∷◌, true};
+    ghost use Rattle.std.specs.Prelude.{◌≢◌, ◌≤◌, ◌<◌, ◌+◌, ◌⊎◌, ℕ, [], ◌∷◌, length, vec_len, None, Some, OnOk, OnErr, IsErrOf, true};
     ghost use Rattle.link_traits.specs.Entries.{ready};
-    ghost use Rattle.link_traits.specs.Views.{Adds, RoseAt, KeepsWishes};
-    ghost use Rattle.proxy_net.specs.Sockets.{shown, wishes_in, IsWished};
+    ghost use Rattle.link_traits.specs.Journals.{Journal, accepts, listens};
+    ghost use Rattle.link_traits.specs.Answers.{listen_entry, accept_entry, connect_entry, read_entry, write_entry, no_wishes, client_link, bus_link, AfterAccept};
+    ghost use Rattle.link_traits.specs.Views.{Adds, RoseAt, KeepsOthers, KeepsWishes};
+    ghost use Rattle.proxy_net.specs.Sockets.{shown, wishes_in, is_pending_in, IsWished};
 
     ghost view = { λ net. shown net.sockets };
 
     /// It is refused where a file stands at the path, and where the path is empty. Nothing is removed.
-    fn listen(&mut self, path: &str) -> Result<u32, NetFault> {
+    fn listen(&mut self, path: &str) -> Result<u32, NetFault>
+        // Listeners are numbered in the order of their listens.
+        ensures order { IfOk result (λ listener. listener ≡ vec_len self.old.sockets.listeners) }
+        ensures made { OnOk result (vec_len self.new.sockets.listeners ≡ vec_len self.old.sockets.listeners + 1) }
+        ensures err { OnErr result (vec_len self.new.sockets.listeners ≡ vec_len self.old.sockets.listeners) }
+        ensures path { OnOk result (path.now ≢ []) }
+
+        // What the trait says.
+        ensures told { Adds (shown self.old.sockets) (shown self.new.sockets) (listen_entry path.now result ∷ []) }
+        ensures numbered { IfOk result (λ listener. (before : Journal) → (shown self.old.sockets).journal ≡ Some before → listener ≡ listens before) }
+        ensures failed { IsErrOf result NetFault.Failed → RoseAt Count.Own (shown self.old.sockets) (shown self.new.sockets) }
+        ensures wishes { KeepsWishes (shown self.old.sockets) (shown self.new.sockets) }
+    {
         self.sockets.listen(self.rt, path)
     }
 
@@ -100,12 +115,36 @@ impl<'a> Net for MioNet<'a> {
     }
 
     /// Where it fails or is refused memory, the listener isn't named again until a link is shut or another client comes.
-    fn accept(&mut self, listener: u32) -> Accepted {
+    fn accept(&mut self, listener: u32) -> Accepted
+        // Sessions are numbered from 1 in the order of their accepts.
+        ensures order { (session : ℕ) → result ≡ Accepted.New session → (session ≡ self.old.sockets.sessions + 1) × (self.new.sockets.sessions ≡ session) }
+
+        // Nobody comes to a listener that wasn't made.
+        ensures missing { vec_len self.old.sockets.listeners ≤ listener → (result ≡ Accepted.Failed) ⊎ (result ≡ Accepted.Memory) }
+
+        // What the trait says.
+        ensures told { Adds (shown self.old.sockets) (shown self.new.sockets) (accept_entry listener result ∷ []) }
+        ensures numbered { (session : ℕ) → result ≡ Accepted.New session → (before : Journal) → (shown self.old.sockets).journal ≡ Some before → session ≡ accepts before + 1 }
+        ensures failed { result ≡ Accepted.Failed → RoseAt (Count.Listener listener) (shown self.old.sockets) (shown self.new.sockets) }
+        ensures not_ready { result ≡ Accepted.NotReady → RoseAt Count.Waits (shown self.old.sockets) (shown self.new.sockets) }
+        ensures new_wishes { (session : ℕ) → result ≡ Accepted.New session → (shown self.new.sockets).wishes (client_link session) ≡ Some no_wishes }
+        ensures wishes { AfterAccept result (shown self.old.sockets) (shown self.new.sockets) }
+    {
         self.sockets.accept(listener)
     }
 
     /// It is refused where the session has a link to its bus, and where the path is empty.
-    fn connect(&mut self, session: u32, path: &str) -> Result<(), NetFault> {
+    fn connect(&mut self, session: u32, path: &str) -> Result<(), NetFault>
+        ensures path { OnOk result (path.now ≢ []) }
+        ensures fresh { OnOk result ((shown self.old.sockets).wishes (bus_link session) ≡ None) }
+        ensures err { OnErr result (KeepsWishes (shown self.old.sockets) (shown self.new.sockets)) }
+
+        // What the trait says.
+        ensures told { Adds (shown self.old.sockets) (shown self.new.sockets) (connect_entry session path.now result ∷ []) }
+        ensures failed { IsErrOf result NetFault.Failed → RoseAt (Count.Link (bus_link session)) (shown self.old.sockets) (shown self.new.sockets) }
+        ensures new_wishes { OnOk result ((shown self.new.sockets).wishes (bus_link session) ≡ Some no_wishes) }
+        ensures wishes { KeepsOthers (bus_link session) (shown self.old.sockets) (shown self.new.sockets) }
+    {
         self.sockets.connect(self.rt, session, path)
     }
 
@@ -113,11 +152,33 @@ impl<'a> Net for MioNet<'a> {
         self.sockets.want(link, Wishes { read, write });
     }
 
-    fn read(&mut self, link: Link, into: &mut [u8]) -> Got {
+    fn read(&mut self, link: Link, into: &mut [u8]) -> Got
+        ensures missing { (shown self.old.sockets).wishes link ≡ None → result ≡ Got.Failed }
+        ensures pending { is_pending_in self.old.sockets link ≡ true → result ≡ Got.NotReady }
+
+        // What the trait says.
+        ensures told { Adds (shown self.old.sockets) (shown self.new.sockets) (read_entry link into.new result ∷ []) }
+        ensures within { (n : ℕ) → result ≡ Got.Bytes n → n ≤ length into.new }
+        ensures progress { (n : ℕ) → result ≡ Got.Bytes n → 0 < length into.new → 0 < n }
+        ensures failed { result ≡ Got.Failed → RoseAt (Count.Link link) (shown self.old.sockets) (shown self.new.sockets) }
+        ensures not_ready { result ≡ Got.NotReady → RoseAt Count.Waits (shown self.old.sockets) (shown self.new.sockets) }
+        ensures wishes { KeepsWishes (shown self.old.sockets) (shown self.new.sockets) }
+    {
         self.sockets.read(link, into)
     }
 
-    fn write(&mut self, link: Link, piece: &[u8]) -> Took {
+    fn write(&mut self, link: Link, piece: &[u8]) -> Took
+        ensures missing { (shown self.old.sockets).wishes link ≡ None → result ≡ Took.Failed }
+        ensures pending { is_pending_in self.old.sockets link ≡ true → result ≡ Took.NotReady }
+
+        // What the trait says.
+        ensures told { Adds (shown self.old.sockets) (shown self.new.sockets) (write_entry link piece.now result ∷ []) }
+        ensures within { (n : ℕ) → result ≡ Took.Bytes n → n ≤ length piece.now }
+        ensures progress { (n : ℕ) → result ≡ Took.Bytes n → 0 < length piece.now → 0 < n }
+        ensures failed { result ≡ Took.Failed → RoseAt (Count.Link link) (shown self.old.sockets) (shown self.new.sockets) }
+        ensures not_ready { result ≡ Took.NotReady → RoseAt Count.Waits (shown self.old.sockets) (shown self.new.sockets) }
+        ensures wishes { KeepsWishes (shown self.old.sockets) (shown self.new.sockets) }
+    {
         self.sockets.write(link, piece)
     }
 

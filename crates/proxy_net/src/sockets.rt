@@ -2,9 +2,13 @@
 //!
 //! What is ready and wished for stands in a queue, and what was named goes to its end, so that a busy link doesn't hold up the
 //! others. Room in it is taken where a listener or a link is made.
-ghost use Rattle.std.specs.Prelude.{◌≡◌, None, Some, IfOk, OnOk, OnErr};
+ghost use Rattle.std.specs.Prelude.{◌≡◌, ℕ, Bool, true, unwrap_or, None, Some, IfOk, OnOk, OnErr, vec_len};
 ghost use Rattle.std.specs.Option.{option_map};
+ghost use Rattle.std.specs.Ordering.{nat_cmp};
+ghost use Rattle.std.specs.BTreeMap as tree;
 ghost use Rattle.link_traits.specs.Answers.{no_wishes};
+ghost use Rattle.proxy_net.specs.Naming.{is_to_fail};
+ghost use Rattle.proxy_net.specs.Sockets.{other_of, is_closed_at, given_up_at, is_to_fail_at};
 
 mod calls;
 mod making;
@@ -51,8 +55,14 @@ pub struct SocketSet {
 }
 
 /// The number of the other link of a link's session.
-fn other_number(number: u64) -> u64 {
-    number ^ 1
+fn other_number(number: u64) -> u64
+    ensures { result ≡ other_of number }
+{
+    if number % 2 == 0 {
+        number + 1
+    } else {
+        number - 1
+    }
 }
 
 impl SocketSet {
@@ -143,6 +153,7 @@ impl SocketSet {
 
     /// Makes a link, without a wish.
     fn add_link(&mut self, link: Link, connection: Connection) -> Result<(), AllocError>
+        ensures sessions { self.new.sessions ≡ self.old.sessions }
         ensures own { OnOk result (wishes_in self.new link ≡ Some no_wishes) }
         ensures others { KeepsOthersIn link self.old self.new }
         ensures grows { Grows self.old self.new }
@@ -171,6 +182,7 @@ impl SocketSet {
 
     /// Replaces the wishes of a link. Answers whether its peer is known to have closed.
     fn set_wishes(&mut self, link: Link, wishes: Wishes) -> bool
+        ensures sessions { self.new.sessions ≡ self.old.sessions }
         ensures own { wishes_in self.new link ≡ option_map (λ (_ : Wishes). wishes) (wishes_in self.old link) }
         ensures others { KeepsOthersIn link self.old self.new }
         ensures grows { Grows self.old self.new }
@@ -188,14 +200,32 @@ impl SocketSet {
         }
     }
 
+    /// Whether nothing more passes between the link of a number and its peer. So it is where there is no such link.
+    fn is_closed(&self, number: u64) -> bool
+        ensures { result ≡ is_closed_at self.now number }
+    {
+        match self.links.get(&number) {
+            Some(socket) => socket.is_closed(),
+            None => true,
+        }
+    }
+
     /// Judges whether the writes of a link whose peer closed are to fail, and queues it where they are.
     fn judge(&mut self, number: u64)
-        ensures { GoesOn self.old self.new }
+        ensures judged { unwrap_or (given_up_at self.new number) true ≡ is_to_fail_at self.old number }
+        ensures same { (other : ℕ) → is_to_fail_at self.new other ≡ is_to_fail_at self.old other }
+        ensures goes { GoesOn self.old self.new }
     {
-        let is_other_closed = match self.links.get(&other_number(number)) {
-            Some(other) => other.is_closed(),
-            None => true,
-        };
+        let is_other_closed = self.is_closed(other_number(number));
+        self.judge_by(number, is_other_closed);
+    }
+
+    fn judge_by(&mut self, number: u64, is_other_closed: bool)
+        ensures judged { given_up_at self.new number ≡ option_map (is_to_fail is_other_closed) (tree.get nat_cmp self.old.links number) }
+        ensures closed { (other : ℕ) → is_closed_at self.new other ≡ is_closed_at self.old other }
+        ensures to_fail { (other : ℕ) (closed : Bool) → option_map (is_to_fail closed) (tree.get nat_cmp self.new.links other) ≡ option_map (is_to_fail closed) (tree.get nat_cmp self.old.links other) }
+        ensures goes { GoesOn self.old self.new }
+    {
         if let Some(socket) = self.links.get_mut(&number) {
             socket.judge(is_other_closed);
             if socket.take_place() {
@@ -206,7 +236,8 @@ impl SocketSet {
 
     /// Takes the room for one more in the queue, whatever is in it and however many go back to it.
     fn reserve(&mut self) -> Result<(), AllocError>
-        ensures { GoesOn self.old self.new }
+        ensures number { vec_len self.new.listeners ≡ vec_len self.old.listeners }
+        ensures goes { GoesOn self.old self.new }
     {
         let most = self.links.len().saturating_add(self.listeners.len());
         self.ready.reserve(most.saturating_add(1))

@@ -1,5 +1,5 @@
 //! What is done with links that stand: their wishes, reads, writes and ends.
-ghost use Rattle.std.specs.Prelude.{◌≡◌, ◌≤◌, ◌<◌, ℕ, None, length};
+ghost use Rattle.std.specs.Prelude.{◌≡◌, ◌≤◌, ◌<◌, ℕ, None, length, false, true, unwrap_or};
 ghost use Rattle.std.specs.Option.{option_map};
 
 use super::{SocketSet, other_number};
@@ -8,7 +8,7 @@ use link_traits::tables::number_of;
 use link_traits::{Count, Got, Link, Took, Wishes};
 
 impl SocketSet {
-    ghost use Rattle.proxy_net.specs.Sockets.{wishes_in, RoseIn, Grows, GoesOn, KeepsOthersIn};
+    ghost use Rattle.proxy_net.specs.Sockets.{wishes_in, is_pending_in, given_up_at, is_to_fail_at, RoseIn, Grows, GoesOn, KeepsOthersIn};
     ghost use Rattle.link_traits.specs.declared.links.Wishes.{Wishes};
 
     /// Replaces the wishes of a link.
@@ -26,13 +26,19 @@ impl SocketSet {
     pub fn read(&mut self, link: Link, into: &mut [u8]) -> Got
         ensures within { (n : ℕ) → result ≡ Got.Bytes n → n ≤ length into.new }
         ensures progress { (n : ℕ) → result ≡ Got.Bytes n → 0 < length into.new → 0 < n }
+        ensures missing { wishes_in self.old link ≡ None → result ≡ Got.Failed }
+        ensures pending { is_pending_in self.old link ≡ true → result ≡ Got.NotReady }
         ensures failed { result ≡ Got.Failed → RoseIn (Count.Link link) self.old self.new }
         ensures not_ready { result ≡ Got.NotReady → RoseIn Count.Waits self.old self.new }
         ensures goes { GoesOn self.old self.new }
     {
-        match self.links.get_mut(&number_of(link)) {
+        let number = number_of(link);
+        match self.links.get_mut(&number) {
             Some(socket) => {
                 let got = socket.read(into);
+                if socket.take_place() {
+                    let _ = self.ready.push_back(number);
+                }
                 if got == Got::NotReady {
                     self.waits = raised(self.waits);
                 }
@@ -49,6 +55,8 @@ impl SocketSet {
     pub fn write(&mut self, link: Link, piece: &[u8]) -> Took
         ensures within { (n : ℕ) → result ≡ Took.Bytes n → n ≤ length piece.now }
         ensures progress { (n : ℕ) → result ≡ Took.Bytes n → 0 < length piece.now → 0 < n }
+        ensures missing { wishes_in self.old link ≡ None → result ≡ Took.Failed }
+        ensures pending { is_pending_in self.old link ≡ true → result ≡ Took.NotReady }
         ensures failed { result ≡ Took.Failed → RoseIn (Count.Link link) self.old self.new }
         ensures not_ready { result ≡ Took.NotReady → RoseIn Count.Waits self.old self.new }
         ensures goes { GoesOn self.old self.new }
@@ -64,6 +72,8 @@ impl SocketSet {
     fn write_link(&mut self, link: Link, piece: &[u8]) -> LinkWrite
         ensures within { (n : ℕ) → result ≡ LinkWrite.Bytes n → n ≤ length piece.now }
         ensures progress { (n : ℕ) → result ≡ LinkWrite.Bytes n → 0 < length piece.now → 0 < n }
+        ensures missing { wishes_in self.old link ≡ None → result ≡ LinkWrite.Failed }
+        ensures pending { is_pending_in self.old link ≡ true → result ≡ LinkWrite.NotReady }
         ensures failed { result ≡ LinkWrite.Failed → RoseIn (Count.Link link) self.old self.new }
         ensures closed { result ≡ LinkWrite.PeerClosed → RoseIn (Count.Link link) self.old self.new }
         ensures not_ready { result ≡ LinkWrite.NotReady → RoseIn Count.Waits self.old self.new }
@@ -73,6 +83,9 @@ impl SocketSet {
         match self.links.get_mut(&number) {
             Some(socket) => {
                 let wrote = socket.write(self.poll.registry(), number, piece);
+                if socket.take_place() {
+                    let _ = self.ready.push_back(number);
+                }
                 if matches!(wrote, LinkWrite::NotReady) {
                     self.waits = raised(self.waits);
                 }
@@ -88,6 +101,8 @@ impl SocketSet {
     /// Answers a write that was refused since the peer closed. It isn't ready as long as there may be something to read.
     fn answer_closed(&mut self, number: u64) -> Took
         ensures bytes { (n : ℕ) → result ≡ Took.Bytes n → ⊥ }
+        ensures failed { result ≡ Took.Failed → is_to_fail_at self.old number ≡ true }
+        ensures waits { result ≡ Took.NotReady → is_to_fail_at self.old number ≡ false }
         ensures not_ready { result ≡ Took.NotReady → RoseIn Count.Waits self.old self.new }
         ensures goes { GoesOn self.old self.new }
     {
@@ -100,7 +115,9 @@ impl SocketSet {
     }
 
     /// Whether writes of a link fail by now.
-    fn is_given_up(&self, number: u64) -> bool {
+    fn is_given_up(&self, number: u64) -> bool
+        ensures { result ≡ unwrap_or (given_up_at self.now number) true }
+    {
         match self.links.get(&number) {
             Some(socket) => socket.is_given_up(),
             None => true,
@@ -108,10 +125,11 @@ impl SocketSet {
     }
 
     fn judge_both(&mut self, number: u64)
-        ensures { GoesOn self.old self.new }
+        ensures judged { unwrap_or (given_up_at self.new number) true ≡ is_to_fail_at self.old number }
+        ensures goes { GoesOn self.old self.new }
     {
-        self.judge(number);
         self.judge(other_number(number));
+        self.judge(number);
     }
 
     /// Closes a link and forgets it. One that isn't there stays so.
@@ -133,14 +151,18 @@ impl SocketSet {
     }
 
     /// Names the stalled listeners again.
-    #[tactic(auto, using(crate::proofs::Going::goes_through))]
     fn revive_all(&mut self)
         ensures { GoesOn self.old self.new }
     {
         for _ in 0..self.stalled.len() {
-            let Some(listener) = self.stalled.pop() else {
-                return;
-            };
+            self.revive_last();
+        }
+    }
+
+    fn revive_last(&mut self)
+        ensures { GoesOn self.old self.new }
+    {
+        if let Some(listener) = self.stalled.pop() {
             self.revive(listener);
         }
     }

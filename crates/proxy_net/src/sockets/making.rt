@@ -1,5 +1,5 @@
 //! How listeners and links are made.
-ghost use Rattle.std.specs.Prelude.{◌≡◌, ◌≢◌, ℕ, Err, Some, IsErrOf, OnErr, OnOk};
+ghost use Rattle.std.specs.Prelude.{◌≡◌, ◌≢◌, ◌≤◌, ◌+◌, ◌⊎◌, ℕ, [], Err, None, Some, IsErrOf, IsSome, IfOk, OnErr, OnOk, vec_len};
 ghost use Rattle.link_traits.specs.Answers.{no_wishes, client_link, bus_link};
 
 use super::{LISTENERS, SocketSet};
@@ -13,10 +13,14 @@ use std::alloc::AllocError;
 use std::time::Instant;
 
 impl SocketSet {
-    ghost use Rattle.proxy_net.specs.Sockets.{wishes_in, RoseIn, Grows, GoesOn, KeepsOthersIn, AfterAcceptIn};
+    ghost use Rattle.proxy_net.specs.Sockets.{wishes_in, RoseIn, Grows, GoesOn, KeepsOthersIn, KeepsWishesIn, AfterAcceptIn};
 
     /// Listens at a path. An empty one is refused, since the system would take a name of its own for it.
     pub fn listen(&mut self, rt: &HostRuntime, path: &str) -> Result<u32, NetFault>
+        ensures numbered { IfOk result (λ listener. listener ≡ vec_len self.old.listeners) }
+        ensures made { OnOk result (vec_len self.new.listeners ≡ vec_len self.old.listeners + 1) }
+        ensures path { OnOk result (path.now ≢ []) }
+        ensures err { OnErr result (vec_len self.new.listeners ≡ vec_len self.old.listeners) }
         ensures failed { IsErrOf result NetFault.Failed → RoseIn Count.Own self.old self.new }
         ensures goes { GoesOn self.old self.new }
     {
@@ -31,7 +35,11 @@ impl SocketSet {
 
     /// Makes the next listener, and counts nothing.
     fn make_listener(&mut self, rt: &HostRuntime, path: &str) -> Result<u32, NetFault>
-        ensures { GoesOn self.old self.new }
+        ensures numbered { IfOk result (λ listener. listener ≡ vec_len self.old.listeners) }
+        ensures made { OnOk result (vec_len self.new.listeners ≡ vec_len self.old.listeners + 1) }
+        ensures path { OnOk result (path.now ≢ []) }
+        ensures err { OnErr result (vec_len self.new.listeners ≡ vec_len self.old.listeners) }
+        ensures goes { GoesOn self.old self.new }
     {
         let Ok(listener) = u32::try_from(self.listeners.len()) else {
             return Err(NetFault::Failed);
@@ -47,7 +55,8 @@ impl SocketSet {
 
     /// Takes the room for one more listener.
     fn reserve_listener(&mut self) -> Result<(), AllocError>
-        ensures { GoesOn self.old self.new }
+        ensures number { vec_len self.new.listeners ≡ vec_len self.old.listeners }
+        ensures goes { GoesOn self.old self.new }
     {
         self.listeners.reserve(1)?;
         let most = self.listeners.len().saturating_add(1);
@@ -56,7 +65,10 @@ impl SocketSet {
     }
 
     fn add_listener(&mut self, listener: u32, socket: UnixListener) -> Result<u32, NetFault>
-        ensures { GoesOn self.old self.new }
+        ensures numbered { IfOk result (λ number. number ≡ listener) }
+        ensures made { OnOk result (vec_len self.new.listeners ≡ vec_len self.old.listeners + 1) }
+        ensures err { OnErr result (vec_len self.new.listeners ≡ vec_len self.old.listeners) }
+        ensures goes { GoesOn self.old self.new }
     {
         let mut socket = socket;
         let token = Token((LISTENERS + u64::from(listener)) as usize);
@@ -78,7 +90,9 @@ impl SocketSet {
 }
 
 /// Binds a socket to a path. `None` where it is empty, and where the system refuses it, as where a file stands there.
-fn bound(rt: &HostRuntime, path: &str) -> Option<UnixListener> {
+fn bound(rt: &HostRuntime, path: &str) -> Option<UnixListener>
+    ensures { IsSome result → path.now ≢ [] }
+{
     if path.is_empty() {
         return None;
     }
@@ -86,10 +100,12 @@ fn bound(rt: &HostRuntime, path: &str) -> Option<UnixListener> {
 }
 
 impl SocketSet {
-    ghost use Rattle.proxy_net.specs.Sockets.{wishes_in, RoseIn, Grows, GoesOn, KeepsOthersIn, AfterAcceptIn};
+    ghost use Rattle.proxy_net.specs.Sockets.{wishes_in, RoseIn, Grows, GoesOn, KeepsOthersIn, KeepsWishesIn, AfterAcceptIn};
 
     /// Takes a client that waits at a listener.
     pub fn accept(&mut self, listener: u32) -> Accepted
+        ensures numbered { (session : ℕ) → result ≡ Accepted.New session → (session ≡ self.old.sessions + 1) × (self.new.sessions ≡ session) }
+        ensures missing { vec_len self.old.listeners ≤ listener → (result ≡ Accepted.Failed) ⊎ (result ≡ Accepted.Memory) }
         ensures failed { result ≡ Accepted.Failed → RoseIn (Count.Listener listener) self.old self.new }
         ensures not_ready { result ≡ Accepted.NotReady → RoseIn Count.Waits self.old self.new }
         ensures new_wishes { (session : ℕ) → result ≡ Accepted.New session → wishes_in self.new (client_link session) ≡ Some no_wishes }
@@ -112,13 +128,27 @@ impl SocketSet {
 
     fn take_client(&mut self, listener: u32) -> Arrival
         ensures not_ready { result ≡ Arrival.NotReady → RoseIn Count.Waits self.old self.new }
+        ensures missing { vec_len self.old.listeners ≤ listener → result ≡ Arrival.Failed }
+        ensures goes { GoesOn self.old self.new }
+    {
+        let arrival = self.accept_at(listener);
+        if matches!(arrival, Arrival::NotReady) {
+            self.waits = raised(self.waits);
+        }
+        arrival
+    }
+
+    /// Accepts once, and queues a listener again that is to be named by that.
+    fn accept_at(&mut self, listener: u32) -> Arrival
+        ensures missing { vec_len self.old.listeners ≤ listener → result ≡ Arrival.Failed }
+        ensures waits { self.new.waits ≡ self.old.waits }
         ensures goes { GoesOn self.old self.new }
     {
         match self.listeners.get_mut(listener as usize) {
             Some(socket) => {
-                let arrival = socket.accept();
-                if matches!(arrival, Arrival::NotReady) {
-                    self.waits = raised(self.waits);
+                let (arrival, is_new) = socket.accept();
+                if is_new {
+                    let _ = self.ready.push_back(LISTENERS + u64::from(listener));
                 }
                 arrival
             }
@@ -157,6 +187,7 @@ impl SocketSet {
 
     /// Makes a session of a client.
     fn make_session(&mut self, listener: u32, session: u32, stream: UnixStream) -> Accepted
+        ensures numbered { (other : ℕ) → result ≡ Accepted.New other → (other ≡ session) × (self.new.sessions ≡ session) }
         ensures failed { result ≡ Accepted.Failed → RoseIn (Count.Listener listener) self.old self.new }
         ensures ready { result ≢ Accepted.NotReady }
         ensures new_wishes { (other : ℕ) → result ≡ Accepted.New other → wishes_in self.new (client_link other) ≡ Some no_wishes }
@@ -184,11 +215,14 @@ impl SocketSet {
 }
 
 impl SocketSet {
-    ghost use Rattle.proxy_net.specs.Sockets.{wishes_in, RoseIn, Grows, GoesOn, KeepsOthersIn, AfterAcceptIn};
+    ghost use Rattle.proxy_net.specs.Sockets.{wishes_in, RoseIn, Grows, GoesOn, KeepsOthersIn, KeepsWishesIn, AfterAcceptIn};
 
     /// Connects a session to the bus at a path. An empty one is refused, since the system would take a name of its own for it,
     /// and so is a session that has a link to its bus. Where the bus has no room for one more, it is tried again later.
     pub fn connect(&mut self, rt: &HostRuntime, session: u32, path: &str) -> Result<(), NetFault>
+        ensures path { OnOk result (path.now ≢ []) }
+        ensures fresh { OnOk result (wishes_in self.old (bus_link session) ≡ None) }
+        ensures err { OnErr result (KeepsWishesIn self.old self.new) }
         ensures failed { IsErrOf result NetFault.Failed → RoseIn (Count.Link (bus_link session)) self.old self.new }
         ensures own { OnOk result (wishes_in self.new (bus_link session) ≡ Some no_wishes) }
         ensures others { KeepsOthersIn (bus_link session) self.old self.new }
@@ -209,6 +243,9 @@ impl SocketSet {
     }
 
     fn make_bus_link(&mut self, rt: &HostRuntime, link: Link, path: &str) -> Result<(), NetFault>
+        ensures path { OnOk result (path.now ≢ []) }
+        ensures fresh { OnOk result (wishes_in self.old link ≡ None) }
+        ensures err { OnErr result (GoesOn self.old self.new) }
         ensures own { OnOk result (wishes_in self.new link ≡ Some no_wishes) }
         ensures others { KeepsOthersIn link self.old self.new }
         ensures grows { Grows self.old self.new }
@@ -241,6 +278,7 @@ impl SocketSet {
 
     /// Makes a link of a stream.
     fn join(&mut self, link: Link, stream: UnixStream) -> Result<(), NetFault>
+        ensures err { OnErr result (GoesOn self.old self.new) }
         ensures own { OnOk result (wishes_in self.new link ≡ Some no_wishes) }
         ensures others { KeepsOthersIn link self.old self.new }
         ensures grows { Grows self.old self.new }
@@ -256,6 +294,7 @@ impl SocketSet {
 
     /// Makes a link that is to be connected later. The connect would have waited, and is counted so.
     fn join_later(&mut self, rt: &HostRuntime, link: Link, path: &str) -> Result<(), NetFault>
+        ensures err { OnErr result (GoesOn self.old self.new) }
         ensures own { OnOk result (wishes_in self.new link ≡ Some no_wishes) }
         ensures others { KeepsOthersIn link self.old self.new }
         ensures grows { Grows self.old self.new }

@@ -1,5 +1,8 @@
 //! What the system reports of sockets, and what is named for it.
-ghost use Rattle.std.specs.Prelude.{◌≡◌, ◌≤◌, ◌<◌, IfSome};
+ghost use Rattle.std.specs.Prelude.{◌≡◌, ◌≢◌, ◌≤◌, ◌<◌, ◌%◌, ◌&&◌, ◌⊎◌, nat_eq, nat_lt, [], Some, None, IfSome};
+ghost use Rattle.std.specs.Option.{option_map};
+ghost use Rattle.std.specs.Time.{instant_nanos};
+ghost use Rattle.std.specs.Duration.{as_nanos};
 ghost use Rattle.link_traits.specs.Numbers.{number_of as link_number};
 
 use super::{LISTENERS, SocketSet};
@@ -32,7 +35,9 @@ fn link_of(number: u64) -> Link
 }
 
 /// Whether a number is that of a session's bus link.
-fn is_bus(number: u64) -> bool {
+fn is_bus(number: u64) -> bool
+    ensures { result ≡ (nat_lt number LISTENERS && nat_eq (number % 2) 1) }
+{
     number < LISTENERS && number % 2 == 1
 }
 
@@ -41,7 +46,8 @@ impl SocketSet {
 
     /// Asks the system what became ready, and waits for it where nothing is to be named yet.
     pub fn ask(&mut self, rt: &HostRuntime, events: &mut Events) -> io::Result<()>
-        ensures { GoesOn self.old self.new }
+        ensures named { self.new.named ≡ 0 }
+        ensures goes { GoesOn self.old self.new }
     {
         let timeout = self.timeout(rt);
         self.named = 0;
@@ -58,7 +64,6 @@ impl SocketSet {
     }
 
     /// Notes what the system reported of buses, or of all else.
-    #[tactic(auto, using(crate::proofs::Going::goes_through))]
     fn note_side(&mut self, events: &Events, of_buses: bool)
         ensures { GoesOn self.old self.new }
     {
@@ -114,6 +119,7 @@ impl SocketSet {
 
     /// The next that is to be named, unless there is none or the system is to be asked first.
     pub fn next(&mut self) -> Option<Ready>
+        ensures ask { NAMED_BETWEEN_ASKS ≤ self.old.named → result ≡ None }
         ensures wished { IfSome result (IsWished (wishes_in self.old)) }
         ensures goes { GoesOn self.old self.new }
     {
@@ -182,9 +188,13 @@ impl SocketSet {
 
 impl SocketSet {
     ghost use Rattle.proxy_net.specs.Sockets.{GoesOn};
+    ghost use Rattle.std.specs.declared.time.Duration.{Duration};
 
     /// How long the system is waited for: not at all where something is to be named, and else until the next try to connect.
-    fn timeout(&self, rt: &HostRuntime) -> Option<Duration> {
+    fn timeout(&self, rt: &HostRuntime) -> Option<Duration>
+        ensures busy { self.now.ready.items ≢ [] → option_map (λ (d : Duration). as_nanos d) result ≡ Some 0 }
+        ensures idle { result ≡ None → self.now.ready.items ≡ [] }
+    {
         if !self.ready.is_empty() {
             return Some(Duration::ZERO);
         }
@@ -209,7 +219,6 @@ impl SocketSet {
     }
 
     /// Tries again to connect the links that aren't connected yet.
-    #[tactic(auto, using(crate::proofs::Going::goes_through))]
     fn retry_all(&mut self, rt: &HostRuntime)
         ensures { GoesOn self.old self.new }
     {
@@ -245,7 +254,11 @@ impl SocketSet {
 }
 
 /// The earlier of two times.
-fn earlier(time: Option<Instant>, other: Instant) -> Instant {
+fn earlier(time: Option<Instant>, other: Instant) -> Instant
+    ensures time { IfSome time (λ t. instant_nanos result ≤ instant_nanos t) }
+    ensures other { instant_nanos result ≤ instant_nanos other }
+    ensures one { (result ≡ other) ⊎ (time ≡ Some result) }
+{
     match time {
         Some(time) if time < other => time,
         _ => other,

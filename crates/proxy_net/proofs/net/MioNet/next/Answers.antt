@@ -8,7 +8,7 @@ pub returns-in-Some-clause-goes : goal.returns-in-Some-clause-goes
 returns-in-Some-clause-goes c = goes_through c.loop.invariant c.next.ensures.goes
 
 pub returns-then-is_err-clause-goes : goal.returns-then-is_err-clause-goes
-returns-then-is_err-clause-goes c = goes_through c.loop.invariant (goes_through c.next.ensures.goes c.ask.ensures)
+returns-then-is_err-clause-goes c = goes_through c.loop.invariant (goes_through c.next.ensures.goes c.ask.ensures.goes)
 
 pub loop-preserved : goal.loop-preserved
-loop-preserved c = goes_through c.loop.invariant (goes_through c.next.ensures.goes (goes_through c.ask.ensures c.note_all.ensures))
+loop-preserved c = goes_through c.loop.invariant (goes_through c.next.ensures.goes (goes_through c.ask.ensures.goes c.note_all.ensures))

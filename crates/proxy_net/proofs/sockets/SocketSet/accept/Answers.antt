@@ -1,28 +1,43 @@
 use Rattle.std.proofs.Common.{refl, subst, sym}
 use Rattle.proxy_net.specs.Sockets.{AfterAcceptIn}
 use Rattle.link_traits.specs.declared.links.Count.TheVariants.{Listener, Waits}
-use Rattle.proxy_net.proofs.Going.{goes_through, kept_rose, accept_through, keeps_wishes}
+use Rattle.proxy_net.proofs.Going.{goes_through, kept_rose, accept_through, keeps_wishes, goes_grows, grows_through}
 use Rattle.proxy_net.proofs.sockets.SocketSet.accept.Goals as goal
 
 pub returns-in-Client-clause-failed : goal.returns-in-Client-clause-failed
 returns-in-Client-clause-failed c = λ failed.
-    let before = goes_through c.reserve.ensures c.take_client.ensures.goes in
+    let before = goes_through c.reserve.ensures.goes c.take_client.ensures.goes in
     kept_rose _ _ _ (before.counts (Listener c.args.listener)) (c.make_session.ensures.failed failed)
 
 pub returns-in-Client-clause-wishes : goal.returns-in-Client-clause-wishes
 returns-in-Client-clause-wishes c =
-    accept_through _ c.make_session.result (goes_through c.reserve.ensures c.take_client.ensures.goes) c.make_session.ensures.wishes
+    accept_through _ c.make_session.result (goes_through c.reserve.ensures.goes c.take_client.ensures.goes) c.make_session.ensures.wishes
 
 pub returns-in-NotReady-clause-not_ready : goal.returns-in-NotReady-clause-not_ready
-returns-in-NotReady-clause-not_ready c = λ _. kept_rose _ _ _ (c.reserve.ensures.counts Waits) (c.in-NotReady.ensures.not_ready refl)
+returns-in-NotReady-clause-not_ready c = λ _. kept_rose _ _ _ (c.reserve.ensures.goes.counts Waits) (c.in-NotReady.ensures.not_ready refl)
 
 pub returns-in-Failed-clause-failed : goal.returns-in-Failed-clause-failed
 returns-in-Failed-clause-failed c = λ _.
-    let before = goes_through c.reserve.ensures c.take_client.ensures.goes in
+    let before = goes_through c.reserve.ensures.goes c.take_client.ensures.goes in
     kept_rose _ _ _ (before.counts (Listener c.args.listener)) c.fail_accept-in-Failed.ensures.rose
 
 pub returns-in-Failed-clause-wishes : goal.returns-in-Failed-clause-wishes
 returns-in-Failed-clause-wishes c =
-    let before = goes_through c.reserve.ensures c.take_client.ensures.goes in
+    let before = goes_through c.reserve.ensures.goes c.take_client.ensures.goes in
     subst (λ answer. AfterAcceptIn answer c.args.self.now c.fail_accept-in-Failed.new.self) (sym c.fail_accept-in-Failed.ensures.failed)
     (keeps_wishes (goes_through before c.fail_accept-in-Failed.ensures.goes))
+
+pub returns-then-is_err-clause-grows : goal.returns-then-is_err-clause-grows
+returns-then-is_err-clause-grows c = goes_grows (goes_through c.reserve.ensures.goes c.stall.ensures)
+
+pub returns-in_default-clause-grows : goal.returns-in_default-clause-grows
+returns-in_default-clause-grows c = goes_grows (goes_through c.reserve.ensures.goes c.fail_accept.ensures.goes)
+
+pub returns-in-Client-clause-grows : goal.returns-in-Client-clause-grows
+returns-in-Client-clause-grows c = grows_through (goes_through c.reserve.ensures.goes c.take_client.ensures.goes) c.make_session.ensures.grows
+
+pub returns-in-NotReady-clause-grows : goal.returns-in-NotReady-clause-grows
+returns-in-NotReady-clause-grows c = goes_grows (goes_through c.reserve.ensures.goes c.take_client.ensures.goes)
+
+pub returns-in-Failed-clause-grows : goal.returns-in-Failed-clause-grows
+returns-in-Failed-clause-grows c = goes_grows (goes_through (goes_through c.reserve.ensures.goes c.take_client.ensures.goes) c.fail_accept-in-Failed.ensures.goes)

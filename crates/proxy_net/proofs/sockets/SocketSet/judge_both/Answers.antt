@@ -1,5 +1,5 @@
 use Rattle.proxy_net.proofs.Going.{goes_through}
 use Rattle.proxy_net.proofs.sockets.SocketSet.judge_both.Goals as goal
 
-pub returns : goal.returns
-returns c = goes_through c.judge.ensures c.judge-2.ensures
+pub returns-clause-goes : goal.returns-clause-goes
+returns-clause-goes c = goes_through c.judge.ensures.goes c.judge-2.ensures.goes

@@ -1,0 +1,27 @@
+-- Connects that are tried again.
+use Rattle.std.specs.Prelude.{ℕ, ◌≡◌, ◌+◌, Bool, true, false, Option, Some, None}
+use Rattle.std.specs.Time.{instant_nanos, FitsClock}
+use Rattle.std.specs.declared.time.Instant.{Instant}
+use Rattle.proxy_net.specs.declared.link_sockets.Connection.{Connection}
+use Rattle.proxy_net.specs.declared.link_sockets.Connection.TheVariants.{Open, Pending, Failed}
+
+-- so many nanoseconds later, or the same time where the clock ends before
+pub record IsLater (start : Instant) (nanos : ℕ) (time : Instant) : Type 0 where
+  pub fits : FitsClock (instant_nanos start + nanos) → instant_nanos time ≡ instant_nanos start + nanos
+  pub ends : (FitsClock (instant_nanos start + nanos) → ⊥) → time ≡ start
+
+abbrev pub is_pending : Connection → Bool
+is_pending (Open stream) = false
+is_pending (Pending retry) = true
+is_pending Failed = false
+
+abbrev pub is_given_up : Connection → Bool
+is_given_up (Open stream) = false
+is_given_up (Pending retry) = false
+is_given_up Failed = true
+
+-- when the next try is due, where there is one
+abbrev pub due_of : Connection → Option Instant
+due_of (Open stream) = None
+due_of (Pending retry) = Some retry.due
+due_of Failed = None
