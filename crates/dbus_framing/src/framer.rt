@@ -1,5 +1,5 @@
 //! The bytes that came and weren't given yet.
-ghost use Rattle.std.specs.Prelude.{◌≡◌, ◌==◌, ◌^◌, ◌<◌, ◌≤◌, ◌++◌, [], Some, IfOk, IfErr, OnOk, OnErr, length, drop};
+ghost use Rattle.std.specs.Prelude.{◌≡◌, ◌==◌, ◌^◌, ◌<◌, ◌≤◌, ◌++◌, [], Some, IfOk, IfErr, IfSome, OnOk, OnErr, length, take, drop};
 ghost use Rattle.dbus_header.specs.Message.{Message as MessageTree};
 ghost use Rattle.dbus_header.specs.Malformed.{fault};
 ghost use Rattle.dbus_header.specs.declared.Malformed.{Malformed as Fault};
@@ -7,31 +7,27 @@ ghost use Rattle.dbus_framing.specs.Framing.{Gives, Looks, Takes};
 ghost use Rattle.dbus_framing.specs.Knows.{IsWhole, Knows};
 ghost use Rattle.dbus_framing.specs.declared.state.State.TheVariants.{AwaitsHead};
 
+use crate::buffer::Buffer;
 use crate::state::State;
 use crate::{Front, Next};
-use bytes::{Bytes, BytesMut};
+use bytes::Bytes;
 use dbus_header::{Malformed, Message, decode};
 use std::alloc::{AllocError, Global};
 use std::marker::Model;
 
-/// A stream that waits keeps the memory of at most so many bytes beside those of a message that hasn't come whole.
-const KEPT: usize = 4096;
-
 /// A stream of messages: pieces come in by `push`; `front` says what stands in front, `message` reads it in place, and `take` takes it.
 ///
 /// ```text
-///   given      message in front   what follows
-/// +----------+------------------+--------------+------+
-/// |          | head    ..       | ..           | room |
-/// +----------+------------------+--------------+------+
-///              bytes                           ^ push
+///   message in front   what follows
+/// +------------------+--------------+
+/// | head    ..       | ..           |
+/// +------------------+--------------+
+///   ^ take                          ^ push
 /// ```
 #[derive(Drop)]
 pub struct Framer {
-    bytes: BytesMut,
+    bytes: Buffer,
     state: State,
-    /// How many bytes were given from the buffer that `bytes` has now.
-    given: usize,
     alloc: Global,
 }
 
@@ -42,9 +38,9 @@ impl Model for Framer {
 
     ghost use Rattle.dbus_framing.specs.Knows.{Knows};
 
-    ghost view = { λ f. f.bytes.items };
+    ghost view = { λ f. f.bytes };
 
-    ghost invariant = { λ f. Knows f.state f.bytes.items };
+    ghost invariant = { λ f. Knows f.state f.bytes };
 }
 
 /// What stands in front, by what its head says.
@@ -68,36 +64,12 @@ fn looked(state: State, left: &[u8]) -> Front
 /// The message of that length in front, or what is wrong with it.
 fn message_in_front(left: &[u8], len: usize) -> Result<Message<'_>, Malformed>
     requires { IsWhole left.now len }
+    ensures bytes { IfOk result (λ message. message.bytes.now ≡ take len left.now) }
     ensures valid { IfOk result (λ message. (m : MessageTree) × Takes left.now message.bytes.now (drop len left.now) m) }
     ensures bad { IfErr result (λ f. fault left.now ≡ Some f) }
 {
     let (message, _) = left.split_at(len);
     decode(message)
-}
-
-/// Frees the memory of what was given, where that is more than is kept and more than has to be copied. Where memory is
-/// short the old buffer serves on. It returns how many bytes were given from the buffer that stands now.
-fn renew(alloc: Global, bytes: &mut BytesMut, given: usize) -> usize
-    ensures { bytes.new.items ≡ bytes.old.items }
-{
-    if bytes.is_empty() {
-        bytes.clear();
-        if bytes.capacity() > KEPT {
-            *bytes = BytesMut::new(alloc);
-        }
-        return 0;
-    }
-    let beside = given.saturating_add(bytes.capacity() - bytes.len());
-    if beside <= KEPT || given < bytes.len() {
-        return given;
-    }
-    match BytesMut::copy_from_slice(alloc, bytes.as_slice()) {
-        Ok(fresh) => {
-            *bytes = fresh;
-            0
-        }
-        Err(_) => given,
-    }
 }
 
 impl Framer {
@@ -106,9 +78,8 @@ impl Framer {
         ensures { result ≡ [] }
     {
         Framer {
-            bytes: BytesMut::new(alloc),
+            bytes: Buffer::new(alloc),
             state: State::AwaitsHead,
-            given: 0,
             alloc,
         }
     }
@@ -117,14 +88,9 @@ impl Framer {
     pub fn with_bytes(alloc: Global, bytes: Bytes) -> Result<Framer, AllocError>
         ensures { IfOk result (λ framer. framer ≡ bytes) }
     {
-        let bytes = match bytes.try_into_mut() {
-            Ok(bytes) => bytes,
-            Err(bytes) => BytesMut::copy_from_slice(alloc, bytes.as_slice())?,
-        };
         Ok(Framer {
-            bytes,
+            bytes: Buffer::with_bytes(alloc, bytes)?,
             state: State::AwaitsHead,
-            given: 0,
             alloc,
         })
     }
@@ -141,7 +107,7 @@ impl Framer {
     pub fn is_empty(&self) -> bool
         ensures { result ≡ (length self.now == 0) }
     {
-        self.bytes.is_empty()
+        self.bytes.len() == 0
     }
 
     /// Puts a piece of the stream behind what came before.
@@ -150,7 +116,7 @@ impl Framer {
         ensures err { OnErr result (self.new ≡ self.old) }
         ensures bad_stays { (f : Fault) → fault self.old ≡ Some f → fault self.new ≡ Some f }
     {
-        self.bytes.extend_from_slice(piece)
+        self.bytes.push(piece)
     }
 
     /// What stands in front, of which only the head is looked at, and that once. Nothing changes.
@@ -162,7 +128,7 @@ impl Framer {
         self.state = state;
         let front = looked(state, self.bytes.as_slice());
         if let Front::Rest = front {
-            self.given = renew(self.alloc, &mut self.bytes, self.given);
+            self.bytes.release();
         }
         front
     }
@@ -170,10 +136,21 @@ impl Framer {
     /// The message in front, of as many bytes as `front` said, read in place; or what is wrong with it.
     pub fn message(&self, len: usize) -> Result<Message<'_>, Malformed>
         requires { IsWhole self.now len }
+        ensures bytes { IfOk result (λ message. message.bytes.now ≡ take len self.now) }
         ensures valid { IfOk result (λ message. (m : MessageTree) × Takes self.now message.bytes.now (drop len self.now) m) }
         ensures bad { IfErr result (λ f. fault self.now ≡ Some f) }
     {
         message_in_front(self.bytes.as_slice(), len)
+    }
+
+    /// The bytes of the message in front, of as many as `front` said, where they are many and memory for sharing them is left. They aren't
+    /// copied, and stay here too.
+    pub fn shared(&mut self, len: usize) -> Option<Bytes>
+        requires { len ≤ length self.old }
+        ensures front { IfSome result (λ bytes. bytes ≡ take len self.old) }
+        ensures stays { self.new ≡ self.old }
+    {
+        self.bytes.shared(len)
     }
 
     /// Takes that many bytes from the front.
@@ -181,9 +158,8 @@ impl Framer {
         requires { len ≤ length self.old }
         ensures { self.new ≡ drop len self.old }
     {
-        self.bytes.advance(len);
+        self.bytes.take(len);
         self.state = State::AwaitsHead;
-        self.given = self.given.saturating_add(len);
     }
 
     /// Takes the message in front, where it is whole and valid, as bytes of its own. Else nothing changes, and after `Bad` each
@@ -212,9 +188,9 @@ impl Framer {
         ensures ok { OnOk result (self.new ≡ []) }
         ensures err { OnErr result (self.new ≡ self.old) }
     {
-        let left = self.bytes.freeze_to(self.bytes.len())?;
+        let left = self.bytes.take_all()?;
         self.state = State::AwaitsHead;
-        self.given = renew(self.alloc, &mut self.bytes, self.given);
+        self.bytes.release();
         Ok(left)
     }
 }

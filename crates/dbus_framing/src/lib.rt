@@ -3,6 +3,7 @@
 //! A `Framer` is driven by `push` with each piece, and then by `front`, `message` and `take` until nothing whole is left.
 #![tactic(auto)]
 
+mod buffer;
 mod framer;
 mod laws;
 mod state;

@@ -1,0 +1,8 @@
+-- The bytes of a buffer, wherever they lie.
+use Rattle.std.specs.Prelude.{ℕ, List}
+use Rattle.dbus_framing.specs.declared.buffer.Content.{Content}
+use Rattle.dbus_framing.specs.declared.buffer.Content.TheVariants.{Open, Shared}
+
+abbrev pub lying_in : Content → List ℕ
+lying_in (Open bytes) = bytes.items
+lying_in (Shared bytes) = bytes

@@ -1,0 +1,216 @@
+//! Bytes that are put in at the back and taken from the front. Those of a long message are given to others without a copy.
+ghost use Rattle.std.specs.Prelude.{◌≡◌, ◌==◌, ◌^◌, ◌<◌, ◌≤◌, ◌++◌, [], IfOk, IfSome, OnOk, OnErr, length, take, drop};
+
+use bytes::{Bytes, BytesMut};
+use std::alloc::{AllocError, Global};
+use std::marker::Model;
+use std::mem;
+
+/// A buffer keeps the memory of at most so many bytes beside those that wait in it.
+const KEPT: usize = 4096;
+
+/// Fewer bytes aren't shared: to copy them costs less than memory and a write of their own.
+const LONG: usize = 65_536;
+
+/// Where the bytes lie.
+#[derive(Drop)]
+pub(crate) enum Content {
+    /// Nothing else reaches them, and there may be room behind them.
+    Open(BytesMut),
+    /// Others may have parts of them, so that nothing is put behind them.
+    Shared(Bytes),
+}
+
+/// Bytes that came and weren't taken yet.
+///
+/// ```text
+///   given      bytes that wait
+/// +----------+---------------------------------+------+
+/// |          |                                 | room |
+/// +----------+---------------------------------+------+
+///              ^ take                          ^ push
+/// ```
+#[derive(Drop)]
+pub(crate) struct Buffer {
+    content: Content,
+    /// How many bytes were taken from the memory that they lie in now.
+    given: usize,
+    alloc: Global,
+}
+
+impl Model for Buffer {
+    ghost use Rattle.std.specs.Prelude.{List, ℕ};
+    ghost use Rattle.dbus_framing.specs.Lying.{lying_in};
+
+    ghost Value = { List ℕ };
+
+    ghost view = { λ b. lying_in b.content };
+}
+
+/// Frees the memory of what was given, where that is more than is kept and more than has to be copied. Where memory is
+/// short the old buffer serves on. It returns how many bytes were given from the buffer that stands now.
+fn renew(alloc: Global, bytes: &mut BytesMut, given: usize) -> usize
+    ensures { bytes.new.items ≡ bytes.old.items }
+{
+    if bytes.is_empty() {
+        bytes.clear();
+        if bytes.capacity() > KEPT {
+            *bytes = BytesMut::new(alloc);
+        }
+        return 0;
+    }
+    let beside = given.saturating_add(bytes.capacity() - bytes.len());
+    if beside <= KEPT || given < bytes.len() {
+        return given;
+    }
+    match BytesMut::copy_from_slice(alloc, bytes.as_slice()) {
+        Ok(fresh) => {
+            *bytes = fresh;
+            0
+        }
+        Err(_) => given,
+    }
+}
+
+/// A copy of bytes with others behind them.
+fn joined(alloc: Global, bytes: &[u8], others: &[u8]) -> Result<BytesMut, AllocError>
+    ensures { IfOk result (λ all. all.items ≡ bytes.now ++ others.now) }
+{
+    let mut all = BytesMut::copy_from_slice(alloc, bytes)?;
+    all.extend_from_slice(others)?;
+    Ok(all)
+}
+
+impl Buffer {
+    /// It takes no memory before the first bytes.
+    pub(crate) fn new(alloc: Global) -> Buffer
+        ensures { result ≡ [] }
+    {
+        Buffer {
+            content: Content::Open(BytesMut::new(alloc)),
+            given: 0,
+            alloc,
+        }
+    }
+
+    /// A buffer with these bytes. They aren't copied where nothing else holds them.
+    pub(crate) fn with_bytes(alloc: Global, bytes: Bytes) -> Result<Buffer, AllocError>
+        ensures { IfOk result (λ buffer. buffer ≡ bytes) }
+    {
+        let bytes = match bytes.try_into_mut() {
+            Ok(bytes) => bytes,
+            Err(bytes) => BytesMut::copy_from_slice(alloc, bytes.as_slice())?,
+        };
+        Ok(Buffer {
+            content: Content::Open(bytes),
+            given: 0,
+            alloc,
+        })
+    }
+
+    /// The bytes.
+    pub(crate) fn as_slice(&self) -> &[u8]
+        ensures { result.now ≡ self.now }
+    {
+        match &self.content {
+            Content::Open(bytes) => bytes.as_slice(),
+            Content::Shared(bytes) => bytes.as_slice(),
+        }
+    }
+
+    /// How many bytes there are.
+    pub(crate) fn len(&self) -> usize
+        ensures value { result ≡ length self.now }
+        ensures bound { result < 2 ^ 63 }
+    {
+        match &self.content {
+            Content::Open(bytes) => bytes.len(),
+            Content::Shared(bytes) => bytes.len(),
+        }
+    }
+
+    /// Puts bytes behind the others.
+    pub(crate) fn push(&mut self, piece: &[u8]) -> Result<(), AllocError>
+        ensures ok { OnOk result (self.new ≡ self.old ++ piece.now) }
+        ensures err { OnErr result (self.new ≡ self.old) }
+    {
+        match &mut self.content {
+            Content::Open(bytes) => bytes.extend_from_slice(piece),
+            Content::Shared(bytes) => {
+                let all = joined(self.alloc, bytes.as_slice(), piece)?;
+                self.content = Content::Open(all);
+                self.given = 0;
+                Ok(())
+            }
+        }
+    }
+
+    /// Takes that many bytes from the front.
+    pub(crate) fn take(&mut self, len: usize)
+        requires { len ≤ length self.old }
+        ensures { self.new ≡ drop len self.old }
+    {
+        match &mut self.content {
+            Content::Open(bytes) => bytes.advance(len),
+            Content::Shared(bytes) => bytes.advance(len),
+        }
+        self.given = self.given.saturating_add(len);
+    }
+
+    /// Makes the bytes such that they can be shared, where memory for that is left.
+    fn share(&mut self)
+        ensures { self.new ≡ self.old }
+    {
+        let content = mem::replace(&mut self.content, Content::Open(BytesMut::new(self.alloc)));
+        self.content = match content {
+            Content::Open(bytes) => match bytes.freeze() {
+                Ok(bytes) => Content::Shared(bytes),
+                Err(refused) => Content::Open(refused.value),
+            },
+            Content::Shared(bytes) => Content::Shared(bytes),
+        };
+    }
+
+    /// The first bytes, where they are many and memory for that is left. They aren't copied, and stay here too.
+    pub(crate) fn shared(&mut self, len: usize) -> Option<Bytes>
+        requires { len ≤ length self.old }
+        ensures front { IfSome result (λ bytes. bytes ≡ take len self.old) }
+        ensures stays { self.new ≡ self.old }
+    {
+        if len < LONG {
+            return None;
+        }
+        self.share();
+        match &self.content {
+            Content::Open(_) => None,
+            Content::Shared(bytes) => bytes.slice(0..len).ok(),
+        }
+    }
+
+    /// Takes all bytes. None is copied. An error says that memory ran out; then nothing changes.
+    pub(crate) fn take_all(&mut self) -> Result<Bytes, AllocError>
+        ensures bytes { IfOk result (λ bytes. bytes ≡ self.old) }
+        ensures ok { OnOk result (self.new ≡ []) }
+        ensures err { OnErr result (self.new ≡ self.old) }
+    {
+        match &mut self.content {
+            Content::Open(bytes) => bytes.freeze_to(bytes.len()),
+            Content::Shared(bytes) => Ok(mem::replace(bytes, Bytes::new())),
+        }
+    }
+
+    /// Frees memory that isn't kept, as far as there is some for a copy.
+    pub(crate) fn release(&mut self)
+        ensures { self.new ≡ self.old }
+    {
+        match &mut self.content {
+            Content::Open(bytes) => self.given = renew(self.alloc, bytes, self.given),
+            Content::Shared(bytes) => {
+                if let Ok(bytes) = BytesMut::copy_from_slice(self.alloc, bytes.as_slice()) {
+                    self.content = Content::Open(bytes);
+                    self.given = 0;
+                }
+            }
+        }
+    }
+}
