@@ -1,5 +1,5 @@
 //! The queue: sealed parts in front, and behind them the bytes that were joined last.
-ghost use Rattle.std.specs.Prelude.{◌≡◌, ◌≤◌, ◌<◌, ◌+◌, ◌==◌, ◌++◌, ◌^◌, List, ℕ, [], OnOk, OnErr, IsTrue, All, false, take, drop, length};
+ghost use Rattle.std.specs.Prelude.{◌≡◌, ◌≤◌, ◌<◌, ◌+◌, ◌==◌, ◌++◌, ◌^◌, List, ℕ, [], IfErr, OnOk, OnErr, IsTrue, All, false, take, drop, length};
 ghost use Rattle.std.specs.List.{concat};
 ghost use Rattle.std.specs.VecDeque.{deque_capacity, deque_len};
 
@@ -98,12 +98,16 @@ impl OutQueue {
         }
         let all = self.len();
         let len = bytes.len() as u64;
-        if all > MOST_SEALED - len || !seal(self.alloc, &mut self.parts, &mut self.joined) {
+        if all > MOST_SEALED - len {
             return self.push_slice(bytes.as_slice());
         }
-        self.parts.push_back_reserved(bytes);
-        self.sealed = all + len;
-        Ok(())
+        match seal_with(self.alloc, &mut self.parts, &mut self.joined, bytes) {
+            Ok(()) => {
+                self.sealed = all + len;
+                Ok(())
+            }
+            Err(bytes) => self.push_slice(bytes.as_slice()),
+        }
     }
 
     /// Puts a copy of bytes behind the others.
@@ -134,6 +138,41 @@ impl OutQueue {
         self.joined.extend_reserved(&others);
         self.joined.extend_reserved(rest);
         Ok(())
+    }
+
+    /// Puts bytes behind the others, with four others in the place of those from a place on. What follows the place isn't copied
+    /// where it is long.
+    pub fn push_shared(
+        &mut self,
+        bytes: &Bytes,
+        place: usize,
+        others: [u8; 4],
+    ) -> Result<(), AllocError>
+        requires { place + 4 ≤ length bytes.now }
+        ensures ok { OnOk result (self.new ≡ self.old ++ (take place bytes.now ++ others ++ drop (place + 4) bytes.now)) }
+        ensures err { OnErr result (self.new ≡ self.old) }
+    {
+        let all = self.len();
+        let len = bytes.len() as u64;
+        let (front, rest) = bytes.as_slice().split_at(place + 4);
+        if all > MOST_SEALED - len || rest.len() <= SHORT {
+            return self.push_with(bytes.as_slice(), place, others);
+        }
+        let rest = bytes.slice(place + 4..bytes.len())?;
+        let earlier = self.joined.len();
+        self.joined.reserve(place + 4)?;
+        self.joined.extend_reserved(&front[..place]);
+        self.joined.extend_reserved(&others);
+        match seal_with(self.alloc, &mut self.parts, &mut self.joined, rest) {
+            Ok(()) => {
+                self.sealed = all + len;
+                Ok(())
+            }
+            Err(_) => {
+                self.joined.truncate(earlier);
+                self.push_with(bytes.as_slice(), place, others)
+            }
+        }
     }
 
     /// The first bytes were taken. It takes no memory.
@@ -222,4 +261,25 @@ fn seal(alloc: Global, parts: &mut VecDeque<Bytes>, joined: &mut BytesMut) -> bo
             false
         }
     }
+}
+
+/// Makes a part of what was joined, where it is something, and puts another behind it, where memory for them is left. Else it gives
+/// that one back.
+fn seal_with(
+    alloc: Global,
+    parts: &mut VecDeque<Bytes>,
+    joined: &mut BytesMut,
+    part: Bytes,
+) -> Result<(), Bytes>
+    requires { 0 < length part }
+    ensures sealed { OnOk result ((joined.new.items ≡ []) × (concat parts.new.items ≡ concat parts.old.items ++ joined.old.items ++ part)) }
+    ensures some { All (λ part. 0 < length part) parts.old.items → All (λ part. 0 < length part) parts.new.items }
+    ensures kept { OnErr result ((joined.new.items ≡ joined.old.items) × (parts.new.items ≡ parts.old.items)) }
+    ensures back { IfErr result (λ back. back ≡ part) }
+{
+    if !seal(alloc, parts, joined) {
+        return Err(part);
+    }
+    parts.push_back_reserved(part);
+    Ok(())
 }

@@ -8,8 +8,8 @@ use std::test::Fail;
 use test_tables::{text_of, wrong_row};
 
 /// What is put and taken, one after the other: `slice` puts a copy of a text, `with` one with `----` from a place on, `long` so
-/// many bytes of one letter that are given whole, and `took` takes so many. What is told of each step is how many bytes wait,
-/// how many of these lie together in front, and the first of them.
+/// many bytes of one letter that are given whole, `shared` so many of `s` with `----` from a place on, and `took` takes so many.
+/// What is told of each step is how many bytes wait, how many of these lie together in front, and the first of them.
 const QUEUES: &str = "\
 took 0 => 0 0 []
 slice abc, slice de, took 1, took 4 => 3 3 [abc], 5 5 [abcd], 4 4 [bcde], 0 0 []
@@ -19,6 +19,10 @@ slice ab, long 4096 x, slice cd, took 2, took 4096 => 2 2 [ab], 4098 4098 [abxx]
 slice ab, long 4097 x, slice cd, took 1, took 1, took 4090, took 7, took 2 => 2 2 [ab], 4099 2 [ab], 4101 2 [ab], 4100 1 [b], 4099 4097 [xxxx], 9 7 [xxxx], 2 2 [cd], 0 0 []
 long 5000 x, long 6000 y, slice cd, took 5000, slice ef => 5000 5000 [xxxx], 11000 5000 [xxxx], 11002 5000 [xxxx], 6002 6000 [yyyy], 6004 6000 [yyyy]
 long 5000 x, long 6000 y, slice cd, took 10999, took 2 => 5000 5000 [xxxx], 11000 5000 [xxxx], 11002 5000 [xxxx], 3 1 [y], 1 1 [d]
+shared 2 8 => 8 8 [ss--]
+shared 8 4108 => 4108 4108 [ssss]
+slice ab, shared 8 4109, slice cd, took 10, took 4, took 4097, took 2 => 2 2 [ab], 4111 14 [abss], 4113 14 [abss], 4103 4 [----], 4099 4097 [ssss], 2 2 [cd], 0 0 []
+shared 0 9000, shared 0 8000, took 4, took 8996 => 9000 4 [----], 17000 4 [----], 16996 8996 [ssss], 8000 4 [----]
 slices 65535 a, slice b, slice c, took 65536 => 65535 65535 [aaaa], 65536 65536 [aaaa], 65537 65536 [aaaa], 1 1 [c]
 ";
 
@@ -44,6 +48,7 @@ fn take_step(alloc: Global, queue: &mut OutQueue, step: &str) -> Result<(), Allo
         "slices" => queue.push_slice(&letters(alloc, count, letter)?),
         "long" => queue.push(Bytes::copy_from_slice(alloc, &letters(alloc, count, letter)?)?),
         "with" => put_with(queue, letter.as_bytes(), count),
+        "shared" => put_shared(alloc, queue, letter.parse().unwrap_or(0), count),
         _ => {
             let waiting = usize::try_from(queue.len()).unwrap_or(usize::MAX);
             take(queue, count.min(waiting));
@@ -57,6 +62,19 @@ fn put_with(queue: &mut OutQueue, bytes: &[u8], place: usize) -> Result<(), Allo
         return Err(AllocError);
     }
     queue.push_with(bytes, place, *b"----")
+}
+
+fn put_shared(
+    alloc: Global,
+    queue: &mut OutQueue,
+    count: usize,
+    place: usize,
+) -> Result<(), AllocError> {
+    let bytes = Bytes::copy_from_slice(alloc, &letters(alloc, count, "s")?)?;
+    if place >= bytes.len() || bytes.len() - place < 4 {
+        return Err(AllocError);
+    }
+    queue.push_shared(&bytes, place, *b"----")
 }
 
 fn take(queue: &mut OutQueue, count: usize) {
