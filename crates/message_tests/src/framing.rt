@@ -1,5 +1,5 @@
 //! The messages of streams that come in pieces.
-ghost use Rattle.std.specs.Prelude.{◌<◌};
+ghost use Rattle.std.specs.Prelude.{◌<◌, ◌≤◌, length};
 
 use crate::messages::changed;
 use bytes::Bytes;
@@ -85,5 +85,35 @@ fn told_stream(alloc: Global, row: &str) -> Result<String, AllocError> {
 #[test]
 fn messages_are_taken_from_pieces(rt: HostRuntime) -> Result<(), Fail> {
     assert_eq!(rt; wrong_row(rt.alloc(), STREAMS, &told_stream)?, None);
+    Ok(())
+}
+
+/// A framer to which two pieces were pushed, the second once the first was shared as far as its first bytes.
+fn shared_and_pushed(
+    alloc: Global,
+    first: &[u8],
+    len: usize,
+    second: &[u8],
+) -> Result<(Option<Bytes>, Bytes), AllocError>
+    requires { len ≤ length first.now }
+{
+    let mut framer = Framer::new(alloc);
+    framer.push(first)?;
+    let shared = framer.shared(len);
+    framer.push(second)?;
+    Ok((shared, framer.left()?))
+}
+
+#[test]
+fn long_messages_are_shared(rt: HostRuntime) -> Result<(), Fail> {
+    let first = vec![in rt.alloc(); b'a'; 70_000]?;
+    let (shared, left) = shared_and_pushed(rt.alloc(), &first, 65_536, b"bc")?;
+    assert_eq!(rt; shared.map(|bytes| bytes.len()), Some(65_536));
+    assert_eq!(rt;
+        (left.len(), left.as_slice().ends_with(b"aabc")),
+        (70_002, true)
+    );
+    let (shared, left) = shared_and_pushed(rt.alloc(), &first, 65_535, b"bc")?;
+    assert_eq!(rt; (shared.is_none(), left.len()), (true, 70_002));
     Ok(())
 }
