@@ -1,5 +1,5 @@
 -- The patterns of entries, kept by their keys and the numbers of the entries in which they stand first.
-use Rattle.std.proofs.Common.{◌≡◌, ℕ, zero, suc, ◌+◌, ◌-◌, ◌≤◌, ◌<◌, Bool, true, false, ◌||◌, List, [], ◌∷◌, ◌++◌, length, map, Option, Some, None, get_or, slice_get, if◌then◌else◌, String, string_bytes, refl, ap, ap₂, sym, ◌∙◌, subst, arith, length-append, add-one}
+use Rattle.std.proofs.Common.{◌≡◌, ℕ, zero, suc, ◌+◌, ◌-◌, ◌≤◌, ◌<◌, Bool, true, false, ◌||◌, List, [], ◌∷◌, ◌++◌, length, map, Option, Some, None, slice_get, if◌then◌else◌, String, string_bytes, refl, ap, ap₂, sym, ◌∙◌, subst, arith, length-append, add-one}
 use Rattle.std.specs.Prelude.{◌&&◌, not, option_map}
 use Rattle.std.specs.List.{list_all, list_any}
 use Rattle.std.specs.Str.{bytes_eq}
@@ -7,13 +7,13 @@ use Rattle.std.specs.String.{string_eq}
 use Rattle.std.proofs.Math.Bool.{and-true, and-false}
 use Rattle.std.proofs.lemmas.Bool.{and_from, and_parts}
 use Rattle.std.proofs.lemmas.List.{map-append}
-use Rattle.std.proofs.lemmas.Option.{slice_get_within, slice_get-get_or, slice_get-map, get_or_from_slice_get}
+use Rattle.std.proofs.lemmas.Option.{slice_get_within, slice_get-map}
 use Rattle.indexmap.specs.IndexSet.{insert_key}
 use Rattle.dbus_names.specs.Names.{is_unique}
 use Rattle.name_patterns.specs.Patterns.{Pattern, covers, is_pattern}
 use Rattle.name_patterns.proofs.PatternUnique.{covers_no_unique}
 use Rattle.policy_args.specs.declared.entry.Entry.{Entry}
-use Rattle.policy_args.specs.Policy.{Policy, policy_of, entry_at, same_pattern, with_pattern, patterns_with, patterns_of}
+use Rattle.policy_args.specs.Policy.{same_pattern, with_pattern, patterns_with, patterns_of}
 use Rattle.policy_args.specs.Distinct.{AreOf, Distinct, noted, pattern_at, pattern_key}
 
 -- ---- keys

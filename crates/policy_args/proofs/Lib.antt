@@ -8,6 +8,9 @@ pub mod EntryLaws
 pub mod EntryReading
 pub mod FileWords
 pub mod Fronts
+pub mod LevelFronts
+pub mod LevelIndexes
+pub mod LevelJoins
 pub mod Numbers
 pub mod PolicyExamples
 pub mod PolicyLevels

@@ -1,23 +1,18 @@
 -- Levels, one entry after the other.
-use Rattle.std.proofs.Common.{◌≡◌, ℕ, Bool, true, false, List, if◌then◌else◌, refl, ap, sym, ◌∙◌}
-use Rattle.std.specs.Str.{bytes_eq}
+use Rattle.std.proofs.Common.{◌≡◌, ℕ, true, false, List, if◌then◌else◌, refl, ap, sym}
 use Rattle.policy_args.specs.declared.Level.{Level}
 use Rattle.policy_args.specs.declared.Level.TheVariants.{None as NoLevel, See, Talk, Own}
-use Rattle.policy_args.specs.declared.entry.Entry.{Entry}
-use Rattle.policy_args.specs.Policy.{Policy, policy_of, granted, greater, level}
+use Rattle.policy_args.specs.Policy.{Policy, granted, greater, level}
 use Rattle.dbus_names.specs.Names.{is_bus}
 
--- the level at the start: the bus itself may be talked to
-pub level-start : (policy : Policy) (entries : List Entry) (name : List ℕ) (start : Level) (called : Bool) → called ≡ is_bus name → policy_of entries ≡ policy →
-    (if called then Talk else NoLevel) ≡ start → greater start (granted entries name) ≡ level policy name
+-- the bus itself may be talked to
+pub level-bus : (policy : Policy) (name : List ℕ) → is_bus name ≡ true → greater Talk (granted policy.entries name) ≡ level policy name
 unfolding level
-level-start policy entries name start called tested is begun =
-    ap (λ s. greater s (granted entries name)) (sym begun) ∙ go called ∙ ap (λ b. if b then greater Talk (granted entries name) else granted entries name) tested
-    ∙ ap (λ (p : Policy). level p name) is
-  where
-    go : (b : Bool) → greater (if b then Talk else NoLevel) (granted entries name) ≡ (if b then greater Talk (granted entries name) else granted entries name)
-    go true = refl
-    go false = refl
+level-bus policy name is = ap (λ b. if b then greater Talk (granted policy.entries name) else granted policy.entries name) (sym is)
+
+pub level-other : (policy : Policy) (name : List ℕ) → is_bus name ≡ false → granted policy.entries name ≡ level policy name
+unfolding level
+level-other policy name is = ap (λ b. if b then greater Talk (granted policy.entries name) else granted policy.entries name) (sym is)
 
 pub greater-assoc : (a b c : Level) → greater (greater a b) c ≡ greater a (greater b c)
 greater-assoc NoLevel b c = refl

@@ -1,6 +1,7 @@
 pub mod Addresses
 pub mod Distinct
 pub mod Gives
+pub mod LevelIndex
 pub mod Levels
 pub mod Policy
 pub mod ProxyLine

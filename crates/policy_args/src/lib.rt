@@ -11,6 +11,7 @@ mod address;
 mod entry;
 mod fact;
 mod laws;
+mod levels;
 mod line;
 mod options;
 mod patterns;

@@ -4,10 +4,11 @@ ghost use Rattle.std.specs.List.{list_any};
 ghost use Rattle.dbus_names.specs.Names.{is_unique};
 ghost use Rattle.name_patterns.specs.Patterns.{covers};
 ghost use Rattle.policy_args.specs.Gives.{StepGives};
-ghost use Rattle.policy_args.specs.Policy.{entry_word, greater, level, patterns_of, policy_of};
+ghost use Rattle.policy_args.specs.Policy.{entry_word, granted as granted_by, level, patterns_of, policy_of};
 ghost use Rattle.policy_args.specs.Steps.{with_one_more};
 
 use crate::entry::Entry;
+use crate::levels::LevelIndex;
 use crate::patterns::Patterns;
 use crate::refusals::WordRefusal;
 use crate::{Level, WordKind};
@@ -20,6 +21,10 @@ use std::marker::Model;
 /// The most entries that a policy has.
 const MOST_ENTRIES: usize = 65_535;
 
+/// The most entries that are passed over for a level. Past them the index is quicker, which hashes the name and what
+/// stands before each of its dots.
+const FEW_ENTRIES: usize = 16;
+
 /// What the options let be used: entries, each once, in the order of their first words
 /// (xdg-dbus-proxy(1), "Filtering").
 #[derive(Drop)]
@@ -28,6 +33,7 @@ pub struct Policy {
     words: IndexSet<String>,
     entries: Vec<Entry>,
     patterns: Patterns,
+    levels: LevelIndex,
 }
 
 impl Model for Policy {
@@ -36,13 +42,14 @@ impl Model for Policy {
     ghost use Rattle.std.specs.List.{list_all};
     ghost use Rattle.name_patterns.specs.Patterns.{is_pattern};
     ghost use Rattle.policy_args.specs.Distinct.{AreOf};
+    ghost use Rattle.policy_args.specs.LevelIndex.{IsIndexOf};
     ghost use Rattle.policy_args.specs.Policy.{Policy as PolicyValue, entry_word, policy_of};
 
     ghost Value = { PolicyValue };
 
     ghost view = { λ p. policy_of p.entries.items };
 
-    ghost invariant = { λ p. (map (λ k. string_bytes k) p.words.keys ≡ map entry_word p.entries.items) × (length p.entries.items ≤ 65535) × (AreOf p.entries.items p.patterns) × (list_all (λ e. is_pattern e.pattern) p.entries.items ≡ true) };
+    ghost invariant = { λ p. (map (λ k. string_bytes k) p.words.keys ≡ map entry_word p.entries.items) × (length p.entries.items ≤ 65535) × (AreOf p.entries.items p.patterns) × (list_all (λ e. is_pattern e.pattern) p.entries.items ≡ true) × (IsIndexOf p.entries.items p.levels) };
 }
 
 impl Policy {
@@ -54,6 +61,7 @@ impl Policy {
             words: IndexSet::new(alloc),
             entries: Vec::new(alloc),
             patterns: Patterns::new(alloc),
+            levels: LevelIndex::new(alloc),
         }
     }
 
@@ -115,11 +123,30 @@ impl Policy {
     pub fn level(&self, name: &str) -> Level
         ensures { result ≡ level self.now name.now }
     {
-        let mut level = if is_bus(name) {
-            Level::Talk
+        let granted = self.granted(name);
+        if is_bus(name) {
+            Level::Talk.max_with(granted)
         } else {
-            Level::None
-        };
+            granted
+        }
+    }
+
+    // The greatest level that an entry which covers the name gives.
+    fn granted(&self, name: &str) -> Level
+        ensures { result ≡ granted_by self.now.entries name.now }
+    {
+        if self.entries.len() <= FEW_ENTRIES {
+            self.granted_in_pass(name)
+        } else {
+            self.levels.granted(name)
+        }
+    }
+
+    // The same, by a pass over the entries.
+    fn granted_in_pass(&self, name: &str) -> Level
+        ensures { result ≡ granted_by self.now.entries name.now }
+    {
+        let mut level = Level::None;
         for entry in &self.entries {
             if entry.pattern.covers(name) {
                 level = level.max_with(entry.grant.level());
@@ -150,8 +177,10 @@ impl Policy {
         let word = String::from_str(alloc, word)?;
         self.entries.reserve(1)?;
         self.words.reserve(1)?;
+        self.levels.make_room(alloc, entry.pattern.name())?;
         let number = self.entries.len() as u32 + 1;
         self.patterns.add(alloc, &entry.pattern, number)?;
+        self.levels.add(&entry);
         match self.words.insert(word) {
             Ok(_) => {}
             Err(_) => unreachable!(),

@@ -1,12 +1,11 @@
-use Rattle.std.proofs.Common.{true, false, ap, sym, ◌∙◌}
-use Rattle.policy_args.specs.Policy.{policy_of}
-use Rattle.policy_args.proofs.PolicyLevels.{level-start}
+use Rattle.std.proofs.Common.{ap, sym, ◌∙◌}
+use Rattle.policy_args.specs.declared.Level.TheVariants.{Talk}
+use Rattle.policy_args.specs.Policy.{greater}
+use Rattle.policy_args.proofs.PolicyLevels.{level-bus, level-other}
 use Rattle.policy_args.proofs.policy.Policy.level.Goals as goal
-use Rattle.policy_args.proofs.policy.Policy.level.Goals.{then-is_bus, else-is_bus}
 
-pub loop-entry-init : goal.loop-entry-init
-loop-entry-init c =
-    elim c.if-is_bus.branch [
-      | then-is_bus w ↦ level-start c.args.self.now c.deref-entry-items.result.now c.args.name.now c.if-is_bus.level true (sym w.if-is_bus.true ∙ c.is_bus.ensures) (ap policy_of c.deref-entry-items.ensures.value ∙ c.self.view_is) (sym w.level-is)
-      | else-is_bus w ↦ level-start c.args.self.now c.deref-entry-items.result.now c.args.name.now c.if-is_bus.level false (sym w.if-is_bus.false ∙ c.is_bus.ensures) (ap policy_of c.deref-entry-items.ensures.value ∙ c.self.view_is) (sym w.level-is)
-    ]
+pub returns-then-is_bus : goal.returns-then-is_bus
+returns-then-is_bus c = c.max_with.ensures ∙ ap (greater Talk) c.granted-granted.ensures ∙ level-bus c.args.self.now c.args.name.now (sym c.is_bus.ensures ∙ c.if-is_bus.true)
+
+pub returns-else-is_bus : goal.returns-else-is_bus
+returns-else-is_bus c = c.granted-granted.ensures ∙ level-other c.args.self.now c.args.name.now (sym c.is_bus.ensures ∙ c.if-is_bus.false)

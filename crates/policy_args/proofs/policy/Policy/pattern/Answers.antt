@@ -1,6 +1,6 @@
-use Rattle.std.proofs.Common.{◌≡◌, ◌-◌, ◌<◌, ◌≤◌, ap, sym, ◌∙◌, subst, arith, length, Some, slice_get}
+use Rattle.std.proofs.Common.{◌-◌, ap, sym, ◌∙◌, arith, Some, slice_get}
 use Rattle.std.proofs.lemmas.Option.{get_or_from_slice_get}
-use Rattle.policy_args.proofs.Distincts.{FirstAt, counted, first-at}
+use Rattle.policy_args.proofs.Distincts.{first-at}
 use Rattle.policy_args.specs.Policy.{patterns_of}
 use Rattle.policy_args.proofs.policy.Policy.pattern.Goals as goal
 

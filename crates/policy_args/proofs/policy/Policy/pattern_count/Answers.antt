@@ -1,4 +1,4 @@
-use Rattle.std.proofs.Common.{◌≡◌, ◌≤◌, length, ap, sym, ◌∙◌, arith}
+use Rattle.std.proofs.Common.{arith}
 use Rattle.policy_args.proofs.Distincts.{counted, few-patterns}
 use Rattle.policy_args.proofs.policy.Policy.pattern_count.Goals as goal
 

@@ -1,4 +1,4 @@
-use Rattle.std.proofs.Common.{◌≡◌, ◌-◌, sym, ◌∙◌, ap, option_map, slice_get, Some as Just}
+use Rattle.std.proofs.Common.{◌-◌, sym, ◌∙◌, ap, option_map, slice_get, Some as Just}
 use Rattle.policy_args.specs.Policy.{Policy, entry_word}
 use Rattle.std.specs.Option.{option_copied}
 use Rattle.policy_args.proofs.WordOf.{word-at}
