@@ -1,6 +1,6 @@
 //! The lines of the log: what was decided on each message of a session, and the entry of the policy on which that rests.
 //!
-//! It is driven by `line` with each note of a session, and by `entry_line` where the entry is to be shown too.
+//! It is driven by `push_line` with each note of a session, or by `line` with one, and by `entry_line` where the entry is to be shown too.
 #![tactic(auto)]
 
 mod decisions;
@@ -15,7 +15,7 @@ ghost use Rattle.policy_view.specs.declared.Decision.{Decision};
 ghost use Rattle.policy_view.specs.declared.Side.{Side};
 ghost use Rattle.explain_log.specs.Laws.{SpeakOf, TellsMessage};
 
-pub use lines::{entry_line, line};
+pub use lines::{entry_line, line, push_line};
 
 /// The line of a note tells the message that the note's frame spells.
 pub fn lines_tell_their_messages()

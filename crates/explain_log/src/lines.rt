@@ -1,5 +1,5 @@
 //! The two lines of a note.
-ghost use Rattle.std.specs.Prelude.{◌≡◌, ◌++◌, IfOk, OnOk, codes, option_map, string_bytes};
+ghost use Rattle.std.specs.Prelude.{◌≡◌, ◌++◌, IfOk, OnErr, OnOk, codes, option_map, string_bytes};
 ghost use Rattle.dbus_header.specs.Read.{message_seen};
 ghost use Rattle.explain_log.specs.Lines.{entry_line as line_of_entry, log_line};
 ghost use Rattle.explain_log.specs.Parts.{message_words};
@@ -36,6 +36,20 @@ pub fn line(alloc: Global, session: u32, note: &Note) -> Result<String, AllocErr
     push_decision(&mut line, note.decision())?;
     line.push_str("\n")?;
     Ok(line)
+}
+
+/// Puts the line of a note behind others. Where memory is refused none is put.
+pub fn push_line(
+    alloc: Global,
+    lines: &mut String,
+    session: u32,
+    note: &Note,
+) -> Result<(), AllocError>
+    ensures ok { OnOk result (string_bytes lines.new ≡ string_bytes lines.old ++ log_line session note.now) }
+    ensures err { OnErr result (string_bytes lines.new ≡ string_bytes lines.old) }
+{
+    let text = line(alloc, session, note)?;
+    lines.push_str(&text)
 }
 
 /// The room that a line with this message's texts fits in.
