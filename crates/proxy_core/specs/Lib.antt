@@ -1,5 +1,6 @@
 pub mod Streams
 pub mod Sessions
+pub mod Incoming
 pub mod Messages
 pub mod Steps
 pub mod Seen

@@ -6,6 +6,7 @@
 
 mod elements;
 mod facts;
+mod incoming;
 pub mod laws;
 mod queue;
 mod requests;

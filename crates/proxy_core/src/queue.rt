@@ -1,13 +1,15 @@
 //! Messages that are put behind those that wait for a side.
-ghost use Rattle.std.specs.Prelude.{◌≡◌, ◌<◌, ◌++◌, IfOk, IsSome, Some, OnOk, OnErr, codes};
+ghost use Rattle.std.specs.Prelude.{◌≡◌, ◌≤◌, ◌<◌, ◌+◌, ◌++◌, IfOk, IsSome, Some, OnOk, OnErr, codes, length, take, drop};
 ghost use Rattle.std.specs.Int.{w32};
 ghost use Rattle.dbus_values.specs.Values.{number_bytes};
 ghost use Rattle.dbus_header.specs.Contents.{message_of};
 ghost use Rattle.dbus_header.specs.Message.{Message as MessageTree, Valid, spell, with_reply_serial, with_serial as serial_changed};
 ghost use Rattle.policy_view.specs.Shown.{cut as cut_by};
 ghost use Rattle.policy_view.specs.Notes.{message_in};
+ghost use Rattle.proxy_core.specs.Incoming.{incoming_message};
 ghost use Rattle.unique_names.specs.Taught.{kept_level};
 
+use crate::incoming::Incoming;
 use bytes::BytesMut;
 use dbus_header::{Message, SERIAL_PLACE, set_serial};
 use dbus_values::Order;
@@ -49,43 +51,75 @@ pub(crate) fn with_serial(
     Ok(bytes)
 }
 
+/// Puts a message behind the others, with another number of four bytes from a place on.
+fn push_with(
+    queue: &mut OutQueue,
+    incoming: &Incoming<'_, '_>,
+    place: usize,
+    number: u32,
+) -> Result<(), AllocError>
+    requires { place + 4 ≤ length incoming.now.message.now.bytes.now }
+    ensures ok { OnOk result (queue.new ≡ queue.old ++ (take place incoming.now.message.now.bytes.now ++ number_bytes incoming.now.message.now.order w32 number ++ drop (place + 4) incoming.now.message.now.bytes.now)) }
+    ensures err { OnErr result (queue.new ≡ queue.old) }
+{
+    let cells = cells(incoming.message.order, number);
+    match incoming.shared {
+        Some(bytes) => queue.push_shared(bytes, place, cells),
+        None => queue.push_with(incoming.message.bytes, place, cells),
+    }
+}
+
 /// Puts a message behind the others, with another serial.
 pub(crate) fn push_message(
     queue: &mut OutQueue,
-    message: &Message<'_>,
+    incoming: &Incoming<'_, '_>,
     serial: u32,
 ) -> Result<(), AllocError>
-    ensures ok { OnOk result (queue.new ≡ queue.old ++ spell (serial_changed serial (message_in message.now.bytes.now))) }
+    ensures ok { OnOk result (queue.new ≡ queue.old ++ spell (serial_changed serial (incoming_message incoming.now))) }
     ensures err { OnErr result (queue.new ≡ queue.old) }
 {
-    is_spelled(message.bytes);
-    queue.push_with(message.bytes, SERIAL_PLACE, cells(message.order, serial))
+    is_spelled(incoming.message.bytes);
+    push_with(queue, incoming, SERIAL_PLACE, serial)
 }
 
 /// Puts an answer behind the others, with another REPLY_SERIAL.
 pub(crate) fn push_reply(
     queue: &mut OutQueue,
-    message: &Message<'_>,
+    incoming: &Incoming<'_, '_>,
     serial: u32,
 ) -> Result<(), AllocError>
-    requires { IsSome message.now.reply_serial }
-    ensures ok { OnOk result (queue.new ≡ queue.old ++ spell (with_reply_serial serial (message_in message.now.bytes.now))) }
+    requires { IsSome incoming.now.message.now.reply_serial }
+    ensures ok { OnOk result (queue.new ≡ queue.old ++ spell (with_reply_serial serial (incoming_message incoming.now))) }
     ensures err { OnErr result (queue.new ≡ queue.old) }
 {
-    is_spelled(message.bytes);
-    match message.reply_serial_place {
-        Some(place) => queue.push_with(message.bytes, place, cells(message.order, serial)),
+    is_spelled(incoming.message.bytes);
+    match incoming.message.reply_serial_place {
+        Some(place) => push_with(queue, incoming, place, serial),
         None => unreachable!(),
     }
 }
 
-/// Puts a message behind the others as it is.
-pub(crate) fn push_whole(queue: &mut OutQueue, message: &Message<'_>) -> Result<(), AllocError>
-    ensures ok { OnOk result (queue.new ≡ queue.old ++ spell (message_in message.now.bytes.now)) }
+/// Puts the bytes of a message behind the others.
+fn push_bytes(queue: &mut OutQueue, incoming: &Incoming<'_, '_>) -> Result<(), AllocError>
+    ensures ok { OnOk result (queue.new ≡ queue.old ++ incoming.now.message.now.bytes.now) }
     ensures err { OnErr result (queue.new ≡ queue.old) }
 {
-    is_spelled(message.bytes);
-    queue.push_slice(message.bytes)
+    match incoming.shared {
+        Some(bytes) => queue.push(bytes.clone()?),
+        None => queue.push_slice(incoming.message.bytes),
+    }
+}
+
+/// Puts a message behind the others as it is.
+pub(crate) fn push_whole(
+    queue: &mut OutQueue,
+    incoming: &Incoming<'_, '_>,
+) -> Result<(), AllocError>
+    ensures ok { OnOk result (queue.new ≡ queue.old ++ spell (incoming_message incoming.now)) }
+    ensures err { OnErr result (queue.new ≡ queue.old) }
+{
+    is_spelled(incoming.message.bytes);
+    push_bytes(queue, incoming)
 }
 
 /// Puts a message behind the others, with its list of names cut to those that may be seen and with another REPLY_SERIAL.

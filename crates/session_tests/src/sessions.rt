@@ -26,6 +26,7 @@ const SESSIONS: &str = "\
 --filter,--talk=org.a.T; bytes call; client ones cut=15; client ones cut=1 => - 80 0; - 80 0; ClientMalformed(Message(Malformed { kind: ByteOrder, at: 0 })) 80 0; Some(ClientMalformed(Message(Malformed { kind: ByteOrder, at: 0 })))
 --filter,--talk=org.a.T; client call; note; bus return; note => - 80 0; none; - 80 56; none; None
 --filter; client call 2=1; client call 2=2; bus return; client call 1=9 2=2 => - 0 0; - 120 0; - 120 142; - 120 142; None
+--filter,--talk=org.a.T; client long fill=70000; bus_byte 8; took_bus 12; bus_byte 70079; bus long_return fill=70000; client_byte 20; took_client 24; client_byte 70043; client call => - 70092 0; 1; - 70080 0; 120; - 70080 70068; 7; - 70080 70044; 120; - 70160 70044; None
 --log; client ones; bus_byte 15; bus call; client_byte 8; client_byte 78; client ones cut=0; bytes ones; bus ones cut=3; client_ended; client ones => - 16 0; 255; - 16 80; 7; 84; - 16 80; - 32 80; - 32 83; ClientEnd 32 83; ClientEnd 32 83; Some(ClientEnd)
 --log; bus ones; took_client 10; client call; bus return; client_byte 6; bus_ended; note => - 0 16; - 0 6; - 80 6; - 80 62; 108; BusEnd 80 62; none; Some(BusEnd)
 ";
@@ -53,6 +54,23 @@ const CALL: &[u8] =
 /// A return to :1.40 with serial 60, the answer to serial 1.
 const RETURN: &[u8] =
     b"l\x02\x01\x01\x00\x00\x00\x00<\x00\x00\x00%\x00\x00\x00\x05\x01u\x00\x01\x00\x00\x00\x06\x01s\x00\x05\x00\x00\x00:1.40\x00\x00\x00\x07\x01s\x00\x04\x00\x00\x00:1.7\x00\x00\x00\x00";
+
+/// The same call with the beginning of an array of 70,000 bytes.
+const LONG: &[u8] = b"l\x01\0\x01\x74\x11\x01\0\x07\0\0\0\x48\0\0\0\
+\x01\x01o\0\x02\0\0\0/p\0\0\0\0\0\0\
+\x02\x01s\0\x07\0\0\0org.a.I\0\
+\x03\x01s\0\x01\0\0\0A\0\0\0\0\0\0\0\
+\x06\x01s\0\x07\0\0\0org.a.T\0\
+\x08\x01g\0\x02ay\0\
+\x70\x11\x01\0";
+
+/// The same return with the beginning of an array of 70,000 bytes.
+const LONG_RETURN: &[u8] = b"l\x02\x01\x01\x74\x11\x01\0\x3c\0\0\0\x30\0\0\0\
+\x05\x01u\0\x01\0\0\0\
+\x06\x01s\0\x05\0\0\0:1.40\0\0\0\
+\x07\x01s\0\x04\0\0\0:1.7\0\0\0\0\
+\x08\x01g\0\x02ay\0\
+\x70\x11\x01\0";
 
 /// A Hello, with serial 1.
 const HELLO: &[u8] = b"l\x01\0\x01\0\0\0\0\x01\0\0\0\x6d\0\0\0\
@@ -87,14 +105,18 @@ const BEGIN: &[u8] = b"BEGIN\r\n";
 /// Bytes of which none begins a message.
 const ONES: &[u8] = &[0xff; 16];
 
-/// A message, changed as what follows its name says: `PLACE=BYTE` puts a byte at a place, and `cut=LENGTH` leaves so many
-/// bytes.
+/// A message, changed as what follows its name says: `PLACE=BYTE` puts a byte at a place, `cut=LENGTH` leaves so many bytes, and
+/// `fill=COUNT` puts so many of `x` behind the others.
 pub fn message(alloc: Global, row: &str) -> Result<Vec<u8>, AllocError> {
     let (name, changes) = row.split_once(' ').unwrap_or((row, ""));
     let mut bytes = Vec::from_slice(alloc, bytes_of(name))?;
     for change in changes.split(' ') {
         match change.split_once('=') {
             Some(("cut", len)) => bytes.truncate(len.parse().unwrap_or(0)),
+            Some(("fill", count)) => {
+                let count: usize = count.parse().unwrap_or(0);
+                bytes.resize(bytes.len().saturating_add(count), b'x')?;
+            }
             Some((place, byte)) => put(&mut bytes, place, byte),
             None => (),
         }
@@ -109,6 +131,8 @@ pub fn bytes_of(name: &str) -> &'static [u8] {
         "begin" => BEGIN,
         "call" => CALL,
         "return" => RETURN,
+        "long" => LONG,
+        "long_return" => LONG_RETURN,
         "hello" => HELLO,
         "list" => CALL_OF_NAMES,
         "names" => NAMES,

@@ -1,6 +1,7 @@
 //! The message in front of a side's stream. What is left of the stream is lent out of the session meanwhile, so that the message is read
 //! where it stands, once.
 ghost use Rattle.std.specs.Prelude.{◌≡◌, [], false, true, None};
+ghost use Rattle.dbus_framing.specs.Knows.{IsWhole};
 ghost use Rattle.policy_view.specs.History.{malformed as malformed_by};
 ghost use Rattle.policy_view.specs.declared.Fault.TheVariants.{Message as OfMessage};
 ghost use Rattle.proxy_core.specs.Messages.{ended_by};
@@ -10,6 +11,7 @@ ghost use Rattle.proxy_core.specs.Steps.{with_left, step_of, Stepped, IsLight};
 ghost use Rattle.proxy_core.specs.Streams.{InMessages};
 
 use super::{Session, malformed};
+use crate::incoming::Incoming;
 use dbus_framing::{Framer, Front};
 use dbus_header::Malformed;
 use policy_args::Policy;
@@ -48,20 +50,37 @@ impl Session {
         false
     }
 
+    /// Takes the message of as many bytes as its head states, or ends the session where it is malformed. Tells whether more may follow.
+    fn take_stated(
+        &mut self,
+        policy: &Policy,
+        side: Side,
+        messages: &mut Framer,
+        len: usize,
+    ) -> bool
+        requires running { self.old.ended ≡ None }
+        requires whole { IsWhole messages.old len }
+        ensures { TookFirst policy.now side messages.old messages.new self.old self.new result }
+    {
+        let shared = messages.shared(len);
+        match messages.message(len) {
+            Ok(message) => {
+                let incoming = Incoming::new(&message, shared.as_ref());
+                self.take_whole(policy, side, &incoming);
+                messages.take(len);
+                self.ended.is_none()
+            }
+            Err(fault) => self.end_malformed(side, fault),
+        }
+    }
+
     /// Takes the first of a side's messages, or ends the session where a fault stands in front. Tells whether more may follow.
     fn take_first(&mut self, policy: &Policy, side: Side, messages: &mut Framer) -> bool
         requires { self.old.ended ≡ None }
         ensures { TookFirst policy.now side messages.old messages.new self.old self.new result }
     {
         match messages.front() {
-            Front::Whole(len) => match messages.message(len) {
-                Ok(message) => {
-                    self.take_whole(policy, side, &message);
-                    messages.take(len);
-                    self.ended.is_none()
-                }
-                Err(fault) => self.end_malformed(side, fault),
-            },
+            Front::Whole(len) => self.take_stated(policy, side, messages, len),
             Front::Rest => false,
             Front::Bad(fault) => self.end_malformed(side, fault),
         }

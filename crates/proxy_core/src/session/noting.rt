@@ -2,14 +2,13 @@
 //! or fall together.
 ghost use Rattle.std.specs.Prelude.{◌≡◌, ◌<◌, ◌∷◌, ◌++◌, [], true, None, IfOk, OnOk, OnErr};
 ghost use Rattle.std.specs.VecDeque.{deque_capacity, deque_len};
-ghost use Rattle.policy_view.specs.Notes.{message_in};
+ghost use Rattle.proxy_core.specs.Incoming.{incoming_message};
 ghost use Rattle.proxy_core.specs.Messages.{decision_in, with_message, with_noted_message};
 ghost use Rattle.proxy_core.specs.Steps.{TookMessage};
 
 use super::Session;
+use crate::incoming::Incoming;
 use crate::queue::is_spelled;
-use bytes::Bytes;
-use dbus_header::Message;
 use policy_args::Policy;
 use policy_view::{Decision, End, Note, Side};
 use std::alloc::AllocError;
@@ -18,14 +17,14 @@ use std::mem;
 
 impl Session {
     /// Takes a message of a side. Answers what was decided on it.
-    fn take_message(&mut self, policy: &Policy, side: Side, message: &Message<'_>) -> Decision
+    fn take_message(&mut self, policy: &Policy, side: Side, incoming: &Incoming<'_, '_>) -> Decision
         requires running { self.old.ended ≡ None }
-        ensures took { TookMessage (with_message policy.now side (message_in message.now.bytes.now) self.old) self.old self.new }
-        ensures decision { result ≡ decision_in policy.now side (message_in message.now.bytes.now) self.old }
+        ensures took { TookMessage (with_message policy.now side (incoming_message incoming.now) self.old) self.old self.new }
+        ensures decision { result ≡ decision_in policy.now side (incoming_message incoming.now) self.old }
     {
         match side {
-            Side::Client => Decision::Judged(self.take_client_message(policy, message)),
-            Side::Bus => Decision::Shown(self.take_bus_message(policy, message)),
+            Side::Client => Decision::Judged(self.take_client_message(policy, incoming)),
+            Side::Bus => Decision::Shown(self.take_bus_message(policy, incoming)),
         }
     }
 
@@ -52,22 +51,22 @@ impl Session {
     }
 
     /// Takes a message of a side and makes a note of it. One in whose place the session ended has none.
-    fn take_noted(&mut self, policy: &Policy, side: Side, message: &Message<'_>)
+    fn take_noted(&mut self, policy: &Policy, side: Side, incoming: &Incoming<'_, '_>)
         requires running { self.old.ended ≡ None }
         requires notes { self.old.mode.notes ≡ true }
-        ensures { TookMessage (with_noted_message policy.now side (message_in message.now.bytes.now) self.old) self.old self.new }
+        ensures { TookMessage (with_noted_message policy.now side (incoming_message incoming.now) self.old) self.old self.new }
     {
-        is_spelled(message.bytes);
+        is_spelled(incoming.message.bytes);
         let Some(number) = self.numbered.checked_add(1) else {
             return self.end_with(End::Memory);
         };
-        let Ok(frame) = Bytes::copy_from_slice(self.alloc, message.bytes) else {
+        let Ok(frame) = incoming.frame(self.alloc) else {
             return self.end_with(End::Memory);
         };
         let Ok(queue) = self.reserved_notes() else {
             return self.end_with(End::Memory);
         };
-        let decision = self.take_message(policy, side, message);
+        let decision = self.take_message(policy, side, incoming);
         if self.ended.is_some() {
             self.notes = queue;
             return;
@@ -76,13 +75,18 @@ impl Session {
     }
 
     /// Takes a message of a side, and makes a note of it where the session makes notes.
-    pub(super) fn take_unwatched(&mut self, policy: &Policy, side: Side, message: &Message<'_>)
+    pub(super) fn take_unwatched(
+        &mut self,
+        policy: &Policy,
+        side: Side,
+        incoming: &Incoming<'_, '_>,
+    )
         requires running { self.old.ended ≡ None }
-        ensures { TookMessage (with_noted_message policy.now side (message_in message.now.bytes.now) self.old) self.old self.new }
+        ensures { TookMessage (with_noted_message policy.now side (incoming_message incoming.now) self.old) self.old self.new }
     {
         if self.mode.notes {
-            return self.take_noted(policy, side, message);
+            return self.take_noted(policy, side, incoming);
         }
-        let _decision = self.take_message(policy, side, message);
+        let _decision = self.take_message(policy, side, incoming);
     }
 }

@@ -8,6 +8,7 @@ ghost use Rattle.policy_view.specs.History.{most_sent};
 ghost use Rattle.policy_view.specs.Past.{fact_of, learned_at, owners_of};
 ghost use Rattle.policy_view.specs.Sent.{OwnOwner, asked as names_asked};
 ghost use Rattle.policy_view.specs.Shown.{CallIn, NamesAnswer, bus_role, role_of_reply, role_of_signal, showing_at};
+ghost use Rattle.proxy_core.specs.Incoming.{incoming_message};
 ghost use Rattle.proxy_core.specs.Messages.{KeepsSides, known, own_names, sending, with_bus_message, with_facts, with_role, with_sent, with_shown, with_told, with_used};
 ghost use Rattle.policy_view.specs.Notes.{message_in};
 ghost use Rattle.proxy_core.specs.Shapes.{ShownBy};
@@ -16,6 +17,7 @@ ghost use Rattle.verdicts.specs.Kept.{expected_at};
 
 use super::Session;
 use crate::facts::{is_covered, returned_id, returned_names, unique};
+use crate::incoming::Incoming;
 use crate::queue::{push_cut, push_reply, push_whole};
 use bytes::BytesMut;
 use dbus_header::Message;
@@ -164,29 +166,29 @@ impl Session {
     fn show_as(
         &mut self,
         policy: &Policy,
-        message: &Message<'_>,
+        incoming: &Incoming<'_, '_>,
         showing: Showing,
     ) -> Result<(), AllocError>
-        requires { ShownBy message.now showing }
-        ensures ok { OnOk result (self.new ≡ with_shown policy.now (message_in message.now.bytes.now) showing self.old) }
+        requires { ShownBy incoming.now.message.now showing }
+        ensures ok { OnOk result (self.new ≡ with_shown policy.now (incoming_message incoming.now) showing self.old) }
         ensures err { OnErr result (self.new ≡ self.old) }
     {
         match showing {
-            Showing::Whole => push_whole(&mut self.to_client, message),
-            Showing::Reply(serial) => push_reply(&mut self.to_client, message, serial),
+            Showing::Whole => push_whole(&mut self.to_client, incoming),
+            Showing::Reply(serial) => push_reply(&mut self.to_client, incoming, serial),
             Showing::Cut(serial) => push_cut(
                 self.alloc,
                 &mut self.to_client,
                 policy,
                 &self.tracker,
-                message,
+                incoming.message,
                 serial,
             ),
             Showing::Instead { order, reply, what } => {
                 self.to_client.push_slice(answer_in_place(
                     order,
                     reply,
-                    message.serial,
+                    incoming.message.serial,
                     what,
                 ).as_slice())
             }
@@ -257,48 +259,52 @@ impl Session {
     fn take_told(
         &mut self,
         policy: &Policy,
-        message: &Message<'_>,
+        incoming: &Incoming<'_, '_>,
         answered: &Option<Kind>,
         showing: Showing,
     ) -> Result<(), AllocError>
-        requires { ShownBy message.now showing }
-        ensures ok { OnOk result (self.new ≡ with_shown policy.now (message_in message.now.bytes.now) showing (with_told policy.now (message_in message.now.bytes.now) (bus_role answered.now (message_in message.now.bytes.now)) self.old)) }
+        requires { ShownBy incoming.now.message.now showing }
+        ensures ok { OnOk result (self.new ≡ with_shown policy.now (incoming_message incoming.now) showing (with_told policy.now (incoming_message incoming.now) (bus_role answered.now (incoming_message incoming.now)) self.old)) }
         ensures err { OnErr result (KeepsSides self.old self.new) }
     {
-        self.learn(policy, message, answered)?;
-        self.show_as(policy, message, showing)
+        self.learn(policy, incoming.message, answered)?;
+        self.show_as(policy, incoming, showing)
     }
 
     /// Takes a message of the bus by what it answers and by what is shown of it.
     fn take_role(
         &mut self,
         policy: &Policy,
-        message: &Message<'_>,
+        incoming: &Incoming<'_, '_>,
         answered: &Option<Kind>,
         showing: Showing,
     )
         requires running { self.old.ended ≡ None }
-        requires shown { ShownBy message.now showing }
-        requires role { showing ≡ showing_at policy.now (known policy.now self.old) (message_in message.now.bytes.now) (bus_role answered.now (message_in message.now.bytes.now)) }
-        requires reply { IfSome answered.now (λ _. (message.now.kind == 2 || message.now.kind == 3) ≡ true) }
-        ensures { TookMessage (with_role policy.now (message_in message.now.bytes.now) (bus_role answered.now (message_in message.now.bytes.now)) self.old) self.old self.new }
+        requires shown { ShownBy incoming.now.message.now showing }
+        requires role { showing ≡ showing_at policy.now (known policy.now self.old) (incoming_message incoming.now) (bus_role answered.now (incoming_message incoming.now)) }
+        requires reply { IfSome answered.now (λ _. (incoming.now.message.now.kind == 2 || incoming.now.message.now.kind == 3) ≡ true) }
+        ensures { TookMessage (with_role policy.now (incoming_message incoming.now) (bus_role answered.now (incoming_message incoming.now)) self.old) self.old self.new }
     {
         if is_own_names(answered) {
-            return self.take_names(policy, message);
+            return self.take_names(policy, incoming.message);
         }
-        let done = self.take_told(policy, message, answered, showing);
+        let done = self.take_told(policy, incoming, answered, showing);
         self.goes_on(done);
     }
 
     /// Takes a message of the bus. Answers what the client is shown of it.
-    pub(super) fn take_bus_message(&mut self, policy: &Policy, message: &Message<'_>) -> Showing
+    pub(super) fn take_bus_message(
+        &mut self,
+        policy: &Policy,
+        incoming: &Incoming<'_, '_>,
+    ) -> Showing
         requires { self.old.ended ≡ None }
-        ensures took { TookMessage (with_bus_message policy.now (message_in message.now.bytes.now) self.old) self.old self.new }
-        ensures decision { result ≡ showing_at policy.now (known policy.now self.old) (message_in message.now.bytes.now) (bus_role (expected_at self.old.ledger.expected (reply_serial_of (message_in message.now.bytes.now))) (message_in message.now.bytes.now)) }
+        ensures took { TookMessage (with_bus_message policy.now (incoming_message incoming.now) self.old) self.old self.new }
+        ensures decision { result ≡ showing_at policy.now (known policy.now self.old) (incoming_message incoming.now) (bus_role (expected_at self.old.ledger.expected (reply_serial_of (incoming_message incoming.now))) (incoming_message incoming.now)) }
     {
-        let showing = show(policy, &self.tracker, &self.ledger, message);
-        let answered = self.take_answer(message);
-        self.take_role(policy, message, &answered, showing);
+        let showing = show(policy, &self.tracker, &self.ledger, incoming.message);
+        let answered = self.take_answer(incoming.message);
+        self.take_role(policy, incoming, &answered, showing);
         showing
     }
 }

@@ -6,11 +6,13 @@ ghost use Rattle.policy_view.specs.Past.{replied_on};
 ghost use Rattle.policy_view.specs.Sent.{Passed, Pinged, is_hello as hello, own_calls as calls_of, spelled_from};
 ghost use Rattle.policy_view.specs.Verdicts.{client_role, verdict as verdict_on};
 ghost use Rattle.policy_view.specs.declared.Verdict.TheVariants.{Pass};
+ghost use Rattle.proxy_core.specs.Incoming.{incoming_message};
 ghost use Rattle.proxy_core.specs.Messages.{KeepsSides, awaiting, known, noted, queued, with_client_message, with_due, with_replied, with_sent, with_verdict};
 ghost use Rattle.policy_view.specs.Notes.{message_in};
 ghost use Rattle.proxy_core.specs.Steps.{TookMessage};
 
 use super::Session;
+use crate::incoming::Incoming;
 use crate::queue::{push_message, with_serial};
 use crate::requests::{expected, is_hello};
 use bytes::BytesMut;
@@ -37,13 +39,13 @@ impl Session {
     }
 
     /// The message goes to the bus with the serial that was given last.
-    fn pass(&mut self, message: &Message<'_>, serial: u32) -> Result<(), AllocError>
+    fn pass(&mut self, incoming: &Incoming<'_, '_>, serial: u32) -> Result<(), AllocError>
         requires { serial ≡ self.old.sent }
-        ensures ok { OnOk result (self.new ≡ queued (Passed (message_in message.now.bytes.now)) self.old) }
+        ensures ok { OnOk result (self.new ≡ queued (Passed (incoming_message incoming.now)) self.old) }
         ensures err { OnErr result (KeepsSides self.old self.new) }
     {
-        self.expect_answer(message, serial)?;
-        push_message(&mut self.to_bus, message, serial)
+        self.expect_answer(incoming.message, serial)?;
+        push_message(&mut self.to_bus, incoming, serial)
     }
 
     /// A ping goes to the bus in the call's place with the serial that was given last, and the client is to be answered
@@ -76,18 +78,18 @@ impl Session {
     }
 
     /// A message that passes is sent alone, where a serial is left.
-    fn send(&mut self, message: &Message<'_>)
+    fn send(&mut self, incoming: &Incoming<'_, '_>)
         requires running { self.old.ended ≡ None }
-        requires alone { (hello (message_in message.now.bytes.now) && not self.old.greeted) ≡ false }
-        ensures { TookMessage (with_due (Passed (message_in message.now.bytes.now) ∷ []) (replied_on (message_in message.now.bytes.now) (client_role (message_in message.now.bytes.now)) Pass) self.old) self.old self.new }
+        requires alone { (hello (incoming_message incoming.now) && not self.old.greeted) ≡ false }
+        ensures { TookMessage (with_due (Passed (incoming_message incoming.now) ∷ []) (replied_on (incoming_message incoming.now) (client_role (incoming_message incoming.now)) Pass) self.old) self.old self.new }
     {
         let Ok(serial) = self.serials.next() else {
             return self.end_with(End::SerialsSpent);
         };
-        if self.pass(message, serial).is_err() {
+        if self.pass(incoming, serial).is_err() {
             return self.end_with(End::Memory);
         }
-        self.reply(message);
+        self.reply(incoming.message);
     }
 
     /// A ping is sent in a call's place, where a serial is left.
@@ -153,37 +155,41 @@ impl Session {
     }
 
     /// A message that passes is sent; the first Hello with the proxy's own calls behind it.
-    fn pass_on(&mut self, policy: &Policy, message: &Message<'_>)
+    fn pass_on(&mut self, policy: &Policy, incoming: &Incoming<'_, '_>)
         requires { self.old.ended ≡ None }
-        ensures { TookMessage (with_verdict policy.now (message_in message.now.bytes.now) Pass self.old) self.old self.new }
+        ensures { TookMessage (with_verdict policy.now (incoming_message incoming.now) Pass self.old) self.old self.new }
     {
-        if !self.greeted && is_hello(message) {
-            self.greet(policy, message);
+        if !self.greeted && is_hello(incoming.message) {
+            self.greet(policy, incoming.message);
         } else {
-            self.send(message);
+            self.send(incoming);
         }
     }
 
     /// Takes a message of the client by its verdict: it passes, or a ping takes its place, or it is dropped.
-    fn take_verdict(&mut self, policy: &Policy, message: &Message<'_>, verdict: Verdict)
+    fn take_verdict(&mut self, policy: &Policy, incoming: &Incoming<'_, '_>, verdict: Verdict)
         requires { self.old.ended ≡ None }
-        ensures { TookMessage (with_verdict policy.now (message_in message.now.bytes.now) verdict self.old) self.old self.new }
+        ensures { TookMessage (with_verdict policy.now (incoming_message incoming.now) verdict self.old) self.old self.new }
     {
         match verdict {
-            Verdict::Pass => self.pass_on(policy, message),
-            Verdict::Ping(what, _) => self.send_ping(message, what),
+            Verdict::Pass => self.pass_on(policy, incoming),
+            Verdict::Ping(what, _) => self.send_ping(incoming.message, what),
             Verdict::Drop(_) => {}
         }
     }
 
     /// Takes a message of the client. Answers the verdict on it.
-    pub(super) fn take_client_message(&mut self, policy: &Policy, message: &Message<'_>) -> Verdict
+    pub(super) fn take_client_message(
+        &mut self,
+        policy: &Policy,
+        incoming: &Incoming<'_, '_>,
+    ) -> Verdict
         requires { self.old.ended ≡ None }
-        ensures took { TookMessage (with_client_message policy.now (message_in message.now.bytes.now) self.old) self.old self.new }
-        ensures decision { result ≡ verdict_on policy.now (known policy.now self.old) (message_in message.now.bytes.now) }
+        ensures took { TookMessage (with_client_message policy.now (incoming_message incoming.now) self.old) self.old self.new }
+        ensures decision { result ≡ verdict_on policy.now (known policy.now self.old) (incoming_message incoming.now) }
     {
-        let verdict = judge(policy, &self.tracker, &self.ledger, message);
-        self.take_verdict(policy, message, verdict);
+        let verdict = judge(policy, &self.tracker, &self.ledger, incoming.message);
+        self.take_verdict(policy, incoming, verdict);
         verdict
     }
 }

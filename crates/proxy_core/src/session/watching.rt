@@ -2,11 +2,13 @@
 ghost use Rattle.std.specs.Prelude.{◌≡◌, ◌∷◌, ◌++◌, [], true, None, OnErr, OnOk};
 ghost use Rattle.policy_view.specs.Notes.{message_in};
 ghost use Rattle.policy_view.specs.declared.visible.Visible.TheVariants as element;
+ghost use Rattle.proxy_core.specs.Incoming.{incoming_message};
 ghost use Rattle.proxy_core.specs.Messages.{elements_in, unless_ended, with_elements, with_noted_message, with_watched_message};
 ghost use Rattle.proxy_core.specs.Steps.{Did, TookMessage};
 
 use super::Session;
 use crate::elements::element;
+use crate::incoming::Incoming;
 use crate::watch::Watch;
 use dbus_header::Message;
 use policy_args::Policy;
@@ -55,18 +57,18 @@ impl Session {
         &mut self,
         policy: &Policy,
         side: Side,
-        message: &Message<'_>,
+        incoming: &Incoming<'_, '_>,
         watch: &mut Watch,
     )
         requires running { self.old.ended ≡ None }
-        ensures took { TookMessage (with_noted_message policy.now side (message_in message.now.bytes.now) self.old) self.old self.new }
-        ensures kept { watch.new ≡ watch.old ++ unless_ended self.new.ended (elements_in policy.now side (message_in message.now.bytes.now) self.old) }
+        ensures took { TookMessage (with_noted_message policy.now side (incoming_message incoming.now) self.old) self.old self.new }
+        ensures kept { watch.new ≡ watch.old ++ unless_ended self.new.ended (elements_in policy.now side (incoming_message incoming.now) self.old) }
     {
         let earlier = watch.len();
-        let Ok(()) = self.keep_message(policy, side, message, watch) else {
+        let Ok(()) = self.keep_message(policy, side, incoming.message, watch) else {
             return self.end_with(End::Memory);
         };
-        self.take_unwatched(policy, side, message);
+        self.take_unwatched(policy, side, incoming);
         watch.truncate_unless(self.ended.is_none(), earlier);
     }
 
@@ -79,14 +81,14 @@ impl Session {
 
     /// Takes a message of a side, makes a note of it where the session makes notes, and keeps what is left of it where the session
     /// watches. What is kept stands outside meanwhile.
-    pub(super) fn take_whole(&mut self, policy: &Policy, side: Side, message: &Message<'_>)
+    pub(super) fn take_whole(&mut self, policy: &Policy, side: Side, incoming: &Incoming<'_, '_>)
         requires { self.old.ended ≡ None }
-        ensures { TookMessage (with_watched_message policy.now side (message_in message.now.bytes.now) self.old) self.old self.new }
+        ensures { TookMessage (with_watched_message policy.now side (incoming_message incoming.now) self.old) self.old self.new }
     {
         match self.watch.take() {
-            None => self.take_unwatched(policy, side, message),
+            None => self.take_unwatched(policy, side, incoming),
             Some(mut watch) => {
-                self.take_watched(policy, side, message, &mut watch);
+                self.take_watched(policy, side, incoming, &mut watch);
                 self.put_watch(watch);
             }
         }

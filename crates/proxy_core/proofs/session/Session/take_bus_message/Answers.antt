@@ -10,20 +10,20 @@ use Rattle.proxy_core.proofs.session.Session.take_bus_message.Goals as goal
 
 pub take_role-requires-clause-shown : goal.take_role-requires-clause-shown
 take_role-requires-clause-shown c =
-    shown_by c.args.policy.now _ c.self.inside.ledger.expected c.args.message.now c.show-showing.result (c.show-showing.ensures.kept _ (read c.args.message.now))
+    shown_by c.args.policy.now _ c.self.inside.ledger.expected c.args.incoming.now.message.now c.show-showing.result (c.show-showing.ensures.kept _ (read c.args.incoming.now.message.now))
 
 pub take_role-requires-clause-role : goal.take_role-requires-clause-role
-take_role-requires-clause-role c = role_as c.args.policy.now _ c.args.self.now c.take_answer-answered.new.self c.args.message.now c.take_answer-answered.result c.show-showing.result c.self.view_is
+take_role-requires-clause-role c = role_as c.args.policy.now _ c.args.self.now c.take_answer-answered.new.self c.args.incoming.now.message.now c.take_answer-answered.result c.show-showing.result c.self.view_is
     c.take_answer-answered.ensures.left
     c.take_answer-answered.ensures.role
-    (c.show-showing.ensures.kept _ (read c.args.message.now))
+    (c.show-showing.ensures.kept _ (read c.args.incoming.now.message.now))
 
 pub returns-clause-decision : goal.returns-clause-decision
-returns-clause-decision c = showing_as c.args.policy.now _ c.args.self.now c.args.message.now c.show-showing.result c.self.view_is (c.show-showing.ensures.kept _ (read c.args.message.now))
+returns-clause-decision c = showing_as c.args.policy.now _ c.args.self.now c.args.incoming.now.message.now c.show-showing.result c.self.view_is (c.show-showing.ensures.kept _ (read c.args.incoming.now.message.now))
 
 pub returns-clause-took : goal.returns-clause-took
 returns-clause-took c =
-    let m = tree c.args.message.now in
+    let m = tree c.args.incoming.now.message.now in
     let mid : SessionView = c.take_answer-answered.new.self in
     let same = ap (λ (r : BusRole). with_role c.args.policy.now m r mid) c.take_answer-answered.ensures.role
     ∙ ap (λ (v : SessionView). with_role c.args.policy.now m (bus_role (expected_at c.args.self.now.ledger.expected (reply_serial m)) m) v) c.take_answer-answered.ensures.left in

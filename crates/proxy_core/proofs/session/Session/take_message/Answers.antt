@@ -8,20 +8,20 @@ use Rattle.proxy_core.proofs.session.Session.take_message.Goals as goal
 
 pub returns-in-Client-clause-took : goal.returns-in-Client-clause-took
 returns-in-Client-clause-took c =
-    subst (λ (s : Side). TookMessage (with_message c.args.policy.now s (tree c.args.message.now) c.args.self.now) c.args.self.now c.take_client_message.new.self) (sym c.in-Client.is)
+    subst (λ (s : Side). TookMessage (with_message c.args.policy.now s (tree c.args.incoming.now.message.now) c.args.self.now) c.args.self.now c.take_client_message.new.self) (sym c.in-Client.is)
     c.take_client_message.ensures.took
 
 pub returns-in-Bus-clause-took : goal.returns-in-Bus-clause-took
 returns-in-Bus-clause-took c =
-    subst (λ (s : Side). TookMessage (with_message c.args.policy.now s (tree c.args.message.now) c.args.self.now) c.args.self.now c.take_bus_message.new.self) (sym c.in-Bus.is)
+    subst (λ (s : Side). TookMessage (with_message c.args.policy.now s (tree c.args.incoming.now.message.now) c.args.self.now) c.args.self.now c.take_bus_message.new.self) (sym c.in-Bus.is)
     c.take_bus_message.ensures.took
 
 pub returns-in-Client-clause-decision : goal.returns-in-Client-clause-decision
 returns-in-Client-clause-decision c =
-    subst (λ (s : Side). Judged c.take_client_message.result ≡ decision_in c.args.policy.now s (tree c.args.message.now) c.args.self.now) (sym c.in-Client.is)
+    subst (λ (s : Side). Judged c.take_client_message.result ≡ decision_in c.args.policy.now s (tree c.args.incoming.now.message.now) c.args.self.now) (sym c.in-Client.is)
     (ap Judged c.take_client_message.ensures.decision)
 
 pub returns-in-Bus-clause-decision : goal.returns-in-Bus-clause-decision
 returns-in-Bus-clause-decision c =
-    subst (λ (s : Side). Shown c.take_bus_message.result ≡ decision_in c.args.policy.now s (tree c.args.message.now) c.args.self.now) (sym c.in-Bus.is)
+    subst (λ (s : Side). Shown c.take_bus_message.result ≡ decision_in c.args.policy.now s (tree c.args.incoming.now.message.now) c.args.self.now) (sym c.in-Bus.is)
     (ap Shown c.take_bus_message.ensures.decision)

@@ -8,11 +8,11 @@ use Rattle.proxy_core.proofs.session.Session.take_role.Goals as goal
 
 pub returns-then-is_own_names : goal.returns-then-is_own_names
 returns-then-is_own_names c =
-    subst (λ (r : BusRole). TookMessage (with_role c.args.policy.now (tree c.args.message.now) r c.args.self.now) c.args.self.now c.take_names.new.self)
-    (names_as c.args.message.now c.args.answered.now (sym c.is_own_names.ensures ∙ c.if-is_own_names.true) c.requires.reply) c.take_names.ensures
+    subst (λ (r : BusRole). TookMessage (with_role c.args.policy.now (tree c.args.incoming.now.message.now) r c.args.self.now) c.args.self.now c.take_names.new.self)
+    (names_as c.args.incoming.now.message.now c.args.answered.now (sym c.is_own_names.ensures ∙ c.if-is_own_names.true) c.requires.reply) c.take_names.ensures
 
 pub returns : goal.returns
 returns c =
     took_or_ends c.take_told-done.result c.goes_on.result _ c.args.self.now c.take_told-done.new.self c.goes_on.new.self c.requires.running
-    (on_ok c.take_told-done.result _ _ (λ is. is ∙ told_as c.args.policy.now _ c.args.message.now c.args.answered.now c.args.showing c.args.self.now (sym c.is_own_names.ensures ∙ c.if-is_own_names.false) refl c.requires.role) c.take_told-done.ensures.ok)
+    (on_ok c.take_told-done.result _ _ (λ is. is ∙ told_as c.args.policy.now _ c.args.incoming.now.message.now c.args.answered.now c.args.showing c.args.self.now (sym c.is_own_names.ensures ∙ c.if-is_own_names.false) refl c.requires.role) c.take_told-done.ensures.ok)
     c.take_told-done.ensures.err c.goes_on.ensures.ok c.goes_on.ensures.err

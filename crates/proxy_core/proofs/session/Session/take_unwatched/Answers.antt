@@ -6,5 +6,5 @@ use Rattle.proxy_core.proofs.session.Session.take_unwatched.Goals as goal
 
 pub returns : goal.returns
 returns c =
-    unnoted c.args.policy.now c.args.side (tree c.args.message.now) c.args.self.now c.take_message-decision.new.self (ap (λ (v : SessionView). v.mode.notes) (sym c.self.view_is) ∙ c.if-self.false)
+    unnoted c.args.policy.now c.args.side (tree c.args.incoming.now.message.now) c.args.self.now c.take_message-decision.new.self (ap (λ (v : SessionView). v.mode.notes) (sym c.self.view_is) ∙ c.if-self.false)
     c.take_message-decision.ensures.took
