@@ -13,7 +13,7 @@ use Rattle.policy_view.specs.declared.End.TheVariants.{ClientMalformed, BusMalfo
 use Rattle.proxy_core.specs.Sessions.{SessionView, Taken, StandsFor}
 use Rattle.proxy_core.specs.Messages.{ended_by}
 use Rattle.proxy_loop.specs.Sinks.{SinkView, Appends}
-use Rattle.proxy_loop.specs.Logging.{IsLogEnd, stopped_at, LineStops, LineWritten, LineDone, LogsSoFar, Logs}
+use Rattle.proxy_loop.specs.Logging.{IsLogEnd, stopped_at, JoinedStops, JoinedWritten, JoinedDone, LogsSoFar, Logs}
 use Rattle.proxy_loop.proofs.Holding.{Stops, rose_sooner}
 
 pub on_ok : {A E : Type 0} (r : Result A E) (P : Type 0) → is_err r ≡ false → OnOk r P → P
@@ -47,42 +47,78 @@ log-one n note = append-nil (log_line n note)
 log-more : (n : ℕ) (xs : List Note) (note : Note) → log n (xs ++ note ∷ []) ≡ log n xs ++ log_line n note
 log-more n xs note = log-append n xs (note ∷ []) ∙ ap (λ (l : List ℕ). log n xs ++ l) (log-one n note)
 
-pub no_line : (n : ℕ) (note : Note) (old new : SessionView) (result : End) (sink : SinkView) → Stops old new Memory result → LineStops n note old new sink sink
-no_line n note old new result sink stops = record {
-  end = Memory;
-  cause = tt;
-  got = [];
-  rest = log_line n note;
-  line = refl;
-  appends = appends_none sink;
-  counts = omega arith;
-  view = stopped_view old new Memory result stops;
-  stands = stops.stands;
-}
-
-pub line_fails : (n : ℕ) (note : Note) (line : List ℕ) (old new : SessionView) (result : End) (before after : SinkView) → line ≡ log_line n note →
-    Part before.told after.told line → Rose before.faults after.faults → before.faults ≤ after.faults → Stops old new LogFault result → LineStops n note old new before after
-line_fails n note line old new result before after is part rose counts stops = record {
+-- bytes that weren't written whole
+pub bytes_fail : (bytes : List ℕ) (old new : SessionView) (result : End) (before after : SinkView) → Part before.told after.told bytes → Rose before.faults after.faults
+    → before.faults ≤ after.faults → Stops old new LogFault result → JoinedStops bytes old new before after
+bytes_fail bytes old new result before after part rose counts stops = record {
   end = LogFault;
   cause = rose;
-  got = take part.count line;
-  rest = drop part.count line;
-  line = sym is ∙ sym (take-append-drop part.count line);
+  got = take part.count bytes;
+  rest = drop part.count bytes;
+  split = sym (take-append-drop part.count bytes);
   appends = part.got;
   counts = counts;
   view = stopped_view old new LogFault result stops;
   stands = stops.stands;
 }
 
-pub line_whole : (n : ℕ) (note : Note) (line : List ℕ) (session : SessionView) (before after : SinkView) → line ≡ log_line n note →
-    after.told ≡ added line before.told → before.faults ≤ after.faults → LineWritten n note session session before after
-line_whole n note line session before after is got counts = record { appends = got ∙ ap (λ (l : List ℕ). added l before.told) is; counts = counts; view = refl }
+-- .. that were
+pub bytes_whole : (bytes left : List ℕ) (session : SessionView) (before after : SinkView) → left ≡ [] → after.told ≡ added bytes before.told → before.faults ≤ after.faults
+    → JoinedWritten bytes left session session before after
+bytes_whole bytes left session before after none got counts = record {
+  got = bytes;
+  split = sym (append-nil bytes) ∙ ap (λ (l : List ℕ). bytes ++ l) (sym none);
+  appends = got;
+  counts = counts;
+  view = refl;
+}
 
-pub logs_start : (n : ℕ) (session : SessionView) (sink : SinkView) → LogsSoFar n session session sink sink
-logs_start n session sink = record {
+-- .. that wait to be written
+pub bytes_wait : (bytes left : List ℕ) (session : SessionView) (sink : SinkView) → left ≡ bytes → JoinedWritten bytes left session session sink sink
+bytes_wait bytes left session sink same = record { got = []; split = sym same; appends = appends_none sink; counts = omega arith; view = refl }
+
+-- .. that were written, and behind them a line is refused memory
+pub line_refused : (bytes left line : List ℕ) (old mid new : SessionView) (result : End) (before after : SinkView) (done : Bool) → done ≡ true → JoinedDone bytes left old mid before after done
+    → Stops mid new Memory result → JoinedStops (bytes ++ line) old new before after
+line_refused bytes left line old mid new result before after true e w stops = record {
+  end = Memory;
+  cause = tt;
+  got = w.got;
+  rest = left ++ line;
+  split = ap (λ (l : List ℕ). l ++ line) w.split ∙ append_assoc w.got left line;
+  appends = w.appends;
+  counts = w.counts;
+  view = subst (λ (v : SessionView). new ≡ stopped_at v.ended Memory v) w.view (stopped_view mid new Memory result stops);
+  stands = λ policy events taken s. stops.stands policy events taken (subst (λ (v : SessionView). StandsFor policy v events taken) (sym w.view) s);
+}
+line_refused bytes left line old mid new result before after false e w stops = cc
+
+-- .. or weren't, and a line is to stand behind them
+pub line_behind : (bytes left line : List ℕ) (old new : SessionView) (before after : SinkView) (done : Bool) → done ≡ false → JoinedDone bytes left old new before after done → JoinedStops (bytes ++ line) old new before after
+line_behind bytes left line old new before after true e w = cc
+line_behind bytes left line old new before after false e w = record {
+  end = w.end;
+  cause = w.cause;
+  got = w.got;
+  rest = w.rest ++ line;
+  split = ap (λ (l : List ℕ). l ++ line) w.split ∙ append_assoc w.got w.rest line;
+  appends = w.appends;
+  counts = w.counts;
+  view = w.view;
+  stands = w.stands;
+}
+
+-- the same bytes
+pub joined_as : (bytes others left : List ℕ) (old new : SessionView) (before after : SinkView) (done : Bool) → bytes ≡ others → JoinedDone bytes left old new before after done → JoinedDone others left old new before after done
+joined_as bytes others left old new before after done e w = subst (λ (l : List ℕ). JoinedDone l left old new before after done) e w
+
+pub logs_start : (n : ℕ) (session : SessionView) (sink : SinkView) (left : List ℕ) → left ≡ [] → LogsSoFar n session session sink sink left
+logs_start n session sink left none = record {
   taken = [];
   split = refl;
   same = refl;
+  got = [];
+  lines = sym none;
   appends = appends_none sink;
   counts = omega arith;
   stands = λ policy events was s. rw (append-nil was.notes) s;
@@ -104,17 +140,17 @@ log_end_sooner BusWrite before between after h r = r
 log_end_sooner BusConnect before between after h r = r
 
 -- one note more
-module _ (n : ℕ) (old now next new : SessionView) (before between after : SinkView) (note : Note) (so_far : LogsSoFar n old now before between)
+module _ (n : ℕ) (old now next new : SessionView) (before between after : SinkView) (joined left : List ℕ) (note : Note) (so_far : LogsSoFar n old now before between joined)
     (rest : List Note) (first : now.notes ≡ note ∷ rest) (same : next ≡ record now { notes = rest })
     (stands : (policy : Policy) (events : List Event) (was : Taken) → StandsFor policy now events was → StandsFor policy next events (record was { notes = was.notes ++ note ∷ [] })) where
-  left : next.notes ≡ rest
-  left = ap (λ (s : SessionView). s.notes) same
+  notes_left : next.notes ≡ rest
+  notes_left = ap (λ (s : SessionView). s.notes) same
 
   split : old.notes ≡ (so_far.taken ++ note ∷ []) ++ next.notes
-  split = so_far.split ∙ ap (λ (l : List Note). so_far.taken ++ l) (first ∙ ap (λ (l : List Note). note ∷ l) (sym left)) ∙ sym (append_assoc so_far.taken (note ∷ []) next.notes)
+  split = so_far.split ∙ ap (λ (l : List Note). so_far.taken ++ l) (first ∙ ap (λ (l : List Note). note ∷ l) (sym notes_left)) ∙ sym (append_assoc so_far.taken (note ∷ []) next.notes)
 
   from_old : next ≡ record old { notes = next.notes }
-  from_old = same ∙ ap (λ (s : SessionView). record s { notes = rest }) so_far.same ∙ ap (λ (l : List Note). record old { notes = l }) (sym left)
+  from_old = same ∙ ap (λ (s : SessionView). record s { notes = rest }) so_far.same ∙ ap (λ (l : List Note). record old { notes = l }) (sym notes_left)
 
   next_stands : (policy : Policy) (events : List Event) (was : Taken) → StandsFor policy old events was →
       StandsFor policy next events (record was { notes = was.notes ++ (so_far.taken ++ note ∷ []) })
@@ -122,45 +158,83 @@ module _ (n : ℕ) (old now next new : SessionView) (before between after : Sink
       subst (λ (l : List Note). StandsFor policy next events (record was { notes = l })) (append_assoc was.notes so_far.taken (note ∷ []))
       (stands policy events (record was { notes = was.notes ++ so_far.taken }) (so_far.stands policy events was s))
 
-  pub one_logged : (done : Bool) → done ≡ true → LineDone n note next new between after done → LogsSoFar n old new before after
-  one_logged true e w = subst (λ (v : SessionView). LogsSoFar n old v before after) (sym w.view) (record {
+  -- the lines so far, by what is written of those that were joined
+  lines_as : (got others : List ℕ) → joined ++ log_line n note ≡ got ++ others → log n (so_far.taken ++ note ∷ []) ≡ (so_far.got ++ got) ++ others
+  lines_as got others e =
+      log-more n so_far.taken note
+      ∙ ap (λ (l : List ℕ). l ++ log_line n note) so_far.lines
+      ∙ append_assoc so_far.got joined (log_line n note)
+      ∙ ap (λ (l : List ℕ). so_far.got ++ l) e
+      ∙ sym (append_assoc so_far.got got others)
+
+  pub one_logged : (done : Bool) → done ≡ true → JoinedDone (joined ++ log_line n note) left next new between after done → LogsSoFar n old new before after left
+  one_logged true e w = subst (λ (v : SessionView). LogsSoFar n old v before after left) (sym w.view) (record {
     taken = so_far.taken ++ note ∷ [];
     split = split;
     same = from_old;
-    appends = subst (λ (l : List ℕ). Appends before after l) (sym (log-more n so_far.taken note)) (appends_then before between after (log n so_far.taken) (log_line n note) so_far.appends w.appends);
+    got = so_far.got ++ w.got;
+    lines = lines_as w.got left w.split;
+    appends = appends_then before between after so_far.got w.got so_far.appends w.appends;
     counts = omega (arith, so_far.counts, w.counts);
     stands = next_stands;
   })
   one_logged false e w = cc
 
-  pub one_stops : (done : Bool) → done ≡ false → LineDone n note next new between after done → Logs n old new before after
+  pub one_stops : (done : Bool) → done ≡ false → JoinedDone (joined ++ log_line n note) left next new between after done → Logs n old new before after
   one_stops true e w = cc
   one_stops false e w = record {
     taken = so_far.taken ++ note ∷ [];
     left = next.notes;
     split = split;
-    got = log n so_far.taken ++ w.got;
+    got = so_far.got ++ w.got;
     rest = w.rest;
-    lines = log-more n so_far.taken note ∙ ap (λ (l : List ℕ). log n so_far.taken ++ l) w.line ∙ sym (append_assoc (log n so_far.taken) w.got w.rest);
-    appends = appends_then before between after (log n so_far.taken) w.got so_far.appends w.appends;
+    lines = lines_as w.got w.rest w.split;
+    appends = appends_then before between after so_far.got w.got so_far.appends w.appends;
     counts = omega (arith, so_far.counts, w.counts);
     stop = Some w.end;
     ends = (log_end_sooner w.end before between after so_far.counts w.cause, w.view ∙ ap (λ (s : SessionView). stopped_at s.ended w.end s) from_old);
     stands = λ policy events was s. w.stands policy events (record was { notes = was.notes ++ (so_far.taken ++ note ∷ []) }) (next_stands policy events was s);
   }
 
--- no note is left
-pub all_logged : (n : ℕ) (old now new : SessionView) (before after : SinkView) → LogsSoFar n old now before after → now.notes ≡ [] → new ≡ now → Logs n old new before after
-all_logged n old now new before after so_far none same = subst (λ (v : SessionView). Logs n old v before after) (sym same) (record {
-  taken = so_far.taken;
-  left = [];
-  split = so_far.split ∙ ap (λ (l : List Note). so_far.taken ++ l) none;
-  got = log n so_far.taken;
-  rest = [];
-  lines = sym (append-nil (log n so_far.taken));
-  appends = so_far.appends;
-  counts = so_far.counts;
-  stop = None;
-  ends = (refl, refl, so_far.same ∙ ap (λ (l : List Note). record old { notes = l }) none);
-  stands = so_far.stands;
-})
+-- no note is left, and what was joined is written
+module _ (n : ℕ) (old now next new : SessionView) (before between after : SinkView) (joined left : List ℕ) (so_far : LogsSoFar n old now before between joined)
+    (none : now.notes ≡ []) (same : next ≡ now) where
+  all_taken : old.notes ≡ so_far.taken ++ []
+  all_taken = so_far.split ∙ ap (λ (l : List Note). so_far.taken ++ l) none
+
+  ends_from : next ≡ record old { notes = [] }
+  ends_from = same ∙ so_far.same ∙ ap (λ (l : List Note). record old { notes = l }) none
+
+  last_stands : (policy : Policy) (events : List Event) (was : Taken) → StandsFor policy old events was → StandsFor policy next events (record was { notes = was.notes ++ so_far.taken })
+  last_stands policy events was s = subst (λ (v : SessionView). StandsFor policy v events (record was { notes = was.notes ++ so_far.taken })) (sym same) (so_far.stands policy events was s)
+
+  lines_end : (got others : List ℕ) → joined ≡ got ++ others → log n so_far.taken ≡ (so_far.got ++ got) ++ others
+  lines_end got others e = so_far.lines ∙ ap (λ (l : List ℕ). so_far.got ++ l) e ∙ sym (append_assoc so_far.got got others)
+
+  pub all_logged : (done : Bool) → (done ≡ true → left ≡ []) → JoinedDone joined left next new between after done → Logs n old new before after
+  all_logged true whole w = record {
+    taken = so_far.taken;
+    left = [];
+    split = all_taken;
+    got = so_far.got ++ w.got;
+    rest = [];
+    lines = lines_end w.got [] (w.split ∙ ap (λ (l : List ℕ). w.got ++ l) (whole refl));
+    appends = appends_then before between after so_far.got w.got so_far.appends w.appends;
+    counts = omega (arith, so_far.counts, w.counts);
+    stop = None;
+    ends = (refl, refl, w.view ∙ ends_from);
+    stands = λ policy events was s. subst (λ (v : SessionView). StandsFor policy v events (record was { notes = was.notes ++ so_far.taken })) (sym w.view) (last_stands policy events was s);
+  }
+  all_logged false whole w = record {
+    taken = so_far.taken;
+    left = [];
+    split = all_taken;
+    got = so_far.got ++ w.got;
+    rest = w.rest;
+    lines = lines_end w.got w.rest w.split;
+    appends = appends_then before between after so_far.got w.got so_far.appends w.appends;
+    counts = omega (arith, so_far.counts, w.counts);
+    stop = Some w.end;
+    ends = (log_end_sooner w.end before between after so_far.counts w.cause, w.view ∙ ap (λ (s : SessionView). stopped_at s.ended w.end s) ends_from);
+    stands = λ policy events was s. w.stands policy events (record was { notes = was.notes ++ so_far.taken }) (last_stands policy events was s);
+  }

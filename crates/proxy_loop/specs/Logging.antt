@@ -31,34 +31,38 @@ abbrev pub stopped_at : Option End → End → SessionView → SessionView
 stopped_at None end session = ended_by end session
 stopped_at (Some first) end session = session
 
--- a line wasn't written whole: the session was told to stop
-pub record LineStops (n : ℕ) (note : Note) (old new : SessionView) (before after : SinkView) : Type 0 where
+-- a front of the bytes was written, and the session was told to stop
+pub record JoinedStops (bytes : List ℕ) (old new : SessionView) (before after : SinkView) : Type 0 where
   pub end : End
   pub cause : IsLogEnd end before after
   pub got : List ℕ
   pub rest : List ℕ
-  pub line : log_line n note ≡ got ++ rest
+  pub split : bytes ≡ got ++ rest
   pub appends : Appends before after got
   pub counts : before.faults ≤ after.faults
   pub view : new ≡ stopped_at old.ended end old
   pub stands : (policy : Policy) (events : List Event) (taken : Taken) → StandsFor policy old events taken → StandsFor policy new (Stopped end ∷ events) taken
 
--- a line was written whole
-pub record LineWritten (n : ℕ) (note : Note) (old new : SessionView) (before after : SinkView) : Type 0 where
-  pub appends : Appends before after (log_line n note)
+-- a front of the bytes was written, and these are left
+pub record JoinedWritten (bytes left : List ℕ) (old new : SessionView) (before after : SinkView) : Type 0 where
+  pub got : List ℕ
+  pub split : bytes ≡ got ++ left
+  pub appends : Appends before after got
   pub counts : before.faults ≤ after.faults
   pub view : new ≡ old
 
-abbrev pub LineDone : ℕ → Note → SessionView → SessionView → SinkView → SinkView → Bool → Type 0
-LineDone n note old new before after true = LineWritten n note old new before after
-LineDone n note old new before after false = LineStops n note old new before after
+abbrev pub JoinedDone : List ℕ → List ℕ → SessionView → SessionView → SinkView → SinkView → Bool → Type 0
+JoinedDone bytes left old new before after true = JoinedWritten bytes left old new before after
+JoinedDone bytes left old new before after false = JoinedStops bytes old new before after
 
--- the first notes of a session were taken, and their lines written
-pub record LogsSoFar (n : ℕ) (old now : SessionView) (before after : SinkView) : Type 0 where
+-- the first notes of a session were taken, and of their lines these bytes are still to be written
+pub record LogsSoFar (n : ℕ) (old now : SessionView) (before after : SinkView) (left : List ℕ) : Type 0 where
   pub taken : List Note
   pub split : old.notes ≡ taken ++ now.notes
   pub same : now ≡ record old { notes = now.notes }
-  pub appends : Appends before after (log n taken)
+  pub got : List ℕ
+  pub lines : log n taken ≡ got ++ left
+  pub appends : Appends before after got
   pub counts : before.faults ≤ after.faults
   pub stands : (policy : Policy) (events : List Event) (was : Taken) → StandsFor policy old events was →
       StandsFor policy now events (record was { notes = was.notes ++ taken })
