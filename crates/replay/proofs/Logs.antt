@@ -3,7 +3,7 @@ use Rattle.std.proofs.Common.{◌≡◌, ◌<◌, ℕ, List, [], ◌∷◌, ◌+
 use Rattle.std.proofs.lemmas.Grind.{flat_map-append}
 use Rattle.std.proofs.lemmas.List.{length-append}
 use Rattle.link_traits.specs.Told.{added, Part}
-use Rattle.link_traits.proofs.Parts.{added-none, part_middle, then_all}
+use Rattle.link_traits.proofs.Parts.{added-none, part_middle, part_second, then_all}
 use Rattle.explain_log.specs.Lines.{log_line, log}
 use Rattle.policy_args.specs.Words.{PolicyOptions}
 use Rattle.policy_view.specs.History.{history}
@@ -11,48 +11,76 @@ use Rattle.policy_view.specs.Notes.{Note, notes}
 use Rattle.policy_view.specs.declared.Mode.{Mode}
 use Rattle.proxy_core.specs.Sessions.{SessionView, Holds, nothing}
 use Rattle.recording.specs.Recording.{Recording}
+use Rattle.replay.specs.Logging.{Joins}
 use Rattle.replay.specs.Output.{mode_of, history_of, log_of_recording, events_of}
 use Rattle.replay.specs.Explained.{noting_as, with_log}
 
 log-append : (a b : List Note) → log 1 (a ++ b) ≡ log 1 a ++ log 1 b
 log-append a b = flat_map-append (log_line 1) a b
 
--- the lines of the first notes were written, and the others wait
-pub record Logged (start now : SessionView) (told new : Option (List ℕ)) (written : List Note) : Type 0 where
-  pub split : start.notes ≡ written ++ now.notes
+-- of the lines of the first notes these bytes are still to be written, and the other notes wait
+pub record Logged (start now : SessionView) (told new : Option (List ℕ)) (left : List ℕ) (taken : List Note) : Type 0 where
+  pub split : start.notes ≡ taken ++ now.notes
   pub same : now ≡ record start { notes = now.notes }
-  pub got : new ≡ added (log 1 written) told
+  pub got : List ℕ
+  pub lines : log 1 taken ≡ got ++ left
+  pub is : new ≡ added got told
 
-pub log-start : (start : SessionView) (told : Option (List ℕ)) → Logged start start told told []
-log-start start told = record { split = refl; same = refl; got = sym (added-none told) }
+pub log-start : (start : SessionView) (told : Option (List ℕ)) (left : List ℕ) → left ≡ [] → Logged start start told told left []
+log-start start told left none = record { split = refl; same = refl; got = []; lines = sym none; is = sym (added-none told) }
 
-pub log-step : (start old new : SessionView) (told before after : Option (List ℕ)) (written rest : List Note) (note : Note) → Logged start old told before written →
-    old.notes ≡ note ∷ rest → new ≡ record old { notes = rest } → after ≡ added (log_line 1 note) before → Logged start new told after (written ++ note ∷ [])
-log-step start old new told before after written rest note logged next left got = record {
-  split = logged.split ∙ ap (λ ns. written ++ ns) next ∙ sym (append_assoc written (note ∷ []) rest)
-      ∙ ap (λ (v : SessionView). (written ++ note ∷ []) ++ v.notes) (sym left);
-  same = left ∙ ap (λ (v : SessionView). record v { notes = rest }) logged.same ∙ ap (λ (v : SessionView). record start { notes = v.notes }) (sym left);
-  got = then_all told before after (log 1 written) (log_line 1 note) logged.got got
-      ∙ ap (λ t. added t told) (sym (log-append written (note ∷ []) ∙ ap (λ t. log 1 written ++ t) (append-nil (log_line 1 note))));
+log-more : (taken : List Note) (note : Note) → log 1 (taken ++ note ∷ []) ≡ log 1 taken ++ log_line 1 note
+log-more taken note = log-append taken (note ∷ []) ∙ ap (λ t. log 1 taken ++ t) (append-nil (log_line 1 note))
+
+pub log-step : (start old new : SessionView) (told before after : Option (List ℕ)) (joined left : List ℕ) (taken rest : List Note) (note : Note) → Logged start old told before joined taken →
+    old.notes ≡ note ∷ rest → new ≡ record old { notes = rest } → Joins before after (joined ++ log_line 1 note) left → Logged start new told after left (taken ++ note ∷ [])
+log-step start old new told before after joined left taken rest note logged next took joins = record {
+  split = logged.split ∙ ap (λ ns. taken ++ ns) next ∙ sym (append_assoc taken (note ∷ []) rest)
+      ∙ ap (λ (v : SessionView). (taken ++ note ∷ []) ++ v.notes) (sym took);
+  same = took ∙ ap (λ (v : SessionView). record v { notes = rest }) logged.same ∙ ap (λ (v : SessionView). record start { notes = v.notes }) (sym took);
+  got = logged.got ++ joins.got;
+  lines = log-more taken note ∙ ap (λ t. t ++ log_line 1 note) logged.lines ∙ append_assoc logged.got joined (log_line 1 note)
+      ∙ ap (λ t. logged.got ++ t) joins.split ∙ sym (append_assoc logged.got joins.got left);
+  is = then_all told before after logged.got joins.got logged.is joins.is;
 }
 
--- a front of the next line was written, and those of the notes before it
-pub log-part : (start old : SessionView) (told before after : Option (List ℕ)) (written rest : List Note) (note : Note) → Logged start old told before written →
-    old.notes ≡ note ∷ rest → Part before after (log_line 1 note) → Part told after (log 1 start.notes)
-log-part start old told before after written rest note logged next part =
-    part_middle told before after (log 1 start.notes) (log 1 written) (log_line 1 note) (log 1 rest) logged.got part
-    (ap (log 1) logged.split ∙ log-append written old.notes ∙ ap (λ ns. log 1 written ++ log 1 ns) next)
+-- a front of what was joined with the next line was written, and what was written before
+pub log-part : (start old : SessionView) (told before after : Option (List ℕ)) (joined : List ℕ) (taken rest : List Note) (note : Note) → Logged start old told before joined taken →
+    old.notes ≡ note ∷ rest → Part before after (joined ++ log_line 1 note) → Part told after (log 1 start.notes)
+log-part start old told before after joined taken rest note logged next part =
+    part_middle told before after (log 1 start.notes) logged.got (joined ++ log_line 1 note) (log 1 rest) logged.is part
+    (ap (log 1) logged.split ∙ log-append taken old.notes ∙ ap (λ ns. log 1 taken ++ log 1 ns) next ∙ ap (λ t. t ++ (log_line 1 note ++ log 1 rest)) logged.lines
+    ∙ append_assoc logged.got joined (log_line 1 note ++ log 1 rest) ∙ ap (λ t. logged.got ++ t) (sym (append_assoc joined (log_line 1 note) (log 1 rest))))
 
 -- a note waited
-pub log-some : (start old : SessionView) (told before : Option (List ℕ)) (written rest : List Note) (note : Note) → Logged start old told before written →
+pub log-some : (start old : SessionView) (told before : Option (List ℕ)) (joined : List ℕ) (taken rest : List Note) (note : Note) → Logged start old told before joined taken →
     old.notes ≡ note ∷ rest → 0 < length start.notes
-log-some start old told before written rest note logged next =
-    subst (λ n. 0 < n) (sym (ap length (logged.split ∙ ap (λ ns. written ++ ns) next) ∙ length-append written (note ∷ rest))) (omega arith)
+log-some start old told before joined taken rest note logged next =
+    subst (λ n. 0 < n) (sym (ap length (logged.split ∙ ap (λ ns. taken ++ ns) next) ∙ length-append taken (note ∷ rest))) (omega arith)
 
--- all notes were written
-pub log-all : (start now : SessionView) (told new : Option (List ℕ)) (written : List Note) → Logged start now told new written → now.notes ≡ [] → new ≡ added (log 1 start.notes) told
-log-all start now told new written logged none =
-    logged.got ∙ ap (λ ns. added (log 1 ns) told) (sym (logged.split ∙ ap (λ ns. written ++ ns) none ∙ append-nil written))
+-- .. or was taken, where something is still to be written
+pub log-some-joined : (start now : SessionView) (told new : Option (List ℕ)) (left : List ℕ) (taken : List Note) → Logged start now told new left taken → ((left ≡ []) → ⊥) → 0 < length start.notes
+log-some-joined start now told new left [] logged some = absurd (some (nothing logged.got logged.lines))
+  where
+    nothing : (got : List ℕ) → [] ≡ got ++ left → left ≡ []
+    nothing [] e = sym e
+    nothing (x ∷ got) e = cc
+log-some-joined start now told new left (note ∷ taken) logged some = subst (λ n. 0 < n) (sym (ap length logged.split)) (omega arith)
+
+module _ (start now : SessionView) (told new : Option (List ℕ)) (left : List ℕ) (taken : List Note) (logged : Logged start now told new left taken) (none : now.notes ≡ []) where
+  all_lines : log 1 start.notes ≡ logged.got ++ left
+  all_lines = ap (log 1) (logged.split ∙ ap (λ ns. taken ++ ns) none ∙ append-nil taken) ∙ logged.lines
+
+  -- all lines were written: nothing was left, or what was left was written then
+  pub log-all : left ≡ [] → new ≡ added (log 1 start.notes) told
+  log-all nothing = logged.is ∙ ap (λ t. added t told) (sym (all_lines ∙ ap (λ t. logged.got ++ t) nothing ∙ append-nil logged.got))
+
+  pub log-then : (after : Option (List ℕ)) → after ≡ added left new → after ≡ added (log 1 start.notes) told
+  log-then after got = then_all told new after logged.got left logged.is got ∙ ap (λ t. added t told) (sym all_lines)
+
+  -- .. or a front of it
+  pub log-last : (after : Option (List ℕ)) → Part new after left → Part told after (log 1 start.notes)
+  log-last after part = subst (λ t. Part told after t) (sym all_lines) (part_second told new after logged.got left logged.is part)
 
 -- a log of notes that are made where they are asked for
 where-asked : (asked : Bool) (ns : List Note) → log 1 (if asked then ns else []) ≡ (if asked then log 1 ns else [])

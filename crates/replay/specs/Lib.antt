@@ -3,3 +3,4 @@ pub mod Waiting
 pub mod Explained
 pub mod Twins
 pub mod Watching
+pub mod Logging

@@ -39,16 +39,20 @@ use playing::play;
 use policy_args::Options;
 use recording::{RECORDING_LIMIT, Recording};
 use std::alloc::{AllocError, Global};
+use thiserror::Error;
 use writing::write_output;
 
 /// Why a replay stopped.
-#[derive(Clone, Copy, Debug, PartialEq, Eq)]
+#[derive(Clone, Copy, Debug, PartialEq, Eq, Error)]
 pub enum ReplayFault {
-    /// The output could not be written.
+    /// The output could not be written; a front of it may have been. The whole log was written before.
+    #[error("the output could not be written")]
     Out,
-    /// The log could not be written.
+    /// The log could not be written; a front of it may have been. Nothing of the output was. Comes only where the options ask for a log.
+    #[error("the log could not be written")]
     Err,
-    /// Memory was refused; also where the session ended so.
+    /// Memory was refused; also where the session ended so. Nothing of the output was written.
+    #[error("out of memory")]
     Memory,
 }
 
@@ -118,13 +122,16 @@ pub fn notes(
 }
 
 /// Why nothing, or not all, was explained.
-#[derive(Clone, Copy, Debug, PartialEq, Eq)]
+#[derive(Clone, Copy, Debug, PartialEq, Eq, Error)]
 pub enum ExplainFault {
-    /// No message of the recording has the number.
+    /// No message of the recording has the number: it is 0, or above that of the last message. Nothing was written.
+    #[error("the recording has no message of the number")]
     NoSuchMessage,
-    /// The explanation could not be written.
+    /// The explanation could not be written; a front of it may have been.
+    #[error("the explanation could not be written")]
     Out,
-    /// Memory was refused; also where the session ended so.
+    /// Memory was refused; also where the session ended so. Nothing was written.
+    #[error("out of memory")]
     Memory,
 }
 

@@ -1,10 +1,11 @@
-//! Writing the log of a session: a line for each of its notes.
-ghost use Rattle.std.specs.Prelude.{◌≡◌, ◌≤◌, ◌<◌, length, OnOk, IsErrOf};
+//! Writing the log of a session: a line for each of its notes, joined so that one write carries many.
+ghost use Rattle.std.specs.Prelude.{◌≡◌, ◌≤◌, ◌<◌, ◌++◌, [], length, string_bytes, OnOk, IsErrOf};
 ghost use Rattle.link_traits.specs.Told.{added, Rose, Part};
 ghost use Rattle.explain_log.specs.Lines.{log_line, log};
+ghost use Rattle.replay.specs.Logging.{Joins};
 
 use crate::ReplayFault;
-use explain_log::line;
+use explain_log::push_line;
 use link_traits::{Sink, write_all};
 use policy_view::Note;
 use proxy_core::Session;
@@ -13,20 +14,44 @@ use std::alloc::Global;
 /// The number of a recording's session in its log.
 pub const SESSION: u32 = 1;
 
-/// Writes the line of a note.
-#[tactic(auto, using(link_traits::proofs::Parts::part_none))]
-fn write_line<E: Sink>(alloc: Global, note: Note, err: &mut E) -> Result<(), ReplayFault>
-    ensures ok { OnOk result (E.told err.new ≡ added (log_line 1 note) (E.told err.old)) }
-    ensures part { Part (E.told err.old) (E.told err.new) (log_line 1 note) }
+/// Once so many bytes of lines are joined they are written, so that many notes take no more memory.
+const LONG: usize = 65_536;
+
+/// Writes the lines that are joined.
+fn write_lines<E: Sink>(lines: &mut String, err: &mut E) -> Result<(), ReplayFault>
+    ensures ok { OnOk result (E.told err.new ≡ added (string_bytes lines.old) (E.told err.old)) }
+    ensures none { OnOk result (string_bytes lines.new ≡ []) }
+    ensures part { Part (E.told err.old) (E.told err.new) (string_bytes lines.old) }
     ensures out { IsErrOf result ReplayFault.Out → ⊥ }
     ensures cause { IsErrOf result ReplayFault.Err → Rose (E.faults err.old) (E.faults err.new) }
     ensures count { E.faults err.old ≤ E.faults err.new }
 {
-    let text = line(alloc, SESSION, &note)?;
-    if write_all(err, text.as_bytes()).is_err() {
+    if write_all(err, lines.as_bytes()).is_err() {
         return Err(ReplayFault::Err);
     }
+    lines.clear();
     Ok(())
+}
+
+/// Joins the line of a note to the others, and writes them where they are long.
+#[tactic(auto, using(link_traits::proofs::Parts::part_none))]
+fn put_line<E: Sink>(
+    alloc: Global,
+    note: Note,
+    lines: &mut String,
+    err: &mut E,
+) -> Result<(), ReplayFault>
+    ensures ok { OnOk result (Joins (E.told err.old) (E.told err.new) (string_bytes lines.old ++ log_line 1 note) (string_bytes lines.new)) }
+    ensures part { Part (E.told err.old) (E.told err.new) (string_bytes lines.old ++ log_line 1 note) }
+    ensures out { IsErrOf result ReplayFault.Out → ⊥ }
+    ensures cause { IsErrOf result ReplayFault.Err → Rose (E.faults err.old) (E.faults err.new) }
+    ensures count { E.faults err.old ≤ E.faults err.new }
+{
+    push_line(alloc, lines, SESSION, &note)?;
+    if lines.len() < LONG {
+        return Ok(());
+    }
+    write_lines(lines, err)
 }
 
 /// Writes the lines of all notes that wait.
@@ -43,8 +68,12 @@ pub fn write_log<E: Sink>(
     ensures cause { IsErrOf result ReplayFault.Err → Rose (E.faults err.old) (E.faults err.new) }
     ensures count { E.faults err.old ≤ E.faults err.new }
 {
+    let mut lines = String::new(alloc);
     while let Some(note) = session.next_note() {
-        write_line(alloc, note, err)?;
+        put_line(alloc, note, &mut lines, err)?;
     }
-    Ok(())
+    if lines.is_empty() {
+        return Ok(());
+    }
+    write_lines(&mut lines, err)
 }

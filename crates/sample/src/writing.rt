@@ -12,6 +12,7 @@ use crate::opening::{GREETED, HELLO, MATCHED, OWNED};
 use bytes::BytesMut;
 use link_traits::{Sink, SinkFault, write_all};
 use std::alloc::{AllocError, Global};
+use thiserror::Error;
 
 /// Where so many bytes are made, they are written.
 const PIECE_LEN: usize = 65_536;
@@ -23,11 +24,13 @@ const CLIENT_BYTES: u8 = 0;
 const BUS_BYTES: u8 = 1;
 
 /// Why a sample stopped.
-#[derive(Clone, Copy, Debug, PartialEq, Eq)]
+#[derive(Clone, Copy, Debug, PartialEq, Eq, Error)]
 pub enum SampleFault {
-    /// The sink could not be written.
+    /// The sample, or its summary, could not be written; a front of it may have been.
+    #[error("the sample could not be written")]
     Out,
-    /// Memory was refused.
+    /// Memory was refused; in a summary also where the session ended so.
+    #[error("out of memory")]
     Memory,
 }
 
