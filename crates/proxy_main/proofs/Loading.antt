@@ -58,7 +58,7 @@ read_err : {A : Type 0} (t : Option (List ℕ)) (check : List ℕ → Result A R
 read_err None check r go is = λ settled. absurd settled
 read_err (Some bytes) check r go is = λ settled. ap (λ x. then_go x go) is
 
-read_ok : {A : Type 0} (t : Option (List ℕ)) (check : List ℕ → Result A Refusal) (x : A) (go : A → Answer) → IfSome t (λ bytes. check bytes ≡ Ok x) → Agrees (then_read t check go) (go x)
+pub read_ok : {A : Type 0} (t : Option (List ℕ)) (check : List ℕ → Result A Refusal) (x : A) (go : A → Answer) → IfSome t (λ bytes. check bytes ≡ Ok x) → Agrees (then_read t check go) (go x)
 read_ok None check x go is = λ settled. absurd settled
 read_ok (Some bytes) check x go is = λ settled. ap (λ y. then_go y go) is
 

@@ -1,11 +1,13 @@
 -- The files that a run reads: those that its words name and no other, each once and in the order of the words, up to the one at which it stops.
-use Rattle.std.specs.Prelude.{◌≡◌, ◌⊎◌, ℕ, List, [], ◌∷◌, ◌++◌, take, Option, Some, None}
+-- None is read behind one that is bad.
+use Rattle.std.specs.Prelude.{◌≡◌, ◌⊎◌, ℕ, List, [], ◌∷◌, ◌++◌, take, Option, Some, None, Result, Ok, Err}
 use Rattle.link_traits.specs.Told.{ReadFront, ReadTo}
 use Rattle.proxy_main.specs.declared.Refusal.{Refusal}
 use Rattle.proxy_main.specs.declared.Refusal.TheVariants.{Usage, LineWord, ArgsTooLong, PolicyWord, PolicyTooLong, Recording, NoSuchMessage}
 use Rattle.proxy_main.specs.declared.Stop.{Stop}
 use Rattle.proxy_main.specs.declared.Stop.TheVariants.{Refused as Refuses, File, Output, Log, Memory}
 use Rattle.proxy_main.specs.Words.{Command, Replay, Explain, Twin, Sample, Help, Version}
+use Rattle.proxy_main.specs.Answers.{checked_policy, checked_recording}
 use Rattle.proxy_main.specs.Lines.{file_line}
 use Rattle.proxy_main.specs.Endings.{Said}
 
@@ -18,6 +20,32 @@ paths_of (Some (Twin policy one other)) = policy ∷ one ∷ other ∷ []
 paths_of (Some (Sample n seed)) = []
 paths_of (Some Help) = []
 paths_of (Some Version) = []
+
+-- ---- the files that are needed
+
+-- more files are needed behind a check that refuses nothing, ..
+abbrev pub unless_refused : {A : Type 0} → Result A Refusal → List (List ℕ) → List (List ℕ)
+unless_refused (Ok x) more = more
+unless_refused (Err refusal) more = []
+
+-- .. and behind a file that isn't bad, by what is told of it
+abbrev pub behind : {A : Type 0} → Option (List ℕ) → (List ℕ → Result A Refusal) → List (List ℕ) → List (List ℕ)
+behind None check more = more
+behind (Some bytes) check more = unless_refused (check bytes) more
+
+-- recordings, up to the first that is bad
+abbrev pub recordings_up_to_bad : (List ℕ → Option (List ℕ)) → List (List ℕ) → List (List ℕ)
+recordings_up_to_bad told [] = []
+recordings_up_to_bad told (path ∷ others) = path ∷ behind (told path) checked_recording (recordings_up_to_bad told others)
+
+-- a policy file and the recordings behind it, up to the first that is bad
+abbrev pub up_to_bad : (List ℕ → Option (List ℕ)) → List (List ℕ) → List (List ℕ)
+up_to_bad told [] = []
+up_to_bad told (policy ∷ recordings) = policy ∷ behind (told policy) checked_policy (recordings_up_to_bad told recordings)
+
+-- the files that a command needs: those that it names, up to the first that is bad by what is told of it
+abbrev pub needed : (List ℕ → Option (List ℕ)) → Option Command → List (List ℕ)
+needed told command = up_to_bad told (paths_of command)
 
 -- ---- where a run stopped
 
@@ -107,3 +135,18 @@ ReadUntil named reads new_reads (File path) = ReadTo path.now named reads new_re
 ReadUntil named reads new_reads Output = new_reads ≡ reads ++ named
 ReadUntil named reads new_reads Log = new_reads ≡ reads ++ named
 ReadUntil named reads new_reads Memory = ReadFront named reads new_reads
+
+-- ---- which of the needed files were read ..
+
+-- .. before a tool's run stopped: all, where a refusal is settled by what is told or the work had begun
+abbrev pub NeededUntil : Type 0 → List (List ℕ) → List (List ℕ) → List (List ℕ) → Stop → Type 0
+NeededUntil settled files reads new_reads (Refuses refusal) = ReadFront files reads new_reads × (settled → new_reads ≡ reads ++ files)
+NeededUntil settled files reads new_reads (File path) = ReadFront files reads new_reads
+NeededUntil settled files reads new_reads Output = new_reads ≡ reads ++ files
+NeededUntil settled files reads new_reads Log = new_reads ≡ reads ++ files
+NeededUntil settled files reads new_reads Memory = ReadFront files reads new_reads
+
+-- .. and before it ended, where it didn't stop: all
+abbrev pub ReadsNeeded : {A : Type 0} → Type 0 → List (List ℕ) → List (List ℕ) → List (List ℕ) → Result A Stop → Type 0
+ReadsNeeded settled files reads new_reads (Ok done) = new_reads ≡ reads ++ files
+ReadsNeeded settled files reads new_reads (Err stop) = NeededUntil settled files reads new_reads stop

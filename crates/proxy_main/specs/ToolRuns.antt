@@ -1,9 +1,10 @@
 -- What holds of a tool's run.
-use Rattle.std.specs.Prelude.{◌≡◌, ◌⊎◌, ℕ, true, List, Option, None}
+use Rattle.std.specs.Prelude.{◌≡◌, ◌⊎◌, ◌++◌, ℕ, true, List, Option, None}
+use Rattle.link_traits.specs.Told.{ReadFront}
 use Rattle.proxy_main.specs.Words.{reading}
 use Rattle.proxy_main.specs.Answers.{answer_of, IsSettled, HasCode, may_log}
 use Rattle.proxy_main.specs.Loads.{IsDone, IsFront, IsLogged, IsTwin}
-use Rattle.proxy_main.specs.FilesRead.{paths_of, ToolReads}
+use Rattle.proxy_main.specs.FilesRead.{paths_of, needed, ToolReads}
 use Rattle.proxy_main.specs.Endings.{Ends, ErrFront, Exactly, ExactlyOfFiles, ExactlyOfWork, IsFree}
 
 -- of a run of these words, by what is told of the files, the paths that were read, the counts of faults that rose, what out and err tell,
@@ -39,3 +40,7 @@ pub record ToolRun (told : List ℕ → Option (List ℕ)) (words reads new_read
   pub said : ErrFront told (reading words) err new_err code
   -- No file was read beside those that the words name: a front of these, each once and in their order.
   pub reads_named : ToolReads (paths_of (reading words)) reads new_reads err_rose err new_err code
+  -- No file was read behind one that is bad, by what is told of the files. Where that settles the answer, exactly those were read that it
+  -- needs, unless a file failed or memory ran out.
+  pub reads_needed : ReadFront (needed told (reading words)) reads new_reads
+  pub reads_exactly : IsSettled (answer_of words told) → (new_reads ≡ reads ++ needed told (reading words)) ⊎ ((code ≡ 4) ⊎ (code ≡ 8))

@@ -7,8 +7,8 @@ ghost use Rattle.policy_args.specs.Words.{PolicyOptions};
 ghost use Rattle.recording.specs.Recording.{Recording as RecordingValue, recording_of};
 ghost use Rattle.recording.specs.Seen.{recording_seen, size};
 ghost use Rattle.proxy_main.specs.Words.{Twin};
-ghost use Rattle.proxy_main.specs.Answers.{Answer, Compared, options_in, checked_policy, checked_recording, then_load, answer_to, Agrees};
-ghost use Rattle.proxy_main.specs.FilesRead.{IsOfPolicy, IsOfRecording, StopsAt, ReadUntil};
+ghost use Rattle.proxy_main.specs.Answers.{Answer, Compared, options_in, checked_policy, checked_recording, then_load, answer_to, Agrees, IsSettled};
+ghost use Rattle.proxy_main.specs.FilesRead.{IsOfPolicy, IsOfRecording, StopsAt, ReadUntil, up_to_bad, needed, NeededUntil, ReadsNeeded};
 ghost use Rattle.proxy_main.specs.Loads.{Loads, FilesStop, StopsBy, CausedBy};
 
 use crate::{POLICY_LIMIT, Refusal, Stop};
@@ -41,6 +41,8 @@ pub fn load<'a, F: Files>(
     ensures kept { (p : List ℕ) → F.told files.new p ≡ F.told files.old p }
     ensures read { OnOk result (F.reads files.new ≡ F.reads files.old ++ policy.now ∷ recording.now ∷ []) }
     ensures until { IfErr result (λ stop. (after : List (List ℕ)) → ReadUntil (policy.now ∷ recording.now ∷ after) (F.reads files.old) (F.reads files.new) stop) }
+    ensures needed { OnOk result (F.reads files.new ≡ F.reads files.old ++ up_to_bad (F.told files.old) (policy.now ∷ recording.now ∷ [])) }
+    ensures needed_until { IfErr result (λ stop. (after : List (List ℕ)) (work : PolicyOptions → RecordingValue → Answer) → NeededUntil (IsSettled (then_load (F.told files.old) policy.now recording.now work)) (up_to_bad (F.told files.old) (policy.now ∷ recording.now ∷ after)) (F.reads files.old) (F.reads files.new) stop) }
 {
     match load_policy(alloc, files, policy) {
         Ok(options) => match load_recording(alloc, files, recording) {
@@ -72,6 +74,7 @@ pub fn load_twins<'a, F: Files>(
     ensures cause { IfErr result (λ stop. CausedBy (Rose (F.faults files.old) (F.faults files.new)) ⊥ ⊥ stop) }
     ensures read { OnOk result (F.reads files.new ≡ F.reads files.old ++ policy.now ∷ one.now ∷ other.now ∷ []) }
     ensures until { IfErr result (ReadUntil (policy.now ∷ one.now ∷ other.now ∷ []) (F.reads files.old) (F.reads files.new)) }
+    ensures needed { ReadsNeeded (IsSettled (answer_to (F.told files.old) (Some (Twin policy.now one.now other.now)))) (needed (F.told files.old) (Some (Twin policy.now one.now other.now))) (F.reads files.old) (F.reads files.new) result }
 {
     match load(alloc, files, policy, one) {
         Ok(loaded) => match load_recording(alloc, files, other) {

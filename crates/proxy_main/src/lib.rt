@@ -65,17 +65,22 @@ pub enum Refusal {
 }
 
 /// Why a run stops before its work is done.
-#[derive(Clone, Copy, Debug, PartialEq, Eq)]
+#[derive(Clone, Copy, Debug, PartialEq, Eq, Error)]
 pub(crate) enum Stop<'a> {
-    /// The words or a file are refused.
+    /// The words or a file are refused, before any work.
+    #[error("{0}")]
     Refused(Refusal),
-    /// The file at this path was not read.
+    /// The file at this path, which the words name, was not read.
+    #[error("the file {0} could not be read")]
     File(&'a str),
-    /// The output was not written.
+    /// The output was not written; a front of it may have been. The whole log was written before.
+    #[error("the output could not be written")]
     Output,
-    /// The log was not written.
+    /// The log was not written; a front of it may have been. Only a replay whose options ask for a log has one.
+    #[error("the log could not be written")]
     Log,
-    /// Memory ran out.
+    /// Memory was refused.
+    #[error("out of memory")]
     Memory,
 }
 

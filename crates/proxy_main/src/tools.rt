@@ -1,11 +1,11 @@
 //! The tools: what works on files.
-ghost use Rattle.std.specs.Prelude.{◌≡◌, ◌⊎◌, ◌↔◌, true, false, None, map, string_bytes, IfSome};
-ghost use Rattle.link_traits.specs.Told.{Rose};
+ghost use Rattle.std.specs.Prelude.{◌≡◌, ◌⊎◌, ◌↔◌, ◌++◌, true, false, None, map, string_bytes, IfSome};
+ghost use Rattle.link_traits.specs.Told.{Rose, ReadFront};
 ghost use Rattle.proxy_main.specs.Words.{reading, names_tool};
 ghost use Rattle.proxy_main.specs.Answers.{answer_of, IsSettled, HasCode, may_log};
 ghost use Rattle.proxy_main.specs.Loads.{IsDone, IsFront, IsLogged, IsTwin};
 ghost use Rattle.proxy_main.specs.Endings.{Ends, ErrFront, Exactly, ExactlyOfFiles, ExactlyOfWork, IsFree};
-ghost use Rattle.proxy_main.specs.FilesRead.{paths_of, ToolReads};
+ghost use Rattle.proxy_main.specs.FilesRead.{paths_of, needed, ToolReads};
 ghost use Rattle.proxy_main.specs.ToolRuns.{ToolRun};
 
 use crate::Status;
@@ -95,6 +95,11 @@ fn run_tool<F: Files, O: Sink, E: Sink>(
     // No file was read beside those that the words name: a front of these, each once and in their
     // order.
     ensures reads_named { ToolReads (paths_of (reading (map (λ w. string_bytes w) words.now))) (F.reads files.old) (F.reads files.new) (Rose (E.faults err.old) (E.faults err.new)) (E.told err.old) (E.told err.new) result.code }
+
+    // No file was read behind one that is bad, by what is told of the files. Where that settles the
+    // answer, exactly those were read that it needs, unless a file failed or memory ran out.
+    ensures reads_needed { ReadFront (needed (F.told files.old) (reading (map (λ w. string_bytes w) words.now))) (F.reads files.old) (F.reads files.new) }
+    ensures reads_exactly { IsSettled (answer_of (map (λ w. string_bytes w) words.now) (F.told files.old)) → (F.reads files.new ≡ F.reads files.old ++ needed (F.told files.old) (reading (map (λ w. string_bytes w) words.now))) ⊎ ((result.code ≡ 4) ⊎ (result.code ≡ 8)) }
 {
     run_to_end(alloc, words, files, out, err)
 }
@@ -109,6 +114,8 @@ fn run_to_end<F: Files, O: Sink, E: Sink>(
 ) -> Status
     ensures ends { Ends (F.told files.old) (reading (map (λ w. string_bytes w) words.now)) (Rose (F.faults files.old) (F.faults files.new)) (Rose (O.faults out.old) (O.faults out.new)) (Rose (E.faults err.old) (E.faults err.new)) (O.told out.old) (O.told out.new) (E.told err.old) (E.told err.new) result.code }
     ensures reads_named { ToolReads (paths_of (reading (map (λ w. string_bytes w) words.now))) (F.reads files.old) (F.reads files.new) (Rose (E.faults err.old) (E.faults err.new)) (E.told err.old) (E.told err.new) result.code }
+    ensures reads_needed { ReadFront (needed (F.told files.old) (reading (map (λ w. string_bytes w) words.now))) (F.reads files.old) (F.reads files.new) }
+    ensures reads_exactly { IsSettled (answer_of (map (λ w. string_bytes w) words.now) (F.told files.old)) → (F.reads files.new ≡ F.reads files.old ++ needed (F.told files.old) (reading (map (λ w. string_bytes w) words.now))) ⊎ ((result.code ≡ 4) ⊎ (result.code ≡ 8)) }
 {
     match work(alloc, words, files, out, err) {
         Ok(status) => status,

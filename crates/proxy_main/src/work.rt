@@ -5,7 +5,7 @@ ghost use Rattle.recording.specs.Seen.{recording_seen};
 ghost use Rattle.proxy_main.specs.Words.{Command, reading, Replay, Explain, Twin, Sample};
 ghost use Rattle.proxy_main.specs.Read.{command_of, HasFewDraws};
 ghost use Rattle.proxy_main.specs.Answers.{Wrote, Compared, answer_of, answer_to, IsSettled, IsWork, sampled, twin_code, twin_line, version_line};
-ghost use Rattle.proxy_main.specs.FilesRead.{paths_of, ReadUntil, StopsWork};
+ghost use Rattle.proxy_main.specs.FilesRead.{paths_of, needed, ReadUntil, ReadsNeeded, StopsWork};
 ghost use Rattle.proxy_main.specs.Loads.{StopsBy, CausedBy, Keeps, KeepsLog, IsDone, IsEnd, IsLogged};
 
 use crate::files::{load, load_twins};
@@ -37,6 +37,7 @@ pub fn work<'a, F: Files, O: Sink, E: Sink>(
     ensures count { E.faults err.old ≤ E.faults err.new }
     ensures read { OnOk result (F.reads files.new ≡ F.reads files.old ++ paths_of (reading (map (λ w. string_bytes w) words.now))) }
     ensures until { IfErr result (ReadUntil (paths_of (reading (map (λ w. string_bytes w) words.now))) (F.reads files.old) (F.reads files.new)) }
+    ensures needed { ReadsNeeded (IsSettled (answer_of (map (λ w. string_bytes w) words.now) (F.told files.old))) (needed (F.told files.old) (reading (map (λ w. string_bytes w) words.now))) (F.reads files.old) (F.reads files.new) result }
 {
     match read_words(alloc, words) {
         Ok(Some(command)) => work_command(alloc, command, files, out, err),
@@ -64,6 +65,7 @@ fn work_command<'a, F: Files, O: Sink, E: Sink>(
     ensures count { E.faults err.old ≤ E.faults err.new }
     ensures read { OnOk result (F.reads files.new ≡ F.reads files.old ++ paths_of (Some (command_of command.entry))) }
     ensures until { IfErr result (ReadUntil (paths_of (Some (command_of command.entry))) (F.reads files.old) (F.reads files.new)) }
+    ensures needed { ReadsNeeded (IsSettled (answer_to (F.told files.old) (Some (command_of command.entry)))) (needed (F.told files.old) (Some (command_of command.entry))) (F.reads files.old) (F.reads files.new) result }
 {
     match command {
         CommandWords::Replay { policy, recording } => {
@@ -102,6 +104,7 @@ fn work_replay<'a, F: Files, O: Sink, E: Sink>(
     ensures count { E.faults err.old ≤ E.faults err.new }
     ensures read { OnOk result (F.reads files.new ≡ F.reads files.old ++ paths_of (Some (Replay policy.now recording.now))) }
     ensures until { IfErr result (ReadUntil (paths_of (Some (Replay policy.now recording.now))) (F.reads files.old) (F.reads files.new)) }
+    ensures needed { ReadsNeeded (IsSettled (answer_to (F.told files.old) (Some (Replay policy.now recording.now)))) (needed (F.told files.old) (Some (Replay policy.now recording.now))) (F.reads files.old) (F.reads files.new) result }
 {
     match load(alloc, files, policy, recording) {
         Ok(loaded) => match replay(alloc, &loaded.options, &loaded.recording, out, err) {
@@ -130,6 +133,7 @@ fn work_explain<'a, F: Files, O: Sink>(
     ensures keeps { IfErr result (λ stop. Keeps (answer_to (F.told files.old) (Some (Explain policy.now recording.now number))) (O.told out.old) (O.told out.new) stop) }
     ensures read { OnOk result (F.reads files.new ≡ F.reads files.old ++ paths_of (Some (Explain policy.now recording.now number))) }
     ensures until { IfErr result (ReadUntil (paths_of (Some (Explain policy.now recording.now number))) (F.reads files.old) (F.reads files.new)) }
+    ensures needed { ReadsNeeded (IsSettled (answer_to (F.told files.old) (Some (Explain policy.now recording.now number)))) (needed (F.told files.old) (Some (Explain policy.now recording.now number))) (F.reads files.old) (F.reads files.new) result }
 {
     match load(alloc, files, policy, recording) {
         Ok(loaded) => match explain(alloc, &loaded.options, &loaded.recording, number, out) {
@@ -158,6 +162,7 @@ fn work_twin<'a, F: Files, O: Sink>(
     ensures keeps { IfErr result (λ stop. Keeps (answer_to (F.told files.old) (Some (Twin policy.now one.now other.now))) (O.told out.old) (O.told out.new) stop) }
     ensures read { OnOk result (F.reads files.new ≡ F.reads files.old ++ paths_of (Some (Twin policy.now one.now other.now))) }
     ensures until { IfErr result (ReadUntil (paths_of (Some (Twin policy.now one.now other.now))) (F.reads files.old) (F.reads files.new)) }
+    ensures needed { ReadsNeeded (IsSettled (answer_to (F.told files.old) (Some (Twin policy.now one.now other.now)))) (needed (F.told files.old) (Some (Twin policy.now one.now other.now))) (F.reads files.old) (F.reads files.new) result }
 {
     match load_twins(alloc, files, policy, one, other) {
         Ok(twins) => compare(alloc, &twins.options.policy, &twins.one, &twins.other, out),

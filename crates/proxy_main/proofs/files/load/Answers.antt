@@ -2,6 +2,9 @@ use Rattle.std.proofs.Common.{[], ◌∷◌}
 use Rattle.policy_args.specs.Seen.{options_seen}
 use Rattle.recording.specs.Seen.{recording_seen}
 use Rattle.proxy_main.proofs.Loading.{loaded_both, stops_policy, stops_recording}
+use Rattle.policy_args.specs.Words.{PolicyOptions}
+use Rattle.proxy_main.specs.Answers.{checked_recording, then_read as then_check}
+use Rattle.proxy_main.proofs.Needed.{both_needed, policy_needed, recording_needed}
 use Rattle.proxy_main.proofs.ReadFiles.{then_read, recording_stops, policy_stops}
 use Rattle.proxy_main.proofs.files.load.Goals as goal
 
@@ -31,3 +34,23 @@ returns-in-Err-load_recording-clause-until g c = λ after.
 pub returns-in-Err-clause-until : goal.returns-in-Err-clause-until
 returns-in-Err-clause-until g c = λ after.
     policy_stops (c.args.recording.now ∷ after) (g.F.Files.reads c.args.files.now) (g.F.Files.reads c.load_policy.new.files) c.args.policy.now c.load_policy.ensures.read c.in-Err.stop c.in-Err.ensures.at
+
+pub returns-in-Ok-load_recording-clause-needed : goal.returns-in-Ok-load_recording-clause-needed
+returns-in-Ok-load_recording-clause-needed g c =
+    both_needed (g.F.Files.told c.args.files.now) c.args.policy.now c.args.recording.now (options_seen c.in-Ok.options) c.in-Ok.ensures.loads
+    (g.F.Files.reads c.args.files.now) (g.F.Files.reads c.load_recording.new.files)
+    (then_read (g.F.Files.reads c.args.files.now) (c.args.policy.now ∷ []) (g.F.Files.reads c.load_policy.new.files) (g.F.Files.reads c.load_recording.new.files) c.args.recording.now
+    c.load_policy.ensures.read c.load_recording.ensures.read)
+
+pub returns-in-Err-load_recording-clause-needed_until : goal.returns-in-Err-load_recording-clause-needed_until
+returns-in-Err-load_recording-clause-needed_until g c = λ after work.
+    recording_needed (g.F.Files.told c.args.files.now) c.args.policy.now c.args.recording.now (options_seen c.in-Ok.options) c.in-Ok.ensures.loads _ (c.load_policy.ensures.kept c.args.recording.now)
+    after (g.F.Files.reads c.args.files.now) (g.F.Files.reads c.load_recording.new.files) work
+    (then_read (g.F.Files.reads c.args.files.now) (c.args.policy.now ∷ []) (g.F.Files.reads c.load_policy.new.files) (g.F.Files.reads c.load_recording.new.files) c.args.recording.now
+    c.load_policy.ensures.read c.load_recording.ensures.read)
+    c.in-Err-load_recording.stop c.in-Err-load_recording.ensures.loads
+
+pub returns-in-Err-clause-needed_until : goal.returns-in-Err-clause-needed_until
+returns-in-Err-clause-needed_until g c = λ after work.
+    policy_needed (g.F.Files.told c.args.files.now) c.args.policy.now (c.args.recording.now ∷ after) (g.F.Files.reads c.args.files.now) (g.F.Files.reads c.load_policy.new.files)
+    (λ (options : PolicyOptions). then_check (g.F.Files.told c.args.files.now c.args.recording.now) checked_recording (work options)) c.load_policy.ensures.read c.in-Err.stop c.in-Err.ensures.loads

@@ -1,7 +1,11 @@
-use Rattle.std.proofs.Common.{[], ◌∷◌}
+use Rattle.std.proofs.Common.{[], ◌∷◌, Some}
 use Rattle.policy_args.specs.Seen.{options_seen}
 use Rattle.recording.specs.Seen.{recording_seen}
 use Rattle.proxy_main.proofs.Loading.{twins_loaded, twins_stop_first, twins_stop_other}
+use Rattle.proxy_main.specs.Words.{Twin}
+use Rattle.proxy_main.specs.Answers.{answer_to, IsSettled, then_compare}
+use Rattle.proxy_main.specs.FilesRead.{needed}
+use Rattle.proxy_main.proofs.Needed.{twins_needed, needed_until}
 use Rattle.proxy_main.proofs.ReadFiles.{then_read, recording_stops}
 use Rattle.proxy_main.proofs.files.load_twins.Goals as goal
 
@@ -30,3 +34,24 @@ returns-in-Err-load_recording-clause-until g c =
 
 pub returns-in-Err-clause-until : goal.returns-in-Err-clause-until
 returns-in-Err-clause-until g c = c.in-Err.ensures.until (c.args.other.now ∷ [])
+
+pub returns-in-Ok-load_recording-clause-needed : goal.returns-in-Ok-load_recording-clause-needed
+returns-in-Ok-load_recording-clause-needed g c =
+    twins_needed (g.F.Files.told c.args.files.now) c.args.policy.now c.args.one.now (options_seen c.in-Ok.loaded.options) c.in-Ok.ensures.options c.args.other.now (recording_seen c.in-Ok.loaded.recording)
+    c.in-Ok.ensures.recording (g.F.Files.reads c.args.files.now) (g.F.Files.reads c.load_recording.new.files)
+    (then_read (g.F.Files.reads c.args.files.now) (c.args.policy.now ∷ c.args.one.now ∷ []) (g.F.Files.reads c.load.new.files) (g.F.Files.reads c.load_recording.new.files) c.args.other.now
+    c.in-Ok.ensures.read c.load_recording.ensures.read)
+
+pub returns-in-Err-load_recording-clause-needed : goal.returns-in-Err-load_recording-clause-needed
+returns-in-Err-load_recording-clause-needed g c =
+    let told = g.F.Files.told c.args.files.now in
+    let command = Some (Twin c.args.policy.now c.args.one.now c.args.other.now) in
+    needed_until (IsSettled (answer_to told command)) (needed told command) (g.F.Files.reads c.args.files.now) (g.F.Files.reads c.load_recording.new.files)
+    (twins_needed told c.args.policy.now c.args.one.now (options_seen c.in-Ok.loaded.options) c.in-Ok.ensures.options c.args.other.now (recording_seen c.in-Ok.loaded.recording)
+    c.in-Ok.ensures.recording (g.F.Files.reads c.args.files.now) (g.F.Files.reads c.load_recording.new.files)
+    (then_read (g.F.Files.reads c.args.files.now) (c.args.policy.now ∷ c.args.one.now ∷ []) (g.F.Files.reads c.load.new.files) (g.F.Files.reads c.load_recording.new.files) c.args.other.now
+    c.in-Ok.ensures.read c.load_recording.ensures.read))
+    c.in-Err-load_recording.stop
+
+pub returns-in-Err-clause-needed : goal.returns-in-Err-clause-needed
+returns-in-Err-clause-needed g c = c.in-Err.ensures.needed_until (c.args.other.now ∷ []) (then_compare (g.F.Files.told c.args.files.now) c.args.other.now)

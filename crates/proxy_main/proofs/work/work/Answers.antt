@@ -1,6 +1,19 @@
-use Rattle.std.proofs.Common.{refl}
+use Rattle.std.proofs.Common.{◌∙◌, Option, ap, map, refl, string_bytes, sym}
+use Rattle.std.specs.Option.{option_map}
+use Rattle.proxy_main.specs.declared.Refusal.TheVariants.{Usage}
+use Rattle.proxy_main.specs.declared.Stop.TheVariants.{Refused}
+use Rattle.proxy_main.specs.declared.words.CommandWords.{CommandWords}
+use Rattle.proxy_main.specs.Words.{reading}
+use Rattle.proxy_main.specs.Read.{command_of}
+use Rattle.proxy_main.specs.FilesRead.{paths_of}
 use Rattle.proxy_main.proofs.Logs.{front_none}
+use Rattle.proxy_main.proofs.Needed.{needed_until, none_needed}
 use Rattle.proxy_main.proofs.work.work.Goals as goal
 
 pub returns-in-Err-clause-log : goal.returns-in-Err-clause-log
 returns-in-Err-clause-log g c = front_none _ _ _ _ refl
+
+pub returns-in-Ok-None-clause-needed : goal.returns-in-Ok-None-clause-needed
+returns-in-Ok-None-clause-needed g c =
+    needed_until _ _ (g.F.Files.reads c.args.files.now) (g.F.Files.reads c.args.files.now)
+    (none_needed (g.F.Files.told c.args.files.now) (reading (map (λ w. string_bytes w) c.args.words.now)) (g.F.Files.reads c.args.files.now) (sym (ap paths_of c.in-Ok-None.ensures.words) ∙ ap (λ (o : Option CommandWords). paths_of (option_map command_of o)) c.in-Ok-None.field-0-is)) (Refused Usage)

@@ -1,12 +1,22 @@
-use Rattle.std.proofs.Common.{Some, IfOk, ap, refl, subst, sym}
-use Rattle.proxy_main.specs.Answers.{Answer, answer_to, may_log}
+use Rattle.std.proofs.Common.{◌≡◌, ◌∙◌, ℕ, List, [], Option, Some, Result, IfOk, ap, refl, subst, sym}
+use Rattle.proxy_main.specs.Answers.{Answer, IsSettled, answer_to, may_log}
 use Rattle.proxy_main.specs.Loads.{IsDone}
 use Rattle.proxy_main.specs.Read.{command_of}
 use Rattle.proxy_main.specs.declared.words.CommandWords.{CommandWords}
-use Rattle.proxy_main.specs.FilesRead.{paths_of}
+use Rattle.proxy_main.specs.declared.Stop.{Stop}
+use Rattle.proxy_main.specs.FilesRead.{paths_of, needed, ReadsNeeded}
+use Rattle.proxy_main.proofs.Needed.{none_needed, reads_needed}
 use Rattle.proxy_main.proofs.ReadFiles.{unread, work_done, work_ends}
 use Rattle.proxy_main.proofs.Logs.{quiet_done, quiet_stop}
 use Rattle.proxy_main.proofs.work.work_command.Goals as goal
+
+-- words that are those of a command that names no file
+none_named : (words these : CommandWords) (told : List ℕ → Option (List ℕ)) (reads : List (List ℕ)) {A : Type 0} (result : Result A Stop) → words ≡ these → paths_of (Some (command_of these)) ≡ [] →
+    ReadsNeeded (IsSettled (answer_to told (Some (command_of words)))) (needed told (Some (command_of words))) reads reads result
+none_named words these told reads result is none =
+    let command = Some (command_of words) in
+    reads_needed (IsSettled (answer_to told command)) (needed told command) reads reads
+    (none_needed told command reads (ap (λ (w : CommandWords). paths_of (Some (command_of w))) is ∙ none)) result
 
 pub returns-in-Explain-clause-log : goal.returns-in-Explain-clause-log
 returns-in-Explain-clause-log g c =
@@ -67,3 +77,12 @@ pub returns-in-Version-clause-until : goal.returns-in-Version-clause-until
 returns-in-Version-clause-until g c =
     let none = ap (λ (w : CommandWords). paths_of (Some (command_of w))) c.in-Version.is in
     work_ends _ (g.F.Files.reads c.args.files.now) (g.F.Files.reads c.args.files.now) (unread _ (g.F.Files.reads c.args.files.now) none) c.work_version.result c.work_version.ensures.work
+
+pub returns-in-Sample-clause-needed : goal.returns-in-Sample-clause-needed
+returns-in-Sample-clause-needed g c = none_named _ _ (g.F.Files.told c.args.files.now) (g.F.Files.reads c.args.files.now) c.work_sample.result c.in-Sample.is refl
+
+pub returns-in-Help-clause-needed : goal.returns-in-Help-clause-needed
+returns-in-Help-clause-needed g c = none_named _ _ (g.F.Files.told c.args.files.now) (g.F.Files.reads c.args.files.now) c.work_text.result c.in-Help.is refl
+
+pub returns-in-Version-clause-needed : goal.returns-in-Version-clause-needed
+returns-in-Version-clause-needed g c = none_named _ _ (g.F.Files.told c.args.files.now) (g.F.Files.reads c.args.files.now) c.work_version.result c.in-Version.is refl

@@ -1,11 +1,13 @@
-use Rattle.std.proofs.Common.{[], ◌∷◌, ◌≡◌, ◌⊎◌, inl, inr, Result, Err, IsErrOf}
+use Rattle.std.proofs.Common.{[], ◌∷◌, ◌≡◌, ◌⊎◌, inl, inr, Some, Result, Err, IsErrOf}
 use Rattle.line_words.proofs.ReadLaws.{read_all}
 use Rattle.policy_args.specs.Seen.{options_seen}
 use Rattle.recording.specs.Seen.{recording_seen}
 use Rattle.replay.specs.Explained.{explained}
 use Rattle.replay.specs.declared.ExplainFault.{ExplainFault}
 use Rattle.replay.specs.declared.ExplainFault.TheVariants.{NoSuchMessage, Out, Memory}
+use Rattle.proxy_main.specs.Words.{Explain}
 use Rattle.proxy_main.specs.Answers.{explained_at}
+use Rattle.proxy_main.specs.FilesRead.{needed}
 use Rattle.proxy_main.proofs.Endings.{explaining_front, front_as}
 use Rattle.proxy_main.proofs.work.work_explain.Goals as goal
 
@@ -25,3 +27,16 @@ returns-in-Ok-clause-until g c = read_all (c.args.policy.now ∷ c.args.recordin
 
 pub returns-clause-until : goal.returns-clause-until
 returns-clause-until g c = c.in-Err.ensures.until []
+
+pub returns-in-Ok-clause-needed : goal.returns-in-Ok-clause-needed
+returns-in-Ok-clause-needed g c =
+    read_all (needed (g.F.Files.told c.args.files.now) (Some (Explain c.args.policy.now c.args.recording.now c.args.number))) (g.F.Files.reads c.args.files.now) (g.F.Files.reads c.load.new.files) c.in-Ok.ensures.needed
+
+pub returns-clause-needed : goal.returns-clause-needed
+returns-clause-needed g c = c.in-Err.ensures.needed_until [] (explained_at c.args.number)
+
+pub returns-in-Err-NoSuchMessage-clause-needed : goal.returns-in-Err-NoSuchMessage-clause-needed
+returns-in-Err-NoSuchMessage-clause-needed g c = (
+  read_all (needed (g.F.Files.told c.args.files.now) (Some (Explain c.args.policy.now c.args.recording.now c.args.number))) (g.F.Files.reads c.args.files.now) (g.F.Files.reads c.load.new.files) c.in-Ok.ensures.needed,
+  λ settled. c.in-Ok.ensures.needed,
+)

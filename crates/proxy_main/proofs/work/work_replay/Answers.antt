@@ -4,6 +4,7 @@ use Rattle.policy_args.specs.Seen.{options_seen}
 use Rattle.recording.specs.Seen.{recording_seen}
 use Rattle.proxy_main.specs.Words.{Replay}
 use Rattle.proxy_main.specs.Answers.{answer_to, replayed}
+use Rattle.proxy_main.specs.FilesRead.{needed}
 use Rattle.proxy_main.proofs.Endings.{done_of, front_of, work_of}
 use Rattle.proxy_main.proofs.Logs.{log_early, logged_of, log_front_of, may_log_played}
 use Rattle.proxy_main.proofs.work.work_replay.Goals as goal
@@ -58,3 +59,10 @@ returns-in-Ok-clause-until g c = read_all (c.args.policy.now ∷ c.args.recordin
 
 pub returns-clause-until : goal.returns-clause-until
 returns-clause-until g c = c.in-Err.ensures.until []
+
+pub returns-in-Ok-clause-needed : goal.returns-in-Ok-clause-needed
+returns-in-Ok-clause-needed g c =
+    read_all (needed (g.F.Files.told c.args.files.now) (Some (Replay c.args.policy.now c.args.recording.now))) (g.F.Files.reads c.args.files.now) (g.F.Files.reads c.load.new.files) c.in-Ok.ensures.needed
+
+pub returns-clause-needed : goal.returns-clause-needed
+returns-clause-needed g c = c.in-Err.ensures.needed_until [] replayed

@@ -1,0 +1,127 @@
+-- Which of the files that a command needs were read when its run ended.
+use Rattle.std.proofs.Common.{◌≡◌, ◌⊎◌, inl, inr, ℕ, List, [], ◌∷◌, ◌++◌, Option, Some, None, Result, Ok, Err, IfSome, ap, sym, ◌∙◌, subst, refl, take}
+use Rattle.std.proofs.lemmas.List.{append-nil}
+use Rattle.link_traits.specs.Told.{ReadFront}
+use Rattle.line_words.proofs.ReadLaws.{read_all}
+use Rattle.policy_args.specs.Words.{PolicyOptions}
+use Rattle.recording.specs.Recording.{Recording}
+use Rattle.proxy_main.specs.declared.Refusal.{Refusal}
+use Rattle.proxy_main.specs.declared.Stop.{Stop}
+use Rattle.proxy_main.specs.declared.Stop.TheVariants.{Refused as Refuses, File, Output, Log, Memory}
+use Rattle.proxy_main.specs.Words.{Command}
+use Rattle.proxy_main.specs.Answers.{Answer, IsSettled, checked_policy, checked_recording, then_read, then_load}
+use Rattle.proxy_main.specs.Loads.{LoadStops}
+use Rattle.proxy_main.specs.Endings.{StopTold}
+use Rattle.proxy_main.specs.FilesRead.{paths_of, needed, up_to_bad, recordings_up_to_bad, behind, unless_refused, NeededUntil, ReadsNeeded}
+use Rattle.proxy_main.proofs.Loading.{read_ok}
+
+-- ---- what is needed behind a file
+
+good : {A : Type 0} (t : Option (List ℕ)) (check : List ℕ → Result A Refusal) (x : A) (more : List (List ℕ)) → IfSome t (λ bytes. check bytes ≡ Ok x) → behind t check more ≡ more
+good None check x more is = refl
+good (Some bytes) check x more is = ap (λ r. unless_refused r more) is
+
+bad : {A : Type 0} (t : Option (List ℕ)) (check : List ℕ → Result A Refusal) (refusal : Refusal) (go : A → Answer) (more : List (List ℕ)) → IfSome t (λ bytes. check bytes ≡ Err refusal) →
+    IsSettled (then_read t check go) → behind t check more ≡ []
+bad None check refusal go more is settled = absurd settled
+bad (Some bytes) check refusal go more is settled = ap (λ r. unless_refused r more) is
+
+-- nothing behind the last
+none_behind : {A : Type 0} (r : Result A Refusal) → unless_refused r [] ≡ []
+none_behind (Ok x) = refl
+none_behind (Err refusal) = refl
+
+last : {A : Type 0} (t : Option (List ℕ)) (check : List ℕ → Result A Refusal) → behind t check [] ≡ []
+last None check = refl
+last (Some bytes) check = none_behind (check bytes)
+
+-- ---- the policy file is why a run stopped
+
+module _ (told : List ℕ → Option (List ℕ)) (p : List ℕ) (recordings reads new_reads : List (List ℕ)) (go : PolicyOptions → Answer) (next : new_reads ≡ reads ++ p ∷ []) where
+  first : ReadFront (up_to_bad told (p ∷ recordings)) reads new_reads
+  first = record { count = 1; are = next }
+
+  pub policy_needed : (s : Stop) → LoadStops checked_policy (told p) p s → NeededUntil (IsSettled (then_read (told p) checked_policy go)) (up_to_bad told (p ∷ recordings)) reads new_reads s
+  policy_needed (Refuses refusal) is = (
+    first,
+    λ settled. next ∙ ap (λ (more : List (List ℕ)). reads ++ p ∷ more) (sym (bad (told p) checked_policy refusal go (recordings_up_to_bad told recordings) is.0 settled)),
+  )
+  policy_needed (File path) is = first
+  policy_needed Output is = absurd is
+  policy_needed Log is = absurd is
+  policy_needed Memory is = first
+
+-- ---- behind a good policy file
+
+module _ (told : List ℕ → Option (List ℕ)) (p r : List ℕ) (o : PolicyOptions) (ok : IfSome (told p) (λ bytes. checked_policy bytes ≡ Ok o)) where
+  good_policy : (recordings : List (List ℕ)) → up_to_bad told (p ∷ recordings) ≡ p ∷ recordings_up_to_bad told recordings
+  good_policy recordings = ap (λ (more : List (List ℕ)). p ∷ more) (good (told p) checked_policy o (recordings_up_to_bad told recordings) ok)
+
+  -- all files of a replay and of an explanation
+  pub both_needed : (reads new_reads : List (List ℕ)) → new_reads ≡ reads ++ (p ∷ r ∷ []) → new_reads ≡ reads ++ up_to_bad told (p ∷ r ∷ [])
+  both_needed reads new_reads all =
+      all ∙ ap (λ (files : List (List ℕ)). reads ++ files) (sym (good_policy (r ∷ []) ∙ ap (λ (more : List (List ℕ)). p ∷ r ∷ more) (last (told r) checked_recording)))
+
+  -- .. and of a comparison, where the first recording is good
+  pub twins_needed : (b : List ℕ) (x : Recording) → IfSome (told r) (λ bytes. checked_recording bytes ≡ Ok x) → (reads new_reads : List (List ℕ)) → new_reads ≡ reads ++ (p ∷ r ∷ b ∷ []) →
+      new_reads ≡ reads ++ up_to_bad told (p ∷ r ∷ b ∷ [])
+  twins_needed b x one reads new_reads all =
+      all ∙ ap (λ (files : List (List ℕ)). reads ++ files)
+      (sym (good_policy (r ∷ b ∷ []) ∙ ap (λ (more : List (List ℕ)). p ∷ r ∷ more)
+      (good (told r) checked_recording x (b ∷ behind (told b) checked_recording []) one ∙ ap (λ (more : List (List ℕ)). b ∷ more) (last (told b) checked_recording))))
+
+  -- the recording is why a run stopped; what was told of it when it was read, t, is what was told before
+  module _ (t : Option (List ℕ)) (same : t ≡ told r) (after reads new_reads : List (List ℕ)) (work : PolicyOptions → Recording → Answer) (next : new_reads ≡ reads ++ (p ∷ r ∷ [])) where
+    two : ReadFront (up_to_bad told (p ∷ r ∷ after)) reads new_reads
+    two = record { count = 2; are = next ∙ ap (λ (files : List (List ℕ)). reads ++ take 2 files) (sym (good_policy (r ∷ after))) }
+
+    exactly : (refusal : Refusal) → IfSome t (λ bytes. checked_recording bytes ≡ Err refusal) → IsSettled (then_load told p r work) → new_reads ≡ reads ++ up_to_bad told (p ∷ r ∷ after)
+    exactly refusal is settled =
+        let now = subst IsSettled (read_ok (told p) checked_policy o (λ (options : PolicyOptions). then_read (told r) checked_recording (work options)) ok settled) settled in
+        let is_told = subst (λ (u : Option (List ℕ)). IfSome u (λ bytes. checked_recording bytes ≡ Err refusal)) same is in
+        next ∙ ap (λ (files : List (List ℕ)). reads ++ files)
+        (sym (good_policy (r ∷ after) ∙ ap (λ (more : List (List ℕ)). p ∷ r ∷ more) (bad (told r) checked_recording refusal (work o) (recordings_up_to_bad told after) is_told now)))
+
+    pub recording_needed : (s : Stop) → LoadStops checked_recording t r s → NeededUntil (IsSettled (then_load told p r work)) (up_to_bad told (p ∷ r ∷ after)) reads new_reads s
+    recording_needed (Refuses refusal) is = (two, exactly refusal is.0)
+    recording_needed (File path) is = two
+    recording_needed Output is = absurd is
+    recording_needed Log is = absurd is
+    recording_needed Memory is = two
+
+-- ---- all files that are needed were read
+
+module _ (settled : Type 0) (files reads new_reads : List (List ℕ)) (all : new_reads ≡ reads ++ files) where
+  pub needed_until : (s : Stop) → NeededUntil settled files reads new_reads s
+  needed_until (Refuses refusal) = (read_all files reads new_reads all, λ h. all)
+  needed_until (File path) = read_all files reads new_reads all
+  needed_until Output = all
+  needed_until Log = all
+  needed_until Memory = read_all files reads new_reads all
+
+  pub reads_needed : {A : Type 0} (result : Result A Stop) → ReadsNeeded settled files reads new_reads result
+  reads_needed (Ok x) = all
+  reads_needed (Err s) = needed_until s
+
+-- words that name no file need none
+pub none_needed : (told : List ℕ → Option (List ℕ)) (command : Option Command) (reads : List (List ℕ)) → paths_of command ≡ [] → reads ≡ reads ++ needed told command
+none_needed told command reads e = sym (append-nil reads) ∙ ap (λ (paths : List (List ℕ)). reads ++ up_to_bad told paths) (sym e)
+
+-- ---- a tool's run
+
+module _ (settled : Type 0) (files reads new_reads : List (List ℕ)) where
+  pub needed_front : (s : Stop) → NeededUntil settled files reads new_reads s → ReadFront files reads new_reads
+  needed_front (Refuses refusal) h = h.0
+  needed_front (File path) h = h
+  needed_front Output h = read_all files reads new_reads h
+  needed_front Log h = read_all files reads new_reads h
+  needed_front Memory h = h
+
+  pub needed_exactly : (rose : Type 0) (err new_err : Option (List ℕ)) (code : ℕ) (s : Stop) → NeededUntil settled files reads new_reads s → StopTold rose err new_err code s → settled →
+      (new_reads ≡ reads ++ files) ⊎ ((code ≡ 4) ⊎ (code ≡ 8))
+  needed_exactly rose err new_err code (Refuses refusal) h t now = inl (h.1 now)
+  needed_exactly rose err new_err code (File path) h (inl t) now = inr (inl t.0)
+  needed_exactly rose err new_err code (File path) h (inr t) now = inr (inr t.0)
+  needed_exactly rose err new_err code Output h t now = inl h
+  needed_exactly rose err new_err code Log h t now = inl h
+  needed_exactly rose err new_err code Memory h t now = inr (inr t.0)
