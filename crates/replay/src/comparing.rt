@@ -1,7 +1,8 @@
 //! Comparing two recordings by what the policy lets be seen of them.
-ghost use Rattle.std.specs.Prelude.{◌≡◌, ◌↔◌, IfOk, IsTrue};
+ghost use Rattle.std.specs.Prelude.{◌≡◌, ◌↔◌, [], IfOk, IsTrue};
 ghost use Rattle.recording.specs.Seen.{recording_seen};
 ghost use Rattle.replay.specs.Output.{output_of_recording};
+ghost use Rattle.replay.specs.Watching.{Gave};
 ghost use Rattle.replay.specs.Twins.{Compares, ComparesEnds, compared_under, part_of_recording};
 
 use crate::watching::Watched;
@@ -45,19 +46,20 @@ fn compare_ends(one: Option<End>, other: Option<End>, place: u64) -> TwinAnswer
 }
 
 /// Compares the elements as they come, and then the Ends. Neither recording is ahead by more than what an event of it brought.
-fn compare(
-    alloc: Global,
+fn compare_watched(
     policy: &Policy,
     one: &Recording,
     other: &Recording,
+    first: &mut Watched,
+    second: &mut Watched,
 ) -> Result<TwinAnswer, AllocError>
+    requires one { Gave policy.now (recording_seen one.now) first.old [] }
+    requires other { Gave policy.now (recording_seen other.now) second.old [] }
     ensures { IfOk result (λ answer. Compares (part_of_recording policy.now (recording_seen one.now)) (part_of_recording policy.now (recording_seen other.now)) answer) }
 {
     bytes_only_grow();
     elements_tell_the_part();
     parts_differ_as_given();
-    let mut first = Watched::new(alloc, policy, one)?;
-    let mut second = Watched::new(alloc, policy, other)?;
     for same in 0..u64::MAX {
         let element = first.next_element(policy, one)?;
         let against = second.next_element(policy, other)?;
@@ -69,6 +71,20 @@ fn compare(
         }
     }
     Err(AllocError)
+}
+
+/// Plays both recordings, and compares what is left of them.
+fn compare(
+    alloc: Global,
+    policy: &Policy,
+    one: &Recording,
+    other: &Recording,
+) -> Result<TwinAnswer, AllocError>
+    ensures { IfOk result (λ answer. Compares (part_of_recording policy.now (recording_seen one.now)) (part_of_recording policy.now (recording_seen other.now)) answer) }
+{
+    let mut first = Watched::new(alloc, policy, one)?;
+    let mut second = Watched::new(alloc, policy, other)?;
+    compare_watched(policy, one, other, &mut first, &mut second)
 }
 
 /// Plays two recordings under a policy, always filtering, and compares the policy-visible parts of their histories, element by

@@ -3,10 +3,10 @@ use Rattle.std.proofs.lemmas.Bool.{false≢true}
 use Rattle.recording.specs.Seen.{recording_seen}
 use Rattle.replay.specs.Twins.{ComparesEnds}
 use Rattle.replay.proofs.Twins.{both-differ, both-end, both-next}
-use Rattle.replay.proofs.comparing.compare.Goals as goal
+use Rattle.replay.proofs.comparing.compare_watched.Goals as goal
 
 pub loop-same-init : goal.loop-same-init
-loop-same-init c = record { given = []; count = refl; of_one = c.in_ok-first.ensures; of_other = c.in_ok-second.ensures }
+loop-same-init c = record { given = []; count = refl; of_one = c.requires.one; of_other = c.requires.other }
 
 pub returns-then-not-are_same : goal.returns-then-not-are_same
 returns-then-not-are_same c =
