@@ -72,8 +72,9 @@ impl<'a> Net for MioNet<'a> {
     ghost use Rattle.link_traits.specs.Entries.{ready};
     ghost use Rattle.link_traits.specs.Journals.{Journal, accepts, listens};
     ghost use Rattle.link_traits.specs.Answers.{listen_entry, accept_entry, connect_entry, read_entry, write_entry, no_wishes, client_link, bus_link, AfterAccept};
+    ghost use Rattle.link_traits.specs.Numbers.{number_of};
     ghost use Rattle.link_traits.specs.Views.{Adds, RoseAt, KeepsOthers, KeepsWishes};
-    ghost use Rattle.proxy_net.specs.Sockets.{shown, wishes_in, is_pending_in, IsWished};
+    ghost use Rattle.proxy_net.specs.Sockets.{shown, wishes_in, is_pending_in, is_closed_at, IsWished};
 
     ghost view = { λ net. shown net.sockets };
 
@@ -155,6 +156,9 @@ impl<'a> Net for MioNet<'a> {
     fn read(&mut self, link: Link, into: &mut [u8]) -> Got
         ensures missing { (shown self.old.sockets).wishes link ≡ None → result ≡ Got.Failed }
         ensures pending { is_pending_in self.old.sockets link ≡ true → result ≡ Got.NotReady }
+
+        // An end that was told is known from then on.
+        ensures finished { result ≡ Got.Finished → is_closed_at self.new.sockets (number_of link) ≡ true }
 
         // What the trait says.
         ensures told { Adds (shown self.old.sockets) (shown self.new.sockets) (read_entry link into.new result ∷ []) }

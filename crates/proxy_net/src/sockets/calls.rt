@@ -1,6 +1,7 @@
 //! What is done with links that stand: their wishes, reads, writes and ends.
 ghost use Rattle.std.specs.Prelude.{◌≡◌, ◌≤◌, ◌<◌, ℕ, None, length, false, true, unwrap_or};
 ghost use Rattle.std.specs.Option.{option_map};
+ghost use Rattle.link_traits.specs.Numbers.{number_of as link_number};
 
 use super::{SocketSet, other_number};
 use crate::link_sockets::{LinkWrite, raised};
@@ -8,7 +9,7 @@ use link_traits::tables::number_of;
 use link_traits::{Count, Got, Link, Took, Wishes};
 
 impl SocketSet {
-    ghost use Rattle.proxy_net.specs.Sockets.{wishes_in, is_pending_in, given_up_at, is_to_fail_at, RoseIn, Grows, GoesOn, KeepsOthersIn};
+    ghost use Rattle.proxy_net.specs.Sockets.{wishes_in, is_pending_in, given_up_at, is_closed_at, is_to_fail_at, RoseIn, Grows, GoesOn, KeepsOthersIn};
     ghost use Rattle.link_traits.specs.declared.links.Wishes.{Wishes};
 
     /// Replaces the wishes of a link.
@@ -30,6 +31,7 @@ impl SocketSet {
         ensures pending { is_pending_in self.old link ≡ true → result ≡ Got.NotReady }
         ensures failed { result ≡ Got.Failed → RoseIn (Count.Link link) self.old self.new }
         ensures not_ready { result ≡ Got.NotReady → RoseIn Count.Waits self.old self.new }
+        ensures finished { result ≡ Got.Finished → is_closed_at self.new (link_number link) ≡ true }
         ensures goes { GoesOn self.old self.new }
     {
         let number = number_of(link);

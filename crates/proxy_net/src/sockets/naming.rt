@@ -1,5 +1,6 @@
 //! What the system reports of sockets, and what is named for it.
-ghost use Rattle.std.specs.Prelude.{◌≡◌, ◌≢◌, ◌≤◌, ◌<◌, ◌%◌, ◌&&◌, ◌⊎◌, nat_eq, nat_lt, [], Some, None, IfSome};
+ghost use Rattle.std.specs.Prelude.{◌≡◌, ◌≢◌, ◌≤◌, ◌<◌, ◌%◌, ◌&&◌, ◌⊎◌, ◌++◌, nat_eq, nat_lt, [], Some, None, IfSome, IfNone, drop, take};
+ghost use Rattle.std.specs.VecDeque.{deque_len};
 ghost use Rattle.std.specs.Option.{option_map};
 ghost use Rattle.std.specs.Time.{instant_nanos};
 ghost use Rattle.std.specs.Duration.{as_nanos};
@@ -120,38 +121,44 @@ impl SocketSet {
     /// The next that is to be named, unless there is none or the system is to be asked first.
     pub fn next(&mut self) -> Option<Ready>
         ensures ask { NAMED_BETWEEN_ASKS ≤ self.old.named → result ≡ None }
+        ensures none { IfNone result (self.old.named < NAMED_BETWEEN_ASKS → deque_len self.new.ready ≡ 0) }
         ensures wished { IfSome result (IsWished (wishes_in self.old)) }
         ensures goes { GoesOn self.old self.new }
     {
         if self.named >= NAMED_BETWEEN_ASKS {
             return None;
         }
-        for _ in 0..self.ready.len() {
-            let Some(ready) = self.pop() else {
-                continue;
-            };
-            return Some(ready);
+        while !self.ready.is_empty() {
+            if let Some(ready) = self.name_first() {
+                return Some(ready);
+            }
         }
         None
     }
 
     /// What the first number of the queue names. It goes to the queue's end, or leaves it where it isn't to be named.
-    fn pop(&mut self) -> Option<Ready>
+    fn name_first(&mut self) -> Option<Ready>
+        requires { 0 < deque_len self.old.ready }
+        ensures named { IfSome result (λ _. self.new.ready.items ≡ drop 1 self.old.ready.items ++ take 1 self.old.ready.items) }
+        ensures left { IfNone result (deque_len self.new.ready < deque_len self.old.ready) }
         ensures wished { IfSome result (IsWished (wishes_in self.old)) }
         ensures goes { GoesOn self.old self.new }
     {
-        let Some(number) = self.ready.pop_front() else {
-            return None;
+        let Some(&number) = self.ready.front() else {
+            unreachable!();
         };
         let named = self.named_by(number);
         if named.is_some() {
             self.named = self.named.saturating_add(1);
-            let _ = self.ready.push_back(number);
+            self.ready.rotate_left(1);
+        } else {
+            let _ = self.ready.pop_front();
         }
         named
     }
 
     fn named_by(&mut self, number: u64) -> Option<Ready>
+        ensures queue { self.new.ready ≡ self.old.ready }
         ensures wished { IfSome result (IsWished (wishes_in self.old)) }
         ensures goes { GoesOn self.old self.new }
     {
@@ -170,6 +177,7 @@ impl SocketSet {
 
     fn named_listener(&mut self, number: u64) -> Option<Ready>
         requires { LISTENERS ≤ number }
+        ensures queue { self.new.ready ≡ self.old.ready }
         ensures wished { IfSome result (IsWished (wishes_in self.old)) }
         ensures goes { GoesOn self.old self.new }
     {

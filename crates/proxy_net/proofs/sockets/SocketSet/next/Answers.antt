@@ -1,11 +1,11 @@
 use Rattle.proxy_net.proofs.Going.{goes_through, wished_before}
 use Rattle.proxy_net.proofs.sockets.SocketSet.next.Goals as goal
 
-pub loop-preserved : goal.loop-preserved
-loop-preserved c = goes_through c.loop.invariant c.pop.ensures.goes
+pub loop-self-preserved : goal.loop-self-preserved
+loop-self-preserved c = goes_through c.loop-self.invariant c.name_first.ensures.goes
 
-pub returns-in-loop-clause-wished : goal.returns-in-loop-clause-wished
-returns-in-loop-clause-wished c = wished_before _ _ c.in-Some.ready c.loop.invariant c.in-Some.ensures.wished
+pub returns-in-Some-clause-wished : goal.returns-in-Some-clause-wished
+returns-in-Some-clause-wished c = wished_before _ _ c.in-Some.ready c.loop-self.invariant c.in-Some.ensures.wished
 
-pub returns-in-loop-clause-goes : goal.returns-in-loop-clause-goes
-returns-in-loop-clause-goes c = goes_through c.loop.invariant c.pop.ensures.goes
+pub returns-in-Some-clause-goes : goal.returns-in-Some-clause-goes
+returns-in-Some-clause-goes c = goes_through c.loop-self.invariant c.name_first.ensures.goes

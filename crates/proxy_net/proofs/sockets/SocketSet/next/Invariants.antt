@@ -1,5 +1,9 @@
+use Rattle.std.specs.VecDeque.{deque_len}
 use Rattle.proxy_net.specs.Sockets.{GoesOn}
 use Rattle.proxy_net.proofs.sockets.SocketSet.next.Given as goal
 
-abbrev pub invariant-loop : goal.invariant-loop
-invariant-loop l = GoesOn l.fn.self l.self
+abbrev pub invariant-loop-self : goal.invariant-loop-self
+invariant-loop-self l = GoesOn l.fn.self l.self
+
+abbrev pub decreases-loop-self : goal.decreases-loop-self
+decreases-loop-self l = deque_len l.self.ready
