@@ -1,5 +1,5 @@
 -- Elements by the kinds of bytes that may stand in them, as one pass over a text reads them.
-use Rattle.std.specs.Prelude.{ℕ, Bool, false, not, ◌==◌, ◌&&◌, nat_le, cond, List, [], ◌∷◌, length, slice_index, Option, Some, None, bit_and}
+use Rattle.std.specs.Prelude.{ℕ, Bool, false, not, ◌==◌, ◌&&◌, ◌||◌, nat_le, cond, List, [], ◌∷◌, length, slice_index, Option, Some, None, bit_and}
 use Rattle.std.specs.List.{list_all}
 use Rattle.dbus_names.specs.declared.TheConstants.{KINDS}
 use Rattle.dbus_names.specs.Names.{parts_at}
@@ -12,6 +12,10 @@ is_among kinds c = not (bit_and (slice_index KINDS c) kinds == 0)
 abbrev pub is_element_of : ℕ → ℕ → List ℕ → Bool
 is_element_of first rest [] = false
 is_element_of first rest (c ∷ text) = is_among first c && list_all (is_among rest) text
+
+-- a byte that doesn't go on with an element: a separator, or one of other kinds
+abbrev pub is_outside : ℕ → ℕ → ℕ → Bool
+is_outside kinds separator c = c == separator || not (is_among kinds c)
 
 -- how many parts a text has, where each of them is an element
 unfoldable pub element_count : ℕ → ℕ → ℕ → List ℕ → Option ℕ

@@ -3,9 +3,9 @@
 //! A test reads a text once, allocates nothing, and stops at the first byte that is wrong.
 #![tactic(auto)]
 
-ghost use Rattle.std.specs.Prelude.{◌≡◌};
-ghost use Rattle.std.specs.List.{list_all};
-ghost use Rattle.dbus_names.specs.Elements.{are_two_elements, element_count, is_element_of, is_among as is_among_kinds};
+ghost use Rattle.std.specs.Prelude.{◌≡◌, drop, position};
+ghost use Rattle.std.specs.List.{list_all, position_or_len};
+ghost use Rattle.dbus_names.specs.Elements.{are_two_elements, element_count, is_element_of, is_outside, is_among as is_among_kinds};
 ghost use Rattle.dbus_names.specs.Names.{is_bus as is_name_of_bus, is_bus_name as is_either_bus_name, is_error_name as is_name_of_error, is_interface as is_interface_name, is_member as is_member_name, is_path as is_object_path, is_unique as is_unique_name, is_well_known as is_well_known_name};
 
 mod name;
@@ -144,28 +144,48 @@ fn is_element(text: &[u8], first: u8, rest: u8) -> bool
     }
 }
 
+// The place of the first byte that doesn't go on with an element.
+#[inline]
+fn first_outside(text: &[u8], separator: u8, kinds: u8) -> Option<usize>
+    ensures { result ≡ position (is_outside kinds separator) text.now }
+{
+    text.iter()
+        .position(|byte| *byte == separator || !is_among(*byte, kinds))
+}
+
+// What follows the first bytes that go on with an element.
+#[inline]
+fn after_run(text: &[u8], separator: u8, kinds: u8) -> &[u8]
+    ensures { result.now ≡ drop (position_or_len (is_outside kinds separator) text.now) text.now }
+{
+    match first_outside(text, separator, kinds) {
+        Some(len) => &text[len..],
+        None => &[],
+    }
+}
+
 // How many elements the separator joins in the text, where each part between separators is one.
 fn count_elements(text: &[u8], separator: u8, first: u8, rest: u8) -> Option<usize>
     ensures { result ≡ element_count first rest separator text.now }
 {
-    let mut begins = true;
-    let mut separators = 0;
-    for byte in text {
-        if *byte == separator {
-            if begins {
-                return None;
+    let mut count = 0;
+    let mut left = text;
+    while let [start, others @ ..] = left {
+        if *start == separator || !is_among(*start, first) {
+            return None;
+        }
+        count += 1;
+        match after_run(others, separator, rest) {
+            [] => return Some(count),
+            [byte, behind @ ..] => {
+                if *byte != separator {
+                    return None;
+                }
+                left = behind;
             }
-            begins = true;
-            separators += 1;
-        } else {
-            let kinds = if begins { first } else { rest };
-            if !is_among(*byte, kinds) {
-                return None;
-            }
-            begins = false;
         }
     }
-    if begins { None } else { Some(separators + 1) }
+    None
 }
 
 // Whether dots join two or more elements.
