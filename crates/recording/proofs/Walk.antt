@@ -231,3 +231,11 @@ pub recording-is_passed : (bytes file : List ℕ) (auth : Bool) (count : ℕ) (e
     records 6 (drop 6 file) ≡ Ok events → recording_of bytes ≡ Ok (record { auth = auth; events = events })
 recording-is_passed bytes file auth count events checked same read =
     recording-records bytes auth checked.short checked.head ∙ ap (then_recording auth) (ap (λ (b : List ℕ). records 6 (drop 6 b)) (sym same) ∙ read)
+
+-- a file in which the first pass finds no fault has none
+pub recording-without_fault : (bytes : List ℕ) (auth : Bool) (count : ℕ) → IsChecked bytes auth count → (r : Recording) × (recording_of bytes ≡ Ok r)
+recording-without_fault bytes auth count checked = go (records 6 (drop 6 bytes)) refl checked.count
+  where
+    go : (read : Result (List Event) BadRecording) → records 6 (drop 6 bytes) ≡ read → counted 0 read ≡ Ok count → (r : Recording) × (recording_of bytes ≡ Ok r)
+    go (Ok events) e c = (record { auth = auth; events = events }, recording-records bytes auth checked.short checked.head ∙ ap (then_recording auth) e)
+    go (Err fault) e c = absurd cc

@@ -1,12 +1,12 @@
--- What reading answers, unless memory runs out.
+-- What reading answers.
 use Rattle.std.specs.Prelude.{◌≡◌, Result, Ok, Err}
 use Rattle.recording.specs.declared.BadRecording.{BadRecording}
 use Rattle.recording.specs.declared.RecordingRefusal.{RecordingRefusal}
 use Rattle.recording.specs.declared.RecordingRefusal.TheVariants.{Bad, Memory}
 
--- a fault is the one that stands in the file
+-- a fault is the one that stands in the file, and memory runs out only where none does
 abbrev pub Fails : {Y : Type 0} → RecordingRefusal → Result Y BadRecording → Type 0
-Fails Memory read = Unit {0}
+Fails {Y} Memory read = (y : Y) × (read ≡ Ok y)
 Fails (Bad fault) read = read ≡ Err fault
 
 -- an answer is what the file gives, seen so
