@@ -1,6 +1,6 @@
 //! The bus's lines.
 ghost use Rattle.std.specs.Prelude.{◌≡◌, ◌<◌, None, true, ℕ, Bool, IfOk, OnErr, length};
-ghost use Rattle.sasl_watch.specs.Watching.{came, is_taken, BusGives};
+ghost use Rattle.sasl_watch.specs.Watching.{came, is_taken, bus_ahead, BusGives};
 ghost use Rattle.sasl_watch.specs.Fronts.{IsWhole};
 
 use crate::front::Front;
@@ -11,12 +11,16 @@ use std::alloc::AllocError;
 impl Lines {
     /// What stands in front, where so many lines of the client wait for their answer and the client has sent BEGIN or
     /// not. What is given is taken; at `Rest` and `Done` nothing changes, and after `Bad` each answer is the same.
-    /// `Nul` and `Begin` are never answered. An error says that memory ran out; then nothing changes.
+    /// `Nul` and `Begin` are never answered. An error says that memory ran out for a line that is given; then nothing changes, and no
+    /// fault was told.
     pub fn next_of_bus(&mut self, unanswered: u64, begun: bool) -> Result<NextLine, AllocError>
         ensures gives { IfOk result (λ next. BusGives unanswered begun self.old next self.new) }
         ensures shorter { IfOk result (λ next. is_taken next ≡ true → length self.new.left < length self.old.left) }
         ensures came { came self.new ≡ came self.old }
         ensures err { OnErr result (self.new ≡ self.old) }
+        ensures sound { OnErr result (self.old.bad ≡ None) }
+        ensures asked { OnErr result (0 < unanswered) }
+        ensures line { OnErr result (0 < length (bus_ahead self.old).lines) }
     {
         if let Some(fault) = self.bad() {
             return Ok(NextLine::Bad(fault));
@@ -56,6 +60,7 @@ impl Lines {
         ensures shorter { IfOk result (λ next. is_taken next ≡ true → length self.new.left < length self.old.left) }
         ensures came { came self.new ≡ came self.old }
         ensures err { OnErr result (self.new ≡ self.old) }
+        ensures line { OnErr result (0 < length (bus_ahead self.old).lines) }
     {
         if agrees(self.line(len)) {
             return Ok(NextLine::Bad(self.fail(LineKind::Agreed, len - 1)));

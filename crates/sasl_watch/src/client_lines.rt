@@ -1,6 +1,6 @@
 //! The client's lines.
 ghost use Rattle.std.specs.Prelude.{◌≡◌, ◌<◌, None, true, IfOk, OnErr, length};
-ghost use Rattle.sasl_watch.specs.Watching.{came, is_taken, ClientGives};
+ghost use Rattle.sasl_watch.specs.Watching.{came, is_taken, client_ahead, ClientGives};
 
 use crate::front::Front;
 use crate::words::is_begin;
@@ -10,12 +10,14 @@ use std::alloc::AllocError;
 impl Lines {
     /// What stands in front: the NUL, and then each line up to the one whose word is `BEGIN`. What is given is taken;
     /// at `Rest` nothing changes, and after `Bad` each answer is the same. `Done` is never answered.
-    /// An error says that memory ran out; then nothing changes.
+    /// An error says that memory ran out for a line that is given; then nothing changes, and no fault was told.
     pub fn next_of_client(&mut self) -> Result<NextLine, AllocError>
         ensures gives { IfOk result (λ next. ClientGives self.old next self.new) }
         ensures shorter { IfOk result (λ next. is_taken next ≡ true → length self.new.left < length self.old.left) }
         ensures came { came self.new ≡ came self.old }
         ensures err { OnErr result (self.new ≡ self.old) }
+        ensures sound { OnErr result (self.old.bad ≡ None) }
+        ensures line { OnErr result (0 < length (client_ahead self.old).lines) }
     {
         if let Some(fault) = self.bad() {
             return Ok(NextLine::Bad(fault));
