@@ -1,8 +1,11 @@
 -- What a set of sockets shows, and how that goes on from call to call. It tells no journal.
-use Rattle.std.specs.Prelude.{ℕ, ◌≡◌, ◌≤◌, ◌+◌, ◌-◌, ◌%◌, nat_eq, if◌then◌else◌, false, true, Bool, Option, None, slice_get, unwrap_or}
+use Rattle.std.specs.Prelude.{ℕ, ◌≡◌, ◌≤◌, ◌+◌, ◌-◌, ◌%◌, nat_eq, if◌then◌else◌, false, true, Bool, List, Option, Some, None, slice_get, unwrap_or}
 use Rattle.std.specs.Option.{option_map}
+use Rattle.std.specs.List.{list_any}
 use Rattle.std.specs.Ordering.{nat_cmp}
 use Rattle.std.specs.BTreeMap as tree
+use Rattle.std.specs.Time.{instant_nanos}
+use Rattle.std.specs.declared.time.Instant.{Instant}
 use Rattle.link_traits.specs.Journals.{same_link}
 use Rattle.link_traits.specs.Numbers.{number_of}
 use Rattle.link_traits.specs.Tables.{HasWish}
@@ -18,7 +21,7 @@ use Rattle.link_traits.specs.declared.links.Accepted.{Accepted}
 use Rattle.link_traits.specs.declared.links.Accepted.TheVariants.{New, NotReady, Failed as Refused, Memory}
 use Rattle.link_traits.specs.Answers.{client_link}
 use Rattle.proxy_net.specs.Naming.{is_link_placed, is_listener_placed, is_link_closed, is_to_fail}
-use Rattle.proxy_net.specs.Connecting.{is_pending}
+use Rattle.proxy_net.specs.Connecting.{is_pending, due_of}
 use Rattle.proxy_net.specs.declared.link_sockets.LinkSocket.{LinkSocket}
 use Rattle.proxy_net.specs.declared.listeners.ListenerSocket.{ListenerSocket}
 use Rattle.proxy_net.specs.declared.sockets.SocketSet.{SocketSet}
@@ -74,6 +77,11 @@ pub record GoesOn (old new : SocketSet) : Type 0 where
   pub links : (link : Link) → has_link_placed old link ≡ true → has_link_placed new link ≡ true
   pub listeners : (listener : ℕ) → has_listener_placed old listener ≡ true → has_listener_placed new listener ≡ true
 
+-- when the next try to connect a link is due, where there is a link and a try
+abbrev pub due_in : Option LinkSocket → Option Instant
+due_in None = None
+due_in (Some socket) = due_of socket.connection
+
 -- the wishes of all links are as before
 pub record KeepsWishesIn (old new : SocketSet) : Type 0 where
   pub each : (link : Link) → wishes_in new link ≡ wishes_in old link
@@ -104,6 +112,20 @@ is_closed_at sockets number = unwrap_or (option_map is_link_closed (tree.get nat
 -- the writes of the link of a number are to fail, or there is no such link
 abbrev pub is_to_fail_at : SocketSet → ℕ → Bool
 is_to_fail_at sockets number = unwrap_or (option_map (is_to_fail (is_closed_at sockets (other_of number))) (tree.get nat_cmp sockets.links number)) true
+
+-- when the next try to connect the link of a number is due, where there is one
+abbrev pub due_at : SocketSet → ℕ → Option Instant
+due_at sockets number = due_in (tree.get nat_cmp sockets.links number)
+
+-- a time that is no later
+abbrev pub IsBy : Instant → Option Instant → Type 0
+IsBy due None = ⊥
+IsBy due (Some time) = instant_nanos time ≤ instant_nanos due
+
+-- The first of the times at which the links of these numbers are due. It is none where none of them is.
+pub record IsFirstDue (sockets : SocketSet) (numbers : List ℕ) (first : Option Instant) : Type 0 where
+  pub by : (number : ℕ) (due : Instant) → list_any (nat_eq number) numbers ≡ true → due_at sockets number ≡ Some due → IsBy due first
+  pub one : (time : Instant) → first ≡ Some time → (number : ℕ) × (list_any (nat_eq number) numbers ≡ true) × (due_at sockets number ≡ Some time)
 
 -- nothing was counted, and there is no link
 pub record IsUnused (net : NetView) : Type 0 where

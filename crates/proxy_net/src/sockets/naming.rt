@@ -195,13 +195,14 @@ impl SocketSet {
 }
 
 impl SocketSet {
-    ghost use Rattle.proxy_net.specs.Sockets.{GoesOn};
+    ghost use Rattle.proxy_net.specs.Sockets.{GoesOn, due_at, IsFirstDue};
     ghost use Rattle.std.specs.declared.time.Duration.{Duration};
 
     /// How long the system is waited for: not at all where something is to be named, and else until the next try to connect.
     fn timeout(&self, rt: &HostRuntime) -> Option<Duration>
         ensures busy { self.now.ready.items ≢ [] → option_map (λ (d : Duration). as_nanos d) result ≡ Some 0 }
         ensures idle { result ≡ None → self.now.ready.items ≡ [] }
+        ensures waits { result ≡ None → IsFirstDue self.now self.now.pending.items None }
     {
         if !self.ready.is_empty() {
             return Some(Duration::ZERO);
@@ -213,13 +214,23 @@ impl SocketSet {
         }
     }
 
-    /// When the next try to connect is due.
-    fn next_due(&self) -> Option<Instant> {
+    /// When the next try to connect a link is due, where there is one.
+    fn due(&self, number: u64) -> Option<Instant>
+        ensures { result ≡ due_at self.now number }
+    {
+        match self.links.get(&number) {
+            Some(socket) => socket.due(),
+            None => None,
+        }
+    }
+
+    /// When the next try to connect is due, where there is one.
+    fn next_due(&self) -> Option<Instant>
+        ensures { IsFirstDue self.now self.now.pending.items result }
+    {
         let mut next = None;
         for number in &self.pending {
-            if let Some(socket) = self.links.get(number)
-                && let Some(due) = socket.due()
-            {
+            if let Some(due) = self.due(*number) {
                 next = Some(earlier(next, due));
             }
         }
