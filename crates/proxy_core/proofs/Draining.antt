@@ -366,7 +366,7 @@ not_empty_by [] e = absurd cc
 not_empty_by (byte ∷ bytes) e = refl
 
 -- from what stood before
-took_from : (expected other old mid new : SessionView) → expected ≡ other → mid.ended ≡ old.ended → mid.mode ≡ old.mode → mid.watches ≡ old.watches → Took expected mid new → Took other old new
+pub took_from : (expected other old mid new : SessionView) → expected ≡ other → mid.ended ≡ old.ended → mid.mode ≡ old.mode → mid.watches ≡ old.watches → Took expected mid new → Took other old new
 took_from expected other old mid new is runs mode watches (inl done) = inl (done ∙ is)
 took_from expected other old mid new is runs mode watches (inr refused) =
     inr (refused_in other old new (sym runs ∙ refused.running) refused.ended (refused.mode ∙ mode) (refused.watches ∙ watches) (subst (λ (v : SessionView). Grows new v) is (refused_grows expected mid new refused)))
@@ -400,6 +400,9 @@ module _ (policy : Policy) (side : Side) (bytes : List ℕ) where
       (ap (λ (v : SessionView). v.mode) is ∙ pushed_mode side (pushed bytes (stream_of side old)) old)
       (ap (λ (v : SessionView). v.watches) is ∙ pushed_watches side (pushed bytes (stream_of side old)) old)
       took
+
+pub light_same : (policy : Policy) (view : SessionView) → IsLight policy 0 view view
+light_same policy view = record { mode = refl; watches = refl; weighs = no_more _ _ (19 * 0) refl }
 
 -- one after the other
 pub light_then : (policy : Policy) (a b c : SessionView) → IsLight policy 0 a b → IsLight policy 0 b c → IsLight policy 0 a c

@@ -16,16 +16,17 @@ use Rattle.policy_view.specs.Verdicts.{client_role, verdict}
 use Rattle.policy_view.specs.declared.Decision.{Decision}
 use Rattle.policy_view.specs.declared.End.TheVariants.{SerialsSpent}
 use Rattle.policy_view.specs.declared.Fault.TheVariants.{Message as OfMessage}
+use Rattle.policy_view.specs.declared.Mode.{Mode}
 use Rattle.policy_view.specs.declared.Side.{Side}
 use Rattle.policy_view.specs.declared.Side.TheVariants.{Client, Bus}
 use Rattle.policy_view.specs.declared.Verdict.{Verdict}
 use Rattle.policy_view.specs.declared.visible.Visible.{Visible as Element}
 use Rattle.verdicts.specs.Kept.{expected_at}
-use Rattle.proxy_core.specs.Seen.{TookNone, TookFirst}
+use Rattle.proxy_core.specs.Seen.{TookNone, TookFirst, IsLent}
 use Rattle.proxy_core.specs.Sessions.{SessionView, stream_of}
-use Rattle.proxy_core.specs.Streams.{StreamView}
+use Rattle.proxy_core.specs.Streams.{StreamView, InMessages}
 use Rattle.proxy_core.specs.Messages.{decision_in, elements_in, ended_by, known, sending, unless_ended, with_elements, with_message, with_note, with_note_on, with_noted_message, with_replied, with_sent, with_shown, with_told, with_used, with_watched_message, KeepsSides}
-use Rattle.proxy_core.specs.Steps.{with_left, with_fault, with_front, step_of, TookMessage, Stepped, IsLight}
+use Rattle.proxy_core.specs.Steps.{with_left, with_fault, with_front, step_of, drained, TookMessage, Took, Stepped, IsLight}
 use Rattle.proxy_core.proofs.Draining.{InMessagesNow, left_of, message_step, no_more, whole_light, whole_step}
 use Rattle.proxy_core.proofs.Keeping.{watched_kept}
 use Rattle.proxy_core.proofs.Taking.{spelled_in}
@@ -175,35 +176,111 @@ module _ (policy : Policy) (side : Side) (old mid new : SessionView) (rest : Lis
       by None = record { mode = refl; watches = refl; weighs = no_more _ _ (19 * 0) refl }
       by (Some f) = record { mode = refl; watches = refl; weighs = no_more _ _ (19 * 0) refl }
 
--- ---- what the code does with what it lent
+-- ---- one message after the other
 
-pub lent_first : (policy : Policy) (side : Side) (old out mid : SessionView) (left rest : List ℕ) (more : Bool) → left ≡ left_of side old → out ≡ with_left side [] old → TookFirst policy side left rest out mid more → TookFirst policy side (left_of side old) rest (with_left side [] old) mid more
-lent_first policy side old out mid left rest more is outside took =
-    subst (λ (v : SessionView). TookFirst policy side (left_of side old) rest v mid more) outside (subst (λ (xs : List ℕ). TookFirst policy side xs rest out mid more) is took)
+with_fault_stream : (side : Side) (o : Option Malformed) (view : SessionView) → stream_of side (with_fault side o view) ≡ stream_of side view
+with_fault_stream side None view = refl
+with_fault_stream Client (Some f) view = refl
+with_fault_stream Bus (Some f) view = refl
 
--- ---- its stream stays in its messages
+kept_stream : (side : Side) (old new : SessionView) → new.client ≡ old.client → new.bus ≡ old.bus → stream_of side new ≡ stream_of side old
+kept_stream Client old new c b = c
+kept_stream Bus old new c b = b
 
-stream_kept : (side : Side) (old new : SessionView) → new.client ≡ old.client → new.bus ≡ old.bus → (stream_of side new).phase ≡ (stream_of side old).phase
-stream_kept Client old new c b = ap (λ (s : StreamView). s.phase) c
-stream_kept Bus old new c b = ap (λ (s : StreamView). s.phase) b
+-- what was lent is no longer the session's
+took_stream : (policy : Policy) (side : Side) (left rest : List ℕ) (old new : SessionView) (more : Bool) → TookFirst policy side left rest old new more → stream_of side new ≡ stream_of side old
+took_stream policy side left rest old new more (inl t) = by t.took
+  where
+    by : TookMessage (with_watched_message policy side t.message old) old new → stream_of side new ≡ stream_of side old
+    by (inl done) = ap (stream_of side) done ∙ kept_stream side old (with_watched_message policy side t.message old) (watched_kept policy side t.message old).client (watched_kept policy side t.message old).bus
+    by (inr refused) = kept_stream side old new refused.kept.client refused.kept.bus
+took_stream policy side left rest old new more (inr t) = ap (stream_of side) t.ended ∙ with_fault_stream side (fault left) old
 
-phase_left : (side : Side) (left : List ℕ) (view : SessionView) → (stream_of side (with_left side left view)).phase ≡ (stream_of side view).phase
-phase_left Client left view = refl
-phase_left Bus left view = refl
+pub stays_lent : (policy : Policy) (side : Side) (left rest : List ℕ) (old new : SessionView) (more : Bool) → IsLent side old → TookFirst policy side left rest old new more → IsLent side new
+stays_lent policy side left rest old new more lent took =
+    let same : stream_of side new ≡ stream_of side old = took_stream policy side left rest old new more took in
+    record { phase = ap (λ (s : StreamView). s.phase) same ∙ lent.phase; none = ap (λ (s : StreamView). s.left) same ∙ lent.none }
 
-fault_phase : (side : Side) (o : Option Malformed) (view : SessionView) → (stream_of side (with_fault side o view)).phase ≡ (stream_of side view).phase
-fault_phase side None view = refl
-fault_phase Client (Some f) view = refl
-fault_phase Bus (Some f) view = refl
+left_put : (side : Side) (left : List ℕ) (view : SessionView) → left_of side (with_left side left view) ≡ left
+left_put Client left view = refl
+left_put Bus left view = refl
 
-took_phase : (policy : Policy) (side : Side) (m : Message) (old new : SessionView) → TookMessage (with_watched_message policy side m old) old new → (stream_of side new).phase ≡ (stream_of side old).phase
-took_phase policy side m old new (inl done) =
-    ap (λ (v : SessionView). (stream_of side v).phase) done ∙ stream_kept side old (with_watched_message policy side m old) (watched_kept policy side m old).client (watched_kept policy side m old).bus
-took_phase policy side m old new (inr refused) = stream_kept side old new refused.kept.client refused.kept.bus
+phase_put : (side : Side) (left : List ℕ) (view : SessionView) → (stream_of side (with_left side left view)).phase ≡ (stream_of side view).phase
+phase_put Client left view = refl
+phase_put Bus left view = refl
 
-pub first_phase : (policy : Policy) (side : Side) (left rest : List ℕ) (old mid : SessionView) (more : Bool) → TookFirst policy side left rest (with_left side [] old) mid more → (stream_of side mid).phase ≡ (stream_of side old).phase
-first_phase policy side left rest old mid more (inl t) = took_phase policy side t.message (with_left side [] old) mid t.took ∙ phase_left side [] old
-first_phase policy side left rest old mid more (inr t) = ap (λ (v : SessionView). (stream_of side v).phase) t.ended ∙ fault_phase side (fault left) (with_left side [] old) ∙ phase_left side [] old
+mode_put : (side : Side) (left : List ℕ) (view : SessionView) → (with_left side left view).mode ≡ view.mode
+mode_put Client left view = refl
+mode_put Bus left view = refl
+
+none_left : (side : Side) (view : SessionView) → IsLent side view → with_left side [] view ≡ view
+none_left side view lent = ap (λ (xs : List ℕ). with_left side xs view) (sym lent.none) ∙ by side
+  where
+    by : (s : Side) → with_left s (left_of s view) view ≡ view
+    by Client = refl
+    by Bus = refl
+
+module _ (policy : Policy) (side : Side) (left rest : List ℕ) (old new : SessionView) (more : Bool) (lent : IsLent side old) (filters : old.mode.filter ≡ true) (took : TookFirst policy side left rest old new more) where
+  abbrev whole : SessionView
+  whole = with_left side left old
+
+  took_of_whole : TookFirst policy side (left_of side whole) rest (with_left side [] whole) new more
+  took_of_whole =
+      subst (λ (xs : List ℕ). TookFirst policy side xs rest (with_left side [] whole) new more) (sym (left_put side left old))
+      (subst (λ (v : SessionView). TookFirst policy side left rest v new more) (sym (left_twice side left [] old ∙ none_left side old lent)) took)
+
+  -- .. with what is left of them, before and after
+  pub lent_step : old.ended ≡ None → Stepped (step_of policy side (with_left side left old)) (with_left side left old) (with_left side rest new) more
+  lent_step runs =
+      first_step policy side whole new (with_left side rest new) rest more refl (ended_left side left old ∙ runs)
+      (record { phase = phase_put side left old ∙ lent.phase; filters = ap (λ (m : Mode). m.filter) (mode_put side left old) ∙ filters }) took_of_whole
+
+  pub lent_light : IsLight policy 0 (with_left side left old) (with_left side rest new)
+  lent_light = first_light policy side whole new (with_left side rest new) rest more refl took_of_whole
+
+  pub lent_filters : new.mode.filter ≡ true
+  lent_filters = ap (λ (m : Mode). m.filter) (sym (mode_put side rest new) ∙ lent_light.mode ∙ mode_put side left old) ∙ filters
+
+pub ended_whole : (side : Side) (left : List ℕ) (view : SessionView) → (with_left side left view).ended ≡ None → view.ended ≡ None
+ended_whole side left view e = sym (ended_left side left view) ∙ e
+
+pub runs_whole : (side : Side) (left : List ℕ) (view : SessionView) → view.ended ≡ None → (with_left side left view).ended ≡ None
+runs_whole side left view e = ended_left side left view ∙ e
+
+-- what was lent out of a session, and what is put back
+pub lent_whole : (side : Side) (old out : SessionView) (left : List ℕ) → left ≡ left_of side old → out ≡ with_left side [] old → with_left side left out ≡ old
+lent_whole side old out left is outside = ap₂ (λ (xs : List ℕ) (v : SessionView). with_left side xs v) is outside ∙ by side
+  where
+    by : (s : Side) → with_left s (left_of s old) (with_left s [] old) ≡ old
+    by Client = refl
+    by Bus = refl
+
+-- .. as far as messages were taken of it
+module _ (policy : Policy) (side : Side) (old out mid new : SessionView) (left rest : List ℕ) (is : left ≡ left_of side old) (outside : out ≡ with_left side [] old) (put : new ≡ with_left side rest mid) where
+  whole_is : with_left side left out ≡ old
+  whole_is = lent_whole side old out left is outside
+
+  put_back : (P : SessionView → SessionView → Type 0) → P (with_left side left out) (with_left side rest mid) → P old new
+  put_back P p = subst (λ (v : SessionView). P v new) whole_is (subst (λ (v : SessionView). P (with_left side left out) v) (sym put) p)
+
+pub took_whole : (policy : Policy) (side : Side) (most : ℕ) (old out mid new : SessionView) (left rest : List ℕ) → left ≡ left_of side old → out ≡ with_left side [] old → new ≡ with_left side rest mid
+    → Took (drained policy side most (with_left side left out)) (with_left side left out) (with_left side rest mid) → Took (drained policy side most old) old new
+took_whole policy side most old out mid new left rest is outside put took =
+    put_back policy side old out mid new left rest is outside put (λ (a b : SessionView). Took (drained policy side most a) a b) took
+
+pub light_whole : (policy : Policy) (side : Side) (old out mid new : SessionView) (left rest : List ℕ) → left ≡ left_of side old → out ≡ with_left side [] old → new ≡ with_left side rest mid
+    → IsLight policy 0 (with_left side left out) (with_left side rest mid) → IsLight policy 0 old new
+light_whole policy side old out mid new left rest is outside put light =
+    put_back policy side old out mid new left rest is outside put (λ (a b : SessionView). IsLight policy 0 a b) light
+
+pub lends : (side : Side) (old out : SessionView) → (stream_of side old).phase ≡ InMessages → out ≡ with_left side [] old → IsLent side out
+lends side old out phase outside = record {
+  phase = ap (λ (v : SessionView). (stream_of side v).phase) outside ∙ phase_put side [] old ∙ phase;
+  none = ap (left_of side) outside ∙ left_put side [] old;
+}
+
+pub lends_filtered : (side : Side) (old out : SessionView) → out ≡ with_left side [] old → old.mode.filter ≡ true → out.mode.filter ≡ true
+lends_filtered side old out outside filters = ap (λ (v : SessionView). v.mode.filter) outside ∙ ap (λ (m : Mode). m.filter) (mode_put side [] old) ∙ filters
 
 -- ---- what the code takes
 

@@ -1,11 +1,12 @@
 -- What a session does with the first of the messages that are left of a side's stream, while these are lent out of it.
-use Rattle.std.specs.Prelude.{◌≡◌, ◌⊎◌, ℕ, Bool, false, List, None, is_none}
+use Rattle.std.specs.Prelude.{◌≡◌, ◌⊎◌, ℕ, Bool, false, List, [], None, is_none}
 use Rattle.dbus_framing.specs.Framing.{Takes}
 use Rattle.dbus_header.specs.Malformed.{fault, front}
 use Rattle.dbus_header.specs.Message.{Message}
 use Rattle.policy_args.specs.Policy.{Policy}
 use Rattle.policy_view.specs.declared.Side.{Side}
-use Rattle.proxy_core.specs.Sessions.{SessionView}
+use Rattle.proxy_core.specs.Sessions.{SessionView, stream_of}
+use Rattle.proxy_core.specs.Streams.{InMessages}
 use Rattle.proxy_core.specs.Messages.{with_watched_message}
 use Rattle.proxy_core.specs.Steps.{with_fault, TookMessage}
 
@@ -26,3 +27,8 @@ pub record TookNone (side : Side) (left rest : List ℕ) (old new : SessionView)
 
 abbrev pub TookFirst : Policy → Side → List ℕ → List ℕ → SessionView → SessionView → Bool → Type 0
 TookFirst policy side left rest old new more = TookWhole policy side left rest old new more ⊎ TookNone side left rest old new more
+
+-- what is left of a side's messages is lent, and none is left here
+pub record IsLent (side : Side) (view : SessionView) : Type 0 where
+  pub phase : (stream_of side view).phase ≡ InMessages
+  pub none : (stream_of side view).left ≡ []

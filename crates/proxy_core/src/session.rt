@@ -1,6 +1,6 @@
 //! The session: pieces of either side's stream are taken, line by line and then message by message, or behind the lines as
 //! they are where messages aren't filtered.
-ghost use Rattle.std.specs.Prelude.{◌≡◌, ◌≤◌, ◌<◌, ◌+◌, ◌^◌, ◌∷◌, ◌++◌, ℕ, List, [], Some, None, true, IfOk, IfNone, IfSome, OnOk, OnErr, length, take, drop, option_to_list};
+ghost use Rattle.std.specs.Prelude.{◌≡◌, ◌≤◌, ◌<◌, ◌+◌, ◌^◌, ◌∷◌, ◌++◌, ℕ, List, [], Some, None, true, false, IfOk, IfNone, IfSome, OnOk, OnErr, length, take, drop, option_to_list};
 ghost use Rattle.policy_view.specs.History.{Event, Bytes, Finished, Stopped, finished as finished_by, malformed as malformed_by, longest_stream, most_sent};
 ghost use Rattle.policy_view.specs.Notes.{Note as NoteValue};
 ghost use Rattle.policy_view.specs.declared.End.{End as SessionEnd};
@@ -305,17 +305,15 @@ impl Session {
         }
     }
 
-    /// Takes what stands in front of a side's stream, a line or a message, or all that is left where messages aren't
-    /// filtered; or ends the session where a fault stands there. Tells whether more may follow.
+    /// Takes the line in front of a side's stream, or all that is left where messages come that aren't filtered; or ends the
+    /// session where a fault stands there. Tells whether more may follow.
     fn take_front(&mut self, policy: &Policy, side: Side) -> bool
-        requires { self.old.ended ≡ None }
+        requires running { self.old.ended ≡ None }
+        requires unfiltered { in_lines (stream_of side self.old).phase ≡ false → self.old.mode.filter ≡ false }
         ensures step { Stepped (step_of policy.now side self.old) self.old self.new result }
         ensures light { IsLight policy.now 0 self.old self.new }
     {
         if !self.is_in_lines(side) {
-            if self.mode.filter {
-                return self.take_front_message(policy, side);
-            }
             return self.pass_raw(policy, side);
         }
         match side {
@@ -332,6 +330,10 @@ impl Session {
     {
         let mut left = most;
         while left > 0 {
+            if !self.is_in_lines(side) && self.mode.filter {
+                self.drain_messages(policy, side, left);
+                return;
+            }
             if !self.take_front(policy, side) {
                 return;
             }

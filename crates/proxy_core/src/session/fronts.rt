@@ -5,9 +5,9 @@ ghost use Rattle.dbus_framing.specs.Knows.{IsWhole};
 ghost use Rattle.policy_view.specs.History.{malformed as malformed_by};
 ghost use Rattle.policy_view.specs.declared.Fault.TheVariants.{Message as OfMessage};
 ghost use Rattle.proxy_core.specs.Messages.{ended_by};
-ghost use Rattle.proxy_core.specs.Seen.{TookFirst};
+ghost use Rattle.proxy_core.specs.Seen.{TookFirst, IsLent};
 ghost use Rattle.proxy_core.specs.Sessions.{stream_of};
-ghost use Rattle.proxy_core.specs.Steps.{with_left, step_of, Stepped, IsLight};
+ghost use Rattle.proxy_core.specs.Steps.{with_left, drained, Took, IsLight};
 ghost use Rattle.proxy_core.specs.Streams.{InMessages};
 
 use super::{Session, malformed};
@@ -86,18 +86,34 @@ impl Session {
         }
     }
 
-    /// Takes the message in front of a side's stream, or ends the session where a fault stands there. Tells whether more
-    /// may follow.
-    pub(super) fn take_front_message(&mut self, policy: &Policy, side: Side) -> bool
+    /// Takes messages from the front of those of a side's stream, at most so many, until none is whole or the session has ended.
+    fn take_messages(&mut self, policy: &Policy, side: Side, messages: &mut Framer, most: usize)
+        requires running { self.old.ended ≡ None }
+        requires lent { IsLent side self.old }
+        requires filtered { self.old.mode.filter ≡ true }
+        ensures took { Took (drained policy.now side most (with_left side messages.old self.old)) (with_left side messages.old self.old) (with_left side messages.new self.new) }
+        ensures light { IsLight policy.now 0 (with_left side messages.old self.old) (with_left side messages.new self.new) }
+        ensures lent { IsLent side self.new }
+    {
+        let mut left = most;
+        while left > 0 {
+            if !self.take_first(policy, side, messages) {
+                return;
+            }
+            left -= 1;
+        }
+    }
+
+    /// Takes messages from the front of a side's stream, at most so many, until none is whole or the session has ended.
+    pub(super) fn drain_messages(&mut self, policy: &Policy, side: Side, most: usize)
         requires running { self.old.ended ≡ None }
         requires messages { (stream_of side self.old).phase ≡ InMessages }
         requires filtered { self.old.mode.filter ≡ true }
-        ensures step { Stepped (step_of policy.now side self.old) self.old self.new result }
+        ensures took { Took (drained policy.now side most self.old) self.old self.new }
         ensures light { IsLight policy.now 0 self.old self.new }
     {
         let mut messages = self.lend_messages(side);
-        let more = self.take_first(policy, side, &mut messages);
+        self.take_messages(policy, side, &mut messages, most);
         self.put_messages(side, messages);
-        more
     }
 }
