@@ -3,24 +3,23 @@ use Rattle.std.proofs.Common.{ℕ, nat_eq, ◌≡◌, ◌⊎◌, inl, inr, Bool,
 use Rattle.link_traits.specs.Journals.{Journal, same_side, same_link, written, written_by}
 use Rattle.link_traits.specs.Views.{NetView}
 use Rattle.link_traits.specs.Answers.{client_link, bus_link, read_entry}
-use Rattle.link_traits.specs.Entries.{Entry, listened as Listened, ready as Ready, accepted as Accepted, connected as Connected, read as Read, finished as Finished, wrote as Wrote, not_ready as NotReady, failed as Failed, refused as Refused, shut as Shut}
+use Rattle.link_traits.specs.Entries.{Entry, not_ready as NotReady, shut as Shut}
 use Rattle.link_traits.specs.declared.links.Got.{Got}
 use Rattle.link_traits.specs.declared.links.Got.TheVariants.{Bytes as GotBytes, Finished as GotFinished, NotReady as GotNotReady, Failed as GotFailed}
 use Rattle.link_traits.specs.declared.links.Side.{Side}
 use Rattle.link_traits.specs.declared.links.Side.TheVariants.{Client, Bus}
 use Rattle.link_traits.specs.declared.links.Link.{Link}
-use Rattle.link_traits.specs.declared.links.Call.{Call}
-use Rattle.link_traits.specs.declared.links.Call.TheVariants.{Listen as ListenCall, Accept as AcceptCall, Connect as ConnectCall, Read as ReadCall, Write as WriteCall}
+use Rattle.link_traits.specs.declared.links.Call.TheVariants.{Write as WriteCall}
 use Rattle.policy_args.specs.Policy.{Policy}
 use Rattle.policy_view.specs.declared.End.{End}
 use Rattle.proxy_core.specs.Sessions.{SessionView, Taken, StandsFor}
 use Rattle.proxy_loop.specs.declared.serving.Running.{Running}
 use Rattle.proxy_loop.specs.Sinks.{SinkView}
-use Rattle.proxy_loop.specs.Kinds.{is_write, write_call, is_read, read_call, writes_of, all_are, some_of, gone_by, gone_call, last_write, first_of}
+use Rattle.proxy_loop.specs.Kinds.{is_write, is_read, writes_of, all_are, some_of, gone_by, last_write, first_of}
 use Rattle.proxy_loop.specs.Works.{Any, Only, Goes, OneRead, ShutWhere, ShutBoth, link_at, IsDrained}
 use Rattle.proxy_loop.specs.Writing.{Written}
 use Rattle.proxy_loop.specs.Logging.{stopped_at, IsLogEnd, LogEnds, Logs}
-use Rattle.proxy_loop.specs.Runs.{Sound, WroteBoth, Reads, LogsIf, ReadPart, ReadsAndLogs, pick_side}
+use Rattle.proxy_loop.specs.Runs.{Sound, WroteBoth, Reads, LogsIf, ReadPart, WrittenUnless, ReadsAndLogs, pick_side}
 use Rattle.proxy_loop.proofs.KindCases.{read_cases, write_cases}
 use Rattle.proxy_loop.proofs.Holding.{same_link_self, goes_then, goes_none, goes_map, all_joined, wrote_append, some_append}
 use Rattle.proxy_loop.proofs.Logged.{appends_none}
@@ -269,7 +268,8 @@ reads_idle policy log n side idle running net sink e = record {
   is = refl;
   appends = appends_none sink;
   counts = omega arith;
-  cut = inl refl;
+  written = refl;
+  all = λ l s h. h;
   end = λ end h. h;
   stopped = λ end h. cc;
   cause = λ end h. inl h;
@@ -302,7 +302,8 @@ module _ (policy : Policy) (n : ℕ) (side : Side) (idle : Bool) (r0 r1 r2 : Run
     is = refl;
     appends = rw quiet (appends_none l0);
     counts = rw quiet (omega arith);
-    cut = inl refl;
+    written = refl;
+    all = λ l s h. cc;
     end = λ end h. rw same h;
     stopped = λ end h. cc;
     cause = λ end h. inl (rw same at h);
@@ -334,9 +335,12 @@ module _ (policy : Policy) (n : ℕ) (side : Side) (idle : Bool) (r0 r1 r2 : Run
         by None h w = (w.1, w.2)
         by (Some x) h w = cc
 
-    either_way : (stop : Option End) → logs.stop ≡ stop → (logs.rest ≡ []) ⊎ (is_some r2.session.ended ≡ true)
-    either_way None e = inl (whole_view e).0
-    either_way (Some end) e = inr (is_stopped end e)
+    written_all : WrittenUnless logs.stop n logs.rest l0 l1
+    written_all = by logs.stop refl
+      where
+        by : (stop : Option End) → logs.stop ≡ stop → WrittenUnless stop n logs.rest l0 l1
+        by None e = (whole_view e).0
+        by (Some end) e = logs.why end e
 
     ends_stay : (stop : Option End) → logs.stop ≡ stop → (end : End) → r1.session.ended ≡ Some end → r2.session.ended ≡ Some end
     ends_stay None e end h = ap (λ (s : SessionView). s.ended) (whole_view e).1 ∙ h
@@ -379,7 +383,8 @@ module _ (policy : Policy) (n : ℕ) (side : Side) (idle : Bool) (r0 r1 r2 : Run
       is = logs.lines;
       appends = logs.appends;
       counts = logs.counts;
-      cut = either_way logs.stop refl;
+      written = written_all;
+      all = λ l s h. ap (λ (s : SessionView). s.notes) (whole_view s).1;
       end = ends_stay logs.stop refl;
       stopped = is_stopped;
       cause = causes logs.stop refl;

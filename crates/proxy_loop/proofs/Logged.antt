@@ -1,5 +1,5 @@
 -- Lines that are logged, one after the other.
-use Rattle.std.proofs.Common.{ℕ, ◌≡◌, ◌≤◌, Bool, true, false, List, [], ◌∷◌, ◌++◌, Option, Some, None, Result, Ok, Err, OnOk, OnErr, refl, ap, ◌∙◌, sym, subst, append-nil, append_assoc, arith, take, drop, is_err}
+use Rattle.std.proofs.Common.{ℕ, ◌≡◌, ◌⊎◌, inl, inr, ◌≤◌, Bool, true, false, List, [], ◌∷◌, ◌++◌, Option, Some, None, Result, Ok, Err, OnOk, OnErr, refl, ap, ◌∙◌, sym, subst, append-nil, append_assoc, arith, take, drop, is_err}
 use Rattle.std.proofs.lemmas.List.{take-append-drop}
 use Rattle.std.proofs.lemmas.Grind.{flat_map-append}
 use Rattle.explain_log.specs.Lines.{log_line, log}
@@ -48,14 +48,15 @@ log-more : (n : ℕ) (xs : List Note) (note : Note) → log n (xs ++ note ∷ []
 log-more n xs note = log-append n xs (note ∷ []) ∙ ap (λ (l : List ℕ). log n xs ++ l) (log-one n note)
 
 -- bytes that weren't written whole
-pub bytes_fail : (bytes : List ℕ) (old new : SessionView) (result : End) (before after : SinkView) → Part before.told after.told bytes → Rose before.faults after.faults
-    → before.faults ≤ after.faults → Stops old new LogFault result → JoinedStops bytes old new before after
-bytes_fail bytes old new result before after part rose counts stops = record {
+pub bytes_fail : (bytes : List ℕ) (line : Option (List ℕ)) (old new : SessionView) (result : End) (before after : SinkView) → Part before.told after.told bytes → Rose before.faults after.faults
+    → before.faults ≤ after.faults → Stops old new LogFault result → JoinedStops bytes line old new before after
+bytes_fail bytes line old new result before after part rose counts stops = record {
   end = LogFault;
   cause = rose;
   got = take part.count bytes;
   rest = drop part.count bytes;
   split = sym (take-append-drop part.count bytes);
+  why = inl rose;
   appends = part.got;
   counts = counts;
   view = stopped_view old new LogFault result stops;
@@ -77,24 +78,30 @@ bytes_whole bytes left session before after none got counts = record {
 pub bytes_wait : (bytes left : List ℕ) (session : SessionView) (sink : SinkView) → left ≡ bytes → JoinedWritten bytes left session session sink sink
 bytes_wait bytes left session sink same = record { got = []; split = sym same; appends = appends_none sink; counts = omega arith; view = refl }
 
+-- where no line was refused memory the sink failed
+failed : (before after : SinkView) (rest : List ℕ) → Rose before.faults after.faults ⊎ (None ≡ Some rest) → Rose before.faults after.faults
+failed before after rest (inl rose) = rose
+failed before after rest (inr e) = absurd cc
+
 -- .. that were written, and behind them a line is refused memory
-pub line_refused : (bytes left line : List ℕ) (old mid new : SessionView) (result : End) (before after : SinkView) (done : Bool) → done ≡ true → JoinedDone bytes left old mid before after done
-    → Stops mid new Memory result → JoinedStops (bytes ++ line) old new before after
-line_refused bytes left line old mid new result before after true e w stops = record {
+pub line_refused : (bytes left line : List ℕ) (old mid new : SessionView) (result : End) (before after : SinkView) (done : Bool) → done ≡ true → (done ≡ true → left ≡ []) → JoinedDone bytes None left old mid before after done
+    → Stops mid new Memory result → JoinedStops (bytes ++ line) (Some line) old new before after
+line_refused bytes left line old mid new result before after true e none w stops = record {
   end = Memory;
   cause = tt;
   got = w.got;
   rest = left ++ line;
   split = ap (λ (l : List ℕ). l ++ line) w.split ∙ append_assoc w.got left line;
+  why = inr (ap (λ (l : List ℕ). Some (l ++ line)) (sym (none refl)));
   appends = w.appends;
   counts = w.counts;
   view = subst (λ (v : SessionView). new ≡ stopped_at v.ended Memory v) w.view (stopped_view mid new Memory result stops);
   stands = λ policy events taken s. stops.stands policy events taken (subst (λ (v : SessionView). StandsFor policy v events taken) (sym w.view) s);
 }
-line_refused bytes left line old mid new result before after false e w stops = cc
+line_refused bytes left line old mid new result before after false e none w stops = cc
 
 -- .. or weren't, and a line is to stand behind them
-pub line_behind : (bytes left line : List ℕ) (old new : SessionView) (before after : SinkView) (done : Bool) → done ≡ false → JoinedDone bytes left old new before after done → JoinedStops (bytes ++ line) old new before after
+pub line_behind : (bytes left line : List ℕ) (old new : SessionView) (before after : SinkView) (done : Bool) → done ≡ false → JoinedDone bytes None left old new before after done → JoinedStops (bytes ++ line) (Some line) old new before after
 line_behind bytes left line old new before after true e w = cc
 line_behind bytes left line old new before after false e w = record {
   end = w.end;
@@ -102,6 +109,7 @@ line_behind bytes left line old new before after false e w = record {
   got = w.got;
   rest = w.rest ++ line;
   split = ap (λ (l : List ℕ). l ++ line) w.split ∙ append_assoc w.got w.rest line;
+  why = inl (failed before after w.rest w.why);
   appends = w.appends;
   counts = w.counts;
   view = w.view;
@@ -109,8 +117,24 @@ line_behind bytes left line old new before after false e w = record {
 }
 
 -- the same bytes
-pub joined_as : (bytes others left : List ℕ) (old new : SessionView) (before after : SinkView) (done : Bool) → bytes ≡ others → JoinedDone bytes left old new before after done → JoinedDone others left old new before after done
-joined_as bytes others left old new before after done e w = subst (λ (l : List ℕ). JoinedDone l left old new before after done) e w
+pub joined_as : (bytes others : List ℕ) (line : Option (List ℕ)) (left : List ℕ) (old new : SessionView) (before after : SinkView) (done : Bool) → bytes ≡ others → JoinedDone bytes line left old new before after done → JoinedDone others line left old new before after done
+joined_as bytes others line left old new before after done e w = subst (λ (l : List ℕ). JoinedDone l line left old new before after done) e w
+
+-- .. of which the last might have been refused memory
+pub refusable : (bytes : List ℕ) (line : Option (List ℕ)) (left : List ℕ) (old new : SessionView) (before after : SinkView) (done : Bool) → JoinedDone bytes None left old new before after done → JoinedDone bytes line left old new before after done
+refusable bytes line left old new before after true w = w
+refusable bytes line left old new before after false w = record {
+  end = w.end;
+  cause = w.cause;
+  got = w.got;
+  rest = w.rest;
+  split = w.split;
+  why = inl (failed before after w.rest w.why);
+  appends = w.appends;
+  counts = w.counts;
+  view = w.view;
+  stands = w.stands;
+}
 
 pub logs_start : (n : ℕ) (session : SessionView) (sink : SinkView) (left : List ℕ) → left ≡ [] → LogsSoFar n session session sink sink left
 logs_start n session sink left none = record {
@@ -138,6 +162,9 @@ log_end_sooner ClientWrite before between after h r = r
 log_end_sooner BusRead before between after h r = r
 log_end_sooner BusWrite before between after h r = r
 log_end_sooner BusConnect before between after h r = r
+
+some_same : (xs ys : List ℕ) → Some ys ≡ Some xs → xs ≡ ys
+some_same xs ys e = cc
 
 -- one note more
 module _ (n : ℕ) (old now next new : SessionView) (before between after : SinkView) (joined left : List ℕ) (note : Note) (so_far : LogsSoFar n old now before between joined)
@@ -167,7 +194,7 @@ module _ (n : ℕ) (old now next new : SessionView) (before between after : Sink
       ∙ ap (λ (l : List ℕ). so_far.got ++ l) e
       ∙ sym (append_assoc so_far.got got others)
 
-  pub one_logged : (done : Bool) → done ≡ true → JoinedDone (joined ++ log_line n note) left next new between after done → LogsSoFar n old new before after left
+  pub one_logged : (done : Bool) → done ≡ true → JoinedDone (joined ++ log_line n note) (Some (log_line n note)) left next new between after done → LogsSoFar n old new before after left
   one_logged true e w = subst (λ (v : SessionView). LogsSoFar n old v before after left) (sym w.view) (record {
     taken = so_far.taken ++ note ∷ [];
     split = split;
@@ -180,7 +207,7 @@ module _ (n : ℕ) (old now next new : SessionView) (before between after : Sink
   })
   one_logged false e w = cc
 
-  pub one_stops : (done : Bool) → done ≡ false → JoinedDone (joined ++ log_line n note) left next new between after done → Logs n old new before after
+  pub one_stops : (done : Bool) → done ≡ false → JoinedDone (joined ++ log_line n note) (Some (log_line n note)) left next new between after done → Logs n old new before after
   one_stops true e w = cc
   one_stops false e w = record {
     taken = so_far.taken ++ note ∷ [];
@@ -193,6 +220,10 @@ module _ (n : ℕ) (old now next new : SessionView) (before between after : Sink
     counts = omega (arith, so_far.counts, w.counts);
     stop = Some w.end;
     ends = (log_end_sooner w.end before between after so_far.counts w.cause, w.view ∙ ap (λ (s : SessionView). stopped_at s.ended w.end s) from_old);
+    why = λ end e. elim w.why [
+      | inl rose ↦ inl (rose_sooner before.faults between.faults after.faults so_far.counts rose)
+      | inr same ↦ inr (note, some_same w.rest (log_line n note) same)
+    ];
     stands = λ policy events was s. w.stands policy events (record was { notes = was.notes ++ (so_far.taken ++ note ∷ []) }) (next_stands policy events was s);
   }
 
@@ -211,7 +242,7 @@ module _ (n : ℕ) (old now next new : SessionView) (before between after : Sink
   lines_end : (got others : List ℕ) → joined ≡ got ++ others → log n so_far.taken ≡ (so_far.got ++ got) ++ others
   lines_end got others e = so_far.lines ∙ ap (λ (l : List ℕ). so_far.got ++ l) e ∙ sym (append_assoc so_far.got got others)
 
-  pub all_logged : (done : Bool) → (done ≡ true → left ≡ []) → JoinedDone joined left next new between after done → Logs n old new before after
+  pub all_logged : (done : Bool) → (done ≡ true → left ≡ []) → JoinedDone joined None left next new between after done → Logs n old new before after
   all_logged true whole w = record {
     taken = so_far.taken;
     left = [];
@@ -223,6 +254,7 @@ module _ (n : ℕ) (old now next new : SessionView) (before between after : Sink
     counts = omega (arith, so_far.counts, w.counts);
     stop = None;
     ends = (refl, refl, w.view ∙ ends_from);
+    why = λ end e. cc;
     stands = λ policy events was s. subst (λ (v : SessionView). StandsFor policy v events (record was { notes = was.notes ++ so_far.taken })) (sym w.view) (last_stands policy events was s);
   }
   all_logged false whole w = record {
@@ -236,5 +268,6 @@ module _ (n : ℕ) (old now next new : SessionView) (before between after : Sink
     counts = omega (arith, so_far.counts, w.counts);
     stop = Some w.end;
     ends = (log_end_sooner w.end before between after so_far.counts w.cause, w.view ∙ ap (λ (s : SessionView). stopped_at s.ended w.end s) ends_from);
+    why = λ end e. inl (rose_sooner before.faults between.faults after.faults so_far.counts (failed between after w.rest w.why));
     stands = λ policy events was s. w.stands policy events (record was { notes = was.notes ++ so_far.taken }) (last_stands policy events was s);
   }

@@ -1,7 +1,7 @@
 -- What is told of one session tells nothing of another, and sessions go on serving a journal.
 use Rattle.std.proofs.Common.{ℕ, nat_eq, ◌≡◌, ◌≤◌, inl, inr, Bool, true, false, ◌&&◌, ◌||◌, not, List, [], ◌∷◌, ◌++◌, Option, Some, None, if◌then◌else◌, refl, ap, ◌∙◌, sym, subst, arith}
 use Rattle.std.proofs.lemmas.Bool.Decides.{nat_tests}
-use Rattle.link_traits.specs.Journals.{Journal, same_side, same_link, written_by, accepts, accepts_by}
+use Rattle.link_traits.specs.Journals.{Journal, same_link, written_by, accepts, accepts_by}
 use Rattle.link_traits.specs.Answers.{client_link, bus_link, read_entry}
 use Rattle.link_traits.specs.Entries.{Entry, listened as Listened, ready as Ready, accepted as Accepted, connected as Connected, read as Read, finished as Finished, wrote as Wrote, not_ready as NotReady, failed as Failed, refused as Refused, shut as Shut}
 use Rattle.link_traits.specs.declared.links.Side.{Side}
@@ -13,7 +13,7 @@ use Rattle.policy_args.specs.declared.line.Block.{Block}
 use Rattle.policy_view.specs.History.{Event}
 use Rattle.proxy_loop.specs.declared.serving.Running.{Running}
 use Rattle.proxy_loop.specs.Sessions.{events_of, events_by, failed_events, refused_events}
-use Rattle.proxy_loop.specs.Kinds.{about, call_about, all_are, some_of, gone_by, gone_call, writes_of, is_read, read_call}
+use Rattle.proxy_loop.specs.Kinds.{about, call_about, all_are, some_of, gone_by, gone_call, writes_of, is_read}
 use Rattle.proxy_loop.specs.Works.{link_at}
 use Rattle.proxy_loop.specs.Runs.{Served, ReadUnless}
 use Rattle.proxy_loop.specs.Servers.{touches, Fresh, listened_by, listener_of, Held, Stays}

@@ -17,7 +17,7 @@ use Rattle.proxy_core.specs.Sessions.{SessionView}
 use Rattle.proxy_loop.specs.declared.serving.Running.{Running}
 use Rattle.proxy_loop.specs.Sinks.{SinkView}
 use Rattle.proxy_loop.specs.Kinds.{some_of, gone_by, last_write}
-use Rattle.proxy_loop.specs.Works.{Any, Goes, Stood, StoodFor, Cause, ShutBoth, IsDrained, link_at, shuts_now, is_full}
+use Rattle.proxy_loop.specs.Works.{Any, Goes, Stood, StoodFor, Cause, ShutBoth, IsDrained, link_at, shuts_now, is_full, KeepsEnd}
 use Rattle.proxy_loop.specs.Logging.{IsLogEnd, stop_events}
 use Rattle.proxy_loop.specs.Runs.{Sound, KeepsPlace, KeepsShut, WroteBoth, ReadsAndLogs, ReadPart, IsDone, Served, ServedStands, CauseOf, Serving}
 use Rattle.proxy_loop.proofs.Holding.{moves_then, cause_later, cause_sooner, some_append}
@@ -77,6 +77,7 @@ module _ (policy : Policy) (log : Bool) (n : ℕ) (side : Side) (r0 r1 r2 r3 r4 
     (client_shut : r4.client.shut ≡ (r3.client.shut || shuts_now Client r3.session r3.client.gone))
     (bus_shut : r4.bus.shut ≡ (r3.bus.shut || shuts_now Bus r3.session r3.bus.gone))
     (sound0 : Sound r0) (sound3 : Sound r3) (keeps0 : r0.session.mode.notes ≡ log) (stood0 : Stood policy r0.session)
+    (first_kept : KeepsEnd r0.session r1.session) (second_kept : KeepsEnd r2.session r3.session)
     (client_same : r1.client.shut ≡ r0.client.shut) (bus_same : r1.bus.shut ≡ r0.bus.shut) where
   done_now : (link : Link) (shuts second older : Journal) (queue : List ℕ) (gone shut shut_after ended nil : Bool) →
       ShutBoth n client bus shuts → (gone ≡ true → ended ≡ true) → shut_after ≡ (shut || (ended && (gone || nil))) →
@@ -208,7 +209,7 @@ module _ (policy : Policy) (log : Bool) (n : ℕ) (side : Side) (r0 r1 r2 r3 r4 
               a.end b.goes.end c.end h
               (λ e. both_stop n reads first (unread_stop n (is_some r1.session.ended || is_full side r1.session) (link_at n side) reads
               (idle_by r1.session.ended (is_full side r1.session) (still_some r0.session.ended r1.session.ended a.end e)) t2.4.once) (writes_stop n first t1.4.all))
-              (both_stop n shuts second (shuts_stop n client bus shuts t4.4) (writes_stop n second t3.4.all)) keeps0 all_mode sound0.notes sound3.notes)),
+              (both_stop n shuts second (shuts_stop n client bus shuts t4.4) (writes_stop n second t3.4.all)) keeps0 all_mode sound0.notes first_kept.notes second_kept.notes)),
         );
     counts = λ count. let x : v0.counts count ≤ v3.counts count = to3 count in let y : v3.counts count ≤ v5.counts count = from3 count in omega arith;
     log_counts = b.counts;
@@ -243,11 +244,11 @@ module _ (policy : Policy) (log : Bool) (side : Side) (r0 r1 r2 r3 r4 : Running)
       Goes Any r3.number r3.session r3.session v3 v4 (ShutBoth r3.number (not r3.client.shut && r4.client.shut) (not r3.bus.shut && r4.bus.shut)) → Adds v4 v5 [] →
       r4.session ≡ r3.session → r4.client.gone ≡ r3.client.gone → r4.bus.gone ≡ r3.bus.gone →
       r4.client.shut ≡ (r3.client.shut || shuts_now Client r3.session r3.client.gone) → r4.bus.shut ≡ (r3.bus.shut || shuts_now Bus r3.session r3.bus.gone) →
-      Sound r0 → Sound r3 → r0.session.mode.notes ≡ log → Stood policy r0.session → Serving policy log r0.number side r0 r4 v0 v5 l0 l1
-  serving_runs a b c d q same cg bg cs bs sound0 sound3 keeps0 stood0 =
+      Sound r0 → Sound r3 → r0.session.mode.notes ≡ log → Stood policy r0.session → KeepsEnd r0.session r1.session → KeepsEnd r2.session r3.session → Serving policy log r0.number side r0 r4 v0 v5 l0 l1
+  serving_runs a b c d q same cg bg cs bs sound0 sound3 keeps0 stood0 first_kept second_kept =
       serving_now policy log r0.number side r0 r1 r2 r3 r4 v0 v1 v2 v3 v4 v5 l0 l1 (not r3.client.shut && r4.client.shut) (not r3.bus.shut && r4.bus.shut)
       a
       (subst (λ (m : ℕ). ReadsAndLogs policy log m side (is_some r1.session.ended || is_full side r1.session) r1 r2 v1 v2 l0 l1) n1 b)
       (subst (λ (m : ℕ). Goes Any m r2.session r3.session v2 v3 (WroteBoth m r2 r3)) n2 c)
       (subst (λ (m : ℕ). Goes Any m r3.session r3.session v3 v4 (ShutBoth m (not r3.client.shut && r4.client.shut) (not r3.bus.shut && r4.bus.shut))) n3 d)
-      q same cg bg (ap (λ (x : Bool). not x && r4.client.shut) client_kept) (ap (λ (x : Bool). not x && r4.bus.shut) bus_kept) cs bs sound0 sound3 keeps0 stood0 k1.client k1.bus
+      q same cg bg (ap (λ (x : Bool). not x && r4.client.shut) client_kept) (ap (λ (x : Bool). not x && r4.bus.shut) bus_kept) cs bs sound0 sound3 keeps0 stood0 first_kept second_kept k1.client k1.bus

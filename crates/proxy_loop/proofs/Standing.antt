@@ -4,6 +4,7 @@ use Rattle.explain_log.specs.Lines.{log}
 use Rattle.link_traits.specs.Journals.{Journal, written}
 use Rattle.link_traits.specs.Views.{NetView}
 use Rattle.link_traits.specs.Answers.{client_link, bus_link}
+use Rattle.link_traits.specs.Told.{Rose}
 use Rattle.link_traits.specs.declared.links.Side.{Side}
 use Rattle.link_traits.specs.declared.links.Link.{Link}
 use Rattle.policy_args.specs.Policy.{Policy}
@@ -16,8 +17,8 @@ use Rattle.proxy_loop.specs.declared.serving.Running.{Running}
 use Rattle.proxy_loop.specs.Sinks.{SinkView}
 use Rattle.proxy_loop.specs.Sessions.{Holds, IsWithStop, events_of, taken_of}
 use Rattle.proxy_loop.specs.Works.{Moves, more_taken}
-use Rattle.proxy_loop.specs.Logging.{stop_events}
-use Rattle.proxy_loop.specs.Runs.{ReadsAndLogs, Logged, ServedStands, log_of}
+use Rattle.proxy_loop.specs.Logging.{stop_events, WhyUnwritten}
+use Rattle.proxy_loop.specs.Runs.{WrittenUnless, ReadsAndLogs, WhyCut, Logged, ServedStands, log_of}
 use Rattle.proxy_loop.proofs.Holding.{wrote_append, events_append}
 use Rattle.proxy_loop.proofs.Stopping.{AllStops, stops_append, both_stop}
 use Rattle.proxy_loop.proofs.Logged.{log-append}
@@ -72,6 +73,10 @@ runs_by (Some end) full e = cc
 pub idle_by : (ended : Option End) (full : Bool) → is_some ended ≡ true → is_some ended || full ≡ true
 idle_by None full e = cc
 idle_by (Some end) full e = refl
+
+some_memory : (ended : Option End) → is_memory ended ≡ true → is_some ended ≡ true
+some_memory None m = cc
+some_memory (Some end) m = refl
 
 no_stop_in : (put : Bool) (events told : List Event) → put ≡ false → IsWithStop put events told → events ≡ told
 no_stop_in false events told e s = s
@@ -166,7 +171,8 @@ module _ (policy : Policy) (logs : Bool) (n : ℕ) (side : Side) (full : Bool) (
       ∙ append_assoc (log n h.notes) (reads.lines ++ reads.rest) (log n xs)
       ∙ ap (λ (l : List ℕ). log n h.notes ++ l) (append_assoc reads.lines reads.rest (log n xs))
 
-  module _ (mode : s3.mode ≡ s0.mode) (kept : s0.mode.notes ≡ true) (none_before : s0.ended ≡ None → s0.notes ≡ []) (none_after : s3.ended ≡ None → s3.notes ≡ []) where
+  module _ (logged : logs ≡ true) (mode : s3.mode ≡ s0.mode) (kept : s0.mode.notes ≡ true) (none_before : s0.ended ≡ None → s0.notes ≡ [])
+      (same_before : r1.session.notes ≡ s0.notes) (same_after : s3.notes ≡ r2.session.notes) where
     keeps : s3.mode.notes ≡ true
     keeps = ap (λ (m : Mode). m.notes) mode ∙ kept
 
@@ -183,10 +189,28 @@ module _ (policy : Policy) (logs : Bool) (n : ℕ) (side : Side) (full : Bool) (
     unfolding log_of
     all_after = ap (log n) (sym first_now.is) ∙ more_lines first_now.rest
 
-    exact_after : s3.ended ≡ None → log_of policy s3.mode n ((late ++ early) ++ was) ≡ log n h.notes ++ (reads.lines ++ reads.rest)
-    unfolding log_of holds_now
-    exact_after e = ap (log n) (exact_notes policy n s3 ((late ++ early) ++ was) holds_now e keeps (none_after e))
-        ∙ log-append n h.notes reads.taken ∙ ap (λ (l : List ℕ). log n h.notes ++ l) reads.is
+    given_late : (events : List Event) → notes policy (history policy s3.mode (events_of n late ++ events)) ≡ notes policy (history policy s3.mode events)
+    given_late events = stops_given policy s3.mode (notes policy) (notes_ended policy) (events_of n late) events late_stops
+
+    given_stopped : (stop : Option End) (events : List Event) → notes policy (history policy s3.mode (stop_events stop ++ events)) ≡ notes policy (history policy s3.mode events)
+    given_stopped None events = refl
+    given_stopped (Some end) events = stops_given policy s3.mode (notes policy) (notes_ended policy) (Stopped end ∷ []) events refl
+
+    -- a session that wasn't refused memory knows all of its notes
+    exact_after : s0.ended ≡ None → is_memory s3.ended ≡ false → log_of policy s3.mode n ((late ++ early) ++ was) ≡ log n h.notes ++ (reads.lines ++ (reads.rest ++ log n s3.notes))
+    unfolding log_of events_now events_of
+    exact_after ran whole =
+        let same : h.events ≡ events_of n was = no_stop_in h.put h.events (events_of n was) (not_put h.put s0.ended h.over ran) h.told in
+        let noted : (h.notes ++ reads.taken) ++ s3.notes ≡ notes_made s3.mode policy (history policy s3.mode events_now) = (stands_now.holds whole).noted in
+        ap (log n) (
+        ap (λ (es : List Event). notes policy (history policy s3.mode es)) told_now
+        ∙ given_late (events_of n early ++ events_of n was)
+        ∙ ap (λ (es : List Event). notes policy (history policy s3.mode (events_of n early ++ es))) (sym same)
+        ∙ sym (given_stopped reads.stop (events_of n early ++ h.events))
+        ∙ sym (given_late (stop_events reads.stop ++ (events_of n early ++ h.events)))
+        ∙ sym (noted ∙ made_all s3.mode policy events_now keeps)
+        )
+        ∙ more_lines s3.notes
 
     -- behind an End nothing is read, and there is no new note
     unchanged : is_some s0.ended ≡ true → log_of policy s3.mode n ((late ++ early) ++ was) ≡ log_of policy s3.mode n was
@@ -196,26 +220,40 @@ module _ (policy : Policy) (logs : Bool) (n : ℕ) (side : Side) (full : Bool) (
         ∙ ap (log n) (stops_given policy s3.mode (notes policy) (notes_ended policy) (events_of n (late ++ early)) (events_of n was)
         (both_stop n late early late_stops (early_stops e)))
 
-    cut_now : (reads.rest ≡ []) ⊎ (is_some r2.session.ended ≡ true) → (reads.rest ≡ []) ⊎ (is_some s3.ended ≡ true)
-    cut_now (inl e) = inl e
-    cut_now (inr e) = inr (still_some r2.session.ended s3.ended last_end e)
+    cut_by : (stop : Option End) → reads.stop ≡ stop → s0.ended ≡ None →
+        (reads.rest ++ log n s3.notes ≡ []) ⊎ ((is_some s3.ended ≡ true) × WhyCut n (reads.rest ++ log n s3.notes) s3 l0 l1)
+    cut_by None e ran =
+        let whole : reads.rest ≡ [] = subst (λ (o : Option End). WrittenUnless o n reads.rest l0 l1) e reads.written in
+        let none : s3.notes ≡ [] = same_after ∙ reads.all logged e (same_before ∙ none_before ran) in
+        inl (ap₂ (λ (xs : List ℕ) (ys : List Note). xs ++ log n ys) whole none)
+    cut_by (Some end) e ran = inr (
+      still_some r2.session.ended s3.ended last_end (reads.stopped end e),
+      inr (why (subst (λ (o : Option End). WrittenUnless o n reads.rest l0 l1) e reads.written)),
+    )
+      where
+        why : WhyUnwritten n reads.rest l0 l1 → Rose l0.faults l1.faults ⊎ ((note : Note) × (reads.rest ++ log n s3.notes ≡ log n (note ∷ s3.notes)))
+        why (inl rose) = inl rose
+        why (inr x) = inr (x.0, ap (λ (l : List ℕ). l ++ log n s3.notes) x.1)
 
-    pub logged_now : (o0 o3 : Option End) → s0.ended ≡ o0 → s3.ended ≡ o3 → Logged policy n s3 was ((late ++ early) ++ was) l0 l1
-    logged_now None None e f = record {
-      lines = reads.lines;
-      rest = reads.rest;
-      appends = reads.appends;
-      is = exact_after f ∙ ap (λ (l : List ℕ). l ++ (reads.lines ++ reads.rest)) (sym (all_before e));
-      cut = cut_now reads.cut;
-    }
-    logged_now None (Some end) e f = record {
-      lines = reads.lines;
-      rest = reads.rest ++ log n first_now.rest;
-      appends = reads.appends;
-      is = all_after ∙ ap (λ (l : List ℕ). l ++ (reads.lines ++ (reads.rest ++ log n first_now.rest))) (sym (all_before e));
-      cut = inr (ap (λ (o : Option End). is_some o) f);
-    }
-    logged_now (Some end) o3 e f =
+    pub logged_now : (o0 : Option End) → s0.ended ≡ o0 → Logged policy n s3 was ((late ++ early) ++ was) l0 l1
+    logged_now None e = by_memory (is_memory s3.ended) refl
+      where
+        by_memory : (b : Bool) → is_memory s3.ended ≡ b → Logged policy n s3 was ((late ++ early) ++ was) l0 l1
+        by_memory true m = record {
+          lines = reads.lines;
+          rest = reads.rest ++ log n first_now.rest;
+          appends = reads.appends;
+          is = all_after ∙ ap (λ (l : List ℕ). l ++ (reads.lines ++ (reads.rest ++ log n first_now.rest))) (sym (all_before e));
+          cut = inr (some_memory s3.ended m, inl m);
+        }
+        by_memory false m = record {
+          lines = reads.lines;
+          rest = reads.rest ++ log n s3.notes;
+          appends = reads.appends;
+          is = exact_after e m ∙ ap (λ (l : List ℕ). l ++ (reads.lines ++ (reads.rest ++ log n s3.notes))) (sym (all_before e));
+          cut = cut_by reads.stop refl e;
+        }
+    logged_now (Some end) e =
         let ended : is_some s0.ended ≡ true = ap (λ (o : Option End). is_some o) e in
         let none : reads.lines ≡ [] = reads.unread (idle_by s1.ended full (still_some s0.ended s1.ended first_end ended)) in
         record {
@@ -226,11 +264,9 @@ module _ (policy : Policy) (logs : Bool) (n : ℕ) (side : Side) (full : Bool) (
           cut = inl refl;
         }
 
-  pub served_stands : s0.mode.notes ≡ logs → s3.mode ≡ s0.mode → (s0.mode.notes ≡ true → s0.ended ≡ None → s0.notes ≡ []) → (s3.mode.notes ≡ true → s3.ended ≡ None → s3.notes ≡ []) →
+  pub served_stands : s0.mode.notes ≡ logs → s3.mode ≡ s0.mode → (s0.mode.notes ≡ true → s0.ended ≡ None → s0.notes ≡ []) → r1.session.notes ≡ s0.notes → s3.notes ≡ r2.session.notes →
       ServedStands policy logs n s3 was ((late ++ early) ++ was) l0 l1
-  served_stands is same none_before none_after = record {
+  served_stands is same none_before same_before same_after = record {
     holds = holds_now;
-    logged = λ e.
-        let kept : s0.mode.notes ≡ true = is ∙ e in
-        logged_now same kept (none_before kept) (none_after (ap (λ (m : Mode). m.notes) same ∙ kept)) s0.ended s3.ended refl refl;
+    logged = λ e. let kept : s0.mode.notes ≡ true = is ∙ e in logged_now e same kept (none_before kept) same_before same_after s0.ended refl;
   }

@@ -3,13 +3,11 @@ use Rattle.std.proofs.Common.{ℕ, nat_eq, ◌≡◌, Bool, true, false, ◌&&�
 use Rattle.std.specs.List.{list_all}
 use Rattle.link_traits.specs.Journals.{Journal}
 use Rattle.link_traits.specs.Answers.{client_link, bus_link}
-use Rattle.link_traits.specs.Entries.{Entry, listened as Listened, ready as Ready, accepted as Accepted, connected as Connected, read as Read, finished as Finished, wrote as Wrote, not_ready as NotReady, failed as Failed, refused as Refused, shut as Shut}
+use Rattle.link_traits.specs.Entries.{Entry, shut as Shut}
 use Rattle.link_traits.specs.declared.links.Link.{Link}
-use Rattle.link_traits.specs.declared.links.Call.{Call}
-use Rattle.link_traits.specs.declared.links.Call.TheVariants.{Listen as ListenCall, Accept as AcceptCall, Connect as ConnectCall, Read as ReadCall, Write as WriteCall}
 use Rattle.policy_view.specs.declared.End.{End}
 use Rattle.policy_view.specs.History.{Event, Stopped}
-use Rattle.proxy_loop.specs.Sessions.{is_stop, events_of, events_by, failed_events, write_end}
+use Rattle.proxy_loop.specs.Sessions.{is_stop, events_of, events_by, write_end}
 use Rattle.proxy_loop.specs.Kinds.{writes_of, all_are}
 use Rattle.proxy_loop.specs.Works.{ShutBoth}
 use Rattle.proxy_loop.specs.Runs.{ReadUnless}

@@ -1,5 +1,5 @@
 -- What a session and a sink are after new notes were logged.
-use Rattle.std.specs.Prelude.{ℕ, ◌≡◌, ◌≤◌, Bool, true, false, List, [], ◌∷◌, ◌++◌, Option, Some, None}
+use Rattle.std.specs.Prelude.{ℕ, ◌≡◌, ◌⊎◌, ◌≤◌, Bool, true, false, List, [], ◌∷◌, ◌++◌, Option, Some, None}
 use Rattle.link_traits.specs.Told.{Rose}
 use Rattle.explain_log.specs.Lines.{log_line, log}
 use Rattle.policy_args.specs.Policy.{Policy}
@@ -31,13 +31,15 @@ abbrev pub stopped_at : Option End → End → SessionView → SessionView
 stopped_at None end session = ended_by end session
 stopped_at (Some first) end session = session
 
--- a front of the bytes was written, and the session was told to stop
-pub record JoinedStops (bytes : List ℕ) (old new : SessionView) (before after : SinkView) : Type 0 where
+-- A front of the bytes was written, and the session was told to stop: the sink failed, or these bytes end with a line that was
+-- refused memory, and all before it was written.
+pub record JoinedStops (bytes : List ℕ) (line : Option (List ℕ)) (old new : SessionView) (before after : SinkView) : Type 0 where
   pub end : End
   pub cause : IsLogEnd end before after
   pub got : List ℕ
   pub rest : List ℕ
   pub split : bytes ≡ got ++ rest
+  pub why : Rose before.faults after.faults ⊎ (line ≡ Some rest)
   pub appends : Appends before after got
   pub counts : before.faults ≤ after.faults
   pub view : new ≡ stopped_at old.ended end old
@@ -51,9 +53,9 @@ pub record JoinedWritten (bytes left : List ℕ) (old new : SessionView) (before
   pub counts : before.faults ≤ after.faults
   pub view : new ≡ old
 
-abbrev pub JoinedDone : List ℕ → List ℕ → SessionView → SessionView → SinkView → SinkView → Bool → Type 0
-JoinedDone bytes left old new before after true = JoinedWritten bytes left old new before after
-JoinedDone bytes left old new before after false = JoinedStops bytes old new before after
+abbrev pub JoinedDone : List ℕ → Option (List ℕ) → List ℕ → SessionView → SessionView → SinkView → SinkView → Bool → Type 0
+JoinedDone bytes line left old new before after true = JoinedWritten bytes left old new before after
+JoinedDone bytes line left old new before after false = JoinedStops bytes line old new before after
 
 -- the first notes of a session were taken, and of their lines these bytes are still to be written
 pub record LogsSoFar (n : ℕ) (old now : SessionView) (before after : SinkView) (left : List ℕ) : Type 0 where
@@ -77,6 +79,10 @@ abbrev pub LogEnds : Option End → SessionView → SessionView → List Note �
 LogEnds None old new left rest before after = (left ≡ []) × (rest ≡ []) × (new ≡ record old { notes = [] })
 LogEnds (Some end) old new left rest before after = IsLogEnd end before after × (new ≡ stopped_at old.ended end (record old { notes = left }))
 
+-- why these bytes weren't written: the sink failed, or they are a line that was refused memory
+abbrev pub WhyUnwritten : ℕ → List ℕ → SinkView → SinkView → Type 0
+WhyUnwritten n rest before after = Rose before.faults after.faults ⊎ ((note : Note) × (rest ≡ log_line n note))
+
 -- the notes of a session were logged: the lines of those that were taken were written, or a part of these, and then an End stands
 pub record Logs (n : ℕ) (old new : SessionView) (before after : SinkView) : Type 0 where
   pub taken : List Note
@@ -89,5 +95,6 @@ pub record Logs (n : ℕ) (old new : SessionView) (before after : SinkView) : Ty
   pub counts : before.faults ≤ after.faults
   pub stop : Option End
   pub ends : LogEnds stop old new left rest before after
+  pub why : (end : End) → stop ≡ Some end → WhyUnwritten n rest before after
   pub stands : (policy : Policy) (events : List Event) (was : Taken) → StandsFor policy old events was →
       StandsFor policy new (stop_events stop ++ events) (record was { notes = was.notes ++ taken })

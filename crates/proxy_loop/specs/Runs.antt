@@ -1,10 +1,11 @@
 -- A session with the states of its links, and what a turn does for it.
-use Rattle.std.specs.Prelude.{ℕ, ◌≡◌, ◌≤◌, ◌⊎◌, Bool, true, false, not, List, [], ◌++◌, Option, Some, None, is_some, nat_eq, ◌&&◌, ◌||◌}
+use Rattle.std.specs.Prelude.{ℕ, ◌≡◌, ◌≤◌, ◌⊎◌, Bool, true, false, not, List, [], ◌∷◌, ◌++◌, Option, Some, None, is_some, nat_eq, ◌&&◌, ◌||◌}
 use Rattle.explain_log.specs.Lines.{log}
 use Rattle.link_traits.specs.Journals.{Journal, written}
 use Rattle.link_traits.specs.Views.{NetView}
 use Rattle.link_traits.specs.Answers.{client_link, bus_link}
 use Rattle.link_traits.specs.Entries.{not_ready}
+use Rattle.link_traits.specs.Told.{Rose}
 use Rattle.link_traits.specs.declared.links.Side.{Side}
 use Rattle.link_traits.specs.declared.links.Side.TheVariants.{Client, Bus}
 use Rattle.link_traits.specs.declared.links.Link.{Link}
@@ -15,13 +16,13 @@ use Rattle.policy_view.specs.declared.Mode.{Mode}
 use Rattle.policy_view.specs.declared.End.{End}
 use Rattle.policy_view.specs.History.{Event, history}
 use Rattle.policy_view.specs.Notes.{Note, notes}
-use Rattle.proxy_core.specs.Sessions.{SessionView, Taken, StandsFor}
+use Rattle.proxy_core.specs.Sessions.{SessionView, Taken, StandsFor, is_memory}
 use Rattle.proxy_loop.specs.declared.serving.Running.{Running}
 use Rattle.proxy_loop.specs.Sinks.{SinkView, Appends}
 use Rattle.proxy_loop.specs.Sessions.{Holds, events_of}
 use Rattle.proxy_loop.specs.Kinds.{writes_of, all_are, some_of, gone_by, last_write}
 use Rattle.proxy_loop.specs.Works.{Only, Goes, Stood, Cause, OneRead, IsDrained, link_at, is_full, ShutBoth}
-use Rattle.proxy_loop.specs.Logging.{stop_events, IsLogEnd, Logs}
+use Rattle.proxy_loop.specs.Logging.{stop_events, IsLogEnd, WhyUnwritten, Logs}
 
 -- To a link that is gone nothing more is written: then an End stands. While a session that makes notes runs, none is left.
 pub record Sound (running : Running) : Type 0 where
@@ -90,6 +91,11 @@ pub record ReadPart (n : ℕ) (side : Side) (idle : Bool) (old new : Running) (a
   pub client_gone : new.client.gone ≡ (some_of (gone_by (client_link n)) added || old.client.gone)
   pub bus_gone : new.bus.gone ≡ (some_of (gone_by (bus_link n)) added || old.bus.gone)
 
+-- all lines of the notes that were taken were written, or it is known why these weren't
+abbrev pub WrittenUnless : Option End → ℕ → List ℕ → SinkView → SinkView → Type 0
+WrittenUnless None n rest before after = rest ≡ []
+WrittenUnless (Some end) n rest before after = WhyUnwritten n rest before after
+
 -- The read of a turn and the lines of the new notes: the session is first fed; then notes are taken, and their lines written,
 -- or a part of these, and then an End stands.
 pub record ReadsAndLogs (policy : Policy) (logs : Bool) (n : ℕ) (side : Side) (idle : Bool) (old new : Running) (before after : NetView) (first last : SinkView) : Type 0 where
@@ -106,7 +112,8 @@ pub record ReadsAndLogs (policy : Policy) (logs : Bool) (n : ℕ) (side : Side) 
   pub is : log n taken ≡ lines ++ rest
   pub appends : Appends first last lines
   pub counts : first.faults ≤ last.faults
-  pub cut : (rest ≡ []) ⊎ (is_some new.session.ended ≡ true)
+  pub written : WrittenUnless stop n rest first last
+  pub all : logs ≡ true → stop ≡ None → old.session.notes ≡ [] → new.session.notes ≡ []
   pub end : (end : End) → fed.ended ≡ Some end → new.session.ended ≡ Some end
   pub stopped : (end : End) → stop ≡ Some end → is_some new.session.ended ≡ true
   pub cause : (end : End) → new.session.ended ≡ Some end → (fed.ended ≡ Some end) ⊎ IsLogEnd end first last
@@ -146,13 +153,20 @@ pub record Served (n : ℕ) (side : Side) (old new : Running) (added : Journal) 
 unfoldable pub log_of : Policy → Mode → ℕ → Journal → List ℕ
 log_of policy mode n journal = log n (notes policy (history policy mode (events_of n journal)))
 
--- the log got the lines of the session's new notes in order, or a part of these, and then the session has an End
+-- Why these lines weren't written: the session was refused memory in its midst, and some of its notes with it; or the sink failed;
+-- or memory was refused for a line, which is the first of these, and the others are those of the notes that it left.
+abbrev pub WhyCut : ℕ → List ℕ → SessionView → SinkView → SinkView → Type 0
+WhyCut n rest session before after =
+    (is_memory session.ended ≡ true) ⊎ (Rose before.faults after.faults ⊎ ((note : Note) × (rest ≡ log n (note ∷ session.notes))))
+
+-- The log got the lines of the session's new notes in order; or a part of these, and then the session has an End and it is known
+-- why the others weren't written.
 pub record Logged (policy : Policy) (n : ℕ) (new : SessionView) (first last : Journal) (before after : SinkView) : Type 0 where
   pub lines : List ℕ
   pub rest : List ℕ
   pub appends : Appends before after lines
   pub is : log_of policy new.mode n last ≡ log_of policy new.mode n first ++ (lines ++ rest)
-  pub cut : (rest ≡ []) ⊎ (is_some new.ended ≡ true)
+  pub cut : (rest ≡ []) ⊎ ((is_some new.ended ≡ true) × WhyCut n rest new before after)
 
 -- a session that stood for the journal before stands for the one after, and the log is exact
 pub record ServedStands (policy : Policy) (logs : Bool) (n : ℕ) (new : SessionView) (first last : Journal) (before after : SinkView) : Type 0 where

@@ -1,5 +1,5 @@
 //! The lines of a session's new notes, joined so that one write carries many.
-ghost use Rattle.std.specs.Prelude.{◌≡◌, ◌++◌, [], IsTrue, string_bytes, true, false};
+ghost use Rattle.std.specs.Prelude.{◌≡◌, ◌++◌, [], Some, None, IsTrue, string_bytes, true, false};
 ghost use Rattle.explain_log.specs.Lines.{log_line};
 ghost use Rattle.proxy_loop.specs.Sinks.{sink_of};
 ghost use Rattle.proxy_loop.specs.Logging.{JoinedDone, Logs};
@@ -15,7 +15,7 @@ const LONG: usize = 65_536;
 
 /// Writes the lines that are joined. Answers whether they were written whole; else the session is told to stop.
 fn write_lines<S: Sink>(sink: &mut S, session: &mut Session, lines: &mut String) -> bool
-    ensures done { JoinedDone (string_bytes lines.old) (string_bytes lines.new) session.old session.new (sink_of (S.told sink.old) (S.faults sink.old)) (sink_of (S.told sink.new) (S.faults sink.new)) result }
+    ensures done { JoinedDone (string_bytes lines.old) None (string_bytes lines.new) session.old session.new (sink_of (S.told sink.old) (S.faults sink.old)) (sink_of (S.told sink.new) (S.faults sink.new)) result }
     ensures none { IsTrue result → string_bytes lines.new ≡ [] }
 {
     if write_all(sink, lines.as_bytes()).is_err() {
@@ -36,7 +36,7 @@ fn log_note<S: Sink>(
     note: Note,
     lines: &mut String,
 ) -> bool
-    ensures { JoinedDone (string_bytes lines.old ++ log_line number note) (string_bytes lines.new) session.old session.new (sink_of (S.told sink.old) (S.faults sink.old)) (sink_of (S.told sink.new) (S.faults sink.new)) result }
+    ensures { JoinedDone (string_bytes lines.old ++ log_line number note) (Some (log_line number note)) (string_bytes lines.new) session.old session.new (sink_of (S.told sink.old) (S.faults sink.old)) (sink_of (S.told sink.new) (S.faults sink.new)) result }
 {
     if push_line(alloc, lines, number, &note).is_err() {
         if !write_lines(sink, session, lines) {

@@ -10,4 +10,4 @@ returns-clause-serving g c =
     c.write_both.ensures.place c.read_and_log.ensures.place c.write_both-2.ensures.place c.write_both.ensures.shut c.read_and_log.ensures.shut c.write_both-2.ensures.shut
     c.write_both.ensures.goes c.read_and_log.ensures.reads c.write_both-2.ensures.goes c.shut_both.ensures.goes c.wish_both.ensures.told
     c.shut_both.ensures.session c.shut_both.ensures.client_gone c.shut_both.ensures.bus_gone c.shut_both.ensures.client_shut c.shut_both.ensures.bus_shut
-    c.requires.sound c.write_both-2.ensures.sound c.requires.log c.requires.stood
+    c.requires.sound c.write_both-2.ensures.sound c.requires.log c.requires.stood c.write_both.ensures.end c.write_both-2.ensures.end
