@@ -19,7 +19,7 @@ use Rattle.proxy_loop.specs.Sessions.{events_of, side_of}
 use Rattle.proxy_loop.specs.Kinds.{writes_of, all_are}
 use Rattle.proxy_loop.specs.Works.{ShutBoth}
 use Rattle.proxy_loop.specs.declared.serving.Running.{Running}
-use Rattle.proxy_loop.specs.Runs.{log_of, is_over}
+use Rattle.proxy_loop.specs.Runs.{log_of, is_over, WhyCut}
 use Rattle.proxy_loop.specs.Tables.{Table, session_mode}
 use Rattle.proxy_loop.specs.Servers.{listener_of, BlockLogs, SessionLogged}
 use Rattle.proxy_loop.proofs.KindCases.{session_write_cases}
@@ -166,7 +166,7 @@ module _ (blocks : List Block) (n : ℕ) (block : Block) (new : Table) (was now 
             held_end true running s e = cc
             held_end false running s e = let same : d.served ≡ running = cc in subst (λ (r : Running). is_some r.session.ended ≡ true) same s
 
-        by_cut : (d.logged.rest ≡ []) ⊎ (is_some d.served.session.ended ≡ true) → Grows blocks n new now before got first last
+        by_cut : (d.logged.rest ≡ []) ⊎ ((is_some d.served.session.ended ≡ true) × WhyCut n d.logged.rest d.served.session first last) → Grows blocks n new now before got first last
         by_cut (inl none) = record {
           cut = before;
           more = d.logged.lines;
@@ -179,7 +179,7 @@ module _ (blocks : List Block) (n : ℕ) (block : Block) (new : Table) (was now 
           more = d.logged.lines;
           log = with_lines (n ∷ before) d.logged.lines (inr (record { rest = d.logged.rest; is = sym due }, refl));
           appends = d.logged.appends;
-          cuts = inr (refl, ended s);
+          cuts = inr (refl, ended s.0);
         }
 
     pub read_grows : (b : Bool) → block.options.log ≡ b → BlockLogs b block n new was now first last → Grows blocks n new now before got first last

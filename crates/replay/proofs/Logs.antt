@@ -1,9 +1,14 @@
 -- The log of a session, as it is written line by line.
-use Rattle.std.proofs.Common.{◌≡◌, ◌<◌, ℕ, List, [], ◌∷◌, ◌++◌, Option, Bool, true, false, if◌then◌else◌, refl, ap, sym, ◌∙◌, subst, arith, length, append_assoc, append-nil}
+use Rattle.std.proofs.Common.{◌≡◌, ◌<◌, ℕ, List, [], ◌∷◌, ◌++◌, Option, Result, Ok, Err, is_err, OnErr, Bool, true, false, if◌then◌else◌, refl, ap, sym, ◌∙◌, subst, arith, length, append_assoc, append-nil}
 use Rattle.std.proofs.lemmas.Grind.{flat_map-append}
 use Rattle.std.proofs.lemmas.List.{length-append}
+use Rattle.std.proofs.lemmas.Result.{err_from_is_err_and}
+use Rattle.std.specs.Prelude.{IsErrOf}
+use Rattle.std.specs.Result.{IsErrAnd}
+use Rattle.std.specs.declared.alloc.AllocError.{AllocError}
+use Rattle.replay.specs.declared.ReplayFault.{ReplayFault}
 use Rattle.link_traits.specs.Told.{added, Part}
-use Rattle.link_traits.proofs.Parts.{added-none, part_middle, part_second, then_all}
+use Rattle.link_traits.proofs.Parts.{added-none, part_first, part_middle, part_second, then_all}
 use Rattle.explain_log.specs.Lines.{log_line, log}
 use Rattle.policy_args.specs.Words.{PolicyOptions}
 use Rattle.policy_view.specs.History.{history}
@@ -11,7 +16,7 @@ use Rattle.policy_view.specs.Notes.{Note, notes}
 use Rattle.policy_view.specs.declared.Mode.{Mode}
 use Rattle.proxy_core.specs.Sessions.{SessionView, Holds, nothing}
 use Rattle.recording.specs.Recording.{Recording}
-use Rattle.replay.specs.Logging.{Joins}
+use Rattle.replay.specs.Logging.{Joins, LineRefused, WholeLines}
 use Rattle.replay.specs.Output.{mode_of, history_of, log_of_recording, events_of}
 use Rattle.replay.specs.Explained.{noting_as, with_log}
 
@@ -51,6 +56,25 @@ log-part start old told before after joined taken rest note logged next part =
     part_middle told before after (log 1 start.notes) logged.got (joined ++ log_line 1 note) (log 1 rest) logged.is part
     (ap (log 1) logged.split ∙ log-append taken old.notes ∙ ap (λ ns. log 1 taken ++ log 1 ns) next ∙ ap (λ t. t ++ (log_line 1 note ++ log 1 rest)) logged.lines
     ∙ append_assoc logged.got joined (log_line 1 note ++ log 1 rest) ∙ ap (λ t. logged.got ++ t) (sym (append_assoc joined (log_line 1 note) (log 1 rest))))
+
+-- a fault that is passed on
+pub same_fault : (r s : Result (Unit {0}) ReplayFault) (e x : ReplayFault) → IsErrAnd r (λ y. y ≡ e) → s ≡ Err e → IsErrOf r x → IsErrOf s x
+same_fault r s e x given was is = let p = err_from_is_err_and r given in subst (λ t. IsErrOf t x) (p.1 ∙ ap Err p.2 ∙ sym was) is
+
+-- a line was refused memory, and a front of those before it was written
+pub front_before : (r : Result (Unit {0}) AllocError) (told new : Option (List ℕ)) (joined left line : List ℕ) → is_err r ≡ true → OnErr r (left ≡ joined) → Part told new left → Part told new (joined ++ line)
+front_before (Ok x) told new joined left line e same part = cc
+front_before (Err x) told new joined left line e same part = part_first told new joined line (subst (λ l. Part told new l) same part)
+
+-- memory was refused for the next line, and what was joined was written
+pub log-refused : (start old new : SessionView) (told before after : Option (List ℕ)) (joined : List ℕ) (taken rest : List Note) (note : Note) → Logged start old told before joined taken →
+    old.notes ≡ note ∷ rest → new ≡ record old { notes = rest } → after ≡ added joined before → LineRefused told after start.notes new.notes
+log-refused start old new told before after joined taken rest note logged next took got = record {
+  before = taken;
+  note = note;
+  split = logged.split ∙ ap (λ ns. taken ++ ns) next ∙ ap (λ (v : SessionView). taken ++ note ∷ v.notes) (sym took);
+  is = then_all told before after logged.got joined logged.is got ∙ ap (λ t. added t told) (sym logged.lines);
+}
 
 -- a note waited
 pub log-some : (start old : SessionView) (told before : Option (List ℕ)) (joined : List ℕ) (taken rest : List Note) (note : Note) → Logged start old told before joined taken →
@@ -94,6 +118,25 @@ unfolding log_of_recording
 log-is options r v mode holds = ap (log 1) holds.noted
     ∙ ap (λ m. log 1 (if m.notes then notes options.policy (history options.policy m (events_of r.events)) else [])) mode
     ∙ where-asked options.log (notes options.policy (history_of options r))
+
+-- none of its lines was written
+pub no-lines : (options : PolicyOptions) (r : Recording) (told : Option (List ℕ)) → WholeLines told told (log_of_recording options r)
+unfolding log_of_recording
+no-lines options r told = record {
+  written = [];
+  others = if options.log then notes options.policy (history_of options r) else [];
+  split = sym (where-asked options.log (notes options.policy (history_of options r)));
+  is = sym (added-none told);
+}
+
+-- or those before one that was refused memory
+pub lines-before : (told new : Option (List ℕ)) (ns left : List Note) (all : List ℕ) → log 1 ns ≡ all → LineRefused told new ns left → WholeLines told new all
+lines-before told new ns left all e refused = record {
+  written = refused.before;
+  others = refused.note ∷ left;
+  split = sym e ∙ ap (log 1) refused.split ∙ log-append refused.before (refused.note ∷ left);
+  is = refused.is;
+}
 
 -- and it has notes only where they are asked for
 some-where-asked : (asked : Bool) (ns : List Note) → 0 < length (if asked then ns else []) → asked ≡ true

@@ -28,6 +28,7 @@ ghost use Rattle.recording.specs.Seen.{recording_seen, size};
 ghost use Rattle.policy_view.specs.Notes.{notes as notes_of};
 ghost use Rattle.replay.specs.Output.{history_of, output_of_recording, log_of_recording};
 ghost use Rattle.replay.specs.Explained.{explained, with_log};
+ghost use Rattle.replay.specs.Logging.{WholeLines};
 
 pub use comparing::{TwinAnswer, twin};
 use explaining::{note_of, write_explanation};
@@ -51,7 +52,8 @@ pub enum ReplayFault {
     /// The log could not be written; a front of it may have been. Nothing of the output was. Comes only where the options ask for a log.
     #[error("the log could not be written")]
     Err,
-    /// Memory was refused; also where the session ended so. Nothing of the output was written.
+    /// Memory was refused; also where the session ended so. Nothing of the output was written, and of the log whole lines, from the
+    /// first on.
     #[error("out of memory")]
     Memory,
 }
@@ -90,6 +92,7 @@ pub fn replay<O: Sink, E: Sink>(
     ensures first { IsErrOf result ReplayFault.Out → E.told err.new ≡ added (log_of_recording (options_seen options.now) (recording_seen recording.now)) (E.told err.old) }
     ensures unwritten { IsErrOf result ReplayFault.Err → O.told out.new ≡ O.told out.old }
     ensures memory { IsErrOf result ReplayFault.Memory → O.told out.new ≡ O.told out.old }
+    ensures whole { IsErrOf result ReplayFault.Memory → WholeLines (E.told err.old) (E.told err.new) (log_of_recording (options_seen options.now) (recording_seen recording.now)) }
 
     // A sink is named only where it failed, and err only where a log is asked for.
     ensures cause { IsErrOf result ReplayFault.Out → Rose (O.faults out.old) (O.faults out.new) }

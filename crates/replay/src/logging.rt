@@ -2,7 +2,7 @@
 ghost use Rattle.std.specs.Prelude.{◌≡◌, ◌≤◌, ◌<◌, ◌++◌, [], length, string_bytes, OnOk, IsErrOf};
 ghost use Rattle.link_traits.specs.Told.{added, Rose, Part};
 ghost use Rattle.explain_log.specs.Lines.{log_line, log};
-ghost use Rattle.replay.specs.Logging.{Joins};
+ghost use Rattle.replay.specs.Logging.{Joins, LineRefused};
 
 use crate::ReplayFault;
 use explain_log::push_line;
@@ -23,6 +23,7 @@ fn write_lines<E: Sink>(lines: &mut String, err: &mut E) -> Result<(), ReplayFau
     ensures none { OnOk result (string_bytes lines.new ≡ []) }
     ensures part { Part (E.told err.old) (E.told err.new) (string_bytes lines.old) }
     ensures out { IsErrOf result ReplayFault.Out → ⊥ }
+    ensures memory { IsErrOf result ReplayFault.Memory → ⊥ }
     ensures cause { IsErrOf result ReplayFault.Err → Rose (E.faults err.old) (E.faults err.new) }
     ensures count { E.faults err.old ≤ E.faults err.new }
 {
@@ -33,7 +34,8 @@ fn write_lines<E: Sink>(lines: &mut String, err: &mut E) -> Result<(), ReplayFau
     Ok(())
 }
 
-/// Joins the line of a note to the others, and writes them where they are long.
+/// Joins the line of a note to the others, and writes them where they are long. Where memory is refused for the line the others are
+/// written.
 #[tactic(auto, using(link_traits::proofs::Parts::part_none))]
 fn put_line<E: Sink>(
     alloc: Global,
@@ -44,17 +46,21 @@ fn put_line<E: Sink>(
     ensures ok { OnOk result (Joins (E.told err.old) (E.told err.new) (string_bytes lines.old ++ log_line 1 note) (string_bytes lines.new)) }
     ensures part { Part (E.told err.old) (E.told err.new) (string_bytes lines.old ++ log_line 1 note) }
     ensures out { IsErrOf result ReplayFault.Out → ⊥ }
+    ensures memory { IsErrOf result ReplayFault.Memory → E.told err.new ≡ added (string_bytes lines.old) (E.told err.old) }
     ensures cause { IsErrOf result ReplayFault.Err → Rose (E.faults err.old) (E.faults err.new) }
     ensures count { E.faults err.old ≤ E.faults err.new }
 {
-    push_line(alloc, lines, SESSION, &note)?;
+    if push_line(alloc, lines, SESSION, &note).is_err() {
+        write_lines(lines, err)?;
+        return Err(ReplayFault::Memory);
+    }
     if lines.len() < LONG {
         return Ok(());
     }
     write_lines(lines, err)
 }
 
-/// Writes the lines of all notes that wait.
+/// Writes the lines of all notes that wait. Where memory is refused for a line, those before it are written.
 pub fn write_log<E: Sink>(
     alloc: Global,
     session: &mut Session,
@@ -65,6 +71,7 @@ pub fn write_log<E: Sink>(
     ensures part { Part (E.told err.old) (E.told err.new) (log 1 session.old.notes) }
     ensures session { session.new ≡ record session.old { notes = session.new.notes } }
     ensures out { IsErrOf result ReplayFault.Out → ⊥ }
+    ensures refused { IsErrOf result ReplayFault.Memory → LineRefused (E.told err.old) (E.told err.new) session.old.notes session.new.notes }
     ensures cause { IsErrOf result ReplayFault.Err → Rose (E.faults err.old) (E.faults err.new) }
     ensures count { E.faults err.old ≤ E.faults err.new }
 {
