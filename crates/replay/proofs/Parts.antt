@@ -1,10 +1,10 @@
 -- Places in lists, and the visible parts of more and more events.
-use Rattle.std.proofs.Common.{◌≡◌, ◌≤◌, ◌<◌, ◌+◌, ◌-◌, ℕ, zero, suc, List, [], ◌∷◌, ◌++◌, Option, Some, refl, ap, sym, ◌∙◌, subst, append_assoc, append-nil, arith, length, take, drop, map, reverse}
+use Rattle.std.proofs.Common.{◌≡◌, ◌<◌, ◌+◌, ◌-◌, ℕ, zero, suc, List, [], ◌∷◌, ◌++◌, Some, refl, ap, sym, ◌∙◌, subst, append_assoc, append-nil, arith, length, take, drop, map, reverse}
 use Rattle.std.specs.Prelude.{slice_get}
 use Rattle.std.proofs.lemmas.List.{map-append, reverse-append, take-append-drop}
 use Rattle.policy_args.specs.Policy.{Policy}
 use Rattle.policy_view.specs.Elements.{DifferFirst}
-use Rattle.policy_view.specs.History.{Event, history}
+use Rattle.policy_view.specs.History.{history}
 use Rattle.policy_view.specs.Laws.{IsPrefixOf, OnlyGrows}
 use Rattle.policy_view.specs.Past.{History, past}
 use Rattle.policy_view.specs.Visible.{part, visible_of}

@@ -1,5 +1,5 @@
 -- Two recordings compared: what the elements that were given of them tell of their visible parts.
-use Rattle.std.proofs.Common.{◌≡◌, ◌≤◌, ◌<◌, ◌+◌, ℕ, List, [], ◌∷◌, ◌++◌, Option, Some, None, true, false, inl, inr, refl, ap, sym, ◌∙◌, subst, append_assoc, arith, length, take, drop, map}
+use Rattle.std.proofs.Common.{◌≡◌, ◌<◌, ◌+◌, ℕ, List, [], ◌∷◌, ◌++◌, Option, Some, None, true, false, refl, ap, sym, ◌∙◌, subst, append_assoc, arith, length, take, drop, map}
 use Rattle.std.specs.Prelude.{slice_get, is_some, IfOk, Result, Ok, Err, option_to_list}
 use Rattle.std.specs.List.{AllByRecursion}
 use Rattle.std.proofs.lemmas.List.{length-append, length-map, take-append-le}
@@ -12,7 +12,6 @@ use Rattle.policy_view.specs.History.{Event, end_of, history}
 use Rattle.policy_view.specs.Laws.{HiddenChangesNothing, OnlyGrows, SameOnBothSides}
 use Rattle.policy_view.specs.Past.{History}
 use Rattle.policy_view.specs.Visible.{Closed, part}
-use Rattle.policy_view.specs.declared.End.{End}
 use Rattle.policy_view.specs.declared.Mode.{Mode}
 use Rattle.policy_view.specs.declared.visible.Visible.{Visible as Element}
 use Rattle.proxy_core.specs.Sessions.{elements_given}

@@ -1,6 +1,6 @@
 use Rattle.std.proofs.Common.{◌++◌, ◌∷◌, [], arith, refl, string_bytes}
 use Rattle.link_traits.proofs.Parts.{part_none}
-use Rattle.replay.proofs.Logs.{log-start, log-step, log-part, log-refused, same_fault, log-some, log-some-joined, log-all, log-then, log-last}
+use Rattle.replay.proofs.Logs.{log-start, log-step, log-part, log-refused, same_fault, log-some, log-last}
 use Rattle.replay.specs.declared.ReplayFault.TheVariants.{Memory}
 use Rattle.replay.proofs.logging.write_log.Goals as goal
 
