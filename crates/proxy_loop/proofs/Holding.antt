@@ -146,7 +146,7 @@ goes_none under n session net Shape shape = record {
   mode = refl;
 }
 
-rose_later : (a b c : ℕ) → Rose a b → b ≤ c → Rose a c
+pub rose_later : (a b c : ℕ) → Rose a b → b ≤ c → Rose a c
 rose_later a b c r h = λ k. let l : b < 2 ^ 64 - 1 = omega (arith, h, k) in let m : a < b = r l in omega (arith, m, h)
 
 pub rose_sooner : (a b c : ℕ) → a ≤ b → Rose b c → Rose a c

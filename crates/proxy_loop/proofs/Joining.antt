@@ -335,10 +335,10 @@ module _ (policy : Policy) (n : ℕ) (side : Side) (idle : Bool) (r0 r1 r2 : Run
         by None h w = (w.1, w.2)
         by (Some x) h w = cc
 
-    written_all : WrittenUnless logs.stop n logs.rest l0 l1
+    written_all : WrittenUnless logs.stop n logs.got logs.rest l0 l1
     written_all = by logs.stop refl
       where
-        by : (stop : Option End) → logs.stop ≡ stop → WrittenUnless stop n logs.rest l0 l1
+        by : (stop : Option End) → logs.stop ≡ stop → WrittenUnless stop n logs.got logs.rest l0 l1
         by None e = (whole_view e).0
         by (Some end) e = logs.why end e
 

@@ -1,6 +1,6 @@
 -- Lines that are logged, one after the other.
 use Rattle.std.proofs.Common.{ℕ, ◌≡◌, ◌⊎◌, inl, inr, ◌≤◌, Bool, true, false, List, [], ◌∷◌, ◌++◌, Option, Some, None, Result, Ok, Err, OnOk, OnErr, refl, ap, ◌∙◌, sym, subst, append-nil, append_assoc, arith, take, drop, is_err}
-use Rattle.std.proofs.lemmas.List.{take-append-drop}
+use Rattle.std.proofs.lemmas.List.{append_cancel_right, take-append-drop}
 use Rattle.std.proofs.lemmas.Grind.{flat_map-append}
 use Rattle.explain_log.specs.Lines.{log_line, log}
 use Rattle.link_traits.specs.Told.{added, Rose, Part}
@@ -194,6 +194,11 @@ module _ (n : ℕ) (old now next new : SessionView) (before between after : Sink
       ∙ ap (λ (l : List ℕ). so_far.got ++ l) e
       ∙ sym (append_assoc so_far.got got others)
 
+  -- what was written is all but the last line
+  written_before : (got others : List ℕ) → log n (so_far.taken ++ note ∷ []) ≡ (so_far.got ++ got) ++ others → others ≡ log_line n note → so_far.got ++ got ≡ log n so_far.taken
+  written_before got others lines line =
+      append_cancel_right (so_far.got ++ got) (log n so_far.taken) (log_line n note) (ap (λ (l : List ℕ). (so_far.got ++ got) ++ l) (sym line) ∙ sym lines ∙ log-more n so_far.taken note)
+
   pub one_logged : (done : Bool) → done ≡ true → JoinedDone (joined ++ log_line n note) (Some (log_line n note)) left next new between after done → LogsSoFar n old new before after left
   one_logged true e w = subst (λ (v : SessionView). LogsSoFar n old v before after left) (sym w.view) (record {
     taken = so_far.taken ++ note ∷ [];
@@ -222,7 +227,9 @@ module _ (n : ℕ) (old now next new : SessionView) (before between after : Sink
     ends = (log_end_sooner w.end before between after so_far.counts w.cause, w.view ∙ ap (λ (s : SessionView). stopped_at s.ended w.end s) from_old);
     why = λ end e. elim w.why [
       | inl rose ↦ inl (rose_sooner before.faults between.faults after.faults so_far.counts rose)
-      | inr same ↦ inr (note, some_same w.rest (log_line n note) same)
+      | inr same ↦
+          let line : w.rest ≡ log_line n note = some_same w.rest (log_line n note) same in
+          inr (so_far.taken, note, written_before w.got w.rest (lines_as w.got w.rest w.split) line, line)
     ];
     stands = λ policy events was s. w.stands policy events (record was { notes = was.notes ++ (so_far.taken ++ note ∷ []) }) (next_stands policy events was s);
   }

@@ -18,7 +18,7 @@ use Rattle.proxy_loop.specs.Sinks.{SinkView}
 use Rattle.proxy_loop.specs.Sessions.{Holds, IsWithStop, events_of, taken_of}
 use Rattle.proxy_loop.specs.Works.{Moves, more_taken}
 use Rattle.proxy_loop.specs.Logging.{stop_events, WhyUnwritten}
-use Rattle.proxy_loop.specs.Runs.{WrittenUnless, ReadsAndLogs, WhyCut, Logged, ServedStands, log_of}
+use Rattle.proxy_loop.specs.Runs.{WrittenUnless, ReadsAndLogs, WhyCut, AreLines, Logged, ServedStands, log_of}
 use Rattle.proxy_loop.proofs.Holding.{wrote_append, events_append}
 use Rattle.proxy_loop.proofs.Stopping.{AllStops, stops_append, both_stop}
 use Rattle.proxy_loop.proofs.Logged.{log-append}
@@ -223,17 +223,27 @@ module _ (policy : Policy) (logs : Bool) (n : ℕ) (side : Side) (full : Bool) (
     cut_by : (stop : Option End) → reads.stop ≡ stop → s0.ended ≡ None →
         (reads.rest ++ log n s3.notes ≡ []) ⊎ ((is_some s3.ended ≡ true) × WhyCut n (reads.rest ++ log n s3.notes) s3 l0 l1)
     cut_by None e ran =
-        let whole : reads.rest ≡ [] = subst (λ (o : Option End). WrittenUnless o n reads.rest l0 l1) e reads.written in
+        let whole : reads.rest ≡ [] = subst (λ (o : Option End). WrittenUnless o n reads.lines reads.rest l0 l1) e reads.written in
         let none : s3.notes ≡ [] = same_after ∙ reads.all logged e (same_before ∙ none_before ran) in
         inl (ap₂ (λ (xs : List ℕ) (ys : List Note). xs ++ log n ys) whole none)
     cut_by (Some end) e ran = inr (
       still_some r2.session.ended s3.ended last_end (reads.stopped end e),
-      inr (why (subst (λ (o : Option End). WrittenUnless o n reads.rest l0 l1) e reads.written)),
+      inr (why (subst (λ (o : Option End). WrittenUnless o n reads.lines reads.rest l0 l1) e reads.written)),
     )
       where
-        why : WhyUnwritten n reads.rest l0 l1 → Rose l0.faults l1.faults ⊎ ((note : Note) × (reads.rest ++ log n s3.notes ≡ log n (note ∷ s3.notes)))
+        why : WhyUnwritten n reads.lines reads.rest l0 l1 → Rose l0.faults l1.faults ⊎ ((note : Note) × (reads.rest ++ log n s3.notes ≡ log n (note ∷ s3.notes)))
         why (inl rose) = inl rose
-        why (inr x) = inr (x.0, ap (λ (l : List ℕ). l ++ log n s3.notes) x.1)
+        why (inr x) = inr (x.1, ap (λ (l : List ℕ). l ++ log n s3.notes) x.3)
+
+    whole_by : (stop : Option End) → reads.stop ≡ stop → Rose l0.faults l1.faults ⊎ AreLines n reads.lines
+    whole_by None e =
+        let all : reads.rest ≡ [] = subst (λ (o : Option End). WrittenUnless o n reads.lines reads.rest l0 l1) e reads.written in
+        inr (reads.taken, sym (reads.is ∙ ap (λ (l : List ℕ). reads.lines ++ l) all ∙ append-nil reads.lines))
+    whole_by (Some end) e = by (subst (λ (o : Option End). WrittenUnless o n reads.lines reads.rest l0 l1) e reads.written)
+      where
+        by : WhyUnwritten n reads.lines reads.rest l0 l1 → Rose l0.faults l1.faults ⊎ AreLines n reads.lines
+        by (inl rose) = inl rose
+        by (inr x) = inr (x.0, x.2)
 
     pub logged_now : (o0 : Option End) → s0.ended ≡ o0 → Logged policy n s3 was ((late ++ early) ++ was) l0 l1
     logged_now None e = by_memory (is_memory s3.ended) refl
@@ -245,6 +255,7 @@ module _ (policy : Policy) (logs : Bool) (n : ℕ) (side : Side) (full : Bool) (
           appends = reads.appends;
           is = all_after ∙ ap (λ (l : List ℕ). l ++ (reads.lines ++ (reads.rest ++ log n first_now.rest))) (sym (all_before e));
           cut = inr (some_memory s3.ended m, inl m);
+          whole = whole_by reads.stop refl;
         }
         by_memory false m = record {
           lines = reads.lines;
@@ -252,6 +263,7 @@ module _ (policy : Policy) (logs : Bool) (n : ℕ) (side : Side) (full : Bool) (
           appends = reads.appends;
           is = exact_after e m ∙ ap (λ (l : List ℕ). l ++ (reads.lines ++ (reads.rest ++ log n s3.notes))) (sym (all_before e));
           cut = cut_by reads.stop refl e;
+          whole = whole_by reads.stop refl;
         }
     logged_now (Some end) e =
         let ended : is_some s0.ended ≡ true = ap (λ (o : Option End). is_some o) e in
@@ -262,6 +274,7 @@ module _ (policy : Policy) (logs : Bool) (n : ℕ) (side : Side) (full : Bool) (
           appends = reads.appends;
           is = unchanged ended ∙ sym (append-nil (log_of policy s3.mode n was)) ∙ ap (λ (l : List ℕ). log_of policy s3.mode n was ++ (l ++ [])) (sym none);
           cut = inl refl;
+          whole = inr ([], none);
         }
 
   pub served_stands : s0.mode.notes ≡ logs → s3.mode ≡ s0.mode → (s0.mode.notes ≡ true → s0.ended ≡ None → s0.notes ≡ []) → r1.session.notes ≡ s0.notes → s3.notes ≡ r2.session.notes →

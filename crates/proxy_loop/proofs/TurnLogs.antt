@@ -37,6 +37,7 @@ logged_from policy n session ready was now first last l = record {
   appends = l.appends;
   is = l.is ∙ ap (λ (x : List ℕ). x ++ (l.lines ++ l.rest)) (ready_log policy session.mode n ready was);
   cut = l.cut;
+  whole = l.whole;
 }
 
 -- what the log gets after a wait that answered `ready`

@@ -79,9 +79,10 @@ abbrev pub LogEnds : Option End → SessionView → SessionView → List Note �
 LogEnds None old new left rest before after = (left ≡ []) × (rest ≡ []) × (new ≡ record old { notes = [] })
 LogEnds (Some end) old new left rest before after = IsLogEnd end before after × (new ≡ stopped_at old.ended end (record old { notes = left }))
 
--- why these bytes weren't written: the sink failed, or they are a line that was refused memory
-abbrev pub WhyUnwritten : ℕ → List ℕ → SinkView → SinkView → Type 0
-WhyUnwritten n rest before after = Rose before.faults after.faults ⊎ ((note : Note) × (rest ≡ log_line n note))
+-- why these bytes weren't written behind those that were: the sink failed; or they are a line that was refused memory, and what was
+-- written are the lines of the notes before it
+abbrev pub WhyUnwritten : ℕ → List ℕ → List ℕ → SinkView → SinkView → Type 0
+WhyUnwritten n got rest before after = Rose before.faults after.faults ⊎ ((earlier : List Note) × (note : Note) × (got ≡ log n earlier) × (rest ≡ log_line n note))
 
 -- the notes of a session were logged: the lines of those that were taken were written, or a part of these, and then an End stands
 pub record Logs (n : ℕ) (old new : SessionView) (before after : SinkView) : Type 0 where
@@ -95,6 +96,6 @@ pub record Logs (n : ℕ) (old new : SessionView) (before after : SinkView) : Ty
   pub counts : before.faults ≤ after.faults
   pub stop : Option End
   pub ends : LogEnds stop old new left rest before after
-  pub why : (end : End) → stop ≡ Some end → WhyUnwritten n rest before after
+  pub why : (end : End) → stop ≡ Some end → WhyUnwritten n got rest before after
   pub stands : (policy : Policy) (events : List Event) (was : Taken) → StandsFor policy old events was →
       StandsFor policy new (stop_events stop ++ events) (record was { notes = was.notes ++ taken })

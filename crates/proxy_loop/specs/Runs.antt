@@ -92,9 +92,9 @@ pub record ReadPart (n : ℕ) (side : Side) (idle : Bool) (old new : Running) (a
   pub bus_gone : new.bus.gone ≡ (some_of (gone_by (bus_link n)) added || old.bus.gone)
 
 -- all lines of the notes that were taken were written, or it is known why these weren't
-abbrev pub WrittenUnless : Option End → ℕ → List ℕ → SinkView → SinkView → Type 0
-WrittenUnless None n rest before after = rest ≡ []
-WrittenUnless (Some end) n rest before after = WhyUnwritten n rest before after
+abbrev pub WrittenUnless : Option End → ℕ → List ℕ → List ℕ → SinkView → SinkView → Type 0
+WrittenUnless None n got rest before after = rest ≡ []
+WrittenUnless (Some end) n got rest before after = WhyUnwritten n got rest before after
 
 -- The read of a turn and the lines of the new notes: the session is first fed; then notes are taken, and their lines written,
 -- or a part of these, and then an End stands.
@@ -112,7 +112,7 @@ pub record ReadsAndLogs (policy : Policy) (logs : Bool) (n : ℕ) (side : Side) 
   pub is : log n taken ≡ lines ++ rest
   pub appends : Appends first last lines
   pub counts : first.faults ≤ last.faults
-  pub written : WrittenUnless stop n rest first last
+  pub written : WrittenUnless stop n lines rest first last
   pub all : logs ≡ true → stop ≡ None → old.session.notes ≡ [] → new.session.notes ≡ []
   pub end : (end : End) → fed.ended ≡ Some end → new.session.ended ≡ Some end
   pub stopped : (end : End) → stop ≡ Some end → is_some new.session.ended ≡ true
@@ -159,14 +159,19 @@ abbrev pub WhyCut : ℕ → List ℕ → SessionView → SinkView → SinkView �
 WhyCut n rest session before after =
     (is_memory session.ended ≡ true) ⊎ (Rose before.faults after.faults ⊎ ((note : Note) × (rest ≡ log n (note ∷ session.notes))))
 
+-- lines of some notes, each of them whole
+abbrev pub AreLines : ℕ → List ℕ → Type 0
+AreLines n lines = (told : List Note) × (lines ≡ log n told)
+
 -- The log got the lines of the session's new notes in order; or a part of these, and then the session has an End and it is known
--- why the others weren't written.
+-- why the others weren't written. Unless the sink failed each line is whole.
 pub record Logged (policy : Policy) (n : ℕ) (new : SessionView) (first last : Journal) (before after : SinkView) : Type 0 where
   pub lines : List ℕ
   pub rest : List ℕ
   pub appends : Appends before after lines
   pub is : log_of policy new.mode n last ≡ log_of policy new.mode n first ++ (lines ++ rest)
   pub cut : (rest ≡ []) ⊎ ((is_some new.ended ≡ true) × WhyCut n rest new before after)
+  pub whole : Rose before.faults after.faults ⊎ AreLines n lines
 
 -- a session that stood for the journal before stands for the one after, and the log is exact
 pub record ServedStands (policy : Policy) (logs : Bool) (n : ℕ) (new : SessionView) (first last : Journal) (before after : SinkView) : Type 0 where

@@ -2,8 +2,9 @@
 use Rattle.std.proofs.Common.{ℕ, nat_eq, ◌≡◌, ◌⊎◌, inl, inr, Bool, true, false, is_some, is_none, List, [], ◌∷◌, ◌++◌, Option, Some, None, if◌then◌else◌, refl, ap, sym, ◌∙◌, subst, append-nil}
 use Rattle.std.proofs.lemmas.List.{append_cancel_left}
 use Rattle.link_traits.specs.Journals.{Journal}
+use Rattle.link_traits.specs.Told.{Rose}
 use Rattle.link_traits.specs.Answers.{client_link, bus_link}
-use Rattle.link_traits.specs.Entries.{Entry, listened as Listened, ready as Ready, accepted as Accept, connected as Connected, read as Read, finished as Ended, wrote as Wrote, not_ready as NotReady, failed as Failed, refused as Refused, shut as Shut}
+use Rattle.link_traits.specs.Entries.{Entry, ready as Ready, read as Read, finished as Ended, shut as Shut}
 use Rattle.link_traits.specs.declared.links.Link.{Link}
 use Rattle.link_traits.specs.declared.links.Ready.{Ready as ReadyAnswer}
 use Rattle.link_traits.specs.declared.links.Side.{Side}
@@ -19,7 +20,7 @@ use Rattle.proxy_loop.specs.Sessions.{events_of, side_of}
 use Rattle.proxy_loop.specs.Kinds.{writes_of, all_are}
 use Rattle.proxy_loop.specs.Works.{ShutBoth}
 use Rattle.proxy_loop.specs.declared.serving.Running.{Running}
-use Rattle.proxy_loop.specs.Runs.{log_of, is_over, WhyCut}
+use Rattle.proxy_loop.specs.Runs.{AreLines, log_of, is_over, WhyCut}
 use Rattle.proxy_loop.specs.Tables.{Table, session_mode}
 use Rattle.proxy_loop.specs.Servers.{listener_of, BlockLogs, SessionLogged}
 use Rattle.proxy_loop.proofs.KindCases.{session_write_cases}
@@ -36,19 +37,19 @@ abbrev pub is_unread : Entry → Bool
 is_unread entry = is_none (read_of entry)
 
 -- with the entry in front that isn't a read
-pub unread_more : (blocks : List Block) (entry : Entry) (journal : Journal) (cut got : List ℕ) → is_unread entry ≡ true → LogOf blocks journal cut got → LogOf blocks (entry ∷ journal) cut got
-unread_more blocks entry journal cut got u l = at_entry (read_of entry) refl
+pub unread_more : (log_failed : Type 0) (blocks : List Block) (entry : Entry) (journal : Journal) (cut got : List ℕ) → is_unread entry ≡ true → LogOf log_failed blocks journal cut got → LogOf log_failed blocks (entry ∷ journal) cut got
+unread_more log_failed blocks entry journal cut got u l = at_entry (read_of entry) refl
   where
-    at_entry : (o : Option ℕ) → read_of entry ≡ o → LogOf blocks (entry ∷ journal) cut got
+    at_entry : (o : Option ℕ) → read_of entry ≡ o → LogOf log_failed blocks (entry ∷ journal) cut got
     at_entry None e = rw e l
     at_entry (Some n) e = let x : is_none (Some n) ≡ true = ap is_none (sym e) ∙ u in cc
 
-pub unread_log : (blocks : List Block) (added was : Journal) (cut got : List ℕ) → all_are is_unread added ≡ true → LogOf blocks was cut got → LogOf blocks (added ++ was) cut got
+pub unread_log : (log_failed : Type 0) (blocks : List Block) (added was : Journal) (cut got : List ℕ) → all_are is_unread added ≡ true → LogOf log_failed blocks was cut got → LogOf log_failed blocks (added ++ was) cut got
 unfolding all_are
-unread_log blocks [] was cut got h l = l
-unread_log blocks (entry ∷ added) was cut got h l =
-    unread_more blocks entry (added ++ was) cut got (and_first (is_unread entry) (all_are is_unread added) h)
-    (unread_log blocks added was cut got (and_second (is_unread entry) (all_are is_unread added) h) l)
+unread_log log_failed blocks [] was cut got h l = l
+unread_log log_failed blocks (entry ∷ added) was cut got h l =
+    unread_more log_failed blocks entry (added ++ was) cut got (and_first (is_unread entry) (all_are is_unread added) h)
+    (unread_log log_failed blocks added was cut got (and_second (is_unread entry) (all_are is_unread added) h) l)
 
 write_unread : (n : ℕ) (entry : Entry) → writes_of n entry ≡ true → is_unread entry ≡ true
 write_unread n entry h = session_write_cases (λ (e : Entry). is_unread e ≡ true) n entry h (λ at bytes same. refl) (λ at same. refl) (λ at same. refl)
@@ -92,10 +93,10 @@ module _ (policy : Policy) (mode : Mode) (n : ℕ) where
 -- ---- a session that was served
 
 -- what the log of the journal grew by; where lines weren't all written, the session has an End
-pub record Grows (blocks : List Block) (n : ℕ) (new : Table) (now : Journal) (before got : List ℕ) (first last : SinkView) : Type 0 where
+pub record Grows (log_failed : Type 0) (blocks : List Block) (n : ℕ) (new : Table) (now : Journal) (before got : List ℕ) (first last : SinkView) : Type 0 where
   pub cut : List ℕ
   pub more : List ℕ
-  pub log : LogOf blocks now cut (got ++ more)
+  pub log : LogOf log_failed blocks now cut (got ++ more)
   pub appends : Appends first last more
   pub cuts : (cut ≡ before) ⊎ ((cut ≡ n ∷ before) × ((running : Running) → new.at n ≡ Some running → is_some running.session.ended ≡ true))
 
@@ -104,9 +105,9 @@ no_lines xs [] rest e = refl
 no_lines xs (x ∷ lines) rest e = let none : [] ≡ (x ∷ lines) ++ rest = append_cancel_left xs [] ((x ∷ lines) ++ rest) (append-nil xs ∙ e) in cc
 
 -- of a session under this block only entries that aren't reads were told
-module _ (blocks : List Block) (n : ℕ) (block : Block) (new : Table) (was now : Journal) (before got : List ℕ) (first last : SinkView) where
+module _ (log_failed : Type 0) (blocks : List Block) (n : ℕ) (block : Block) (new : Table) (was now : Journal) (before got : List ℕ) (first last : SinkView) (widen : Rose first.faults last.faults → log_failed) where
   pub unread_grows : log_of block.options.policy (session_mode block.options) n now ≡ log_of block.options.policy (session_mode block.options) n was →
-      LogOf blocks now before got → (b : Bool) → BlockLogs b block n new was now first last → Grows blocks n new now before got first last
+      LogOf log_failed blocks now before got → (b : Bool) → BlockLogs b block n new was now first last → Grows log_failed blocks n new now before got first last
   unread_grows same l true d =
       let grown : log_of block.options.policy (session_mode block.options) n now ≡ log_of block.options.policy (session_mode block.options) n was ++ (d.logged.lines ++ d.logged.rest) =
       subst (λ (m : Mode). log_of block.options.policy m n now ≡ log_of block.options.policy m n was ++ (d.logged.lines ++ d.logged.rest)) d.mode d.logged.is in
@@ -114,39 +115,39 @@ module _ (blocks : List Block) (n : ℕ) (block : Block) (new : Table) (was now 
       record {
         cut = before;
         more = [];
-        log = subst (λ (g : List ℕ). LogOf blocks now before g) (sym (append-nil got)) l;
+        log = subst (λ (g : List ℕ). LogOf log_failed blocks now before g) (sym (append-nil got)) l;
         appends = subst (λ (xs : List ℕ). Appends first last xs) none d.logged.appends;
         cuts = inl refl;
       }
   unread_grows same l false d = record {
     cut = before;
     more = [];
-    log = subst (λ (g : List ℕ). LogOf blocks now before g) (sym (append-nil got)) l;
+    log = subst (λ (g : List ℕ). LogOf log_failed blocks now before g) (sym (append-nil got)) l;
     appends = subst (λ (s : SinkView). Appends first s []) (sym d) (appends_none first);
     cuts = inl refl;
   }
 
   -- one link was read
   module _ (early : Journal) (link : Link) (piece : List ℕ) (same_session : link.session ≡ n)
-      (under : block_at blocks (listener_of n early) ≡ Some block) (uncut : is_cut n before ≡ false) (l : LogOf blocks early before got)
+      (under : block_at blocks (listener_of n early) ≡ Some block) (uncut : is_cut n before ≡ false) (l : LogOf log_failed blocks early before got)
       (sooner : log_of block.options.policy (session_mode block.options) n early ≡ log_of block.options.policy (session_mode block.options) n was)
       (later : log_of block.options.policy (session_mode block.options) n now ≡ log_of block.options.policy (session_mode block.options) n (Read link piece ∷ early))
-      (grow : (cut g : List ℕ) → LogOf blocks (Read link piece ∷ early) cut g → LogOf blocks now cut g) where
+      (grow : (cut g : List ℕ) → LogOf log_failed blocks (Read link piece ∷ early) cut g → LogOf log_failed blocks now cut g) where
     due_is : lines_of blocks n (Read link piece) early ≡ lines_under block n (Read link piece) early
     due_is = ap (λ (o : Option Block). lines_at o n (Read link piece) early) under
 
-    with_lines : (cut lines : List ℕ) → IsWritten n (lines_under block n (Read link piece) early) before cut lines → LogOf blocks now cut (got ++ lines)
-    with_lines cut lines written = grow cut (got ++ lines) (subst (λ (k : ℕ). ReadLogs k (lines_of blocks k (Read link piece) early) (λ c g. LogOf blocks early c g) cut (got ++ lines)) (sym same_session) (record {
+    with_lines : (cut lines : List ℕ) → IsWritten log_failed n (lines_under block n (Read link piece) early) before cut lines → LogOf log_failed blocks now cut (got ++ lines)
+    with_lines cut lines written = grow cut (got ++ lines) (subst (λ (k : ℕ). ReadLogs log_failed k (lines_of blocks k (Read link piece) early) (λ c g. LogOf log_failed blocks early c g) cut (got ++ lines)) (sym same_session) (record {
       before = before;
       earlier = got;
       lines = lines;
       rest = l;
       uncut = uncut;
-      written = subst (λ (due : List ℕ). IsWritten n due before cut lines) (sym due_is) written;
+      written = subst (λ (due : List ℕ). IsWritten log_failed n due before cut lines) (sym due_is) written;
       all = refl;
     }))
 
-    logged_grows : block.options.log ≡ true → SessionLogged block n new was now first last → Grows blocks n new now before got first last
+    logged_grows : block.options.log ≡ true → SessionLogged block n new was now first last → Grows log_failed blocks n new now before got first last
     logged_grows e d = by_cut d.logged.cut
       where
         grown : log_of block.options.policy (session_mode block.options) n now ≡ log_of block.options.policy (session_mode block.options) n was ++ (d.logged.lines ++ d.logged.rest)
@@ -166,7 +167,11 @@ module _ (blocks : List Block) (n : ℕ) (block : Block) (new : Table) (was now 
             held_end true running s e = cc
             held_end false running s e = let same : d.served ≡ running = cc in subst (λ (r : Running). is_some r.session.ended ≡ true) same s
 
-        by_cut : (d.logged.rest ≡ []) ⊎ ((is_some d.served.session.ended ≡ true) × WhyCut n d.logged.rest d.served.session first last) → Grows blocks n new now before got first last
+        part : Rose first.faults last.faults ⊎ AreLines n d.logged.lines → log_failed ⊎ AreLines n d.logged.lines
+        part (inl rose) = inl (widen rose)
+        part (inr lines) = inr lines
+
+        by_cut : (d.logged.rest ≡ []) ⊎ ((is_some d.served.session.ended ≡ true) × WhyCut n d.logged.rest d.served.session first last) → Grows log_failed blocks n new now before got first last
         by_cut (inl none) = record {
           cut = before;
           more = d.logged.lines;
@@ -177,12 +182,12 @@ module _ (blocks : List Block) (n : ℕ) (block : Block) (new : Table) (was now 
         by_cut (inr s) = record {
           cut = n ∷ before;
           more = d.logged.lines;
-          log = with_lines (n ∷ before) d.logged.lines (inr (record { rest = d.logged.rest; is = sym due }, refl));
+          log = with_lines (n ∷ before) d.logged.lines (inr (record { rest = d.logged.rest; is = sym due }, part d.logged.whole, refl));
           appends = d.logged.appends;
           cuts = inr (refl, ended s.0);
         }
 
-    pub read_grows : (b : Bool) → block.options.log ≡ b → BlockLogs b block n new was now first last → Grows blocks n new now before got first last
+    pub read_grows : (b : Bool) → block.options.log ≡ b → BlockLogs b block n new was now first last → Grows log_failed blocks n new now before got first last
     read_grows true e d = logged_grows e d
     read_grows false e d = record {
       cut = before;

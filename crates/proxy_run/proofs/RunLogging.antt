@@ -2,6 +2,7 @@
 use Rattle.std.proofs.Common.{ℕ, zero, suc, nat_eq, nat_lt, ◌≡◌, ◌+◌, ◌≤◌, ◌⊎◌, inl, inr, Bool, true, false, cond, ◌||◌, is_some, is_none, List, [], ◌∷◌, ◌++◌, Option, Some, None, Result, Ok, Err, if◌then◌else◌, refl, ap, sym, ◌∙◌, subst, arith, append-nil, append_assoc, slice_get, string_bytes, length}
 use Rattle.std.proofs.lemmas.Bool.Decides.{nat_tests}
 use Rattle.link_traits.specs.Journals.{Journal, accepts}
+use Rattle.link_traits.specs.Told.{Rose}
 use Rattle.link_traits.specs.Views.{NetView, Adds}
 use Rattle.link_traits.specs.Answers.{accept_entry, connect_entry}
 use Rattle.link_traits.specs.Entries.{Entry, ready as Ready, accepted as Accept, connected as Connected, read as Read, finished as Ended, wrote as Wrote, not_ready as NotReady, failed as Failed, refused as Refused, shut as Shut, listened as Listened}
@@ -27,7 +28,7 @@ use Rattle.proxy_loop.specs.Listening.{ListenDid, Heard, is_listened}
 use Rattle.proxy_loop.specs.Tables.{Table, SoundTable, IsEmpty, unless_over}
 use Rattle.proxy_loop.specs.Turns.{Still, ServedDid, LinkDid, Brought, ListenerDid, ReadyDid, AfterWait}
 use Rattle.proxy_loop.specs.Servers.{Held, Stays, Serves, LinkLogs, ReadyLogs, Fresh, touches}
-use Rattle.proxy_loop.proofs.Holding.{all_joined, same_number}
+use Rattle.proxy_loop.proofs.Holding.{all_joined, rose_later, rose_sooner, same_number}
 use Rattle.proxy_loop.proofs.Joining.{all_implied}
 use Rattle.proxy_loop.proofs.Logged.{appends_none, appends_then}
 use Rattle.proxy_loop.proofs.LinkFronts.{empty_serves, listen_on}
@@ -45,19 +46,19 @@ pub record CutEnd (table : Table) (cut : List ℕ) : Type 0 where
   pub each : (n : ℕ) (running : Running) → is_cut n cut ≡ true → table.at n ≡ Some running → is_some running.session.ended ≡ true
 
 -- a journal with more has its log with more
-pub record LogsMore (blocks : List Block) (new : Table) (now : Journal) (got : List ℕ) (first last : SinkView) : Type 0 where
+pub record LogsMore (log_failed : Type 0) (blocks : List Block) (new : Table) (now : Journal) (got : List ℕ) (first last : SinkView) : Type 0 where
   pub cut : List ℕ
   pub more : List ℕ
-  pub log : LogOf blocks now cut (got ++ more)
+  pub log : LogOf log_failed blocks now cut (got ++ more)
   pub appends : Appends first last more
   pub ends : CutEnd new cut
 
 -- nothing was logged
-nothing_more : (blocks : List Block) (new : Table) (now : Journal) (cut got : List ℕ) (first last : SinkView) → LogOf blocks now cut got → last ≡ first → CutEnd new cut → LogsMore blocks new now got first last
-nothing_more blocks new now cut got first last l same ends = record {
+nothing_more : (log_failed : Type 0) (blocks : List Block) (new : Table) (now : Journal) (cut got : List ℕ) (first last : SinkView) → LogOf log_failed blocks now cut got → last ≡ first → CutEnd new cut → LogsMore log_failed blocks new now got first last
+nothing_more log_failed blocks new now cut got first last l same ends = record {
   cut = cut;
   more = [];
-  log = subst (λ (g : List ℕ). LogOf blocks now cut g) (sym (append-nil got)) l;
+  log = subst (λ (g : List ℕ). LogOf log_failed blocks now cut g) (sym (append-nil got)) l;
   appends = subst (λ (s : SinkView). Appends first s []) (sym same) (appends_none first);
   ends = ends;
 }
@@ -71,9 +72,9 @@ is_same n k e = grind (arith, nat_tests, e)
 
 -- ---- one turn, after a wait that answered `answer`
 
-module _ (blocks : List Block) (old new : Table) (between after : NetView) (first last : SinkView) (sound : SoundTable blocks old.at) (answer : ReadyAnswer) (was now : Journal)
+module _ (log_failed : Type 0) (blocks : List Block) (old new : Table) (between after : NetView) (first last : SinkView) (widen : Rose first.faults last.faults → log_failed) (sound : SoundTable blocks old.at) (answer : ReadyAnswer) (was now : Journal)
     (told_mid : between.journal ≡ Some (Ready answer ∷ was)) (told_now : after.journal ≡ Some now) (serves : Serves blocks old was)
-    (before got : List ℕ) (l : LogOf blocks was before got) (ends : CutEnd old before) where
+    (before got : List ℕ) (l : LogOf log_failed blocks was before got) (ends : CutEnd old before) where
   -- the journal grew by no read, and the sessions are as they were
   same_ends : ((k : ℕ) → new.at k ≡ old.at k) → new.accepted ≡ old.accepted → CutEnd new before
   same_ends same accepted = record {
@@ -81,21 +82,21 @@ module _ (blocks : List Block) (old new : Table) (between after : NetView) (firs
     each = λ n running c at. ends.each n running c (sym (same n) ∙ at);
   }
 
-  still_logs : Still old new between after first last → LogsMore blocks new now got first last
+  still_logs : Still old new between after first last → LogsMore log_failed blocks new now got first last
   still_logs d =
       let same : now ≡ Ready answer ∷ was = let e : Some now ≡ Some (Ready answer ∷ was) = sym told_now ∙ ap (λ (v : NetView). v.journal) d.net ∙ told_mid in cc in
-      nothing_more blocks new now before got first last (subst (λ (j : Journal). LogOf blocks j before got) (sym same) l) d.log (same_ends d.same.at d.same.accepted)
+      nothing_more log_failed blocks new now before got first last (subst (λ (j : Journal). LogOf log_failed blocks j before got) (sym same) l) d.log (same_ends d.same.at d.same.accepted)
 
   -- ---- a session that was served
   served_logs : (link : Link) (running : Running) → old.at link.session ≡ Some running → ServedDid blocks link running old new between after first last →
-      LinkLogs blocks link.session (Some running) new was now first last → LogsMore blocks new now got first last
+      LinkLogs blocks link.session (Some running) new was now first last → LogsMore log_failed blocks new now got first last
   served_logs link running at d logs =
       let t = d.served.serving.told now told_now in
       let same_mid : t.0 ≡ Ready answer ∷ was = let x : Some t.0 ≡ Some (Ready answer ∷ was) = sym t.1 ∙ told_mid in cc in
       let number : running.number ≡ link.session = sound.number link.session running at in
       let h : Held blocks link.session running was = subst (λ (o : Option Running). Stays blocks link.session o was) at (serves.each link.session) in
       let ended : is_cut link.session before ≡ true → is_some running.session.ended ≡ true = λ c. ends.each link.session running c at in
-      from_grows h (served_grows blocks link.session h.block running d.now new link.side answer was now t.2 before got first last
+      from_grows h (served_grows log_failed blocks link.session h.block running d.now new link.side answer was now t.2 before got first last widen
       (subst (λ (m : ℕ). Served m link.side running d.now t.2) number t.4) (t.3 ∙ ap (λ (j : Journal). t.2 ++ j) same_mid)
       (ap (block_at blocks) h.listener ∙ h.at) ended l (logs h.block h.at))
     where
@@ -146,7 +147,7 @@ module _ (blocks : List Block) (old new : Table) (between after : NetView) (firs
         each = λ k r c a. cut_ends more.1 (nat_eq link.session k) k r refl c a;
       })
 
-      from_grows : Held blocks link.session running was → Grows blocks link.session new now before got first last → LogsMore blocks new now got first last
+      from_grows : Held blocks link.session running was → Grows log_failed blocks link.session new now before got first last → LogsMore log_failed blocks new now got first last
       from_grows h g = record { cut = g.cut; more = g.more; log = g.log; appends = g.appends; ends = by_cuts h g.cut g.cuts }
 
   -- ---- a session that was accepted
@@ -161,20 +162,20 @@ module _ (blocks : List Block) (old new : Table) (between after : NetView) (firs
   connect_unread session path (Err FaultFailed) = refl
   connect_unread session path (Err FaultMemory) = refl
 
-  accepted_log : (listener : ℕ) (a : Accepted) → LogOf blocks (accept_entry listener a ∷ Ready answer ∷ was) before got
+  accepted_log : (listener : ℕ) (a : Accepted) → LogOf log_failed blocks (accept_entry listener a ∷ Ready answer ∷ was) before got
   unfolding all_are
-  accepted_log listener a = unread_log blocks (accept_entry listener a ∷ []) (Ready answer ∷ was) before got (rw (accept_unread listener a) refl) l
+  accepted_log listener a = unread_log log_failed blocks (accept_entry listener a ∷ []) (Ready answer ∷ was) before got (rw (accept_unread listener a) refl) l
 
-  quiet_accept : (listener : ℕ) (a : Accepted) (v1 : NetView) → Adds between v1 (accept_entry listener a ∷ []) → after ≡ v1 → last ≡ first → CutEnd new before → LogsMore blocks new now got first last
+  quiet_accept : (listener : ℕ) (a : Accepted) (v1 : NetView) → Adds between v1 (accept_entry listener a ∷ []) → after ≡ v1 → last ≡ first → CutEnd new before → LogsMore log_failed blocks new now got first last
   quiet_accept listener a v1 adds net same ends_now =
       let b = adds.told now (ap (λ (v : NetView). v.journal) (sym net) ∙ told_now) in
       let same_mid : b.0 ≡ Ready answer ∷ was = let x : Some b.0 ≡ Some (Ready answer ∷ was) = sym b.1 ∙ told_mid in cc in
       let is : now ≡ accept_entry listener a ∷ Ready answer ∷ was = b.2 ∙ ap (λ (j : Journal). accept_entry listener a ∷ j) same_mid in
-      nothing_more blocks new now before got first last (subst (λ (j : Journal). LogOf blocks j before got) (sym is) (accepted_log listener a)) same ends_now
+      nothing_more log_failed blocks new now before got first last (subst (λ (j : Journal). LogOf log_failed blocks j before got) (sym is) (accepted_log listener a)) same ends_now
 
   brought_logs : (listener : ℕ) (address : List ℕ) (a : Accepted) (v1 : NetView) → Adds between v1 (accept_entry listener a ∷ []) →
       ((session : ℕ) → a ≡ New session → (j : Journal) → between.journal ≡ Some j → session ≡ accepts j + 1) →
-      Brought blocks listener address a old new v1 after → last ≡ first → LogsMore blocks new now got first last
+      Brought blocks listener address a old new v1 after → last ≡ first → LogsMore log_failed blocks new now got first last
   brought_logs listener address (New session) v1 adds numbered d same =
       let g = d.goes.told now told_now in
       let a = adds.told g.0 g.1 in
@@ -183,8 +184,8 @@ module _ (blocks : List Block) (old new : Table) (between after : NetView) (firs
       let unread : all_are is_unread g.2 ≡ true = subst (λ (j : Journal). all_are is_unread j ≡ true) (sym g.4.is)
       (all_joined is_unread (connect_entry session address g.4.answer ∷ []) g.4.shuts (one_unread (connect_entry session address g.4.answer) (connect_unread session address g.4.answer)) (shuts_unread session _ _ g.4.shuts g.4.shut)) in
       let number : session ≡ accepts (Ready answer ∷ was) + 1 = numbered session refl (Ready answer ∷ was) told_mid in
-      nothing_more blocks new now before got first last
-      (subst (λ (j : Journal). LogOf blocks j before got) (sym is) (unread_log blocks g.2 (Accept listener session ∷ Ready answer ∷ was) before got unread (accepted_log listener (New session)))) same
+      nothing_more log_failed blocks new now before got first last
+      (subst (λ (j : Journal). LogOf log_failed blocks j before got) (sym is) (unread_log log_failed blocks g.2 (Accept listener session ∷ Ready answer ∷ was) before got unread (accepted_log listener (New session)))) same
       (record {
         known = λ k c. let x : k ≤ old.accepted = ends.known k c in let y : new.accepted ≡ old.accepted + 1 = d.accepted in omega arith;
         each = λ k r c at. let x : k ≤ old.accepted = ends.known k c in let y : old.accepted ≡ accepts was = serves.counted in
@@ -195,42 +196,72 @@ module _ (blocks : List Block) (old new : Table) (between after : NetView) (firs
   brought_logs listener address AcceptFailed v1 adds numbered d same = quiet_accept listener AcceptFailed v1 adds d.1 same (same_ends d.0.at d.0.accepted)
   brought_logs listener address AcceptMemory v1 adds numbered d same = quiet_accept listener AcceptMemory v1 adds d.1 same (same_ends d.0.at d.0.accepted)
 
-  listener_logs : (room : Bool) (listener : ℕ) (block : Option Block) → ListenerDid room blocks listener block old new between after first last → LogsMore blocks new now got first last
+  listener_logs : (room : Bool) (listener : ℕ) (block : Option Block) → ListenerDid room blocks listener block old new between after first last → LogsMore log_failed blocks new now got first last
   listener_logs true listener (Some block) d = brought_logs listener (string_bytes block.address) d.0.answer d.0.between d.0.adds d.0.numbered d.0.brings d.1
   listener_logs true listener None d = still_logs d
   listener_logs false listener block d = still_logs d
 
-  link_logs : (link : Link) (o : Option Running) → old.at link.session ≡ o → LinkDid blocks link o old new between after first last → LinkLogs blocks link.session o new was now first last → LogsMore blocks new now got first last
+  link_logs : (link : Link) (o : Option Running) → old.at link.session ≡ o → LinkDid blocks link o old new between after first last → LinkLogs blocks link.session o new was now first last → LogsMore log_failed blocks new now got first last
   link_logs link None e d logs = still_logs d
   link_logs link (Some running) e d logs = served_logs link running e d logs
 
-  ready_logs : (limit : ℕ) (a : ReadyAnswer) → ReadyDid blocks limit a old new between after first last → ReadyLogs blocks a old new was now first last → LogsMore blocks new now got first last
+  ready_logs : (limit : ℕ) (a : ReadyAnswer) → ReadyDid blocks limit a old new between after first last → ReadyLogs blocks a old new was now first last → LogsMore log_failed blocks new now got first last
   ready_logs limit (Listener listener) d logs = listener_logs (nat_lt old.accepted limit) listener (slice_get blocks listener) d
   ready_logs limit (ReadyLink link) d logs = link_logs link (old.at link.session) refl d logs
   ready_logs limit Quiet d logs = still_logs d
   ready_logs limit ReadyFailed d logs = still_logs d
 
-  pub wait_logs : (limit : ℕ) (end : Result Turn ServerEnd) → AfterWait blocks limit answer old new between after first last end → ReadyLogs blocks answer old new was now first last → LogsMore blocks new now got first last
+  pub wait_logs : (limit : ℕ) (end : Result Turn ServerEnd) → AfterWait blocks limit answer old new between after first last end → ReadyLogs blocks answer old new was now first last → LogsMore log_failed blocks new now got first last
   wait_logs limit (Err Memory) d logs = still_logs d.0
   wait_logs limit (Err Wait) d logs = ready_logs limit answer d.0 logs
   wait_logs limit (Err (Listen k)) d logs = absurd d
   wait_logs limit (Ok turn) d logs = ready_logs limit answer d.0 logs
 
+-- ---- the count of the log's faults
+
+same_counts : (first last : SinkView) → last ≡ first → first.faults ≤ last.faults
+same_counts first last same = rw same (omega arith)
+
+module _ (blocks : List Block) (old new : Table) (between after : NetView) (first last : SinkView) where
+  listener_counts : (room : Bool) (listener : ℕ) (block : Option Block) → ListenerDid room blocks listener block old new between after first last → first.faults ≤ last.faults
+  listener_counts true listener (Some block) d = same_counts first last d.1
+  listener_counts true listener None d = same_counts first last d.log
+  listener_counts false listener block d = same_counts first last d.log
+
+  link_counts : (link : Link) (o : Option Running) → LinkDid blocks link o old new between after first last → first.faults ≤ last.faults
+  link_counts link None d = same_counts first last d.log
+  link_counts link (Some running) d = d.served.serving.log_counts
+
+  ready_counts : (limit : ℕ) (answer : ReadyAnswer) → ReadyDid blocks limit answer old new between after first last → first.faults ≤ last.faults
+  ready_counts limit (Listener listener) d = listener_counts (nat_lt old.accepted limit) listener (slice_get blocks listener) d
+  ready_counts limit (ReadyLink link) d = link_counts link (old.at link.session) d
+  ready_counts limit Quiet d = same_counts first last d.log
+  ready_counts limit ReadyFailed d = same_counts first last d.log
+
+  -- it never falls
+  after_counts : (limit : ℕ) (answer : ReadyAnswer) (end : Result Turn ServerEnd) → AfterWait blocks limit answer old new between after first last end → first.faults ≤ last.faults
+  after_counts limit answer (Err Memory) d = same_counts first last d.0.log
+  after_counts limit answer (Err Wait) d = ready_counts limit answer d.0
+  after_counts limit answer (Err (Listen k)) d = absurd d
+  after_counts limit answer (Ok turn) d = ready_counts limit answer d.0
+
 -- ---- turn after turn
 
-pub record LogsSoFar (blocks : List Block) (table : Table) (journal : Journal) (cut got : List ℕ) : Type 0 where
+pub record LogsSoFar (log_failed : Type 0) (blocks : List Block) (table : Table) (journal : Journal) (cut got : List ℕ) : Type 0 where
   pub serves : Serves blocks table journal
-  pub log : LogOf blocks journal cut got
+  pub log : LogOf log_failed blocks journal cut got
   pub ends : CutEnd table cut
 
 -- what comes of a journal's log by what is done: where the journal is told after it was told before, and its log grew by what the sink got
-pub record LogsOn (blocks : List Block) (old new : Table) (before after : NetView) (first last : SinkView) : Type 0 where
+pub record LogsOn (log_failed : Type 0) (blocks : List Block) (old new : Table) (before after : NetView) (first last : SinkView) : Type 0 where
+  pub counts : first.faults ≤ last.faults
   pub each : (now : Journal) → after.journal ≡ Some now → (was : Journal) × (before.journal ≡ Some was)
-      × ((cut got : List ℕ) → LogsSoFar blocks old was cut got → (cut_now : List ℕ) × (more : List ℕ) × LogsSoFar blocks new now cut_now (got ++ more) × Appends first last more)
+      × ((Rose first.faults last.faults → log_failed) → (cut got : List ℕ) → LogsSoFar log_failed blocks old was cut got → (cut_now : List ℕ) × (more : List ℕ) × LogsSoFar log_failed blocks new now cut_now (got ++ more) × Appends first last more)
 
-pub turn_logs_on : (blocks : List Block) (limit : ℕ) (old new : Table) (before after : NetView) (first last : SinkView) (answer : Result Turn ServerEnd) → OneTurn blocks limit old new before after first last answer →
-    LogsOn blocks old new before after first last
-turn_logs_on blocks limit old new before after first last answer t = record {
+pub turn_logs_on : (log_failed : Type 0) (blocks : List Block) (limit : ℕ) (old new : Table) (before after : NetView) (first last : SinkView) (answer : Result Turn ServerEnd) → OneTurn blocks limit old new before after first last answer →
+    LogsOn log_failed blocks old new before after first last
+turn_logs_on log_failed blocks limit old new before after first last answer t = record {
+  counts = after_counts blocks old new t.did.between after first last limit t.did.ready answer t.did.does;
   each = λ now e.
       let d = t.did in
       let g = t.serves.each now e in
@@ -240,49 +271,53 @@ turn_logs_on blocks limit old new before after first last answer t = record {
       let mid : d.between.journal ≡ Some (Ready d.ready ∷ g.0) = w.1 ∙ ap (λ (j : Journal). Some j) (a.2 ∙ ap (λ (j : Journal). Ready d.ready ∷ j) same) in (
         g.0,
         g.1,
-        λ cut got s.
+        λ widen cut got s.
             let waited : Serves blocks old (Ready d.ready ∷ g.0) = serves_quiet blocks old (Ready d.ready) g.0 (ready_quiet d.ready) refl s.serves in
-            let m = wait_logs blocks old new d.between after first last t.sound d.ready g.0 now mid e s.serves cut got s.log s.ends limit answer d.does
+            let m = wait_logs log_failed blocks old new d.between after first last widen t.sound d.ready g.0 now mid e s.serves cut got s.log s.ends limit answer d.does
             (after_logs blocks old new d.between after first last t.sound d.ready g.0 now mid e waited limit answer d.does) in
             (m.cut, m.more, record { serves = g.4 s.serves; log = m.log; ends = m.ends }, m.appends),
       );
 }
 
-logs_then : (blocks : List Block) (t0 t1 t2 : Table) (v0 v1 v2 : NetView) (l0 l1 l2 : SinkView) → LogsOn blocks t0 t1 v0 v1 l0 l1 → LogsOn blocks t1 t2 v1 v2 l1 l2 → LogsOn blocks t0 t2 v0 v2 l0 l2
-logs_then blocks t0 t1 t2 v0 v1 v2 l0 l1 l2 h k = record {
+logs_then : (log_failed : Type 0) (blocks : List Block) (t0 t1 t2 : Table) (v0 v1 v2 : NetView) (l0 l1 l2 : SinkView) → LogsOn log_failed blocks t0 t1 v0 v1 l0 l1 → LogsOn log_failed blocks t1 t2 v1 v2 l1 l2 → LogsOn log_failed blocks t0 t2 v0 v2 l0 l2
+logs_then log_failed blocks t0 t1 t2 v0 v1 v2 l0 l1 l2 h k = record {
+  counts = omega (arith, h.counts, k.counts);
   each = λ now e. let b = k.each now e in let a = h.each b.0 b.1 in (
     a.0,
     a.1,
-    λ cut got s. let one = a.2 cut got s in let two = b.2 one.0 (got ++ one.1) one.2 in (
-      two.0,
-      one.1 ++ two.1,
-      subst (λ (g : List ℕ). LogsSoFar blocks t2 now two.0 g) (append_assoc got one.1 two.1) two.2,
-      appends_then l0 l1 l2 one.1 two.1 one.3 two.3,
-    ),
+    λ widen cut got s.
+        let one = a.2 (λ rose. widen (rose_later l0.faults l1.faults l2.faults rose k.counts)) cut got s in
+        let two = b.2 (λ rose. widen (rose_sooner l0.faults l1.faults l2.faults h.counts rose)) one.0 (got ++ one.1) one.2 in (
+          two.0,
+          one.1 ++ two.1,
+          subst (λ (g : List ℕ). LogsSoFar log_failed blocks t2 now two.0 g) (append_assoc got one.1 two.1) two.2,
+          appends_then l0 l1 l2 one.1 two.1 one.3 two.3,
+        ),
   );
 }
 
-logs_none : (blocks : List Block) (table : Table) (net : NetView) (sink : SinkView) → LogsOn blocks table table net net sink sink
-logs_none blocks table net sink = record {
-  each = λ now e. (now, e, λ cut got s. (cut, [], subst (λ (g : List ℕ). LogsSoFar blocks table now cut g) (sym (append-nil got)) s, appends_none sink));
+logs_none : (log_failed : Type 0) (blocks : List Block) (table : Table) (net : NetView) (sink : SinkView) → LogsOn log_failed blocks table table net net sink sink
+logs_none log_failed blocks table net sink = record {
+  counts = omega arith;
+  each = λ now e. (now, e, λ widen cut got s. (cut, [], subst (λ (g : List ℕ). LogsSoFar log_failed blocks table now cut g) (sym (append-nil got)) s, appends_none sink));
 }
 
-turns_logs_on : (blocks : List Block) (limit count : ℕ) (old new : Table) (before after : NetView) (first last : SinkView) → Turns blocks limit count old new before after first last → LogsOn blocks old new before after first last
-turns_logs_on blocks limit zero old new before after first last t = rw t.0 (rw t.1 (rw t.2 (logs_none blocks old before first)))
-turns_logs_on blocks limit (suc count) old new before after first last t =
-    logs_then blocks old t.0 new before t.1 after first t.2 last (turns_logs_on blocks limit count old t.0 before t.1 first t.2 t.3) (turn_logs_on blocks limit t.0 new t.1 after t.2 last (Ok Went) t.4)
+turns_logs_on : (log_failed : Type 0) (blocks : List Block) (limit count : ℕ) (old new : Table) (before after : NetView) (first last : SinkView) → Turns blocks limit count old new before after first last → LogsOn log_failed blocks old new before after first last
+turns_logs_on log_failed blocks limit zero old new before after first last t = rw t.0 (rw t.1 (rw t.2 (logs_none log_failed blocks old before first)))
+turns_logs_on log_failed blocks limit (suc count) old new before after first last t =
+    logs_then log_failed blocks old t.0 new before t.1 after first t.2 last (turns_logs_on log_failed blocks limit count old t.0 before t.1 first t.2 t.3) (turn_logs_on log_failed blocks limit t.0 new t.1 after t.2 last (Ok Went) t.4)
 
-last_logs_on : (blocks : List Block) (limit : ℕ) (old new : Table) (before after : NetView) (first last : SinkView) (answer : Result Turn ServerEnd) → LastTurn blocks limit old new before after first last answer →
-    LogsOn blocks old new before after first last
-last_logs_on blocks limit old new before after first last answer t =
-    logs_then blocks old t.mid new before t.between after first t.so_far last (turns_logs_on blocks limit t.count old t.mid before t.between first t.so_far t.turns)
-    (turn_logs_on blocks limit t.mid new t.between after t.so_far last answer t.turn)
+last_logs_on : (log_failed : Type 0) (blocks : List Block) (limit : ℕ) (old new : Table) (before after : NetView) (first last : SinkView) (answer : Result Turn ServerEnd) → LastTurn blocks limit old new before after first last answer →
+    LogsOn log_failed blocks old new before after first last
+last_logs_on log_failed blocks limit old new before after first last answer t =
+    logs_then log_failed blocks old t.mid new before t.between after first t.so_far last (turns_logs_on log_failed blocks limit t.count old t.mid before t.between first t.so_far t.turns)
+    (turn_logs_on log_failed blocks limit t.mid new t.between after t.so_far last answer t.turn)
 
-pub ended_logs_on : (blocks : List Block) (limit : ℕ) (old new : Table) (before after : NetView) (first last : SinkView) (end : Result (Unit {0}) ServerEnd) → TurnsEnd blocks limit old new before after first last end →
-    LogsOn blocks old new before after first last
-ended_logs_on blocks limit old new before after first last (Ok done) (inl t) = last_logs_on blocks limit old new before after first last (Ok Stopped) t
-ended_logs_on blocks limit old new before after first last (Ok done) (inr t) = turns_logs_on blocks limit most_turns old new before after first last t
-ended_logs_on blocks limit old new before after first last (Err end) t = last_logs_on blocks limit old new before after first last (Err end) t
+pub ended_logs_on : (log_failed : Type 0) (blocks : List Block) (limit : ℕ) (old new : Table) (before after : NetView) (first last : SinkView) (end : Result (Unit {0}) ServerEnd) → TurnsEnd blocks limit old new before after first last end →
+    LogsOn log_failed blocks old new before after first last
+ended_logs_on log_failed blocks limit old new before after first last (Ok done) (inl t) = last_logs_on log_failed blocks limit old new before after first last (Ok Stopped) t
+ended_logs_on log_failed blocks limit old new before after first last (Ok done) (inr t) = turns_logs_on log_failed blocks limit most_turns old new before after first last t
+ended_logs_on log_failed blocks limit old new before after first last (Err end) t = last_logs_on log_failed blocks limit old new before after first last (Err end) t
 
 -- ---- listening
 
@@ -326,21 +361,22 @@ listen_unread blocks before after (Err (Listen k)) h = one_more_unread blocks k 
 listen_unread blocks before after (Err Memory) h = one_more_unread blocks h.1 before h.0 after (Refused ListenCall) refl h.3 h.4
 listen_unread blocks before after (Err Wait) h = absurd h
 
-pub listen_logs_on : (blocks : List Block) (table : Table) (before after : NetView) (sink : SinkView) (heard : Result (Unit {0}) ServerEnd) → ListenDid blocks before after heard → LogsOn blocks table table before after sink sink
-listen_logs_on blocks table before after sink heard h = record {
+pub listen_logs_on : (log_failed : Type 0) (blocks : List Block) (table : Table) (before after : NetView) (sink : SinkView) (heard : Result (Unit {0}) ServerEnd) → ListenDid blocks before after heard → LogsOn log_failed blocks table table before after sink sink
+listen_logs_on log_failed blocks table before after sink heard h = record {
+  counts = omega arith;
   each = λ now e.
       let g = (listen_on blocks table before after heard h).each now e in
       let u = (listen_unread blocks before after heard h).each now e in
       let same : u.0 ≡ g.0 = let x : Some u.0 ≡ Some g.0 = sym u.1 ∙ g.1 in cc in (
         g.0,
         g.1,
-        λ cut got s. (
+        λ widen cut got s. (
           cut,
           [],
           record {
             serves = g.4 s.serves;
-            log = subst (λ (x : List ℕ). LogOf blocks now cut x) (sym (append-nil got))
-                (subst (λ (j : Journal). LogOf blocks j cut got) (sym (u.3 ∙ ap (λ (j : Journal). u.2 ++ j) same)) (unread_log blocks u.2 g.0 cut got u.4 s.log));
+            log = subst (λ (x : List ℕ). LogOf log_failed blocks now cut x) (sym (append-nil got))
+                (subst (λ (j : Journal). LogOf log_failed blocks j cut got) (sym (u.3 ∙ ap (λ (j : Journal). u.2 ++ j) same)) (unread_log log_failed blocks u.2 g.0 cut got u.4 s.log));
             ends = s.ends;
           },
           appends_none sink,
@@ -379,38 +415,38 @@ fresh_unread entry journal fresh = at_entry (read_of entry) refl
     at_entry None e = ap (λ (o : Option ℕ). is_none o) e
     at_entry (Some n) e = touched (touches n entry) (some_of (touches n) journal) (read_touches entry n e) (fresh n)
 
-fresh_log : (blocks : List Block) (journal : Journal) → ((n : ℕ) → Fresh n journal) → LogOf blocks journal [] []
+fresh_log : (log_failed : Type 0) (blocks : List Block) (journal : Journal) → ((n : ℕ) → Fresh n journal) → LogOf log_failed blocks journal [] []
 unfolding some_of
-fresh_log blocks [] fresh = (refl, refl)
-fresh_log blocks (entry ∷ journal) fresh =
-    unread_more blocks entry journal [] [] (fresh_unread entry journal fresh) (fresh_log blocks journal (λ n. second (touches n entry) (some_of (touches n) journal) (fresh n)))
+fresh_log log_failed blocks [] fresh = (refl, refl)
+fresh_log log_failed blocks (entry ∷ journal) fresh =
+    unread_more log_failed blocks entry journal [] [] (fresh_unread entry journal fresh) (fresh_log log_failed blocks journal (λ n. second (touches n entry) (some_of (touches n) journal) (fresh n)))
   where
     second : (a b : Bool) → a || b ≡ false → b ≡ false
     second true b e = cc
     second false b e = e
 
-pub logs_from : (blocks : List Block) (old new : Table) (before after : NetView) (first last : SinkView) → IsEmpty old → LogsOn blocks old new before after first last → RunLogs blocks before after first last
+pub logs_from : (blocks : List Block) (old new : Table) (before after : NetView) (first last : SinkView) → IsEmpty old → LogsOn (Rose first.faults last.faults) blocks old new before after first last → RunLogs blocks before after first last
 logs_from blocks old new before after first last empty on = record {
   each = λ now e. let g = on.each now e in (
     g.0,
     g.1,
     λ w.
-        let start : LogsSoFar blocks old g.0 [] [] = record {
+        let start : LogsSoFar (Rose first.faults last.faults) blocks old g.0 [] [] = record {
           serves = empty_serves blocks old g.0 empty w;
-          log = fresh_log blocks g.0 w.fresh;
+          log = fresh_log (Rose first.faults last.faults) blocks g.0 w.fresh;
           ends = record { known = λ n c. cc; each = λ n running c at. cc };
         } in
-        let s = g.2 [] [] start in (s.0, s.1, s.2.log, s.3),
+        let s = g.2 (λ rose. rose) [] [] start in (s.0, s.1, s.2.log, s.3),
   );
 }
 
 rest_logs : (blocks : List Block) (limit : ℕ) (heard end : RunEnd) (v0 v1 v2 : NetView) (l0 l2 : SinkView) → ListenDid blocks v0 v1 heard → AfterListen blocks limit heard v1 v2 l0 l2 end → RunLogs blocks v0 v2 l0 l2
 rest_logs blocks limit (Ok done) end v0 v1 v2 l0 l2 h a =
     logs_from blocks a.old a.new v0 v2 l0 l2 a.empty
-    (logs_then blocks a.old a.old a.new v0 v1 v2 l0 l0 l2 (listen_logs_on blocks a.old v0 v1 l0 (Ok done) h) (ended_logs_on blocks limit a.old a.new v1 v2 l0 l2 end a.ended))
+    (logs_then (Rose l0.faults l2.faults) blocks a.old a.old a.new v0 v1 v2 l0 l0 l2 (listen_logs_on (Rose l0.faults l2.faults) blocks a.old v0 v1 l0 (Ok done) h) (ended_logs_on (Rose l0.faults l2.faults) blocks limit a.old a.new v1 v2 l0 l2 end a.ended))
 rest_logs blocks limit (Err refused) end v0 v1 v2 l0 l2 h a =
-    rw a.0 (rw a.1 (logs_from blocks no_sessions no_sessions v0 v1 l0 l0 none_empty (listen_logs_on blocks no_sessions v0 v1 l0 (Err refused) h)))
+    rw a.0 (rw a.1 (logs_from blocks no_sessions no_sessions v0 v1 l0 l0 none_empty (listen_logs_on (Rose l0.faults l0.faults) blocks no_sessions v0 v1 l0 (Err refused) h)))
 
 pub run_logs : (blocks : List Block) (limit : ℕ) (v0 v2 : NetView) (l0 l2 : SinkView) (end : RunEnd) → RunDid blocks limit v0 v2 l0 l2 end → RunLogs blocks v0 v2 l0 l2
 run_logs blocks limit v0 v2 l0 l2 end (inl d) = rest_logs blocks limit d.heard end v0 d.between v2 l0 l2 d.listened d.rest
-run_logs blocks limit v0 v2 l0 l2 end (inr d) = rw d.net (rw d.log (logs_from blocks no_sessions no_sessions v0 v0 l0 l0 none_empty (logs_none blocks no_sessions v0 l0)))
+run_logs blocks limit v0 v2 l0 l2 end (inr d) = rw d.net (rw d.log (logs_from blocks no_sessions no_sessions v0 v0 l0 l0 none_empty (logs_none (Rose l0.faults l0.faults) blocks no_sessions v0 l0)))

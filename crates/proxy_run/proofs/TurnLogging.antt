@@ -1,5 +1,6 @@
 -- What one turn adds to the log of a journal.
 use Rattle.std.proofs.Common.{ℕ, nat_eq, ◌≡◌, Bool, true, false, ◌||◌, is_some, List, [], ◌∷◌, ◌++◌, Some, if◌then◌else◌, refl, ap, sym, ◌∙◌, subst, append_assoc, take}
+use Rattle.link_traits.specs.Told.{Rose}
 use Rattle.link_traits.specs.Journals.{Journal}
 use Rattle.link_traits.specs.Answers.{client_link, bus_link, read_entry}
 use Rattle.link_traits.specs.Entries.{Entry, ready as Ready, finished as Ended, not_ready as NotReady, failed as Failed}
@@ -36,18 +37,19 @@ listener_ready n answer was = refl
 
 -- ---- a session that was served
 
-module _ (blocks : List Block) (n : ℕ) (block : Block) (old new : Running) (table : Table) (side : Side) (answer : ReadyAnswer) (was now added : Journal) (before got : List ℕ) (first last : SinkView)
+module _ (log_failed : Type 0) (blocks : List Block) (n : ℕ) (block : Block) (old new : Running) (table : Table) (side : Side) (answer : ReadyAnswer) (was now added : Journal) (before got : List ℕ) (first last : SinkView)
+    (widen : Rose first.faults last.faults → log_failed)
     (s : Served n side old new added) (is : now ≡ added ++ Ready answer ∷ was) (under : block_at blocks (listener_of n was) ≡ Some block)
-    (ends : is_cut n before ≡ true → is_some old.session.ended ≡ true) (l : LogOf blocks was before got) (d : BlockLogs block.options.log block n table was now first last) where
+    (ends : is_cut n before ≡ true → is_some old.session.ended ≡ true) (l : LogOf log_failed blocks was before got) (d : BlockLogs block.options.log block n table was now first last) where
   unfoldable early : Journal
   early = s.first ++ Ready answer ∷ was
 
   unfoldable late : Journal
   late = s.shuts ++ s.second
 
-  early_log : LogOf blocks early before got
+  early_log : LogOf log_failed blocks early before got
   unfolding early
-  early_log = unread_log blocks s.first (Ready answer ∷ was) before got (writes_unread n s.first s.first_writes) l
+  early_log = unread_log log_failed blocks s.first (Ready answer ∷ was) before got (writes_unread n s.first s.first_writes) l
 
   unfoldable Session : Journal → List ℕ
   Session journal = log_of block.options.policy (session_mode block.options) n journal
@@ -79,8 +81,8 @@ module _ (blocks : List Block) (n : ℕ) (block : Block) (old new : Running) (ta
   unfolding Session
   later = ap Session split ∙ stops_log block.options.policy (session_mode block.options) n late (s.reads ++ early) late_stops
 
-  grow : (cut g : List ℕ) → LogOf blocks (s.reads ++ early) cut g → LogOf blocks now cut g
-  grow cut g h = subst (λ (j : Journal). LogOf blocks j cut g) (sym split) (unread_log blocks late (s.reads ++ early) cut g late_unread h)
+  grow : (cut g : List ℕ) → LogOf log_failed blocks (s.reads ++ early) cut g → LogOf log_failed blocks now cut g
+  grow cut g h = subst (λ (j : Journal). LogOf log_failed blocks j cut g) (sym split) (unread_log log_failed blocks late (s.reads ++ early) cut g late_unread h)
 
   about_first : all_are (about n) s.first ≡ true
   about_first =
@@ -105,11 +107,11 @@ module _ (blocks : List Block) (n : ℕ) (block : Block) (old new : Running) (ta
   uncut runs = uncut_by (is_cut n before) refl runs
 
   -- no message was read
-  unread : Session (s.reads ++ early) ≡ Session early → all_are is_unread s.reads ≡ true → Grows blocks n table now before got first last
+  unread : Session (s.reads ++ early) ≡ Session early → all_are is_unread s.reads ≡ true → Grows log_failed blocks n table now before got first last
   unfolding Session
   unread same h =
-      unread_grows blocks n block table was now before got first last (later ∙ same ∙ sooner)
-      (grow before got (unread_log blocks s.reads early before got h early_log)) block.options.log d
+      unread_grows log_failed blocks n block table was now before got first last widen (later ∙ same ∙ sooner)
+      (grow before got (unread_log log_failed blocks s.reads early before got h early_log)) block.options.log d
 
   failed_stops : (link : Link) → AllStops (events_of n (Failed (ReadCall link) ∷ []))
   unfolding events_of
@@ -123,17 +125,17 @@ module _ (blocks : List Block) (n : ℕ) (block : Block) (old new : Running) (ta
   unfolding events_of
   not_ready_stops link = refl
 
-  one_unread : (entry : Entry) → s.reads ≡ entry ∷ [] → Session (entry ∷ early) ≡ Session early → is_unread entry ≡ true → Grows blocks n table now before got first last
+  one_unread : (entry : Entry) → s.reads ≡ entry ∷ [] → Session (entry ∷ early) ≡ Session early → is_unread entry ≡ true → Grows log_failed blocks n table now before got first last
   unfolding all_are
   one_unread entry e same h =
       unread (ap (λ (j : Journal). Session (j ++ early)) e ∙ same) (rw e (rw h refl))
 
   by_answer : (into : List ℕ) (got_answer : Got) → s.reads ≡ read_entry (link_at n side) into got_answer ∷ [] → is_some s.mid.ended || is_full side s.mid ≡ false →
-      Grows blocks n table now before got first last
+      Grows log_failed blocks n table now before got first last
   unfolding Session
   by_answer into (GotBytes k) e runs =
-      read_grows blocks n block table was now before got first last early (link_at n side) (take k into) refl under_early (uncut runs) early_log sooner
-      (later ∙ ap (λ (j : Journal). Session (j ++ early)) e) (λ cut g h. grow cut g (subst (λ (j : Journal). LogOf blocks (j ++ early) cut g) (sym e) h)) block.options.log refl d
+      read_grows log_failed blocks n block table was now before got first last widen early (link_at n side) (take k into) refl under_early (uncut runs) early_log sooner
+      (later ∙ ap (λ (j : Journal). Session (j ++ early)) e) (λ cut g h. grow cut g (subst (λ (j : Journal). LogOf log_failed blocks (j ++ early) cut g) (sym e) h)) block.options.log refl d
   by_answer into GotFinished e runs = one_unread (Ended (link_at n side)) e (finished_log block.options.policy (session_mode block.options) n (link_at n side) early) refl
   by_answer into GotNotReady e runs =
       one_unread (NotReady (ReadCall (link_at n side))) e
@@ -142,10 +144,10 @@ module _ (blocks : List Block) (n : ℕ) (block : Block) (old new : Running) (ta
       one_unread (Failed (ReadCall (link_at n side))) e
       (stops_log block.options.policy (session_mode block.options) n (Failed (ReadCall (link_at n side)) ∷ []) early (failed_stops (link_at n side))) refl
 
-  by_idle : (b : Bool) → is_some s.mid.ended || is_full side s.mid ≡ b → ReadUnless b (link_at n side) s.reads → Grows blocks n table now before got first last
+  by_idle : (b : Bool) → is_some s.mid.ended || is_full side s.mid ≡ b → ReadUnless b (link_at n side) s.reads → Grows log_failed blocks n table now before got first last
   unfolding all_are
   by_idle true e r = unread (ap (λ (j : Journal). Session (j ++ early)) r) (rw r refl)
   by_idle false e r = by_answer r.1.into r.1.answer r.1.one e
 
-  pub served_grows : Grows blocks n table now before got first last
+  pub served_grows : Grows log_failed blocks n table now before got first last
   served_grows = by_idle (is_some s.mid.ended || is_full side s.mid) refl s.once

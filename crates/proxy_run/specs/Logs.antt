@@ -1,13 +1,14 @@
 -- What a run of a proxy line writes to the log.
 use Rattle.std.specs.Prelude.{ℕ, nat_eq, ◌≡◌, ◌⊎◌, Bool, false, ◌||◌, List, [], ◌∷◌, ◌++◌, Option, Some, None, if◌then◌else◌, slice_get}
 use Rattle.link_traits.specs.Journals.{Journal}
+use Rattle.link_traits.specs.Told.{Rose}
 use Rattle.link_traits.specs.Views.{NetView}
 use Rattle.link_traits.specs.Entries.{Entry, listened, ready, accepted, connected, read, finished, wrote, not_ready, failed, refused, shut}
 use Rattle.policy_args.specs.declared.line.Block.{Block}
 use Rattle.policy_view.specs.History.{new_in}
 use Rattle.proxy_core.specs.Sessions.{IsFront}
 use Rattle.proxy_loop.specs.Sinks.{SinkView, Appends}
-use Rattle.proxy_loop.specs.Runs.{log_of}
+use Rattle.proxy_loop.specs.Runs.{AreLines, log_of}
 use Rattle.proxy_loop.specs.Tables.{session_mode}
 use Rattle.proxy_loop.specs.Servers.{listener_of, WithoutSessions}
 
@@ -49,31 +50,33 @@ abbrev pub is_cut : ℕ → List ℕ → Bool
 is_cut n [] = false
 is_cut n (m ∷ cut) = nat_eq m n || is_cut n cut
 
--- the lines of a read are written whole, or a part of them, and then the session is among those
-abbrev pub IsWritten : ℕ → List ℕ → List ℕ → List ℕ → List ℕ → Type 0
-IsWritten n due before cut lines = ((lines ≡ due) × (cut ≡ before)) ⊎ (IsFront lines due × (cut ≡ n ∷ before))
+-- The lines of a read are written, or a part of them, and then the session is among those. Unless the log failed the part is of whole
+-- lines.
+abbrev pub IsWritten : Type 0 → ℕ → List ℕ → List ℕ → List ℕ → List ℕ → Type 0
+IsWritten log_failed n due before cut lines = ((lines ≡ due) × (cut ≡ before)) ⊎ (IsFront lines due × (log_failed ⊎ AreLines n lines) × (cut ≡ n ∷ before))
 
 -- What a read of a session that isn't among those adds to the log. None is read of a session that is among them.
-pub record ReadLogs (n : ℕ) (due : List ℕ) (Rest : List ℕ → List ℕ → Type 0) (cut got : List ℕ) : Type 0 where
+pub record ReadLogs (log_failed : Type 0) (n : ℕ) (due : List ℕ) (Rest : List ℕ → List ℕ → Type 0) (cut got : List ℕ) : Type 0 where
   pub before : List ℕ
   pub earlier : List ℕ
   pub lines : List ℕ
   pub rest : Rest before earlier
   pub uncut : is_cut n before ≡ false
-  pub written : IsWritten n due before cut lines
+  pub written : IsWritten log_failed n due before cut lines
   pub all : got ≡ earlier ++ lines
 
-abbrev pub EntryLogs : Option ℕ → (ℕ → List ℕ) → (List ℕ → List ℕ → Type 0) → List ℕ → List ℕ → Type 0
-EntryLogs None due Rest cut got = Rest cut got
-EntryLogs (Some n) due Rest cut got = ReadLogs n (due n) Rest cut got
+abbrev pub EntryLogs : Type 0 → Option ℕ → (ℕ → List ℕ) → (List ℕ → List ℕ → Type 0) → List ℕ → List ℕ → Type 0
+EntryLogs log_failed None due Rest cut got = Rest cut got
+EntryLogs log_failed (Some n) due Rest cut got = ReadLogs log_failed n (due n) Rest cut got
 
 -- The log of a journal: for each read, in order, the lines of the messages that it adds to its session's history. Of the last read
 -- of a session it may be a part of them; these sessions are listed.
-abbrev pub LogOf : List Block → Journal → List ℕ → List ℕ → Type 0
-LogOf blocks [] cut got = (cut ≡ []) × (got ≡ [])
-LogOf blocks (entry ∷ before) cut got = EntryLogs (read_of entry) (λ n. lines_of blocks n entry before) (λ c g. LogOf blocks before c g) cut got
+abbrev pub LogOf : Type 0 → List Block → Journal → List ℕ → List ℕ → Type 0
+LogOf log_failed blocks [] cut got = (cut ≡ []) × (got ≡ [])
+LogOf log_failed blocks (entry ∷ before) cut got = EntryLogs log_failed (read_of entry) (λ n. lines_of blocks n entry before) (λ c g. LogOf log_failed blocks before c g) cut got
 
--- Where the journal is told at the end it was told at the start. Where it was without sessions then, the sink got the journal's log.
+-- Where the journal is told at the end it was told at the start. Where it was without sessions then, the sink got the journal's log,
+-- which failed only where the sink's count rose.
 pub record RunLogs (blocks : List Block) (before after : NetView) (first last : SinkView) : Type 0 where
   pub each : (now : Journal) → after.journal ≡ Some now → (was : Journal) × (before.journal ≡ Some was)
-      × (WithoutSessions was → (cut : List ℕ) × (got : List ℕ) × LogOf blocks now cut got × Appends first last got)
+      × (WithoutSessions was → (cut : List ℕ) × (got : List ℕ) × LogOf (Rose first.faults last.faults) blocks now cut got × Appends first last got)
