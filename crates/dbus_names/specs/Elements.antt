@@ -1,5 +1,5 @@
 -- Elements by the kinds of bytes that may stand in them, as one pass over a text reads them.
-use Rattle.std.specs.Prelude.{ℕ, Bool, false, not, ◌==◌, ◌&&◌, ◌||◌, nat_le, cond, List, [], ◌∷◌, length, slice_index, Option, Some, None, bit_and}
+use Rattle.std.specs.Prelude.{◌≡◌, ◌⊎◌, ℕ, Bool, true, false, not, ◌==◌, ◌&&◌, ◌||◌, nat_le, cond, List, [], ◌∷◌, length, take, drop, slice_index, Option, Some, None, bit_and}
 use Rattle.std.specs.List.{list_all}
 use Rattle.dbus_names.specs.declared.TheConstants.{KINDS}
 use Rattle.dbus_names.specs.Names.{parts_at}
@@ -7,6 +7,25 @@ use Rattle.dbus_names.specs.Names.{parts_at}
 -- whether a byte is of one of the kinds, by the code's table: a letter or '_' for the bit 1, a digit for 2, and '-' for 4
 unfoldable pub is_among : ℕ → ℕ → Bool
 is_among kinds c = not (bit_and (slice_index KINDS c) kinds == 0)
+
+-- a byte that is of none of the kinds
+abbrev pub is_other : ℕ → ℕ → Bool
+is_other kinds c = not (is_among kinds c)
+
+-- '.' or '/', which stand in no element
+abbrev pub IsSeparator : ℕ → Type 0
+IsSeparator c = (c ≡ 46) ⊎ (c ≡ 47)
+
+-- one of the kinds is that of all four bytes
+abbrev pub are_of_one_kind : ℕ → ℕ → ℕ → ℕ → ℕ → Bool
+are_of_one_kind kinds a b c d =
+    not (bit_and (bit_and (bit_and (bit_and (slice_index KINDS a) (slice_index KINDS b)) (slice_index KINDS c)) (slice_index KINDS d)) kinds == 0)
+
+-- what is left of a text behind some of its first bytes, which are as a test says
+pub record BehindSome (test : ℕ → Bool) (left text : List ℕ) : Type 0 where
+  pub len : ℕ
+  pub left_is : left ≡ drop len text
+  pub are : list_all test (take len text) ≡ true
 
 -- the first byte is of the kinds `first`, and the others are of the kinds `rest`
 abbrev pub is_element_of : ℕ → ℕ → List ℕ → Bool

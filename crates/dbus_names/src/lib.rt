@@ -3,9 +3,9 @@
 //! A test reads a text once, allocates nothing, and stops at the first byte that is wrong.
 #![tactic(auto)]
 
-ghost use Rattle.std.specs.Prelude.{◌≡◌, drop, position};
+ghost use Rattle.std.specs.Prelude.{◌≡◌, ◌≤◌, drop, position};
 ghost use Rattle.std.specs.List.{list_all, position_or_len};
-ghost use Rattle.dbus_names.specs.Elements.{are_two_elements, element_count, is_element_of, is_outside, is_among as is_among_kinds};
+ghost use Rattle.dbus_names.specs.Elements.{BehindSome, IsSeparator, are_of_one_kind, are_two_elements, element_count, is_element_of, is_other, is_outside, is_among as is_among_kinds};
 ghost use Rattle.dbus_names.specs.Names.{is_bus as is_name_of_bus, is_bus_name as is_either_bus_name, is_error_name as is_name_of_error, is_interface as is_interface_name, is_member as is_member_name, is_path as is_object_path, is_unique as is_unique_name, is_well_known as is_well_known_name};
 
 mod name;
@@ -128,7 +128,39 @@ fn is_among(byte: u8, kinds: u8) -> bool
     KINDS[byte as usize] & kinds != 0
 }
 
+// Whether one of the kinds is that of all four bytes.
+#[inline]
+fn are_alike(a: u8, b: u8, c: u8, d: u8, kinds: u8) -> bool
+    ensures { result ≡ are_of_one_kind kinds a b c d }
+{
+    KINDS[a as usize] & KINDS[b as usize] & KINDS[c as usize] & KINDS[d as usize] & kinds != 0
+}
+
+// What follows the first bytes of these kinds, as far as four after the other are alike: most elements are letters alone.
+#[inline]
+fn after_fours(text: &[u8], kinds: u8) -> &[u8]
+    ensures { BehindSome (is_among_kinds kinds) result.now text.now }
+{
+    let mut left = text;
+    while let [a, b, c, d, others @ ..] = left {
+        if !are_alike(*a, *b, *c, *d, kinds) {
+            break;
+        }
+        left = others;
+    }
+    left
+}
+
+// Whether all bytes are of these kinds.
 fn are_among(text: &[u8], kinds: u8) -> bool
+    ensures { result ≡ list_all (is_among_kinds kinds) text.now }
+{
+    is_each_among(after_fours(text, kinds), kinds)
+}
+
+// The same, one byte after the other.
+#[inline]
+fn is_each_among(text: &[u8], kinds: u8) -> bool
     ensures { result ≡ list_all (is_among_kinds kinds) text.now }
 {
     text.iter().all(|byte| is_among(*byte, kinds))
@@ -144,34 +176,45 @@ fn is_element(text: &[u8], first: u8, rest: u8) -> bool
     }
 }
 
-// The place of the first byte that doesn't go on with an element.
+// The place of the first byte of other kinds.
 #[inline]
-fn first_outside(text: &[u8], separator: u8, kinds: u8) -> Option<usize>
-    ensures { result ≡ position (is_outside kinds separator) text.now }
+fn first_other(text: &[u8], kinds: u8) -> Option<usize>
+    ensures { result ≡ position (is_other kinds) text.now }
 {
-    text.iter()
-        .position(|byte| *byte == separator || !is_among(*byte, kinds))
+    text.iter().position(|byte| !is_among(*byte, kinds))
 }
 
-// What follows the first bytes that go on with an element.
+// What follows the first bytes of these kinds.
 #[inline]
-fn after_run(text: &[u8], separator: u8, kinds: u8) -> &[u8]
-    ensures { result.now ≡ drop (position_or_len (is_outside kinds separator) text.now) text.now }
+fn after_all(text: &[u8], kinds: u8) -> &[u8]
+    ensures { result.now ≡ drop (position_or_len (is_other kinds) text.now) text.now }
 {
-    match first_outside(text, separator, kinds) {
+    match first_other(text, kinds) {
         Some(len) => &text[len..],
         None => &[],
     }
 }
 
+// What follows the first bytes that go on with an element. A separator is of no kind, so that it isn't asked for by itself.
+#[inline]
+fn after_run(text: &[u8], separator: u8, kinds: u8) -> &[u8]
+    requires separator { IsSeparator separator }
+    requires kinds { kinds ≤ 7 }
+    ensures { result.now ≡ drop (position_or_len (is_outside kinds separator) text.now) text.now }
+{
+    after_all(after_fours(text, kinds), kinds)
+}
+
 // How many elements the separator joins in the text, where each part between separators is one.
 fn count_elements(text: &[u8], separator: u8, first: u8, rest: u8) -> Option<usize>
+    requires separator { IsSeparator separator }
+    requires kinds { (first ≤ 7) × (rest ≤ 7) }
     ensures { result ≡ element_count first rest separator text.now }
 {
     let mut count = 0;
     let mut left = text;
     while let [start, others @ ..] = left {
-        if *start == separator || !is_among(*start, first) {
+        if !is_among(*start, first) {
             return None;
         }
         count += 1;
@@ -190,6 +233,7 @@ fn count_elements(text: &[u8], separator: u8, first: u8, rest: u8) -> Option<usi
 
 // Whether dots join two or more elements.
 fn has_two_elements(text: &[u8], first: u8, rest: u8) -> bool
+    requires { (first ≤ 7) × (rest ≤ 7) }
     ensures { result ≡ are_two_elements first rest text.now }
 {
     match count_elements(text, b'.', first, rest) {
