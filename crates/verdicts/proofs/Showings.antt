@@ -1,11 +1,11 @@
 -- What is shown by what is read of a message is what the definition shows.
-use Rattle.std.proofs.Common.{◌≡◌, ℕ, Bool, true, false, cond, List, Option, Some, None, refl, ap, sym, ◌∙◌}
+use Rattle.std.proofs.Common.{◌≡◌, ℕ, Bool, true, false, cond, List, Option, Some, None, refl, ap, ap₂, sym, ◌∙◌}
 use Rattle.std.proofs.Math.Path.{fun_ext}
 use Rattle.std.specs.Prelude.{◌==◌, ◌||◌, is_some, option_and_then, option_map}
 use Rattle.std.specs.List.{list_any}
 use Rattle.dbus_header.specs.Contents.{Contents, contents_of, message_of}
 use Rattle.dbus_header.specs.Kinds.{Call, Error, Other, Return, Signal, kind_of}
-use Rattle.dbus_header.specs.Message.{Message, reply_serial, sender, text_list, three_texts}
+use Rattle.dbus_header.specs.Message.{Message, sender, text_list, three_texts}
 use Rattle.dbus_header.proofs.MessageBodies.{same-contents}
 use Rattle.dbus_names.specs.Texts.{Text}
 use Rattle.policy_args.specs.Policy.{Policy, at_least}
@@ -13,7 +13,8 @@ use Rattle.policy_args.specs.declared.Level.TheVariants.{Talk}
 use Rattle.policy_args.specs.declared.entry.Grant.{Grant}
 use Rattle.policy_args.specs.declared.entry.Grant.TheVariants.{See as to_see, Talk as to_talk, Own as to_own, Call as to_call, Broadcast as to_broadcast}
 use Rattle.policy_view.specs.Knowledge.{Knowledge, knowledge}
-use Rattle.policy_view.specs.Sent.{Past, answered}
+use Rattle.policy_view.specs.Past.{role as role_in}
+use Rattle.policy_view.specs.Sent.{Past}
 use Rattle.policy_view.specs.Shown.{BusRole, NoRole, Unexpected, MatchAnswer, OwnerAnswer, NamesAnswer, PingAnswer, NameList, HelloAnswer, OtherAnswer, CallIn, OwnerChange, SignalIn, BroadcastIn, broadcast_matches, bus_role, bus_role_at, is_owner_change, may_broadcast, on_names, on_owner_change, role_of_reply, role_of_signal, showing, showing_at, shown}
 use Rattle.policy_view.specs.Verdicts.{entry_passes}
 use Rattle.policy_view.specs.declared.Reason.TheVariants.{SenderNotTalk}
@@ -79,20 +80,19 @@ showing-row policy known m bytes at BroadcastIn = ap (λ (b : Bool). cond b Whol
 
 -- ---- a message that was read
 
-pub is-showing : (policy : Policy) (known : Knowledge) (expected : Option ℕ → Option Expected) (bytes : List ℕ) (q : Contents) (role : BusRole) (given : Showing) → option_map contents_of (message_of bytes) ≡ Some q →
-    role ≡ bus_role_of (expected q.parts.reply_serial) q → given ≡ showing_by policy known.level known.entries q bytes role →
-    (m : Message) → message_of bytes ≡ Some m → given ≡ showing policy known (expected (reply_serial m)) m
+pub is-showing : (policy : Policy) (known : Knowledge) (answer : Option Expected) (bytes : List ℕ) (q : Contents) (role : BusRole) (given : Showing) → option_map contents_of (message_of bytes) ≡ Some q →
+    role ≡ bus_role_of answer q → given ≡ showing_by policy known.level known.entries q bytes role →
+    (m : Message) → message_of bytes ≡ Some m → given ≡ showing policy known answer m
 unfolding showing
-is-showing policy known expected bytes q role given read role_is is m at =
+is-showing policy known answer bytes q role given read role_is is m at =
     is
     ∙ ap (showing_by policy known.level known.entries q bytes) role_is
-    ∙ ap (λ (c : Contents). showing_by policy known.level known.entries c bytes (bus_role_of (expected c.parts.reply_serial) c)) (sym (same-contents bytes q m at read))
-    ∙ showing-row policy known m bytes at (bus_role_of (expected (reply_serial m)) (contents_of m))
-    ∙ ap (showing_at policy known m) (bus-role-of (expected (reply_serial m)) m)
+    ∙ ap (λ (c : Contents). showing_by policy known.level known.entries c bytes (bus_role_of answer c)) (sym (same-contents bytes q m at read))
+    ∙ showing-row policy known m bytes at (bus_role_of answer (contents_of m))
+    ∙ ap (showing_at policy known m) (bus-role-of answer m)
 
--- where what is kept is what a past told
-pub is-shown : (policy : Policy) (known : Knowledge) (answer : Option Expected) (before : Past) (m : Message) (given : Showing) → known ≡ knowledge policy before.told → answer ≡ answered before (reply_serial m) →
+-- where what is kept is what a past told, and the message has its role there
+pub is-shown : (policy : Policy) (known : Knowledge) (answer : Option Expected) (before : Past) (m : Message) (given : Showing) → known ≡ knowledge policy before.told → bus_role answer m ≡ role_in before m →
     given ≡ showing policy known answer m → given ≡ shown policy before m
-unfolding shown
-is-shown policy known answer before m given same answer_is is =
-    is ∙ ap (λ (k : Knowledge). showing policy k answer m) same ∙ ap (λ (a : Option Expected). showing policy (knowledge policy before.told) a m) answer_is
+unfolding showing shown role_in
+is-shown policy known answer before m given same role_is is = is ∙ ap₂ (λ (k : Knowledge) (r : BusRole). showing_at policy k m r) same role_is

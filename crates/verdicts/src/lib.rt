@@ -5,13 +5,16 @@
 #![tactic(auto)]
 
 ghost use Rattle.std.specs.Prelude.{◌≡◌, Some};
+ghost use Rattle.std.specs.Option.{option_copied};
 ghost use Rattle.dbus_header.specs.Contents.{message_of};
-ghost use Rattle.dbus_header.specs.Message.{Message as MessageTree, reply_serial};
-ghost use Rattle.policy_view.specs.Past.{judged};
+ghost use Rattle.dbus_header.specs.Message.{Message as MessageTree};
+ghost use Rattle.policy_view.specs.Past.{judged, role};
 ghost use Rattle.policy_view.specs.Sent.{Past};
-ghost use Rattle.policy_view.specs.Shown.{showing, shown};
+ghost use Rattle.policy_view.specs.Shown.{bus_role as bus_role_by, showing, shown};
 ghost use Rattle.policy_view.specs.Verdicts.{verdict};
-ghost use Rattle.verdicts.specs.Kept.{StandFor, expected_at, kept};
+ghost use Rattle.reply_ledger.specs.Ledger.{Ledger as LedgerValue};
+ghost use Rattle.reply_ledger.specs.Owed.{Replies};
+ghost use Rattle.verdicts.specs.Kept.{StandFor, kept};
 
 mod bus_members;
 mod calls;
@@ -22,7 +25,7 @@ mod showing;
 use dbus_header::Message;
 use policy_args::Policy;
 use policy_view::{Showing, Verdict};
-use reply_ledger::Ledger;
+use reply_ledger::{Kind, Ledger};
 pub use roles::is_owner_change;
 use roles::{bus_role, client_role};
 use unique_names::Tracker;
@@ -54,13 +57,20 @@ pub fn judge(policy: &Policy, tracker: &Tracker, ledger: &Ledger, message: &Mess
 /// other signals with a DESTINATION, are shown whole, and a signal without one where its sender may be talked to or a
 /// Broadcast rule of the sender's entries matches. What answers nothing, or a call of the proxy's own, is hidden, and so is
 /// a message of a type above 4.
-pub fn show(policy: &Policy, tracker: &Tracker, ledger: &Ledger, message: &Message<'_>) -> Showing
-    // By what the tracker and the ledger keep, it is what the definition shows.
-    ensures kept { (m : MessageTree) → message_of message.now.bytes.now ≡ Some m → result ≡ showing policy.now (kept policy.now tracker.now ledger.now.owed) (expected_at ledger.now.expected (reply_serial m)) m }
+///
+/// It is told what the message is the answer to, which matters to a return and an error alone.
+pub fn show(
+    policy: &Policy,
+    tracker: &Tracker,
+    answered: Option<&Kind>,
+    message: &Message<'_>,
+) -> Showing
+    // By what the tracker keeps, it is what the definition shows, whatever replies are owed.
+    ensures kept { (owed : Replies) (m : MessageTree) → message_of message.now.bytes.now ≡ Some m → result ≡ showing policy.now (kept policy.now tracker.now owed) (option_copied answered.entry) m }
 
-    // So it is for each past for which they stand.
-    ensures exact { (before : Past) (m : MessageTree) → StandFor policy.now tracker.now ledger.now before → message_of message.now.bytes.now ≡ Some m → result ≡ shown policy.now before m }
+    // So it is for each past for which that and a ledger stand, where the message has the role there that its answer gives it.
+    ensures exact { (ledger : LedgerValue) (before : Past) (m : MessageTree) → StandFor policy.now tracker.now ledger before → bus_role_by (option_copied answered.entry) m ≡ role before m → message_of message.now.bytes.now ≡ Some m → result ≡ shown policy.now before m }
 {
     policy.covers_no_unique_name();
-    showing::show_as(policy, tracker, message, bus_role(ledger, message))
+    showing::show_as(policy, tracker, message, bus_role(answered, message))
 }

@@ -6,14 +6,13 @@ ghost use Rattle.dbus_header.specs.Seen.{text_seen};
 ghost use Rattle.policy_view.specs.Shown.{role_of_reply as reply_role};
 ghost use Rattle.policy_view.specs.Texts.{has_text as text_is, is_one_of};
 ghost use Rattle.policy_view.specs.Verdicts.{role_of_bus_call as bus_call_role, role_of_call as call_role, role_of_signal as signal_role, standard_interfaces};
-ghost use Rattle.verdicts.specs.Kept.{expected_at};
 ghost use Rattle.verdicts.specs.Roles.{bus_role_of, client_role_of, is_owner_change_of, signal_role_of};
 ghost use Rattle.verdicts.specs.Seen.{bus_role_seen, client_role_seen};
 
 use dbus_header::{ERROR, Instead, METHOD_CALL, METHOD_RETURN, Message, SIGNAL};
 use dbus_names::{BUS_NAME, Name, is_bus};
 use dbus_values::Order;
-use reply_ledger::{Kind, Ledger};
+use reply_ledger::Kind;
 
 /// What a client's message is.
 #[derive(Clone, Copy)]
@@ -134,26 +133,16 @@ fn role_of_signal(destination: Option<&str>) -> ClientRole<'_>
     }
 }
 
-/// The role of a bus message, by the answers that the ledger expects.
-pub(crate) fn bus_role<'a>(ledger: &'a Ledger, message: &Message<'_>) -> BusRole<'a>
-    ensures { bus_role_seen result ≡ bus_role_of (expected_at ledger.now.expected message.now.reply_serial) (message_seen message.now) }
+/// The role of a bus message, by what it is the answer to.
+pub(crate) fn bus_role<'a>(answered: Option<&'a Kind>, message: &Message<'_>) -> BusRole<'a>
+    ensures { bus_role_seen result ≡ bus_role_of (option_copied answered.entry) (message_seen message.now) }
 {
     match message.kind {
         METHOD_CALL => BusRole::CallIn,
-        METHOD_RETURN => role_of_reply(true, expected(ledger, message.reply_serial)),
-        ERROR => role_of_reply(false, expected(ledger, message.reply_serial)),
+        METHOD_RETURN => role_of_reply(true, answered),
+        ERROR => role_of_reply(false, answered),
         SIGNAL => role_of_bus_signal(message),
         _ => BusRole::NoRole,
-    }
-}
-
-// What is expected at a REPLY_SERIAL.
-fn expected(ledger: &Ledger, reply_serial: Option<u32>) -> Option<&Kind>
-    ensures { option_copied result ≡ expected_at ledger.now.expected reply_serial }
-{
-    match reply_serial {
-        None => None,
-        Some(serial) => ledger.peek(serial),
     }
 }
 
