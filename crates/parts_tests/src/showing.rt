@@ -31,6 +31,7 @@ return reply=6 signature=s text=:1.1 => Hide(OwnAnswer)
 return reply=7 signature=as no_texts => Hide(OwnAnswer)
 call path=/ member=A from=:1.9 to=:1.6 => Whole
 call path=/ member=A from=:1.9 => Whole
+call path=/ member=A reply=5 from=:1.9 => Whole
 signal path=/ interface=org.freedesktop.DBus member=NameOwnerChanged from=org.freedesktop.DBus signature=sss text=org.a.See text= text=:1.1 => Whole
 signal path=/ interface=org.freedesktop.DBus member=NameOwnerChanged from=org.freedesktop.DBus signature=sss text=org.a.No text= text=:1.9 => Hide(NameHidden)
 signal path=/ interface=org.freedesktop.DBus member=NameOwnerChanged from=org.freedesktop.DBus signature=sss text=:1.5 text=:1.5 text= => Whole
@@ -55,6 +56,7 @@ signal path=/p interface=org.a.I member=S from=:1.1 => Hide(SenderNotTalk)
 signal path=/p interface=org.a.I member=S from=:1.5 => Hide(SenderNotTalk)
 signal path=/p interface=org.a.I member=S from=:1.9 => Hide(SenderNotTalk)
 signal path=/p interface=org.a.I member=S => Hide(SenderNotTalk)
+signal path=/p interface=org.a.I member=S reply=1 => Hide(SenderNotTalk)
 ";
 
 /// What is shown of the message that a row tells, where it is valid.
@@ -67,7 +69,7 @@ fn shown(alloc: Global, known: &Known, row: &str) -> Result<Option<Showing>, All
         Ok(message) => Ok(Some(show(
             &known.options.policy,
             &known.tracker,
-            &known.ledger,
+            known.ledger.peek(message.reply_serial.unwrap_or(0)),
             &message,
         ))),
         Err(_) => Ok(None),

@@ -13,7 +13,7 @@ use Rattle.policy_args.specs.Policy.{Policy}
 use Rattle.policy_args.specs.declared.Level.{Level}
 use Rattle.policy_view.specs.Elements.{given_of}
 use Rattle.policy_view.specs.Past.{if_unique, returned_names, returned_text}
-use Rattle.policy_view.specs.Shown.{BusRole, OwnerChange, SignalIn, BroadcastIn, bus_role, bus_role_at, cut, is_owner_change, role_of_reply, showing}
+use Rattle.policy_view.specs.Shown.{BusRole, OwnerChange, SignalIn, BroadcastIn, bus_role, bus_role_at, cut, is_owner_change, role_of_reply, showing, showing_at}
 use Rattle.policy_view.specs.declared.Showing.{Showing}
 use Rattle.policy_view.specs.declared.Side.TheVariants.{Bus}
 use Rattle.policy_view.specs.declared.visible.Visible.{Visible as Element}
@@ -36,37 +36,34 @@ pub copied : {A : Type 0} (lent : Option (Bor A)) (P : Type 0) → IfSome lent (
 copied None P p = tt
 copied (Some x) P p = p
 
--- by what it answers
-hidden_by : (policy : Policy) (m : Message) (answer expected : Option Expected) (es : List Element) → bus_role answer m ≡ bus_role expected m → es ≡ flat_map given_of (visible_hidden policy m (bus_role answer m)) → es ≡ flat_map given_of (visible_hidden policy m (bus_role expected m))
-hidden_by policy m answer expected es same is = is ∙ ap (λ (r : BusRole). flat_map given_of (visible_hidden policy m r)) same
+-- an answer, by what it is for
+by_answer : (policy : Policy) (x : Seen) (answer : Option Expected) (es : List Element) → (x.kind == 2 || x.kind == 3) ≡ true → es ≡ flat_map given_of (visible_hidden policy (tree x) (role_of_reply ((tree x).kind == 2) answer)) →
+    es ≡ flat_map given_of (visible_hidden policy (tree x) (bus_role answer (tree x)))
+by_answer policy x answer es reply is = is ∙ ap (λ (r : BusRole). flat_map given_of (visible_hidden policy (tree x) r)) (sym (role_reply (tree x) answer (replies_is x true reply)))
 
-pub owner_hidden : (policy : Policy) (x : Seen) (answer expected : Option Expected) (position : ℕ) (owner : Option Text) → own_owner answer ≡ true → IfSome answer (λ _. (x.kind == 2 || x.kind == 3) ≡ true) → bus_role answer (tree x) ≡ bus_role expected (tree x)
-    → position ≡ position_of (tree x) → owner ≡ if_unique (returned_text (tree x)) → element.Owner position owner ∷ [] ≡ flat_map given_of (visible_hidden policy (tree x) (bus_role expected (tree x)))
-owner_hidden policy x (Some (expects.OwnOwner name)) expected position owner own reply same at is =
-    hidden_by policy (tree x) (Some (expects.OwnOwner name)) expected (element.Owner position owner ∷ []) same
-    (ap₂ (λ (p : ℕ) (o : Option Text). element.Owner p o ∷ []) at is
-    ∙ ap (λ (r : BusRole). flat_map given_of (visible_hidden policy (tree x) r)) (sym (role_reply (tree x) (Some (expects.OwnOwner name)) (replies_is x true reply))))
-owner_hidden policy x None expected position owner own reply same at is = absurd cc
-owner_hidden policy x (Some (expects.Call serial)) expected position owner own reply same at is = absurd cc
-owner_hidden policy x (Some (expects.Hello serial)) expected position owner own reply same at is = absurd cc
-owner_hidden policy x (Some (expects.Names serial)) expected position owner own reply same at is = absurd cc
-owner_hidden policy x (Some (expects.Ping serial order what)) expected position owner own reply same at is = absurd cc
-owner_hidden policy x (Some expects.OwnMatch) expected position owner own reply same at is = absurd cc
-owner_hidden policy x (Some expects.OwnNames) expected position owner own reply same at is = absurd cc
+pub owner_hidden : (policy : Policy) (x : Seen) (answer : Option Expected) (position : ℕ) (owner : Option Text) → own_owner answer ≡ true → IfSome answer (λ _. (x.kind == 2 || x.kind == 3) ≡ true)
+    → position ≡ position_of (tree x) → owner ≡ if_unique (returned_text (tree x)) → element.Owner position owner ∷ [] ≡ flat_map given_of (visible_hidden policy (tree x) (bus_role answer (tree x)))
+owner_hidden policy x (Some (expects.OwnOwner name)) position owner own reply at is =
+    by_answer policy x (Some (expects.OwnOwner name)) (element.Owner position owner ∷ []) reply (ap₂ (λ (p : ℕ) (o : Option Text). element.Owner p o ∷ []) at is)
+owner_hidden policy x None position owner own reply at is = absurd cc
+owner_hidden policy x (Some (expects.Call serial)) position owner own reply at is = absurd cc
+owner_hidden policy x (Some (expects.Hello serial)) position owner own reply at is = absurd cc
+owner_hidden policy x (Some (expects.Names serial)) position owner own reply at is = absurd cc
+owner_hidden policy x (Some (expects.Ping serial order what)) position owner own reply at is = absurd cc
+owner_hidden policy x (Some expects.OwnMatch) position owner own reply at is = absurd cc
+owner_hidden policy x (Some expects.OwnNames) position owner own reply at is = absurd cc
 
-pub names_hidden : (policy : Policy) (x : Seen) (answer expected : Option Expected) (position : ℕ) (names : Option (List Text)) → own_names answer ≡ true → IfSome answer (λ _. (x.kind == 2 || x.kind == 3) ≡ true) → bus_role answer (tree x) ≡ bus_role expected (tree x)
-    → position ≡ position_of (tree x) → names ≡ names_asked policy (returned_names (tree x)) → element.Asked position names ∷ [] ≡ flat_map given_of (visible_hidden policy (tree x) (bus_role expected (tree x)))
-names_hidden policy x (Some expects.OwnNames) expected position names own reply same at is =
-    hidden_by policy (tree x) (Some expects.OwnNames) expected (element.Asked position names ∷ []) same
-    (ap₂ (λ (p : ℕ) (ns : Option (List Text)). element.Asked p ns ∷ []) at is
-    ∙ ap (λ (r : BusRole). flat_map given_of (visible_hidden policy (tree x) r)) (sym (role_reply (tree x) (Some expects.OwnNames) (replies_is x true reply))))
-names_hidden policy x None expected position names own reply same at is = absurd cc
-names_hidden policy x (Some (expects.Call serial)) expected position names own reply same at is = absurd cc
-names_hidden policy x (Some (expects.Hello serial)) expected position names own reply same at is = absurd cc
-names_hidden policy x (Some (expects.Names serial)) expected position names own reply same at is = absurd cc
-names_hidden policy x (Some (expects.Ping serial order what)) expected position names own reply same at is = absurd cc
-names_hidden policy x (Some expects.OwnMatch) expected position names own reply same at is = absurd cc
-names_hidden policy x (Some (expects.OwnOwner name)) expected position names own reply same at is = absurd cc
+pub names_hidden : (policy : Policy) (x : Seen) (answer : Option Expected) (position : ℕ) (names : Option (List Text)) → own_names answer ≡ true → IfSome answer (λ _. (x.kind == 2 || x.kind == 3) ≡ true)
+    → position ≡ position_of (tree x) → names ≡ names_asked policy (returned_names (tree x)) → element.Asked position names ∷ [] ≡ flat_map given_of (visible_hidden policy (tree x) (bus_role answer (tree x)))
+names_hidden policy x (Some expects.OwnNames) position names own reply at is =
+    by_answer policy x (Some expects.OwnNames) (element.Asked position names ∷ []) reply (ap₂ (λ (p : ℕ) (ns : Option (List Text)). element.Asked p ns ∷ []) at is)
+names_hidden policy x None position names own reply at is = absurd cc
+names_hidden policy x (Some (expects.Call serial)) position names own reply at is = absurd cc
+names_hidden policy x (Some (expects.Hello serial)) position names own reply at is = absurd cc
+names_hidden policy x (Some (expects.Names serial)) position names own reply at is = absurd cc
+names_hidden policy x (Some (expects.Ping serial order what)) position names own reply at is = absurd cc
+names_hidden policy x (Some expects.OwnMatch) position names own reply at is = absurd cc
+names_hidden policy x (Some (expects.OwnOwner name)) position names own reply at is = absurd cc
 
 -- any other leaves nothing
 none_of_reply : (policy : Policy) (m : Message) (is_return : Bool) (answer : Option Expected) → own_owner answer ≡ false → own_names answer ≡ false → [] ≡ flat_map given_of (visible_hidden policy m (role_of_reply is_return answer))
@@ -92,21 +89,20 @@ none_at policy m Signal answer owner names = by (is_owner_change m) (is_some (de
     by false false = refl
 none_at policy m Other answer owner names = refl
 
-none_in : (policy : Policy) (m : Message) (answer : Option Expected) → own_owner answer ≡ false → own_names answer ≡ false → [] ≡ flat_map given_of (visible_hidden policy m (bus_role answer m))
+pub nothing_hidden : (policy : Policy) (m : Message) (answer : Option Expected) → own_owner answer ≡ false → own_names answer ≡ false → [] ≡ flat_map given_of (visible_hidden policy m (bus_role answer m))
 unfolding bus_role
-none_in policy m answer owner names = none_at policy m (kind_of m) answer owner names
-
-pub nothing_hidden : (policy : Policy) (m : Message) (answer expected : Option Expected) → own_owner answer ≡ false → own_names answer ≡ false → bus_role answer m ≡ bus_role expected m → [] ≡ flat_map given_of (visible_hidden policy m (bus_role expected m))
-nothing_hidden policy m answer expected owner names same = hidden_by policy m answer expected [] same (none_in policy m answer owner names)
+nothing_hidden policy m answer owner names = none_at policy m (kind_of m) answer owner names
 
 -- ---- a message that is shown
 
 -- by what is shown of it
-pub elements_as : (policy : Policy) (ids : Ids) (ledger : Ledger) (m : Message) (s : Showing) (es : List Element) → s ≡ showing policy (kept policy ids ledger.owed) (expected_at ledger.expected (reply_serial m)) m
-    → es ≡ flat_map given_of (visible_as policy (kept_level policy ids) m (bus_role (expected_at ledger.expected (reply_serial m)) m) s) → es ≡ elements_by policy ids ledger Bus m
+pub elements_as : (policy : Policy) (ids : Ids) (ledger : Ledger) (m : Message) (answer : Option Expected) (s : Showing) (es : List Element) → bus_role answer m ≡ bus_role (expected_at ledger.expected (reply_serial m)) m
+    → s ≡ showing policy (kept policy ids ledger.owed) answer m → es ≡ flat_map given_of (visible_as policy (kept_level policy ids) m (bus_role (expected_at ledger.expected (reply_serial m)) m) s) → es ≡ elements_by policy ids ledger Bus m
 unfolding showing
-elements_as policy ids ledger m s es shown is =
-    is ∙ ap (λ (t : Showing). flat_map given_of (visible_as policy (kept_level policy ids) m (bus_role (expected_at ledger.expected (reply_serial m)) m) t)) shown
+elements_as policy ids ledger m answer s es role shown is =
+    is
+    ∙ ap (λ (t : Showing). flat_map given_of (visible_as policy (kept_level policy ids) m (bus_role (expected_at ledger.expected (reply_serial m)) m) t))
+    (shown ∙ ap (λ (r : BusRole). showing_at policy (kept policy ids ledger.owed) m r) role)
 
 -- with the reply serial that it came with, a cut list is as it was cut
 pub cut_kept : (level : Text → Level) (x : Seen) (position : ℕ) (bytes : List ℕ) → IsSpelled x.bytes.now → x.signature.bytes.now ≡ codes "as" → IsSome x.reply_serial → position ≡ position_of (tree x)

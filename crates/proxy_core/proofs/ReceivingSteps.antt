@@ -270,24 +270,29 @@ shown_has policy known l x =
     shown_at known policy x (bus_role_at (kind_of (tree x)) (tree x) (expected_at l (reply_serial (tree x))))
     (λ r. subst IsSome (reply_serial_is x) (expected_somewhere l (reply_serial (tree x)) (answers_something (kind_of (tree x)) (tree x) (expected_at l (reply_serial (tree x))) r)))
 
-pub shown_by : (policy : Policy) (now : Knowledge) (l : FinMap nat_cmp Expected) (x : Seen) (s : Showing) → s ≡ showing policy now (expected_at l (reply_serial (tree x))) (tree x) → ShownBy x s
+pub shown_by : (policy : Policy) (now : Knowledge) (l : FinMap nat_cmp Expected) (x : Seen) (answered : Option Expected) (s : Showing) → bus_role answered (tree x) ≡ bus_role (expected_at l (reply_serial (tree x))) (tree x)
+    → s ≡ showing policy now answered (tree x) → ShownBy x s
 unfolding showing
-shown_by policy now l x s is = subst (λ (s : Showing). ShownBy x s) (sym is) (shown_has policy now l x)
+shown_by policy now l x answered s role is = subst (λ (s : Showing). ShownBy x s) (sym (is ∙ ap (λ (r : BusRole). showing_at policy now (tree x) r) role)) (shown_has policy now l x)
 
-pub showing_as : (policy : Policy) (inside old : SessionView) (x : Seen) (s : Showing) → inside ≡ old → s ≡ showing policy (known policy inside) (expected_at inside.ledger.expected (reply_serial (tree x))) (tree x)
-    → s ≡ showing_at policy (known policy old) (tree x) (bus_role (expected_at old.ledger.expected (reply_serial (tree x))) (tree x))
+-- by what a session keeps, and by the answer that is lent
+pub shown_now : (policy : Policy) (inside now : SessionView) (x : Seen) (lent answered : Option Expected) (s : Showing) → inside ≡ now → lent ≡ answered
+    → s ≡ showing policy (known policy inside) lent (tree x) → s ≡ showing policy (known policy now) answered (tree x)
+shown_now policy inside now x lent answered s view_is same is = is ∙ ap₂ (λ (v : SessionView) (o : Option Expected). showing policy (known policy v) o (tree x)) view_is same
+
+pub role_as : (policy : Policy) (now : Knowledge) (x : Seen) (answered : Option Expected) (s : Showing) → s ≡ showing policy now answered (tree x) → s ≡ showing_at policy now (tree x) (bus_role answered (tree x))
 unfolding showing
-showing_as policy inside old x s view_is is =
-    is ∙ ap (λ (v : SessionView). showing_at policy (known policy v) (tree x) (bus_role (expected_at v.ledger.expected (reply_serial (tree x))) (tree x))) view_is
+role_as policy now x answered s is = is
 
 -- what was used up makes no difference to what is known
-pub role_as : (policy : Policy) (inside old mid : SessionView) (x : Seen) (answered : Option Expected) (s : Showing) → inside ≡ old → mid ≡ with_used (tree x) old
-    → bus_role answered (tree x) ≡ bus_role (expected_at old.ledger.expected (reply_serial (tree x))) (tree x)
-    → s ≡ showing policy (known policy inside) (expected_at inside.ledger.expected (reply_serial (tree x))) (tree x) → s ≡ showing_at policy (known policy mid) (tree x) (bus_role answered (tree x))
-role_as policy inside old mid x answered s view_is left role is =
-    showing_as policy inside old x s view_is is
-    ∙ ap (λ (r : BusRole). showing_at policy (known policy old) (tree x) r) (sym role)
-    ∙ ap (λ (v : SessionView). showing_at policy (known policy v) (tree x) (bus_role answered (tree x))) (sym left)
+pub showing_as : (policy : Policy) (old mid : SessionView) (x : Seen) (answered : Option Expected) (s : Showing) → mid ≡ with_used (tree x) old
+    → bus_role answered (tree x) ≡ bus_role (expected_at old.ledger.expected (reply_serial (tree x))) (tree x) → s ≡ showing policy (known policy mid) answered (tree x)
+    → s ≡ showing_at policy (known policy old) (tree x) (bus_role (expected_at old.ledger.expected (reply_serial (tree x))) (tree x))
+unfolding showing
+showing_as policy old mid x answered s left role is =
+    is
+    ∙ ap (λ (v : SessionView). showing_at policy (known policy v) (tree x) (bus_role answered (tree x))) left
+    ∙ ap (λ (r : BusRole). showing_at policy (known policy old) (tree x) r) role
 
 -- what is learned by a message makes no difference to what is shown of it
 shown_alike : (one two : Text → Level) (m : Message) (s : Showing) → ((serial : ℕ) → s ≡ Cut serial → one ≡ two) → seen_as one m s ≡ seen_as two m s

@@ -62,7 +62,8 @@ fn bus_element(
 ) -> Result<Option<Visible>, AllocError>
     ensures { IfOk result (λ r. option_to_list r ≡ elements_by policy.now tracker.now ledger.now Side.Bus (message_in message.now.bytes.now)) }
 {
-    match show(policy, tracker, ledger, message) {
+    let answer = answered(ledger, message);
+    match show(policy, tracker, answer, message) {
         Showing::Whole => shown_element(alloc, message),
         Showing::Reply(_) => shown_element(alloc, message),
         Showing::Cut(_) => Ok(Some(Visible::Cut(cut_list(alloc, policy, tracker, message)?))),
@@ -70,7 +71,7 @@ fn bus_element(
             position: position(message),
             serial: message.serial,
         })),
-        Showing::Hide(_) => hidden_element(alloc, policy, ledger, message),
+        Showing::Hide(_) => hidden_element(alloc, policy, answer, message),
     }
 }
 
@@ -109,12 +110,12 @@ fn cut_list(
 fn hidden_element(
     alloc: Global,
     policy: &Policy,
-    ledger: &Ledger,
+    answer: Option<&Kind>,
     message: &Message<'_>,
 ) -> Result<Option<Visible>, AllocError>
-    ensures { IfOk result (λ r. option_to_list r ≡ flat_map given_of (visible_hidden policy.now (message_in message.now.bytes.now) (bus_role (expected_at ledger.now.expected (reply_serial_of (message_in message.now.bytes.now))) (message_in message.now.bytes.now)))) }
+    requires reply { IfSome answer (λ _. (message.now.kind == 2 || message.now.kind == 3) ≡ true) }
+    ensures { IfOk result (λ r. option_to_list r ≡ flat_map given_of (visible_hidden policy.now (message_in message.now.bytes.now) (bus_role (option_copied answer.entry) (message_in message.now.bytes.now)))) }
 {
-    let answer = answered(ledger, message);
     if is_for_owner(answer) {
         return Ok(Some(Visible::Owner {
             position: position(message),

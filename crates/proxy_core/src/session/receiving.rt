@@ -302,8 +302,8 @@ impl Session {
         ensures took { TookMessage (with_bus_message policy.now (incoming_message incoming.now) self.old) self.old self.new }
         ensures decision { result ≡ showing_at policy.now (known policy.now self.old) (incoming_message incoming.now) (bus_role (expected_at self.old.ledger.expected (reply_serial_of (incoming_message incoming.now))) (incoming_message incoming.now)) }
     {
-        let showing = show(policy, &self.tracker, &self.ledger, incoming.message);
         let answered = self.take_answer(incoming.message);
+        let showing = show(policy, &self.tracker, answered.as_ref(), incoming.message);
         self.take_role(policy, incoming, &answered, showing);
         showing
     }

@@ -4,22 +4,23 @@ use Rattle.policy_view.specs.Shown.{BusRole, bus_role}
 use Rattle.verdicts.specs.Kept.{expected_at}
 use Rattle.proxy_core.specs.Messages.{with_role}
 use Rattle.proxy_core.specs.Sessions.{SessionView}
-use Rattle.proxy_core.proofs.ReceivingSteps.{role_as, showing_as, shown_by, took_used}
+use Rattle.proxy_core.proofs.ReceivingSteps.{role_as, showing_as, shown_by, shown_now, took_used}
 use Rattle.proxy_core.proofs.Taking.{read, tree}
 use Rattle.proxy_core.proofs.session.Session.take_bus_message.Goals as goal
 
 pub take_role-requires-clause-shown : goal.take_role-requires-clause-shown
 take_role-requires-clause-shown c =
-    shown_by c.args.policy.now _ c.self.inside.ledger.expected c.args.incoming.now.message.now c.show-showing.result (c.show-showing.ensures.kept _ (read c.args.incoming.now.message.now))
+    shown_by c.args.policy.now _ c.args.self.now.ledger.expected c.args.incoming.now.message.now c.take_answer-answered.result c.show-showing.result c.take_answer-answered.ensures.role
+    (shown_now c.args.policy.now _ c.take_answer-answered.new.self c.args.incoming.now.message.now _ c.take_answer-answered.result c.show-showing.result c.self.view_is c.as_ref.ensures.value (c.show-showing.ensures.kept _ _ (read c.args.incoming.now.message.now)))
 
 pub take_role-requires-clause-role : goal.take_role-requires-clause-role
-take_role-requires-clause-role c = role_as c.args.policy.now _ c.args.self.now c.take_answer-answered.new.self c.args.incoming.now.message.now c.take_answer-answered.result c.show-showing.result c.self.view_is
-    c.take_answer-answered.ensures.left
-    c.take_answer-answered.ensures.role
-    (c.show-showing.ensures.kept _ (read c.args.incoming.now.message.now))
+take_role-requires-clause-role c =
+    role_as c.args.policy.now _ c.args.incoming.now.message.now c.take_answer-answered.result c.show-showing.result (shown_now c.args.policy.now _ c.take_answer-answered.new.self c.args.incoming.now.message.now _ c.take_answer-answered.result c.show-showing.result c.self.view_is c.as_ref.ensures.value (c.show-showing.ensures.kept _ _ (read c.args.incoming.now.message.now)))
 
 pub returns-clause-decision : goal.returns-clause-decision
-returns-clause-decision c = showing_as c.args.policy.now _ c.args.self.now c.args.incoming.now.message.now c.show-showing.result c.self.view_is (c.show-showing.ensures.kept _ (read c.args.incoming.now.message.now))
+returns-clause-decision c =
+    showing_as c.args.policy.now c.args.self.now c.take_answer-answered.new.self c.args.incoming.now.message.now c.take_answer-answered.result c.show-showing.result c.take_answer-answered.ensures.left c.take_answer-answered.ensures.role
+    (shown_now c.args.policy.now _ c.take_answer-answered.new.self c.args.incoming.now.message.now _ c.take_answer-answered.result c.show-showing.result c.self.view_is c.as_ref.ensures.value (c.show-showing.ensures.kept _ _ (read c.args.incoming.now.message.now)))
 
 pub returns-clause-took : goal.returns-clause-took
 returns-clause-took c =
