@@ -15,8 +15,11 @@ const SHORT: usize = 4096;
 /// When so many bytes were joined they are sealed, so that what was written of them is freed.
 const LONG: usize = 65_536;
 
-/// A queue without bytes keeps the memory of at most so many.
-const KEPT: usize = 4096;
+/// A queue without bytes keeps the room for at most so many, so that one which is filled and emptied again and again asks for it once.
+const KEPT: usize = 131_072;
+
+/// It keeps the room for at most so many parts.
+const PARTS_KEPT: usize = 64;
 
 /// So many bytes are sealed at most, which keeps the number of all bytes below 2^64.
 const MOST_SEALED: u64 = 9_223_372_036_854_775_808;
@@ -219,7 +222,7 @@ impl OutQueue {
         if self.joined.capacity() > KEPT {
             self.joined = BytesMut::new(self.alloc);
         }
-        if self.parts.capacity() > KEPT / 64 {
+        if self.parts.capacity() > PARTS_KEPT {
             self.parts = VecDeque::new(self.alloc);
         }
     }
