@@ -1,56 +1,13 @@
 -- A sender's calls, as one serial and the others.
-use Rattle.std.proofs.Common.{◌≡◌, ◌≢◌, ◌≤◌, ◌<◌, ◌+◌, ◌-◌, ◌==◌, ℕ, zero, suc, true, false, Option, Some, None, refl, ap, ap₂, sym, subst, ◌∙◌, arith, unwrap_or, is_some}
-use Rattle.std.proofs.lemmas.Bool.Decides.{nat_tests, Decides-eqb}
+use Rattle.std.proofs.Common.{◌≡◌, ◌≢◌, ◌≤◌, ◌<◌, ◌+◌, ◌-◌, ℕ, zero, suc, true, false, Option, Some, None, refl, ap, ap₂, sym, subst, ◌∙◌, arith, unwrap_or, is_some}
+use Rattle.std.proofs.lemmas.Bool.Decides.{Decides-eqb}
 use Rattle.std.specs.Bool.{if◌then◌else◌}
 use Rattle.std.specs.Ordering.{nat_cmp}
-use Rattle.std.specs.Cmp.{nat_cmp_total}
-use Rattle.std.specs.FinMap.{empty, get, insert, remove, get-empty, same_map, nat_cmp-IsAntisymmetric}
+use Rattle.std.specs.FinMap.{empty, get, insert, remove, get-empty}
 use Rattle.reply_ledger.specs.Apart.{AreApart}
 use Rattle.reply_ledger.specs.Owed.{IsKept, Serials, count_in, left_in, one_less_in, one_more_in, with_count}
-use Rattle.reply_ledger.proofs.Counting.{at_out, at_put, by_serial, put_kept, with_count-none, with_count-some}
-
-ext : (m n : Serials) → ((q : ℕ) → get m q ≡ get n q) → m ≡ n
-ext m n same = same_map nat_cmp_total nat_cmp-IsAntisymmetric m n same
-
--- ---- maps
-
-again : (m : Serials) (s c d : ℕ) → insert (insert m s c) s d ≡ insert m s d
-again m s c d = ext _ _ (λ q.
-    at_put (insert m s c) s d q ∙ ap (λ o. if s == q then Some d else o) (at_put m s c q)
-    ∙ by_serial (λ b. (if b then Some d else (if b then Some c else get m q)) ≡ (if b then Some d else get m q)) s q (λ same. refl) refl
-    ∙ sym (at_put m s d q))
-
-swapped : (m : Serials) (n v s c : ℕ) → n ≢ s → insert (insert m n v) s c ≡ insert (insert m s c) n v
-swapped m n v s c apart = ext _ _ (λ q.
-    let one = at_put (insert m n v) s c q in
-    let two = at_put m n v q in
-    let three = at_put (insert m s c) n v q in
-    let four = at_put m s c q in
-    grind (arith, nat_tests, one, two, three, four))
-
-out_swapped : (m : Serials) (n s c : ℕ) → n ≢ s → insert (remove m n) s c ≡ remove (insert m s c) n
-out_swapped m n s c apart = ext _ _ (λ q.
-    let one = at_put (remove m n) s c q in
-    let two = at_out m n q in
-    let three = at_out (insert m s c) n q in
-    let four = at_put m s c q in
-    grind (arith, nat_tests, one, two, three, four))
-
-pub put_out : (m : Serials) (s c : ℕ) → get m s ≡ None → remove (insert m s c) s ≡ m
-put_out m s c none = ext _ _ (λ q.
-    at_out (insert m s c) s q ∙ ap (λ o. if s == q then None else o) (at_put m s c q)
-    ∙ by_serial (λ b. (if b then None else (if b then Some c else get m q)) ≡ get m q) s q (λ same. sym none ∙ ap (get m) same) refl)
-
-out_put : (m : Serials) (s c : ℕ) → get m s ≡ Some c → insert (remove m s) s c ≡ m
-out_put m s c some = ext _ _ (λ q.
-    at_put (remove m s) s c q ∙ ap (λ o. if s == q then Some c else o) (at_out m s q)
-    ∙ by_serial (λ b. (if b then Some c else (if b then None else get m q)) ≡ get m q) s q (λ same. sym some ∙ ap (get m) same) refl)
-
-pub at_self : (m : Serials) (s c : ℕ) → get (insert m s c) s ≡ Some c
-at_self m s c = at_put m s c s ∙ ap (λ b. if b then Some c else get m s) ((Decides-eqb s s).1 refl)
-
-at_other : (m : Serials) (n s c : ℕ) → n ≢ s → get (insert m s c) n ≡ get m n
-at_other m n s c apart = at_put m s c n ∙ by_serial (λ b. (if b then Some c else get m n) ≡ get m n) s n (λ same. absurd (apart (sym same))) refl
+use Rattle.reply_ledger.proofs.Counting.{put_kept, with_count-none, with_count-some}
+use Rattle.reply_ledger.proofs.Maps.{again, at_other, at_out, at_self, by_number, out_put, out_swapped, put_out, swapped}
 
 -- ---- how many
 
@@ -94,7 +51,7 @@ more-apart n s c others apart are =
 
 out_positive : (m : Serials) (n : ℕ) → ((k : ℕ) → get m k ≡ Some 0 → ⊥) → (k : ℕ) → get (remove m n) k ≡ Some 0 → ⊥
 out_positive m n positive k is =
-    by_serial (λ b. (if b then None else get m k) ≡ Some 0 → ⊥) n k (λ same e. let no : None ≡ Some 0 = e in cc) (λ e. positive k e) (sym (at_out m n k) ∙ is)
+    by_number (λ b. (if b then None else get m k) ≡ Some 0 → ⊥) n k (λ same e. let no : None ≡ Some 0 = e in cc) (λ e. positive k e) (sym (at_out m n k) ∙ is)
 
 with_count-positive : (m : Serials) (n v : ℕ) → ((k : ℕ) → get m k ≡ Some 0 → ⊥) → (k : ℕ) → get (with_count m n v) k ≡ Some 0 → ⊥
 with_count-positive m n zero positive k is = out_positive m n positive k is
@@ -119,7 +76,7 @@ other-less others n s c apart = by (get others n) ∙ ap (left_in (insert others
     by (Some v) = with_count-swapped others n (v - 1) s c apart
 
 with_count-other : (m : Serials) (n v s : ℕ) → n ≢ s → get (with_count m n v) s ≡ get m s
-with_count-other m n zero s apart = at_out m n s ∙ by_serial (λ b. (if b then None else get m s) ≡ get m s) n s (λ same. absurd (apart same)) refl
+with_count-other m n zero s apart = at_out m n s ∙ by_number (λ b. (if b then None else get m s) ≡ get m s) n s (λ same. absurd (apart same)) refl
 with_count-other m n (suc v) s apart = at_other m s n (suc v) (λ same. apart (sym same))
 
 less-other : (m : Serials) (n s : ℕ) → n ≢ s → get (one_less_in m n) s ≡ get m s

@@ -5,7 +5,7 @@ use Rattle.std.proofs.lemmas.Slice.Eq.{bytes_eq-Decides}
 use Rattle.std.specs.Bool.{if◌then◌else◌}
 use Rattle.std.specs.Str.{bytes_eq}
 use Rattle.std.specs.Ordering.{nat_cmp}
-use Rattle.std.specs.Cmp.{nat_cmp_total, eq_by_cmp_equiv, unsigned_tied}
+use Rattle.std.specs.Cmp.{eq_by_cmp_equiv}
 use Rattle.std.specs.Cmp.Lexicographic.{slice_cmp}
 use Rattle.std.proofs.lemmas.Cmp.{nat_list_cmp_total}
 use Rattle.std.proofs.lemmas.Option.{same_Some}
@@ -13,47 +13,34 @@ use Rattle.std.proofs.lemmas.Map.Text.{is_eq-slice_cmp}
 use Rattle.std.specs.FinMap.{empty, get, insert, remove, get-empty, get-insert, get-remove}
 use Rattle.dbus_names.specs.Texts.{Text}
 use Rattle.reply_ledger.specs.Owed.{IsKept, KeepsOwedAlone, Replies, Serials, calls_of, count_in, count_of, is_pair, left_in, one_less_in, one_more_in, with_count}
+use Rattle.reply_ledger.proofs.Maps.{at_out, at_put, by_number}
 
 -- ---- one sender
-
-pub at_put : (calls : Serials) (n v k : ℕ) → get (insert calls n v) k ≡ (if n == k then Some v else get calls k)
-at_put calls n v k = get-insert nat_cmp_total calls n v k ∙ ap (λ b. cond b (Some v) (get calls k)) ((eq_by_cmp_equiv nat_cmp_total).symm k n ∙ unsigned_tied n k)
-
-pub at_out : (calls : Serials) (n k : ℕ) → get (remove calls n) k ≡ (if n == k then None else get calls k)
-at_out calls n k = get-remove nat_cmp_total calls n k ∙ ap (λ b. cond b None (get calls k)) ((eq_by_cmp_equiv nat_cmp_total).symm k n ∙ unsigned_tied n k)
-
--- by whether two serials are the same
-pub by_serial : (P : Bool → Type 0) (n k : ℕ) → (n ≡ k → P true) → P false → P (n == k)
-by_serial P n k same other = by (n == k) (Decides-eqb n k).0
-  where
-    by : (b : Bool) → (b ≡ true → n ≡ k) → P b
-    by true is = same (is refl)
-    by false is = other
 
 pub count_more : (calls : Serials) (n k : ℕ) → count_in (one_more_in calls n) k ≡ (if n == k then count_in calls k + 1 else count_in calls k)
 count_more calls n k =
     ap (λ o. unwrap_or o 0) (at_put calls n (count_in calls n + 1) k)
-    ∙ by_serial (λ b. unwrap_or (if b then Some (count_in calls n + 1) else get calls k) 0 ≡ (if b then count_in calls k + 1 else count_in calls k)) n k
+    ∙ by_number (λ b. unwrap_or (if b then Some (count_in calls n + 1) else get calls k) 0 ≡ (if b then count_in calls k + 1 else count_in calls k)) n k
     (λ same. ap (λ s. count_in calls s + 1) same) refl
 
 with_count-at : (calls : Serials) (n v k : ℕ) → count_in (with_count calls n v) k ≡ (if n == k then v else count_in calls k)
 with_count-at calls n zero k =
     ap (λ o. unwrap_or o 0) (at_out calls n k)
-    ∙ by_serial (λ b. unwrap_or (if b then None else get calls k) 0 ≡ (if b then 0 else count_in calls k)) n k (λ same. refl) refl
+    ∙ by_number (λ b. unwrap_or (if b then None else get calls k) 0 ≡ (if b then 0 else count_in calls k)) n k (λ same. refl) refl
 with_count-at calls n (suc v) k =
     ap (λ o. unwrap_or o 0) (at_put calls n (suc v) k)
-    ∙ by_serial (λ b. unwrap_or (if b then Some (suc v) else get calls k) 0 ≡ (if b then suc v else count_in calls k)) n k (λ same. refl) refl
+    ∙ by_number (λ b. unwrap_or (if b then Some (suc v) else get calls k) 0 ≡ (if b then suc v else count_in calls k)) n k (λ same. refl) refl
 
 pub count_less : (calls : Serials) (n k : ℕ) → count_in (one_less_in calls n) k ≡ (if n == k then count_in calls k - 1 else count_in calls k)
 count_less calls n k = by (get calls n) refl
   where
     by : (o : Option ℕ) → get calls n ≡ o → count_in (left_in calls n o) k ≡ (if n == k then count_in calls k - 1 else count_in calls k)
     by None is =
-        by_serial (λ b. count_in calls k ≡ (if b then count_in calls k - 1 else count_in calls k)) n k
+        by_number (λ b. count_in calls k ≡ (if b then count_in calls k - 1 else count_in calls k)) n k
         (λ same. let none : count_in calls k ≡ 0 = ap (λ s. count_in calls s) (sym same) ∙ ap (λ o. unwrap_or o 0) is in omega arith) refl
     by (Some v) is =
         with_count-at calls n (v - 1) k
-        ∙ by_serial (λ b. (if b then v - 1 else count_in calls k) ≡ (if b then count_in calls k - 1 else count_in calls k)) n k
+        ∙ by_number (λ b. (if b then v - 1 else count_in calls k) ≡ (if b then count_in calls k - 1 else count_in calls k)) n k
         (λ same. ap (λ o. unwrap_or o 0 - 1) (sym is) ∙ ap (λ s. count_in calls s - 1) same) refl
 
 -- ---- all senders
@@ -101,7 +88,7 @@ pair_out owed s n only t k =
     none : count_in empty k ≡ (if n == k then count_of owed s k - 1 else count_of owed s k)
     none =
         empty_at k
-        ∙ by_serial (λ b. 0 ≡ (if b then (if b then 1 else 0) - 1 else (if b then 1 else 0))) n k (λ same. refl) refl
+        ∙ by_number (λ b. 0 ≡ (if b then (if b then 1 else 0) - 1 else (if b then 1 else 0))) n k (λ same. refl) refl
         ∙ ap (λ c. if n == k then c - 1 else c) (sym was)
 
 -- ---- nothing is kept of what isn't owed
@@ -117,7 +104,7 @@ put_kept calls n v positive counted =
     }
   where
     by : (k : ℕ) → get (insert calls n v) k ≡ (if n == k then Some v else get calls k) → get (insert calls n v) k ≡ Some 0 → ⊥
-    by k at is = by_serial (λ b. (if b then Some v else get calls k) ≡ Some 0 → ⊥) n k (λ same e. let zero_is : v ≡ 0 = cc in omega arith) (λ e. positive k e) (sym at ∙ is)
+    by k at is = by_number (λ b. (if b then Some v else get calls k) ≡ Some 0 → ⊥) n k (λ same e. let zero_is : v ≡ 0 = cc in omega arith) (λ e. positive k e) (sym at ∙ is)
 
 pub more-kept : (calls : Serials) (n : ℕ) → ((k : ℕ) → get calls k ≡ Some 0 → ⊥) → IsKept (one_more_in calls n)
 more-kept calls n positive = put_kept calls n (count_in calls n + 1) positive (omega arith)
@@ -184,7 +171,7 @@ pub none-less : (owed : Replies) (s : Text) (n : ℕ) → count_of owed s n ≡ 
     (t : Text) (k : ℕ) → count_of owed t k ≡ (if is_pair s n t k then count_of owed t k - 1 else count_of owed t k)
 none-less owed s n none t k =
     by_sender (λ b. count_of owed t k ≡ (if b && n == k then count_of owed t k - 1 else count_of owed t k)) s t
-    (λ same. by_serial (λ b. count_of owed t k ≡ (if b then count_of owed t k - 1 else count_of owed t k)) n k
+    (λ same. by_number (λ b. count_of owed t k ≡ (if b then count_of owed t k - 1 else count_of owed t k)) n k
     (λ as_well. let zero : count_of owed t k ≡ 0 = ap₂ (count_of owed) (sym same) (sym as_well) ∙ none in omega arith) refl)
     refl
 

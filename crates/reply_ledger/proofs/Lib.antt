@@ -1,3 +1,5 @@
 pub mod Apart
 pub mod Counting
+pub mod Maps
 pub mod OneLess
+pub mod Queue

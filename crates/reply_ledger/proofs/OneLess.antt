@@ -6,8 +6,8 @@ use Rattle.std.specs.Ordering.{nat_cmp}
 use Rattle.std.specs.FinMap.{empty, get, insert, len, remove, empty_of_len, get-empty, len-empty}
 use Rattle.dbus_names.specs.Texts.{Text}
 use Rattle.reply_ledger.specs.Owed.{IsKept, Replies, Serials, calls_of, count_in, count_of, is_pair, left_in, one_less, one_less_in, one_more, one_more_in, with_calls}
-use Rattle.reply_ledger.proofs.Apart.{at_self, put_out}
 use Rattle.reply_ledger.proofs.Counting.{by_sender, calls_out, calls_put, count_empty, had-count, less-counted, more-counted, none-less, only-count}
+use Rattle.reply_ledger.proofs.Maps.{at_self, put_out}
 
 -- by whether a number is 0
 by_zero : (P : Bool → Type 0) (n : ℕ) → (n ≡ 0 → P true) → (0 < n → P false) → P (n == 0)

@@ -1,4 +1,5 @@
 pub mod Answered
 pub mod Apart
+pub mod Expected
 pub mod Ledger
 pub mod Owed

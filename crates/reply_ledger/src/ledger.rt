@@ -5,18 +5,19 @@ ghost use Rattle.std.specs.Option.{option_copied};
 ghost use Rattle.dbus_names.specs.Texts.{Text};
 ghost use Rattle.reply_ledger.specs.Owed.{KeepsOwedAlone, count_of, is_pair, one_less, one_more};
 
+use crate::expected::Expected;
 use crate::kind::Kind;
 use crate::owed::Owed;
 use std::alloc::{AllocError, Global};
-use std::collections::BTreeMap;
 use std::marker::Model;
 
 /// The answers of the bus that are expected, and the replies that the client owes.
 ///
-/// It is told what was sent and what came, and takes memory for what is outstanding alone.
+/// It is told what was sent and what came. It takes memory for what is outstanding, and a little more: the queue of what is
+/// expected keeps the room that it grew to until it is empty, and then room for 64 answers at most.
 #[derive(Drop)]
 pub struct Ledger {
-    expected: BTreeMap<u32, Kind>,
+    expected: Expected,
     owed: Owed,
 }
 
@@ -32,7 +33,7 @@ impl Model for Ledger {
 
     ghost coded = { Prim.hlevel (codes, map.code {X = KindValue} {R = nat_cmp} coded_ℕ (Prim.hlevel (codes, coded_list coded_ℕ)), map.code {R = slice_cmp nat_cmp} (coded_list coded_ℕ) (map.code {R = nat_cmp} coded_ℕ coded_ℕ)) };
 
-    ghost view = { λ l. record { expected = map.from_entries l.expected.entries; owed = l.owed } };
+    ghost view = { λ l. record { expected = l.expected; owed = l.owed } };
 }
 
 impl Ledger {
@@ -41,7 +42,7 @@ impl Ledger {
         ensures { result ≡ record { expected = map.empty; owed = map.empty } }
     {
         Ledger {
-            expected: BTreeMap::new(alloc),
+            expected: Expected::new(alloc),
             owed: Owed::new(alloc),
         }
     }
@@ -51,15 +52,14 @@ impl Ledger {
         ensures ok { OnOk result (self.new ≡ record self.old { expected = map.insert self.old.expected position kind }) }
         ensures err { OnErr result (self.new ≡ self.old) }
     {
-        self.expected.insert(position, kind)?;
-        Ok(())
+        self.expected.expect(position, kind)
     }
 
     /// What the answer to the message that was sent with this serial is for, if one is expected.
     pub fn peek(&self, position: u32) -> Option<&Kind>
         ensures { option_copied result ≡ map.get self.now.expected position }
     {
-        self.expected.get(&position)
+        self.expected.peek(position)
     }
 
     /// Takes what that answer is for: then none is expected there.
@@ -67,7 +67,7 @@ impl Ledger {
         ensures was { result ≡ map.get self.old.expected position }
         ensures left { self.new ≡ record self.old { expected = map.remove self.old.expected position } }
     {
-        self.expected.remove(&position)
+        self.expected.take(position)
     }
 
     /// A call came from this sender with this serial, and wants a reply. Where memory is refused, or there is no room for a

@@ -7,6 +7,7 @@
 
 mod calls;
 mod counts;
+mod expected;
 mod kind;
 mod ledger;
 mod owed;
