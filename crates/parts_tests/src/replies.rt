@@ -75,6 +75,31 @@ fn kinds_are_given_once(rt: HostRuntime) -> Result<(), Fail> {
     Ok(())
 }
 
+/// A ledger that expects answers to calls whose serials ascend.
+fn expecting_calls(alloc: Global, count: u32) -> Result<Ledger, AllocError> {
+    let mut ledger = Ledger::new(alloc);
+    for before in 0..count {
+        let serial = before.wrapping_add(1);
+        ledger.expect(serial, Kind::Call(serial))?;
+    }
+    Ok(ledger)
+}
+
+#[test]
+fn answers_come_in_any_order(rt: HostRuntime) -> Result<(), Fail> {
+    // As they were sent, backwards, and each seventh, round and round. A step that is no multiple of a prime meets all.
+    for (start, step) in [(0, 1), (100, 100), (3, 7)] {
+        let mut ledger = expecting_calls(rt.alloc(), 101)?;
+        for n in 0..101_u32 {
+            let serial = n.wrapping_mul(step).wrapping_add(start) % 101 + 1;
+            assert!(rt; matches!(ledger.peek(serial), Some(Kind::Call(call)) if *call == serial));
+            assert!(rt; matches!(ledger.take(serial), Some(Kind::Call(call)) if call == serial));
+            assert!(rt; ledger.take(serial).is_none());
+        }
+    }
+    Ok(())
+}
+
 #[test]
 fn another_kind_takes_the_place_of_the_first(rt: HostRuntime) -> Result<(), Fail> {
     let mut ledger = Ledger::new(rt.alloc());
