@@ -1,29 +1,32 @@
 -- What is found in a whole message is its parts, or what is wrong with it.
 use Rattle.std.proofs.Common.{◌≡◌, ℕ, ◌+◌, ◌-◌, ◌^◌, ◌≤◌, Bool, true, false, cond, List, [], ◌∷◌, ◌++◌, length, take, drop, get_or, Option, Some, None, option_map, Result, Ok, Err, refl, sym, ap, subst, ◌∙◌, append-nil, arith}
-use Rattle.std.specs.Prelude.{not, ◌&&◌, ◌||◌, ◌==◌, nat_lt, is_none, is_some, unwrap_or}
+use Rattle.std.specs.Prelude.{not, ◌&&◌, ◌||◌, ◌==◌, nat_lt, is_none, is_some, IfSome, unwrap_or}
 use Rattle.std.specs.List.{list_all}
 use Rattle.std.proofs.lemmas.List.{length-take-le, length-drop, length-append, drop-take}
 use Rattle.std.proofs.lemmas.Bool.{and_parts, le-ltb, eqb-true, eq-eqb, ne_eqb}
 use Rattle.byte_lists.proofs.Bytes.{AreBytes-drop, AreBytes-take}
 use Rattle.byte_lists.specs.Bytes.{AreBytes}
 use Rattle.dbus_names.specs.Names.{is_empty}
-use Rattle.dbus_types.specs.Signature.{Complete, is_complete, spelled_types}
-use Rattle.dbus_values.specs.Values.{Value}
-use Rattle.dbus_values.specs.Reading.{At, ◌>>=◌, when, values_at}
+use Rattle.dbus_types.proofs.SignatureRead.{spelled_types-types_of}
+use Rattle.dbus_types.specs.Signature.{Complete, is_complete, spelled_types, types_of, fault_of_types, signature_fault}
+use Rattle.dbus_types.specs.declared.BadSignature.TheVariants.{TooLong, Form}
+use Rattle.dbus_values.proofs.WalkLaws.{all_complete}
+use Rattle.dbus_values.specs.Values.{Value, padding}
+use Rattle.dbus_values.specs.Reading.{At, ◌>>=◌, when, all_zero, values_at}
 use Rattle.dbus_values.specs.Ends.{values_end}
 use Rattle.dbus_values.specs.declared.BadValue.{BadValue}
 use Rattle.dbus_values.specs.declared.Order.{Order}
-use Rattle.dbus_header.specs.Message.{Field, Message, spell, field_in, has_field, text_in, number_in, types_in, stated, signature, is_field_of, may_follow, may_all_follow, has_required, has_no_descriptors}
-use Rattle.dbus_header.specs.Malformed.{order_in, serial_in, fields_len, body_start, whole_len, head_fault, fields_of, fields_at, has_zeros, values_in, whole, fault, fault_in, front}
+use Rattle.dbus_header.specs.Message.{Field, Message, body_place, spell, field_in, has_field, text_in, number_in, types_in, stated, signature, is_field_of, may_follow, may_all_follow, has_required, has_no_descriptors}
+use Rattle.dbus_header.specs.Malformed.{malformed, order_in, serial_in, fields_len, body_start, whole_len, head_fault, fields_of, fields_at, has_zeros, values_in, whole, fault, fault_in, front}
 use Rattle.dbus_header.specs.declared.Malformed.{Malformed}
 use Rattle.dbus_header.specs.declared.MalformedKind.{MalformedKind}
 use Rattle.dbus_header.specs.declared.MalformedKind.TheVariants.{Fields, Required, Body, Descriptors}
 use Rattle.dbus_header.specs.Contents.{Contents, contents_of, message_of, body_bytes}
 use Rattle.dbus_header.specs.HeaderReading.{Found, has_required_parts}
 use Rattle.dbus_header.specs.HeaderFields.{at_place, spelled_in, parts_in, found_of, fields_in, FieldsRead}
-use Rattle.dbus_header.specs.Whole.{body_fault_at, stated_in, HasParts}
-use Rattle.dbus_header.proofs.MessageAgain.{front-spell, stated_complete}
-use Rattle.dbus_header.proofs.MessageRead.{FieldsSpelt, fields_are, ValuesSpelt, values_are, sound_head, checked, built, whole_is_valid, body_is}
+use Rattle.dbus_header.specs.Whole.{body_fault_at, stated_in, HasParts, IsFieldsLen, fields_fault, fields_found, body_or_descriptors, rest_fault}
+use Rattle.dbus_header.proofs.MessageAgain.{front-spell}
+use Rattle.dbus_header.proofs.MessageRead.{fields_are, ValuesSpelt, values_are, sound_head, checked, built, whole_is_valid, body_is}
 use Rattle.dbus_header.proofs.FoundParts.{path_holds, string_holds, number_holds}
 
 -- ---- values to the end of the bytes
@@ -70,14 +73,42 @@ module _ (o : Order) (types : List Complete) (bytes : List ℕ) (start : ℕ) (a
       by true = refl
       by false = refl
 
--- a value's end that was read
-pub fault_of_end : (o : Order) (types : List Complete) (bytes : List ℕ) (start end : ℕ) → AreBytes bytes → start ≤ length bytes → list_all is_complete types ≡ true → values_end o types start bytes ≡ Ok end →
-    cond (end == length bytes) None (Some end) ≡ body_fault_at o types bytes start
-fault_of_end o types bytes start end are inside complete e = sym (ap (fault_by o types bytes start are inside complete) e) ∙ fault_is o types bytes start are inside complete
+module _ (o : Order) (signature bytes : List ℕ) (start : ℕ) (are : AreBytes bytes) (inside : start ≤ length bytes) (valid : signature_fault signature ≡ None) where
+  complete_by : (types : List Complete) → signature ≡ spelled_types types → list_all is_complete types ≡ true
+  complete_by types is = all_complete types (ap signature_fault (sym is) ∙ valid)
 
-pub fault_of_bad : (o : Order) (types : List Complete) (bytes : List ℕ) (start : ℕ) (bad : BadValue) → AreBytes bytes → start ≤ length bytes → list_all is_complete types ≡ true → values_end o types start bytes ≡ Err bad →
-    Some bad.at ≡ body_fault_at o types bytes start
-fault_of_bad o types bytes start bad are inside complete e = sym (ap (fault_by o types bytes start are inside complete) e) ∙ fault_is o types bytes start are inside complete
+  -- the fault of a body of the signature by a value's end that was read
+  pub fault_of_end : (types : List Complete) (end : ℕ) → signature ≡ spelled_types types → values_end o types start bytes ≡ Ok end → cond (end == length bytes) None (Some end) ≡ body_fault_at o types bytes start
+  fault_of_end types end is e = sym (ap (fault_by o types bytes start are inside (complete_by types is)) e) ∙ fault_is o types bytes start are inside (complete_by types is)
+
+  pub fault_of_bad : (types : List Complete) (bad : BadValue) → signature ≡ spelled_types types → values_end o types start bytes ≡ Err bad → Some bad.at ≡ body_fault_at o types bytes start
+  fault_of_bad types bad is e = sym (ap (fault_by o types bytes start are inside (complete_by types is)) e) ∙ fault_is o types bytes start are inside (complete_by types is)
+
+  -- what the signature spells
+  spelled_by : (types : List Complete) × (signature ≡ spelled_types types)
+  spelled_by = by (types_of signature) refl
+    where
+      never : {A : Type 0} (b : Bool) (x y : A) → cond b (Some x) (Some y) ≡ None → ⊥
+      never true x y e = absurd cc
+      never false x y e = absurd cc
+
+      by : (types : Option (List Complete)) → types_of signature ≡ types → (ts : List Complete) × (signature ≡ spelled_types ts)
+      by None e =
+          absurd (never (nat_lt 255 (length signature)) TooLong Form (ap (λ (ts : Option (List Complete)). cond (nat_lt 255 (length signature)) (Some TooLong) (fault_of_types ts)) (sym e) ∙ valid))
+      by (Some ts) e = (ts, sym (spelled_types-types_of signature ts e))
+
+  -- the fault lies inside of the bytes
+  pub fault_inside : (fault : Option ℕ) → ((types : List Complete) → signature ≡ spelled_types types → fault ≡ body_fault_at o types bytes start) → IfSome fault (λ at. at ≤ length bytes)
+  fault_inside None is = tt
+  fault_inside (Some at) is =
+      let types = spelled_by.0 in
+      let found = values_at o types (at_place bytes start) in
+      let e : found.1.place ≡ at = some_at (length found.0 == length types && is_empty found.1.bytes) found.1.place at (sym (is types spelled_by.1)) in
+      omega (arith, e, (values_left o types bytes start are inside (complete_by types spelled_by.1)).1)
+    where
+      some_at : (c : Bool) (place at : ℕ) → cond c None (Some place) ≡ Some at → place ≡ at
+      some_at true place at e = absurd cc
+      some_at false place at e = cc
 
 -- ---- the fields that are needed
 
@@ -143,25 +174,10 @@ required_is kind fields follow = by (kind == 1) (kind == 2) (kind == 3) (kind ==
 abbrev bad : MalformedKind → ℕ → Malformed
 bad kind at = record { kind = kind; at = at }
 
-abbrev verdict : Bool → Bool → Bool → Bool → ℕ → ℕ → Message → Result Message Malformed
-verdict a b c d fields_at body_at m =
-    cond (not a) (Err (bad Fields fields_at))
-    (cond (not b) (Err (bad Required 12))
-    (cond (not c) (Err (bad Body body_at))
-    (cond (not d) (Err (bad Descriptors 12)) (Ok m))))
-
 -- the types that were found
 stated_is : (v : Option Value) → unwrap_or (spelled_in v) [] ≡ spelled_types (types_in v)
 stated_is None = refl
 stated_is (Some v) = refl
-
-some_at : (c : Bool) (place at : ℕ) → cond c None (Some place) ≡ Some at → (c ≡ false) × (place ≡ at)
-some_at true place at e = absurd cc
-some_at false place at e = (refl, cc)
-
-none_at : (c : Bool) (place : ℕ) → cond c None (Some place) ≡ None → c ≡ true
-none_at true place e = refl
-none_at false place e = absurd cc
 
 -- bytes whose first sixteen are in order and state exactly their length
 pub record IsWhole (t : List ℕ) : Type 0 where
@@ -170,18 +186,20 @@ pub record IsWhole (t : List ℕ) : Type 0 where
   pub head : head_fault t ≡ None
   pub exact : length t ≡ whole_len t
 
-pub record Bounds (t : List ℕ) : Type 0 where
-  pub fields : fields_len t ≤ 2 ^ 26
-  pub all : length t ≤ 2 ^ 27
-  pub start : body_start t ≤ length t
+-- how many bytes of header fields it states
+pub fields_len_is : (t : List ℕ) (n : ℕ) → head_fault t ≡ None → length t ≡ whole_len t → n ≡ fields_len t → IsFieldsLen t n
+fields_len_is t n head exact is =
+    let s = sound_head t (ap is_none head) in
+    let few : n ≤ 2 ^ 26 = omega (arith, is, s.fields) in
+    record { stated = is; few = few; inside = omega (arith, exact, ap body_place is); short = omega (arith, exact, s.len) }
 
-pub bounds : (t : List ℕ) → IsWhole t → Bounds t
-bounds t w =
-    let s = sound_head t (ap is_none w.head) in
-    let exact = w.exact in
-    record { fields = s.fields; all = omega (arith, s.len); start = omega (arith, exact) }
+-- what was found in its fields, where the last valid one ended, and whether that is where the header states the end
+pub record HeaderRead (t : List ℕ) (found : Found) (end : ℕ) (is_end : Bool) : Type 0 where
+  pub wrong : is_end ≡ false → Some (bad Fields end) ≡ fields_fault t
+  pub sound : is_end ≡ true → None ≡ fields_fault t
+  pub found_is : is_end ≡ true → found ≡ fields_found t
 
-module _ (t : List ℕ) (w : IsWhole t) (found : Found) (end : ℕ) (read : FieldsRead (order_in t) (take (16 + fields_len t) t) found end) where
+module _ (t : List ℕ) (inside : 16 + fields_len t ≤ length t) (found : Found) (end : ℕ) (read : FieldsRead (order_in t) (take (16 + fields_len t) t) found end) where
   abbrev n : ℕ
   n = fields_len t
 
@@ -194,11 +212,8 @@ module _ (t : List ℕ) (w : IsWhole t) (found : Found) (end : ℕ) (read : Fiel
   abbrev fs : List Field × At
   fs = fields_of t
 
-  abbrev values : List Value × At
-  values = values_in t (stated fs.0)
-
   cut_len : length cut ≡ 16 + n
-  cut_len = let exact = w.exact in length-take-le (16 + n) t (omega arith)
+  cut_len = length-take-le (16 + n) t inside
 
   fields_same : fields_in o cut ≡ fs
   fields_same =
@@ -214,104 +229,93 @@ module _ (t : List ℕ) (w : IsWhole t) (found : Found) (end : ℕ) (read : Fiel
   ended : fs.1 ≡ at_place cut end
   ended = ap (λ (x : List Field × At). x.1) (sym fields_same) ∙ read.ended
 
-  -- the header ends where it states that it does, and zeros follow it
-  abbrev header_end : Bool
-  header_end = end == 16 + n && has_zeros t
+  abbrev is_header_end : Bool
+  is_header_end = end == 16 + n && has_zeros t
 
-  header_is : (is_empty fs.1.bytes && has_zeros t) ≡ header_end
-  header_is = ap (λ (b : Bool). b && has_zeros t) (ap (λ (a : At). is_empty a.bytes) ended ∙ empty_drop end cut read.inside ∙ ap (λ (k : ℕ). end == k) cut_len)
+  is_end : (is_empty fs.1.bytes && has_zeros t) ≡ is_header_end
+  is_end = ap (λ (b : Bool). b && has_zeros t) (ap (λ (a : At). is_empty a.bytes) ended ∙ empty_drop end cut read.inside ∙ ap (λ (k : ℕ). end == k) cut_len)
 
-  place_is : fs.1.place ≡ end
-  place_is = ap (λ (a : At). a.place) ended
+  abbrev fault_by_end : Bool → ℕ → Option Malformed
+  fault_by_end b place = cond b None (malformed Fields place)
 
-  found_all : header_end ≡ true → found ≡ found_of o fs.0
-  found_all e =
-      let h = and_parts (end == 16 + n) (has_zeros t) e in
-      read.all (eqb-true end (16 + n) h.0 ∙ sym cut_len) ∙ ap (λ (x : List Field × At). found_of o x.0) fields_same
+  fault_read : fields_fault t ≡ fault_by_end is_header_end end
+  fault_read = ap (λ (b : Bool). fault_by_end b fs.1.place) is_end ∙ ap (λ (a : At). fault_by_end is_header_end a.place) ended
 
-  spelt : FieldsSpelt o [] (record { place = 16; bytes = take n (drop 16 t) }) fs
-  spelt = fields_are n o [] (record { place = 16; bytes = take n (drop 16 t) }) (AreBytes-take n (drop 16 t) (AreBytes-drop 16 t w.are))
-
-  complete : list_all is_complete (stated fs.0) ≡ true
-  complete = stated_complete fs.0 o 16 spelt.0
-
-  abbrev counted : Bool
-  counted = length values.0 == length (stated fs.0) && is_empty values.1.bytes
-
-  abbrev message : Message
-  message = built t fs.0 values.0
-
-  whole_is : whole t ≡ verdict header_end (has_required (get_or t 1 0) fs.0) counted (has_no_descriptors fs.0) end values.1.place message
-  unfolding whole
-  whole_is =
-      ap (λ (a : Bool). verdict a (has_required (get_or t 1 0) fs.0) counted (has_no_descriptors fs.0) fs.1.place values.1.place message) header_is
-      ∙ ap (λ (p : ℕ). verdict header_end (has_required (get_or t 1 0) fs.0) counted (has_no_descriptors fs.0) p values.1.place message) place_is
-
-  pub end_short : end ≤ 2 ^ 27
-  end_short = let inside = read.inside in let b = bounds t w in let most = b.fields in omega (arith, cut_len)
-
-  -- each of what is wrong
-  pub fields_wrong : header_end ≡ false → fault_in (whole t) ≡ Some (bad Fields end)
-  fields_wrong e = ap fault_in whole_is ∙ ap (λ (a : Bool). fault_in (verdict a (has_required (get_or t 1 0) fs.0) counted (has_no_descriptors fs.0) end values.1.place message)) e
-
-  required_same : header_end ≡ true → has_required_parts (get_or t 1 0) found.parts ≡ has_required (get_or t 1 0) fs.0
-  required_same e = ap (λ (f : Found). has_required_parts (get_or t 1 0) f.parts) (found_all e) ∙ required_is (get_or t 1 0) fs.0 spelt.1
-
-  pub required_wrong : header_end ≡ true → has_required_parts (get_or t 1 0) found.parts ≡ false → fault_in (whole t) ≡ Some (bad Required 12)
-  required_wrong e r =
-      ap fault_in whole_is
-      ∙ ap (λ (a : Bool). fault_in (verdict a (has_required (get_or t 1 0) fs.0) counted (has_no_descriptors fs.0) end values.1.place message)) e
-      ∙ ap (λ (a : Bool). fault_in (verdict true a counted (has_no_descriptors fs.0) end values.1.place message)) (sym (required_same e) ∙ r)
-
-  abbrev Body_fault : Option ℕ → Type 0
-  Body_fault result = (types : List Complete) → stated_in found ≡ spelled_types types → list_all is_complete types ≡ true → result ≡ body_fault_at o types t (body_start t)
-
-  body_same : (result : Option ℕ) → header_end ≡ true → Body_fault result → result ≡ cond counted None (Some values.1.place)
-  body_same result e b = b (stated fs.0) (ap (λ (f : Found). stated_in f) (found_all e) ∙ stated_is (field_in 8 fs.0)) complete
-
-  -- where the body's fault is in the bytes
-  pub fault_inside : (at : ℕ) → header_end ≡ true → Body_fault (Some at) → at ≤ 2 ^ 27
-  fault_inside at e b =
-      let s = some_at counted values.1.place at (sym (body_same (Some at) e b)) in
-      let k = bounds t w in
-      let most = k.all in
-      let left = (values_left o (stated fs.0) t (body_start t) w.are k.start complete).1 in
-      omega (arith, s.1, left)
-
-  pub body_wrong : (at : ℕ) → header_end ≡ true → has_required_parts (get_or t 1 0) found.parts ≡ true → Body_fault (Some at) → fault_in (whole t) ≡ Some (bad Body at)
-  body_wrong at e r b =
-      let s = some_at counted values.1.place at (sym (body_same (Some at) e b)) in
-      ap fault_in whole_is
-      ∙ ap (λ (a : Bool). fault_in (verdict a (has_required (get_or t 1 0) fs.0) counted (has_no_descriptors fs.0) end values.1.place message)) e
-      ∙ ap (λ (a : Bool). fault_in (verdict true a counted (has_no_descriptors fs.0) end values.1.place message)) (sym (required_same e) ∙ r)
-      ∙ ap (λ (a : Bool). fault_in (verdict true true a (has_no_descriptors fs.0) end values.1.place message)) s.0
-      ∙ ap (λ (p : ℕ). wrong p) s.1
-    where
-      wrong : ℕ → Option Malformed
-      wrong p = Some (bad Body p)
-
-  descriptors_same : header_end ≡ true → (unwrap_or found.descriptors 0 == 0) ≡ has_no_descriptors fs.0
-  descriptors_same e = ap (λ (f : Found). unwrap_or f.descriptors 0 == 0) (found_all e)
-
-  last : header_end ≡ true → has_required_parts (get_or t 1 0) found.parts ≡ true → Body_fault None → whole t ≡ verdict true true true (has_no_descriptors fs.0) end values.1.place message
-  last e r b =
-      whole_is
-      ∙ ap (λ (a : Bool). verdict a (has_required (get_or t 1 0) fs.0) counted (has_no_descriptors fs.0) end values.1.place message) e
-      ∙ ap (λ (a : Bool). verdict true a counted (has_no_descriptors fs.0) end values.1.place message) (sym (required_same e) ∙ r)
-      ∙ ap (λ (a : Bool). verdict true true a (has_no_descriptors fs.0) end values.1.place message) (none_at counted values.1.place (sym (body_same None e b)))
-
-  pub descriptors_wrong : header_end ≡ true → has_required_parts (get_or t 1 0) found.parts ≡ true → Body_fault None → (unwrap_or found.descriptors 0 == 0) ≡ false → fault_in (whole t) ≡ Some (bad Descriptors 12)
-  descriptors_wrong e r b d = ap fault_in (last e r b) ∙ ap (λ (a : Bool). fault_in (verdict true true true a end values.1.place message)) (sym (descriptors_same e) ∙ d)
-
-  pub nothing_wrong : header_end ≡ true → has_required_parts (get_or t 1 0) found.parts ≡ true → Body_fault None → (unwrap_or found.descriptors 0 == 0) ≡ true → HasParts t found
-  nothing_wrong e r b d = record {
-    message = message;
-    is = last e r b ∙ ap (λ (a : Bool). verdict true true true a end values.1.place message) (sym (descriptors_same e) ∙ d);
-    found_is = found_all e;
+  header_read : HeaderRead t found end is_header_end
+  header_read = record {
+    wrong = λ e. sym (fault_read ∙ ap (λ (b : Bool). fault_by_end b end) e);
+    sound = λ e. sym (fault_read ∙ ap (λ (b : Bool). fault_by_end b end) e);
+    found_is = λ e.
+        let h = and_parts (end == 16 + n) (has_zeros t) e in
+        read.all (eqb-true end (16 + n) h.0 ∙ sym cut_len) ∙ ap (λ (x : List Field × At). found_of o x.0) fields_same;
   }
 
-pub no_fault_in : (t : List ℕ) (found : Found) → HasParts t found → fault_in (whole t) ≡ None
-no_fault_in t found h = ap fault_in h.is
+-- as they were read of the first bytes
+pub header_is_read : {t front : List ℕ} {o : Order} {n end : ℕ} {found : Found} {is_end : Bool} → o ≡ order_in t → IsFieldsLen t n → front ≡ take (16 + n) t → FieldsRead o front found end →
+    is_end ≡ (end == 16 + n && all_zero (take (padding 8 (16 + n)) (drop (16 + n) t))) → HeaderRead t found end is_end
+header_is_read {t} {front} {o} {n} {end} {found} {is_end} order len front_is read is =
+    let inside : 16 + fields_len t ≤ length t = omega (arith, len.stated, len.inside) in
+    let cut : front ≡ take (16 + fields_len t) t = front_is ∙ ap (λ (k : ℕ). take (16 + k) t) len.stated in
+    let ends : is_end ≡ (end == 16 + fields_len t && has_zeros t) = is ∙ ap (λ (k : ℕ). end == 16 + k && all_zero (take (padding 8 (16 + k)) (drop (16 + k) t))) len.stated in
+    subst (HeaderRead t found end) (sym ends)
+    (header_read t inside found end (subst (λ (b : List ℕ). FieldsRead (order_in t) b found end) cut (subst (λ (p : Order). FieldsRead p front found end) order read)))
+
+-- what is wrong with the fields is what is wrong with the message
+pub fields_wrong : (t : List ℕ) (f : Malformed) → Some f ≡ fields_fault t → fault_in (whole t) ≡ Some f
+unfolding whole
+fields_wrong t f e = by (is_empty (fields_of t).1.bytes && has_zeros t) _ (sym e)
+  where
+    by : (b : Bool) (rest : Result Message Malformed) → cond b None (malformed Fields (fields_of t).1.place) ≡ Some f → fault_in (cond (not b) (Err (bad Fields (fields_of t).1.place)) rest) ≡ Some f
+    by true rest e = absurd cc
+    by false rest e = e
+
+-- and with valid fields what else is wrong
+rest_wrong : (t : List ℕ) → AreBytes t → None ≡ fields_fault t → fault_in (whole t) ≡ rest_fault (get_or t 1 0) (fields_found t) (body_fault_at (order_in t) (stated (fields_of t).0) t (body_start t))
+unfolding whole
+rest_wrong t are e =
+    let spelt = fields_are (fields_len t) (order_in t) [] (record { place = 16; bytes = take (fields_len t) (drop 16 t) }) (AreBytes-take (fields_len t) (drop 16 t) (AreBytes-drop 16 t are)) in
+    by (is_empty fields.1.bytes && has_zeros t) (has_required (get_or t 1 0) fields.0) (length body.0 == length (stated fields.0) && is_empty body.1.bytes) (sym e)
+    ∙ ap (λ (r : Bool). cond (not r) (malformed Required 12) (body_or_descriptors (fields_found t) (body_fault_at (order_in t) (stated fields.0) t (body_start t)))) (sym (required_is (get_or t 1 0) fields.0 spelt.1))
+  where
+    fields : List Field × At
+    fields = fields_of t
+
+    body : List Value × At
+    body = values_in t (stated fields.0)
+
+    message : Message
+    message = built t fields.0 body.0
+
+    last : (d : Bool) → fault_in (cond (not d) (Err (bad Descriptors 12)) (Ok message)) ≡ cond d None (malformed Descriptors 12)
+    last true = refl
+    last false = refl
+
+    by : (a r c : Bool) → cond a None (malformed Fields fields.1.place) ≡ None →
+        fault_in (cond (not a) (Err (bad Fields fields.1.place)) (cond (not r) (Err (bad Required 12)) (cond (not c) (Err (bad Body body.1.place)) (cond (not (has_no_descriptors fields.0)) (Err (bad Descriptors 12)) (Ok message)))))
+        ≡ cond (not r) (malformed Required 12) (body_or_descriptors (fields_found t) (cond c None (Some body.1.place)))
+    by false r c e = absurd cc
+    by true false c e = refl
+    by true true false e = refl
+    by true true true e = last (has_no_descriptors fields.0)
+
+-- the rest as it was read
+pub rest_is_read : (t : List ℕ) (o : Order) (n start : ℕ) (found : Found) (fault : Option Malformed) → AreBytes t → o ≡ order_in t → IsFieldsLen t n → start ≡ body_place n → None ≡ fields_fault t → found ≡ fields_found t →
+    ((types : List Complete) → stated_in found ≡ spelled_types types → fault ≡ rest_fault (get_or t 1 0) found (body_fault_at o types t start)) → fault ≡ fault_in (whole t)
+rest_is_read t o n start found fault are order len place sound found_is is =
+    let types = stated (fields_of t).0 in
+    is types (ap stated_in found_is ∙ stated_is (field_in 8 (fields_of t).0))
+    ∙ ap (λ (f : Found). rest_fault (get_or t 1 0) f (body_fault_at o types t start)) found_is
+    ∙ ap (λ (p : Order). rest_fault (get_or t 1 0) (fields_found t) (body_fault_at p types t start)) order
+    ∙ ap (λ (k : ℕ). rest_fault (get_or t 1 0) (fields_found t) (body_fault_at (order_in t) types t k)) (place ∙ ap body_place len.stated)
+    ∙ sym (rest_wrong t are sound)
+
+-- where nothing is wrong the fields are the message's
+pub has_parts : (t : List ℕ) (found : Found) → found ≡ fields_found t → fault_in (whole t) ≡ None → HasParts t found
+has_parts t found found_is = by (whole t) refl
+  where
+    by : (r : Result Message Malformed) → whole t ≡ r → fault_in r ≡ None → HasParts t found
+    by (Ok m) is e = record { message = m; is = is; found_is = found_is ∙ ap (λ (x : Message). found_of x.order x.fields) (checked t m is).is }
+    by (Err f) is e = absurd cc
 
 -- ---- what decode answers
 
@@ -373,23 +377,6 @@ contents_are t found w h =
 
     made : Order → ℕ → ℕ → ℕ → Found → List ℕ → List ℕ → Option Contents
     made o kind flags serial found signature body = Some (record { order = o; kind = kind; flags = flags; serial = serial; parts = found.parts; reply_place = found.reply_place; signature = signature; body = body })
-
--- the fields as they were read of the first bytes
-pub read_as : (t : List ℕ) (o : Order) (n : ℕ) (front : List ℕ) (found : Found) (end : ℕ) → o ≡ order_in t → n ≡ fields_len t → front ≡ take (16 + n) t → FieldsRead o front found end →
-    FieldsRead (order_in t) (take (16 + fields_len t) t) found end
-read_as t o n front found end order len is read =
-    let front_is : front ≡ take (16 + fields_len t) t = is ∙ ap (λ (k : ℕ). take (16 + k) t) len in
-    subst (λ (b : List ℕ). FieldsRead (order_in t) b found end) front_is (subst (λ (p : Order). FieldsRead p front found end) order read)
-
--- the body's fault as it was read
-pub body_as : (t : List ℕ) (o : Order) (found : Found) (signature : List ℕ) (start : ℕ) (result now : Option ℕ) → o ≡ order_in t → start ≡ body_start t → signature ≡ stated_in found →
-    ((types : List Complete) → signature ≡ spelled_types types → list_all is_complete types ≡ true → result ≡ body_fault_at o types t start) → result ≡ now →
-    (types : List Complete) → stated_in found ≡ spelled_types types → list_all is_complete types ≡ true → now ≡ body_fault_at (order_in t) types t (body_start t)
-body_as t o found signature start result now order place signed fault is types spelled complete =
-    sym is
-    ∙ fault types (signed ∙ spelled) complete
-    ∙ ap (λ (p : Order). body_fault_at p types t start) order
-    ∙ ap (λ (k : ℕ). body_fault_at (order_in t) types t k) place
 
 -- the contents as they were read
 pub contents_as : (t : List ℕ) (found : Found) (o : Order) (serial : ℕ) (signature body : List ℕ) → IsWhole t → HasParts t found → o ≡ order_in t → serial ≡ serial_in t → signature ≡ stated_in found → body ≡ drop (body_start t) t →

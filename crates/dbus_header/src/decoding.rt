@@ -1,14 +1,13 @@
 //! Reading a message.
-ghost use Rattle.std.specs.Prelude.{◌≡◌, ◌==◌, ◌≤◌, ◌<◌, ◌+◌, ◌^◌, ℕ, List, None, IfOk, IsTrue, ◌&&◌, take, drop, length, unwrap_or};
-ghost use Rattle.std.specs.List.{list_all};
-ghost use Rattle.dbus_types.specs.Signature.{Complete, spelled_types, is_complete};
+ghost use Rattle.std.specs.Prelude.{◌≡◌, ◌==◌, ◌≤◌, ◌<◌, ◌+◌, ◌^◌, ℕ, List, None, IfOk, IfSome, ◌&&◌, take, drop, length, slice_index, unwrap_or};
+ghost use Rattle.dbus_types.specs.Signature.{Complete, spelled_types};
 ghost use Rattle.dbus_values.specs.Values.{padding as padding_to};
 ghost use Rattle.dbus_values.specs.Reading.{all_zero};
 ghost use Rattle.dbus_header.specs.Malformed.{head_fault, whole_len, whole, fault, fault_in, order_in as stated_order};
 ghost use Rattle.dbus_header.specs.Refusals.{refusal};
 ghost use Rattle.dbus_header.specs.HeaderReading.{has_required_parts};
 ghost use Rattle.dbus_header.specs.Seen.{fields_seen, parts_seen};
-ghost use Rattle.dbus_header.specs.Whole.{body_fault_at, stated_in, HasParts};
+ghost use Rattle.dbus_header.specs.Whole.{body_fault_at, stated_in, HasParts, IsFieldsLen, fields_fault, fields_found, rest_fault};
 
 use crate::fields::{Fields, read_fields};
 use crate::head::{HEAD_LEN, body_start, check_head, order_in, read_u32};
@@ -54,7 +53,8 @@ fn stated<'a>(fields: &Fields<'a>) -> Signature<'a>
 /// Where the body stops being the signature's values, which are to fill it exactly.
 fn body_fault(order: Order, signature: Signature<'_>, bytes: &[u8], start: usize) -> Option<usize>
     requires { start ≤ length bytes.now }
-    ensures { (types : List Complete) → signature.entry.bytes.now ≡ spelled_types types → IsTrue (list_all is_complete types) → result ≡ body_fault_at order types bytes.now start }
+    ensures fault { (types : List Complete) → signature.entry.bytes.now ≡ spelled_types types → result ≡ body_fault_at order types bytes.now start }
+    ensures inside { IfSome result (λ at. at ≤ length bytes.now) }
 {
     match value_end(order, signature, bytes, start) {
         Ok(end) if end == bytes.len() => None,
@@ -77,6 +77,69 @@ fn is_header_end(bytes: &[u8], end: usize, fields_end: usize) -> bool
     is_zero(gap)
 }
 
+/// The bytes of header fields that a whole message has, whose first sixteen bytes are in order.
+fn header_fields_len(order: Order, bytes: &[u8]) -> u32
+    requires order { order ≡ stated_order bytes.now }
+    requires long { 16 ≤ length bytes.now }
+    requires head { head_fault bytes.now ≡ None }
+    requires whole { length bytes.now ≡ whole_len bytes.now }
+    ensures { IsFieldsLen bytes.now result }
+{
+    read_u32(order, bytes, 12)
+}
+
+/// The header fields of a whole message, which are to end where their length says, with zeros up to the body behind them.
+fn header_fields(order: Order, fields_len: u32, bytes: &[u8]) -> Result<Fields<'_>, Malformed>
+    requires order { order ≡ stated_order bytes.now }
+    requires len { IsFieldsLen bytes.now fields_len }
+    ensures refusal { refusal result ≡ fields_fault bytes.now }
+    ensures found { IfOk result (λ f. fields_seen f ≡ fields_found bytes.now) }
+{
+    let fields_end = HEAD_LEN + fields_len as usize;
+    let (header, _) = bytes.split_at(fields_end);
+    let (fields, end) = read_fields(order, header);
+    if !is_header_end(bytes, end, fields_end) {
+        return Err(Malformed {
+            kind: MalformedKind::Fields,
+            at: end as u32,
+        });
+    }
+    Ok(fields)
+}
+
+/// What else is wrong with a message with these header fields, whose body begins at a place.
+fn check_rest(
+    order: Order,
+    bytes: &[u8],
+    start: usize,
+    fields: &Fields<'_>,
+) -> Result<(), Malformed>
+    requires long { 16 ≤ length bytes.now }
+    requires short { length bytes.now ≤ 2 ^ 27 }
+    requires inside { start ≤ length bytes.now }
+    ensures { (types : List Complete) → stated_in (fields_seen fields.now) ≡ spelled_types types → refusal result ≡ rest_fault (slice_index bytes.now 1) (fields_seen fields.now) (body_fault_at order types bytes.now start) }
+{
+    if !has_required(bytes[1], fields) {
+        return Err(Malformed {
+            kind: MalformedKind::Required,
+            at: 12,
+        });
+    }
+    if let Some(at) = body_fault(order, stated(fields), bytes, start) {
+        return Err(Malformed {
+            kind: MalformedKind::Body,
+            at: at as u32,
+        });
+    }
+    if !has_no_descriptors(fields) {
+        return Err(Malformed {
+            kind: MalformedKind::Descriptors,
+            at: 12,
+        });
+    }
+    Ok(())
+}
+
 /// The header fields of a whole message whose first sixteen bytes are in order.
 fn read_whole(order: Order, bytes: &[u8]) -> Result<Fields<'_>, Malformed>
     requires order { order ≡ stated_order bytes.now }
@@ -86,35 +149,9 @@ fn read_whole(order: Order, bytes: &[u8]) -> Result<Fields<'_>, Malformed>
     ensures refusal { refusal result ≡ fault_in (whole bytes.now) }
     ensures parts { IfOk result (λ f. HasParts bytes.now (fields_seen f)) }
 {
-    let fields_len = read_u32(order, bytes, 12);
-    let fields_end = HEAD_LEN + fields_len as usize;
-    let start = body_start(fields_len) as usize;
-    let (header, _) = bytes.split_at(fields_end);
-    let (fields, end) = read_fields(order, header);
-    if !is_header_end(bytes, end, fields_end) {
-        return Err(Malformed {
-            kind: MalformedKind::Fields,
-            at: end as u32,
-        });
-    }
-    if !has_required(bytes[1], &fields) {
-        return Err(Malformed {
-            kind: MalformedKind::Required,
-            at: 12,
-        });
-    }
-    if let Some(at) = body_fault(order, stated(&fields), bytes, start) {
-        return Err(Malformed {
-            kind: MalformedKind::Body,
-            at: at as u32,
-        });
-    }
-    if !has_no_descriptors(&fields) {
-        return Err(Malformed {
-            kind: MalformedKind::Descriptors,
-            at: 12,
-        });
-    }
+    let fields_len = header_fields_len(order, bytes);
+    let fields = header_fields(order, fields_len, bytes)?;
+    check_rest(order, bytes, body_start(fields_len) as usize, &fields)?;
     Ok(fields)
 }
 
