@@ -4,31 +4,19 @@ use Rattle.std.specs.Prelude.{option_map, option_and_then}
 use Rattle.dbus_types.specs.Signature.{byte, boolean, int16, uint16, int32, uint32, int64, uint64, double, handle, Basic, number, string, path, signature, Complete, basic, variant, array, struct, entry, Completes, no_types, and, code, spelled_type, spelled_members, spelled_types, Open, outside, in_struct, in_entry, put, members, put_code, read_back, closed, types_of}
 
 basic_back : (b : Basic) (r : Option Open) → option_and_then (put_code (code b)) r ≡ option_map (put (basic b)) r
-basic_back (number byte) None = refl
+basic_back b None = refl
 basic_back (number byte) (Some o) = refl
-basic_back (number boolean) None = refl
 basic_back (number boolean) (Some o) = refl
-basic_back (number int16) None = refl
 basic_back (number int16) (Some o) = refl
-basic_back (number uint16) None = refl
 basic_back (number uint16) (Some o) = refl
-basic_back (number int32) None = refl
 basic_back (number int32) (Some o) = refl
-basic_back (number uint32) None = refl
 basic_back (number uint32) (Some o) = refl
-basic_back (number int64) None = refl
 basic_back (number int64) (Some o) = refl
-basic_back (number uint64) None = refl
 basic_back (number uint64) (Some o) = refl
-basic_back (number double) None = refl
 basic_back (number double) (Some o) = refl
-basic_back (number handle) None = refl
 basic_back (number handle) (Some o) = refl
-basic_back string None = refl
 basic_back string (Some o) = refl
-basic_back path None = refl
 basic_back path (Some o) = refl
-basic_back signature None = refl
 basic_back signature (Some o) = refl
 
 array_back : (t : Complete) (r : Option Open) → option_and_then (put_code 97) (option_map (put t) r) ≡ option_map (put (array t)) r

@@ -44,6 +44,7 @@ static CODES: [u8; 256] = *b"\
     00000000000000000000000000000000";
 
 #[inline]
+#[tactic(auto, unfolding(crate::specs::Codes::code_of))]
 pub(crate) fn code_of(byte: u8) -> Code
     ensures { result ≡ code_of_byte byte }
 {
