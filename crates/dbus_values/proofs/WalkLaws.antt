@@ -28,43 +28,25 @@ use Rattle.dbus_values.specs.declared.BadValue.{BadValue}
 
 -- ---- the codes in front
 
-alignment_front : (t : Complete) (rest : List ℕ) → alignment_by (front_code (spelled_type t ++ rest)) ≡ alignment t
-alignment_front (basic (number byte)) rest = refl
-alignment_front (basic (number boolean)) rest = refl
-alignment_front (basic (number int16)) rest = refl
-alignment_front (basic (number uint16)) rest = refl
-alignment_front (basic (number int32)) rest = refl
-alignment_front (basic (number uint32)) rest = refl
-alignment_front (basic (number int64)) rest = refl
-alignment_front (basic (number uint64)) rest = refl
-alignment_front (basic (number double)) rest = refl
-alignment_front (basic (number handle)) rest = refl
-alignment_front (basic string) rest = refl
-alignment_front (basic path) rest = refl
-alignment_front (basic signature) rest = refl
-alignment_front variant rest = refl
-alignment_front (array t) rest = refl
-alignment_front (struct t ts) rest = refl
-alignment_front (entry k t) rest = refl
-
-no_bracket : (t : Complete) (rest : List ℕ) → (front_code (spelled_type t ++ rest) == 41) ≡ false
-no_bracket (basic (number byte)) rest = refl
-no_bracket (basic (number boolean)) rest = refl
-no_bracket (basic (number int16)) rest = refl
-no_bracket (basic (number uint16)) rest = refl
-no_bracket (basic (number int32)) rest = refl
-no_bracket (basic (number uint32)) rest = refl
-no_bracket (basic (number int64)) rest = refl
-no_bracket (basic (number uint64)) rest = refl
-no_bracket (basic (number double)) rest = refl
-no_bracket (basic (number handle)) rest = refl
-no_bracket (basic string) rest = refl
-no_bracket (basic path) rest = refl
-no_bracket (basic signature) rest = refl
-no_bracket variant rest = refl
-no_bracket (array t) rest = refl
-no_bracket (struct t ts) rest = refl
-no_bracket (entry k t) rest = refl
+-- it tells the type's alignment, and isn't the bracket behind a struct's members
+type_front : (t : Complete) (rest : List ℕ) → let code = front_code (spelled_type t ++ rest) in (alignment_by code ≡ alignment t) × ((code == 41) ≡ false)
+type_front (basic (number byte)) rest = (refl, refl)
+type_front (basic (number boolean)) rest = (refl, refl)
+type_front (basic (number int16)) rest = (refl, refl)
+type_front (basic (number uint16)) rest = (refl, refl)
+type_front (basic (number int32)) rest = (refl, refl)
+type_front (basic (number uint32)) rest = (refl, refl)
+type_front (basic (number int64)) rest = (refl, refl)
+type_front (basic (number uint64)) rest = (refl, refl)
+type_front (basic (number double)) rest = (refl, refl)
+type_front (basic (number handle)) rest = (refl, refl)
+type_front (basic string) rest = (refl, refl)
+type_front (basic path) rest = (refl, refl)
+type_front (basic signature) rest = (refl, refl)
+type_front variant rest = (refl, refl)
+type_front (array t) rest = (refl, refl)
+type_front (struct t ts) rest = (refl, refl)
+type_front (entry k t) rest = (refl, refl)
 
 pub type_len : (t : Complete) → 0 < length (spelled_type t)
 type_len (basic b) = omega arith
@@ -359,7 +341,7 @@ module _ (o : Order) (k : ℕ) (walks : Walks k o) where
       go ih =
           let u = and_parts (is_complete t) (are_complete ts) c in
           ap (λ (x : List ℕ). walk_members walk (suc fuel) x a) (append_assoc (spelled_type t) (spelled_members ts) (41 ∷ rest))
-          ∙ ap (λ (b : Bool). cond b (some (drop 1 (spelled_type t ++ (spelled_members ts ++ 41 ∷ rest)), a)) (walk (spelled_type t ++ (spelled_members ts ++ 41 ∷ rest)) a >>= λ x. walk_members walk fuel x.0 x.1)) (no_bracket t (spelled_members ts ++ 41 ∷ rest))
+          ∙ ap (λ (b : Bool). cond b (some (drop 1 (spelled_type t ++ (spelled_members ts ++ 41 ∷ rest)), a)) (walk (spelled_type t ++ (spelled_members ts ++ 41 ∷ rest)) a >>= λ x. walk_members walk fuel x.0 x.1)) (type_front t (spelled_members ts ++ 41 ∷ rest)).1
           ∙ ap (λ (x : Option (List ℕ × At)). x >>= λ y. walk_members walk fuel y.0 y.1) (walks t (spelled_members ts ++ 41 ∷ rest) a u.0 h)
           ∙ next ih (inner t a) refl
 
@@ -498,7 +480,7 @@ module _ (o : Order) (k : ℕ) (walks : Walks k o) where
           ≡ ends rest (n >>= λ m. aligned (alignment t) m.1 >>= λ g. some_bytes m.0 g >>= λ y. to_the_end (element_at inner t) (suc m.0) (record { place = g.place; bytes = y.0 }) >>= array_of t m.0 y.1)
       len s h None e = refl
       len s h (Some n) e =
-          ap (λ (d : ℕ). aligned d n.1 >>= λ g. some_bytes n.0 g >>= λ y. when (nat_le n.0 (2 ^ 26) && elements_fill k walk (spelled_type t ++ rest) (record { place = g.place; bytes = y.0 })) (behind 0 (spelled_type t ++ rest), y.1)) (alignment_front t rest)
+          ap (λ (d : ℕ). aligned d n.1 >>= λ g. some_bytes n.0 g >>= λ y. when (nat_le n.0 (2 ^ 26) && elements_fill k walk (spelled_type t ++ rest) (record { place = g.place; bytes = y.0 })) (behind 0 (spelled_type t ++ rest), y.1)) (type_front t rest).0
           ∙ first n (width-takes o w32 s n read_32 h e).are (aligned (alignment t) n.1) refl
 
       start : (s : Option At) → aligned 4 a ≡ s

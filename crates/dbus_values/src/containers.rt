@@ -12,6 +12,9 @@ use dbus_types::behind_type;
 /// The most bytes that an array's elements may have (D-Bus Specification, "Type System", "Marshaling").
 const ARRAY_LIMIT: u32 = 67_108_864;
 
+/// What passing over a value leaves: the types that follow, and the cursor behind it.
+type Passed<'a> = Option<(&'a [u8], Cursor<'a>)>;
+
 /// The code of the type in front.
 #[inline]
 pub(crate) fn front_code(types: &[u8]) -> u8
@@ -48,15 +51,14 @@ fn alignment(code: u8) -> usize
     }
 }
 
-/// Passes over a value of the type in front, round whose innermost value lie fewer than so many containers: the types that
-/// follow, and the cursor behind the value.
+/// Passes over a value of the type in front, round whose innermost value lie fewer than so many containers.
 #[cycle(walk)]
-pub(crate) fn walk<'t, 'a>(
+pub(crate) fn walk<'a>(
     order: Order,
     containers: usize,
-    types: &'t [u8],
+    types: &'a [u8],
     at: Cursor<'a>,
-) -> Option<(&'t [u8], Cursor<'a>)>
+) -> Passed<'a>
     ensures { option_map bytes_seen result ≡ walk_within containers order types.now (place_seen at.entry) }
 {
     if containers == 0 {
@@ -67,12 +69,12 @@ pub(crate) fn walk<'t, 'a>(
 
 /// The same, where so many containers may lie round a value that is within this one.
 #[cycle(walk)]
-fn walk_within_one<'t, 'a>(
+fn walk_within_one<'a>(
     order: Order,
     containers: usize,
-    types: &'t [u8],
+    types: &'a [u8],
     at: Cursor<'a>,
-) -> Option<(&'t [u8], Cursor<'a>)>
+) -> Passed<'a>
     ensures { option_map bytes_seen result ≡ walk_by order containers (walk_within containers order) types.now (place_seen at.entry) }
 {
     match types {
@@ -86,12 +88,7 @@ fn walk_within_one<'t, 'a>(
 
 /// Passes over an array, its element's type standing in front.
 #[cycle(walk)]
-fn array<'t, 'a>(
-    order: Order,
-    containers: usize,
-    types: &'t [u8],
-    at: Cursor<'a>,
-) -> Option<(&'t [u8], Cursor<'a>)>
+fn array<'a>(order: Order, containers: usize, types: &'a [u8], at: Cursor<'a>) -> Passed<'a>
     ensures { option_map bytes_seen result ≡ walk_array order containers (walk_within containers order) types.now (place_seen at.entry) }
 {
     let (len, first) = at.align(4)?.number(order)?;
@@ -143,12 +140,7 @@ fn elements_to_end(order: Order, containers: usize, types: &[u8], first: Cursor<
 /// Passes over an element: a dict entry, or a value.
 #[inline]
 #[cycle(walk)]
-fn element<'t, 'a>(
-    order: Order,
-    containers: usize,
-    types: &'t [u8],
-    at: Cursor<'a>,
-) -> Option<(&'t [u8], Cursor<'a>)>
+fn element<'a>(order: Order, containers: usize, types: &'a [u8], at: Cursor<'a>) -> Passed<'a>
     ensures { option_map bytes_seen result ≡ walk_element (walk_within containers order) types.now (place_seen at.entry) }
 {
     match types {
@@ -159,12 +151,7 @@ fn element<'t, 'a>(
 
 /// Passes over a dict entry, its types standing behind the brace.
 #[cycle(walk)]
-fn dict_entry<'t, 'a>(
-    order: Order,
-    containers: usize,
-    types: &'t [u8],
-    at: Cursor<'a>,
-) -> Option<(&'t [u8], Cursor<'a>)>
+fn dict_entry<'a>(order: Order, containers: usize, types: &'a [u8], at: Cursor<'a>) -> Passed<'a>
     ensures { option_map bytes_seen result ≡ walk_entry (walk_within containers order) types.now (place_seen at.entry) }
 {
     let (types, value) = walk(order, containers, types, at.align(8)?)?;
@@ -174,12 +161,7 @@ fn dict_entry<'t, 'a>(
 
 /// Passes over a struct, its members' types standing behind the bracket.
 #[cycle(walk)]
-fn structure<'t, 'a>(
-    order: Order,
-    containers: usize,
-    types: &'t [u8],
-    at: Cursor<'a>,
-) -> Option<(&'t [u8], Cursor<'a>)>
+fn structure<'a>(order: Order, containers: usize, types: &'a [u8], at: Cursor<'a>) -> Passed<'a>
     ensures { option_map bytes_seen result ≡ walk_struct (walk_within containers order) types.now (place_seen at.entry) }
 {
     let (types, next) = walk(order, containers, types, at.align(8)?)?;
@@ -188,12 +170,12 @@ fn structure<'t, 'a>(
 
 /// Passes over members up to the closing bracket.
 #[cycle(walk)]
-fn members<'t, 'a>(
+fn members<'a>(
     order: Order,
     containers: usize,
-    member_types: &'t [u8],
+    member_types: &'a [u8],
     first: Cursor<'a>,
-) -> Option<(&'t [u8], Cursor<'a>)>
+) -> Passed<'a>
     ensures { option_map bytes_seen result ≡ walk_members (walk_within containers order) (suc (length member_types.now)) member_types.now (place_seen first.entry) }
 {
     let mut types = member_types;
