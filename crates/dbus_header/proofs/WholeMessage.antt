@@ -186,7 +186,11 @@ pub record IsWhole (t : List ℕ) : Type 0 where
   pub head : head_fault t ≡ None
   pub exact : length t ≡ whole_len t
 
--- how many bytes of header fields it states
+-- they are so where nothing is wrong with the first sixteen
+pub whole_by : (t : List ℕ) → AreBytes t → 16 ≤ length t → None ≡ head_fault t → (head_fault t ≡ None → length t ≡ whole_len t) → IsWhole t
+whole_by t are long sound exact = record { are = are; long = long; head = sym sound; exact = exact (sym sound) }
+
+-- how many bytes of header fields they state
 pub fields_len_is : (t : List ℕ) (n : ℕ) → head_fault t ≡ None → length t ≡ whole_len t → n ≡ fields_len t → IsFieldsLen t n
 fields_len_is t n head exact is =
     let s = sound_head t (ap is_none head) in

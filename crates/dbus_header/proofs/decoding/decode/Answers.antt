@@ -1,12 +1,12 @@
-use Rattle.std.proofs.Common.{◌≡◌, ◌∙◌, ℕ, drop, Some, None, sym, ap, arith, rules}
+use Rattle.std.proofs.Common.{◌≡◌, ◌∙◌, ℕ, drop, Some, sym, ap, arith, rules}
 use Rattle.dbus_header.specs.Message.{body_place}
-use Rattle.dbus_header.specs.Malformed.{fault, order_in, head_fault}
+use Rattle.dbus_header.specs.Malformed.{fault, order_in}
 use Rattle.dbus_header.specs.HeaderReading.{number_at}
 use Rattle.dbus_header.specs.Refusals.{refusal}
 use Rattle.dbus_header.specs.Seen.{fields_seen}
 use Rattle.dbus_values.specs.declared.Order.{Order}
 use Rattle.dbus_header.proofs.NumberLaws.{reply_inside}
-use Rattle.dbus_header.proofs.WholeMessage.{IsWhole, fault_of_whole, contents_as}
+use Rattle.dbus_header.proofs.WholeMessage.{whole_by, fault_of_whole, contents_as}
 use Rattle.dbus_header.proofs.decoding.decode.Goals as goal
 use Rattle.dbus_header.proofs.StreamLaws.{fault_of_head}
 
@@ -15,24 +15,19 @@ returns-in_err-check_head-clause-refusal c = search (rules, fault_of_head c.args
 
 pub returns-in_err-fields-clause-refusal : goal.returns-in_err-fields-clause-refusal
 returns-in_err-fields-clause-refusal c =
-    let t = c.args.bytes.now in
-    let head : head_fault t ≡ None = sym c.check_head.ensures.refusal ∙ ap refusal c.in_ok-check_head.was in
-    let whole : IsWhole t = record { are = λ i. omega (arith, c.type_inv.bytes i); long = c.requires.long; head = head; exact = c.requires.whole head } in
-    let is : fault t ≡ Some c.in_err-fields.field-0.0 = fault_of_whole t whole ∙ sym c.read_whole.ensures.refusal ∙ ap refusal c.in_err-fields.was in
+    let whole = whole_by c.args.bytes.now (λ i. omega (arith, c.type_inv.bytes i)) c.requires.long c.in_ok-check_head.ensures.refusal c.requires.whole in
+    let is : fault c.args.bytes.now ≡ Some c.in_err-fields.field-0.0 = fault_of_whole c.args.bytes.now whole ∙ sym c.in_err-fields.ensures.refusal in
     search (rules, is)
 
 pub returns-clause-refusal : goal.returns-clause-refusal
 returns-clause-refusal c =
-    let t = c.args.bytes.now in
-    let head : head_fault t ≡ None = sym c.check_head.ensures.refusal ∙ ap refusal c.in_ok-check_head.was in
-    let whole : IsWhole t = record { are = λ i. omega (arith, c.type_inv.bytes i); long = c.requires.long; head = head; exact = c.requires.whole head } in
-    sym (fault_of_whole t whole ∙ sym c.read_whole.ensures.refusal ∙ ap refusal c.in_ok-fields.was)
+    let whole = whole_by c.args.bytes.now (λ i. omega (arith, c.type_inv.bytes i)) c.requires.long c.in_ok-check_head.ensures.refusal c.requires.whole in
+    sym (fault_of_whole c.args.bytes.now whole ∙ sym c.in_ok-fields.ensures.refusal)
 
 pub invariant_of-result : goal.invariant_of-result
 invariant_of-result c =
     let t = c.args.bytes.now in
-    let head : head_fault t ≡ None = sym c.check_head.ensures.refusal ∙ ap refusal c.in_ok-check_head.was in
-    let whole : IsWhole t = record { are = λ i. omega (arith, c.type_inv.bytes i); long = c.requires.long; head = head; exact = c.requires.whole head } in
+    let whole = whole_by t (λ i. omega (arith, c.type_inv.bytes i)) c.requires.long c.in_ok-check_head.ensures.refusal c.requires.whole in
     let order : c.order_in-order.result ≡ order_in t = c.order_in-order.ensures in
     let number = ap (λ (o : Order). number_at o t 8) order in
     let len = ap (λ (o : Order). number_at o t 12) order in
