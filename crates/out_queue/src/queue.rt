@@ -15,7 +15,11 @@ const SHORT: usize = 4096;
 /// When so many bytes were joined they are sealed, so that what was written of them is freed.
 const LONG: usize = 65_536;
 
-/// A queue without bytes keeps the room for at most so many, so that one which is filled and emptied again and again asks for it once.
+/// A queue that was emptied so often keeps its room from then on: it is filled again and again, and one that is seldom used takes
+/// no memory meanwhile.
+const OFTEN: u8 = 8;
+
+/// A queue without bytes keeps the room for at most so many.
 const KEPT: usize = 131_072;
 
 /// It keeps the room for at most so many parts.
@@ -39,6 +43,8 @@ pub struct OutQueue {
     /// How many bytes the parts have.
     sealed: u64,
     joined: BytesMut,
+    /// How often it was emptied, counted up to `OFTEN`.
+    emptied: u8,
     alloc: Global,
 }
 
@@ -62,6 +68,7 @@ impl OutQueue {
             parts: VecDeque::new(alloc),
             sealed: 0,
             joined: BytesMut::new(alloc),
+            emptied: 0,
             alloc,
         }
     }
@@ -211,6 +218,17 @@ impl OutQueue {
         taken
     }
 
+    /// Whether the queue, which is emptied, keeps the room for joined bytes.
+    fn keeps_room(&mut self) -> bool
+        ensures { self.new ≡ self.old }
+    {
+        if self.emptied < OFTEN {
+            self.emptied += 1;
+            return false;
+        }
+        self.joined.capacity() <= KEPT
+    }
+
     /// Frees what a queue without bytes doesn't keep.
     fn release(&mut self)
         ensures { self.new ≡ self.old }
@@ -219,7 +237,7 @@ impl OutQueue {
             return;
         }
         self.joined.clear();
-        if self.joined.capacity() > KEPT {
+        if !self.keeps_room() {
             self.joined = BytesMut::new(self.alloc);
         }
         if self.parts.capacity() > PARTS_KEPT {
