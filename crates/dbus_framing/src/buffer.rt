@@ -9,6 +9,12 @@ use std::mem;
 /// A buffer keeps the memory of at most so many bytes beside those that wait in it.
 const KEPT: usize = 4096;
 
+/// One that was emptied so often is filled again and again, and keeps more from then on.
+const OFTEN: u8 = 8;
+
+/// The memory that it keeps then: room for a few reads of a link.
+const KEPT_OFTEN: usize = 262_144;
+
 /// Fewer bytes aren't shared: to copy them costs less than memory and a write of their own.
 const LONG: usize = 65_536;
 
@@ -35,6 +41,8 @@ pub(crate) struct Buffer {
     content: Content,
     /// How many bytes were taken from the memory that they lie in now.
     given: usize,
+    /// How often it was found empty when memory was freed, counted up to `OFTEN`.
+    emptied: u8,
     alloc: Global,
 }
 
@@ -49,18 +57,18 @@ impl Model for Buffer {
 
 /// Frees the memory of what was given, where that is more than is kept and more than has to be copied. Where memory is
 /// short the old buffer serves on. It returns how many bytes were given from the buffer that stands now.
-fn renew(alloc: Global, bytes: &mut BytesMut, given: usize) -> usize
+fn renew(alloc: Global, bytes: &mut BytesMut, given: usize, kept: usize) -> usize
     ensures { bytes.new.items ≡ bytes.old.items }
 {
     if bytes.is_empty() {
         bytes.clear();
-        if bytes.capacity() > KEPT {
+        if bytes.capacity() > kept {
             *bytes = BytesMut::new(alloc);
         }
         return 0;
     }
     let beside = given.saturating_add(bytes.capacity() - bytes.len());
-    if beside <= KEPT || given < bytes.len() {
+    if beside <= kept || given < bytes.len() {
         return given;
     }
     match BytesMut::copy_from_slice(alloc, bytes.as_slice()) {
@@ -89,6 +97,7 @@ impl Buffer {
         Buffer {
             content: Content::Open(BytesMut::new(alloc)),
             given: 0,
+            emptied: 0,
             alloc,
         }
     }
@@ -104,6 +113,7 @@ impl Buffer {
         Ok(Buffer {
             content: Content::Open(bytes),
             given: 0,
+            emptied: 0,
             alloc,
         })
     }
@@ -199,12 +209,26 @@ impl Buffer {
         }
     }
 
+    /// How much memory is kept beside the bytes that wait, now that some is to be freed.
+    fn kept(&mut self) -> usize
+        ensures { self.new ≡ self.old }
+    {
+        if self.emptied >= OFTEN {
+            return KEPT_OFTEN;
+        }
+        if self.len() == 0 {
+            self.emptied += 1;
+        }
+        KEPT
+    }
+
     /// Frees memory that isn't kept, as far as there is some for a copy.
     pub(crate) fn release(&mut self)
         ensures { self.new ≡ self.old }
     {
+        let kept = self.kept();
         match &mut self.content {
-            Content::Open(bytes) => self.given = renew(self.alloc, bytes, self.given),
+            Content::Open(bytes) => self.given = renew(self.alloc, bytes, self.given, kept),
             Content::Shared(bytes) => {
                 if let Ok(bytes) = BytesMut::copy_from_slice(self.alloc, bytes.as_slice()) {
                     self.content = Content::Open(bytes);
