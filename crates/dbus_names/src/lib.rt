@@ -1,4 +1,5 @@
-//! The grammars of D-Bus names and object paths, as tests on bytes; the name of the bus itself; and names that are owned.
+//! The grammars of D-Bus names and object paths, as tests on bytes; the name of the bus itself; texts that are known to be bus
+//! names; and names that are owned.
 //!
 //! A test reads a text once, allocates nothing, and stops at the first byte that is wrong.
 #![tactic(auto)]
@@ -8,8 +9,10 @@ ghost use Rattle.std.specs.List.{list_all, position_or_len};
 ghost use Rattle.dbus_names.specs.Elements.{BehindSome, IsSeparator, are_of_one_kind, are_two_elements, element_count, is_element_of, is_other, is_outside, is_among as is_among_kinds};
 ghost use Rattle.dbus_names.specs.Names.{is_bus as is_name_of_bus, is_bus_name as is_either_bus_name, is_error_name as is_name_of_error, is_interface as is_interface_name, is_member as is_member_name, is_path as is_object_path, is_unique as is_unique_name, is_well_known as is_well_known_name};
 
+mod bus_name;
 mod name;
 
+pub use bus_name::BusName;
 pub use name::Name;
 
 /// The name under which the bus itself is called (D-Bus Specification, "Message Bus Specification").
