@@ -19,3 +19,4 @@ pub mod WholeMessage
 pub mod NumberLaws
 pub mod CutLaws
 pub mod MessageBodies
+pub mod BusNames

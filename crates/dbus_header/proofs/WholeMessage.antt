@@ -1,6 +1,6 @@
 -- What is found in a whole message is its parts, or what is wrong with it.
 use Rattle.std.proofs.Common.{◌≡◌, ℕ, ◌+◌, ◌-◌, ◌^◌, ◌≤◌, Bool, true, false, cond, List, [], ◌∷◌, ◌++◌, length, take, drop, get_or, Option, Some, None, option_map, Result, Ok, Err, refl, sym, ap, subst, ◌∙◌, append-nil, arith}
-use Rattle.std.specs.Prelude.{not, ◌&&◌, ◌||◌, ◌==◌, nat_lt, is_none, is_some, IfSome, unwrap_or}
+use Rattle.std.specs.Prelude.{not, ◌&&◌, ◌||◌, ◌==◌, nat_lt, is_none, is_some, IfSome, unwrap_or, OnOk}
 use Rattle.std.specs.List.{list_all}
 use Rattle.std.proofs.lemmas.List.{length-take-le, length-drop, length-append, drop-take}
 use Rattle.std.proofs.lemmas.Bool.{and_parts, le-ltb, eqb-true, eq-eqb, ne_eqb}
@@ -24,6 +24,7 @@ use Rattle.dbus_header.specs.declared.MalformedKind.TheVariants.{Fields, Require
 use Rattle.dbus_header.specs.Contents.{Contents, contents_of, message_of, body_bytes}
 use Rattle.dbus_header.specs.HeaderReading.{Found, has_required_parts}
 use Rattle.dbus_header.specs.HeaderFields.{at_place, spelled_in, parts_in, found_of, fields_in, FieldsRead}
+use Rattle.dbus_header.specs.Refusals.{refusal}
 use Rattle.dbus_header.specs.Whole.{body_fault_at, stated_in, HasParts, IsFieldsLen, fields_fault, fields_found, body_or_descriptors, rest_fault}
 use Rattle.dbus_header.proofs.MessageAgain.{front-spell}
 use Rattle.dbus_header.proofs.MessageRead.{fields_are, ValuesSpelt, values_are, sound_head, checked, built, whole_is_valid, body_is}
@@ -320,6 +321,11 @@ has_parts t found found_is = by (whole t) refl
     by : (r : Result Message Malformed) → whole t ≡ r → fault_in r ≡ None → HasParts t found
     by (Ok m) is e = record { message = m; is = is; found_is = found_is ∙ ap (λ (x : Message). found_of x.order x.fields) (checked t m is).is }
     by (Err f) is e = absurd cc
+
+-- where nothing was told to be wrong
+pub parts_on_ok : {A : Type 0} (result : Result A Malformed) (t : List ℕ) (found : Found) → found ≡ fields_found t → refusal result ≡ fault_in (whole t) → OnOk result (HasParts t found)
+parts_on_ok (Ok x) t found found_is e = has_parts t found found_is (sym e)
+parts_on_ok (Err f) t found found_is e = tt
 
 -- ---- what decode answers
 

@@ -1,7 +1,9 @@
 -- What the code's header fields are seen as.
-use Rattle.std.specs.Prelude.{ℕ, List, Option, option_map}
+use Rattle.std.specs.Prelude.{◌≡◌, ℕ, true, List, Option, Some, option_map}
 use Rattle.dbus_header.specs.Contents.{Parts}
 use Rattle.dbus_header.specs.HeaderReading.{Part, some_text, some_number, some_signature, unread, Found}
+use Rattle.dbus_names.specs.Names.{is_bus_name}
+use Rattle.dbus_names.specs.declared.bus_name.BusName.{BusName}
 use Rattle.dbus_types.specs.declared.signature.Signature.{Signature}
 use Rattle.dbus_header.specs.declared.fields.HeaderField.{HeaderField}
 use Rattle.dbus_header.specs.declared.fields.HeaderField.TheVariants as header
@@ -40,3 +42,10 @@ parts_seen f = record {
 
 abbrev pub fields_seen : Fields → Found
 fields_seen f = record { parts = parts_seen f; reply_place = f.reply_serial_place; signature = signature_seen f.signature; descriptors = f.descriptors }
+
+abbrev pub name_seen : Option BusName → Option (List ℕ)
+name_seen name = option_map (λ n. n.text.now) name
+
+-- a text that stands is a bus name
+abbrev pub AreBusNames : Option (List ℕ) → Type 0
+AreBusNames text = (name : List ℕ) → text ≡ Some name → is_bus_name name ≡ true

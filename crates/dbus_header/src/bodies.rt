@@ -7,8 +7,8 @@ ghost use Rattle.dbus_header.specs.Seen.{text_seen, texts_seen};
 use crate::message::Message;
 use dbus_values::Texts;
 
-// A message that is read is valid.
-fn is_valid(bytes: &[u8])
+/// A message that is read is valid.
+pub(crate) fn is_valid(bytes: &[u8])
     ensures { (m : MessageTree) → message_of bytes.now ≡ Some m → Valid m }
 {
     let _bytes = bytes;

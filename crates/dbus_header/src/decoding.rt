@@ -1,11 +1,11 @@
 //! Reading a message.
-ghost use Rattle.std.specs.Prelude.{◌≡◌, ◌==◌, ◌≤◌, ◌<◌, ◌+◌, ◌^◌, ℕ, List, None, IfOk, IfSome, ◌&&◌, take, drop, length, slice_index, unwrap_or};
+ghost use Rattle.std.specs.Prelude.{◌≡◌, ◌==◌, ◌≤◌, ◌<◌, ◌+◌, ◌^◌, List, None, IfOk, IfSome, OnOk, ◌&&◌, take, drop, length, slice_index, unwrap_or};
 ghost use Rattle.dbus_types.specs.Signature.{Complete, spelled_types};
 ghost use Rattle.dbus_values.specs.Values.{padding as padding_to};
 ghost use Rattle.dbus_values.specs.Reading.{all_zero};
 ghost use Rattle.dbus_header.specs.Malformed.{head_fault, whole_len, whole, fault, fault_in, order_in as stated_order};
 ghost use Rattle.dbus_header.specs.Refusals.{refusal};
-ghost use Rattle.dbus_header.specs.HeaderReading.{has_required_parts};
+ghost use Rattle.dbus_header.specs.HeaderReading.{has_required_parts, nothing_found};
 ghost use Rattle.dbus_header.specs.Seen.{fields_seen, parts_seen};
 ghost use Rattle.dbus_header.specs.Whole.{body_fault_at, stated_in, HasParts, IsFieldsLen, fields_fault, fields_found, rest_fault};
 
@@ -88,23 +88,29 @@ fn header_fields_len(order: Order, bytes: &[u8]) -> u32
     read_u32(order, bytes, 12)
 }
 
-/// The header fields of a whole message, which are to end where their length says, with zeros up to the body behind them.
-fn header_fields(order: Order, fields_len: u32, bytes: &[u8]) -> Result<Fields<'_>, Malformed>
+/// Reads the header fields of a whole message, which are to end where their length says, with zeros up to the body behind them.
+fn header_fields<'a>(
+    order: Order,
+    fields_len: u32,
+    bytes: &'a [u8],
+    fields: &mut Fields<'a>,
+) -> Result<(), Malformed>
+    requires none { fields_seen fields.old ≡ nothing_found }
     requires order { order ≡ stated_order bytes.now }
     requires len { IsFieldsLen bytes.now fields_len }
     ensures refusal { refusal result ≡ fields_fault bytes.now }
-    ensures found { IfOk result (λ f. fields_seen f ≡ fields_found bytes.now) }
+    ensures found { OnOk result (fields_seen fields.new ≡ fields_found bytes.now) }
 {
     let fields_end = HEAD_LEN + fields_len as usize;
     let (header, _) = bytes.split_at(fields_end);
-    let (fields, end) = read_fields(order, header);
+    let end = read_fields(order, header, fields);
     if !is_header_end(bytes, end, fields_end) {
         return Err(Malformed {
             kind: MalformedKind::Fields,
             at: end as u32,
         });
     }
-    Ok(fields)
+    Ok(())
 }
 
 /// What else is wrong with a message with these header fields, whose body begins at a place.
@@ -140,19 +146,19 @@ fn check_rest(
     Ok(())
 }
 
-/// The header fields of a whole message whose first sixteen bytes are in order.
-fn read_whole(order: Order, bytes: &[u8]) -> Result<Fields<'_>, Malformed>
+/// Reads the header fields of a whole message whose first sixteen bytes are in order, and passes over its body.
+fn read_whole<'a>(order: Order, bytes: &'a [u8], fields: &mut Fields<'a>) -> Result<(), Malformed>
+    requires none { fields_seen fields.old ≡ nothing_found }
     requires order { order ≡ stated_order bytes.now }
     requires long { 16 ≤ length bytes.now }
     requires head { head_fault bytes.now ≡ None }
     requires whole { length bytes.now ≡ whole_len bytes.now }
     ensures refusal { refusal result ≡ fault_in (whole bytes.now) }
-    ensures parts { IfOk result (λ f. HasParts bytes.now (fields_seen f)) }
+    ensures parts { OnOk result (HasParts bytes.now (fields_seen fields.new)) }
 {
     let fields_len = header_fields_len(order, bytes);
-    let fields = header_fields(order, fields_len, bytes)?;
-    check_rest(order, bytes, body_start(fields_len) as usize, &fields)?;
-    Ok(fields)
+    header_fields(order, fields_len, bytes, fields)?;
+    check_rest(order, bytes, body_start(fields_len) as usize, fields)
 }
 
 /// The message that the bytes are, or what is wrong with them, and where (D-Bus Specification, "Message Format"). One pass
@@ -165,7 +171,8 @@ pub fn decode(bytes: &[u8]) -> Result<Message<'_>, Malformed>
 {
     check_head(bytes)?;
     let order = order_in(bytes);
-    let fields = read_whole(order, bytes)?;
+    let mut fields = Fields::none();
+    read_whole(order, bytes, &mut fields)?;
     let start = body_start(read_u32(order, bytes, 12)) as usize;
     let (_, body) = bytes.split_at(start);
     Ok(Message {

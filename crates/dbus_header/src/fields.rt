@@ -243,7 +243,7 @@ fn read_field(order: Order, bytes: &[u8], place: usize) -> Option<(HeaderField<'
 
 impl<'a> Fields<'a> {
     /// No field, before any was read.
-    fn none() -> Fields<'a>
+    pub(crate) fn none() -> Fields<'a>
         ensures { fields_seen result ≡ nothing_found }
     {
         Fields {
@@ -320,21 +320,23 @@ impl<'a> Fields<'a> {
     }
 }
 
-/// The fields of a message that is cut behind them, and where the last valid one ended.
-pub(crate) fn read_fields(order: Order, bytes: &[u8]) -> (Fields<'_>, usize)
+/// Reads the fields of a message that is cut behind them, and tells where the last valid one ended. They are put where they are
+/// to stay.
+#[inline(never)]
+pub(crate) fn read_fields<'a>(order: Order, bytes: &'a [u8], fields: &mut Fields<'a>) -> usize
+    requires none { fields_seen fields.old ≡ nothing_found }
     requires long { 16 ≤ length bytes.now }
     requires short { length bytes.now ≤ 2 ^ 28 }
-    ensures { FieldsRead order bytes.now (fields_seen result.0) result.1 }
+    ensures { FieldsRead order bytes.now (fields_seen fields.new) result }
 {
-    let mut fields = Fields::none();
     let mut place = 16;
     loop {
         let (field, end) = match read_field(order, bytes, place) {
             Some(found) => found,
-            None => return (fields, place),
+            None => return place,
         };
         if !fields.put(place, field) {
-            return (fields, place);
+            return place;
         }
         place = end;
     }

@@ -9,6 +9,7 @@ mod fields;
 mod head;
 mod kinds;
 mod message;
+mod names;
 mod numbers;
 
 ghost use Rattle.std.specs.Prelude.{◌≡◌, ℕ, ◌++◌, ◌<◌, List, Some, slice_index};

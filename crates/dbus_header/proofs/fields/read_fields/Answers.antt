@@ -5,7 +5,7 @@ use Rattle.dbus_header.proofs.HeaderFields.{Reached, at_start, at_none, at_refus
 use Rattle.dbus_header.proofs.fields.read_fields.Goals as goal
 
 pub loop-found-init : goal.loop-found-init
-loop-found-init c = subst (λ (f : Found). Reached c.args.order c.args.bytes.now f 16) (sym c.none-fields.ensures) (at_start c.args.order c.args.bytes.now c.requires.long)
+loop-found-init c = subst (λ (f : Found). Reached c.args.order c.args.bytes.now f 16) (sym c.requires.none) (at_start c.args.order c.args.bytes.now c.requires.long)
 
 pub returns-in-None : goal.returns-in-None
 returns-in-None c =

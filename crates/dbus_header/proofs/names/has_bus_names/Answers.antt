@@ -1,0 +1,9 @@
+use Rattle.dbus_header.specs.Read.{message_seen}
+use Rattle.dbus_header.proofs.BusNames.{destination-read, sender-read}
+use Rattle.dbus_header.proofs.names.has_bus_names.Goals as goal
+
+pub returns-clause-destination : goal.returns-clause-destination
+returns-clause-destination c = destination-read c.args.message.now.bytes.now (message_seen c.args.message.now) c.args.message.now.read c.is_valid.ensures
+
+pub returns-clause-sender : goal.returns-clause-sender
+returns-clause-sender c = sender-read c.args.message.now.bytes.now (message_seen c.args.message.now) c.args.message.now.read c.is_valid.ensures

@@ -1,0 +1,37 @@
+//! The bus names in a message's header.
+ghost use Rattle.std.specs.Prelude.{◌≡◌};
+ghost use Rattle.dbus_header.specs.Seen.{AreBusNames, name_seen, text_seen};
+
+use crate::bodies::is_valid;
+use crate::message::Message;
+use dbus_names::BusName;
+
+// DESTINATION and SENDER are bus names.
+fn has_bus_names(message: &Message<'_>)
+    ensures destination { AreBusNames (text_seen message.now.destination) }
+    ensures sender { AreBusNames (text_seen message.now.sender) }
+{
+    is_valid(message.bytes);
+}
+
+impl<'a> Message<'a> {
+    /// The name of the connection that it is for, where it has a DESTINATION (D-Bus Specification, "Message Format", "Header
+    /// Fields"). Its grammar isn't read again.
+    pub fn destination_name(&self) -> Option<BusName<'a>>
+        ensures { name_seen result ≡ text_seen self.now.destination }
+    {
+        has_bus_names(self);
+        let text = self.destination?;
+        Some(BusName { text })
+    }
+
+    /// The name of the connection that sent it, where it has a SENDER (D-Bus Specification, "Message Format", "Header Fields").
+    /// Its grammar isn't read again.
+    pub fn sender_name(&self) -> Option<BusName<'a>>
+        ensures { name_seen result ≡ text_seen self.now.sender }
+    {
+        has_bus_names(self);
+        let text = self.sender?;
+        Some(BusName { text })
+    }
+}
