@@ -1,8 +1,13 @@
 -- Levels, one entry after the other.
-use Rattle.std.proofs.Common.{◌≡◌, ℕ, true, false, List, if◌then◌else◌, refl, ap, sym}
+use Rattle.std.proofs.Common.{◌≡◌, ℕ, Bool, true, false, ◌||◌, List, [], ◌∷◌, if◌then◌else◌, refl, ap, sym}
+use Rattle.std.specs.List.{list_any}
+use Rattle.name_patterns.specs.Patterns.{covers}
 use Rattle.policy_args.specs.declared.Level.{Level}
 use Rattle.policy_args.specs.declared.Level.TheVariants.{None as NoLevel, See, Talk, Own}
-use Rattle.policy_args.specs.Policy.{Policy, granted, greater, level}
+use Rattle.policy_args.specs.declared.entry.Entry.{Entry}
+use Rattle.policy_args.specs.declared.entry.Grant.{Grant}
+use Rattle.policy_args.specs.declared.entry.Grant.TheVariants.{See as to_see, Talk as to_talk, Own as to_own, Call as to_call, Broadcast as to_broadcast}
+use Rattle.policy_args.specs.Policy.{Policy, at_least, given_by, granted, greater, level}
 use Rattle.dbus_names.specs.Names.{is_bus}
 
 -- the bus itself may be talked to
@@ -55,3 +60,37 @@ greater-assoc Own Own NoLevel = refl
 greater-assoc Own Own See = refl
 greater-assoc Own Own Talk = refl
 greater-assoc Own Own Own = refl
+
+-- ---- what is given is See at least
+
+grant_seen : (g : Grant) → at_least See (given_by g) ≡ true
+grant_seen to_see = refl
+grant_seen to_talk = refl
+grant_seen to_own = refl
+grant_seen (to_call rule) = refl
+grant_seen (to_broadcast rule) = refl
+
+pub seen_left : (a b : Level) → at_least See a ≡ true → at_least See (greater a b) ≡ true
+seen_left NoLevel b h = absurd cc
+seen_left See NoLevel h = refl
+seen_left See See h = refl
+seen_left See Talk h = refl
+seen_left See Own h = refl
+seen_left Talk NoLevel h = refl
+seen_left Talk See h = refl
+seen_left Talk Talk h = refl
+seen_left Talk Own h = refl
+seen_left Own NoLevel h = refl
+seen_left Own See h = refl
+seen_left Own Talk h = refl
+seen_left Own Own h = refl
+
+-- entries give a name a level exactly where one covers it
+pub seen_where_covered : (es : List Entry) (name : List ℕ) → at_least See (granted es name) ≡ list_any (λ e. covers e.pattern name) es
+seen_where_covered [] name = refl
+seen_where_covered (e ∷ es) name = by (covers e.pattern name) (seen_where_covered es name)
+  where
+    by : (b : Bool) → at_least See (granted es name) ≡ list_any (λ e. covers e.pattern name) es
+        → at_least See (if b then greater (given_by e.grant) (granted es name) else granted es name) ≡ (b || list_any (λ e. covers e.pattern name) es)
+    by true rest = seen_left (given_by e.grant) (granted es name) (grant_seen e.grant)
+    by false rest = rest

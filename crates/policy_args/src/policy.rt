@@ -131,6 +131,13 @@ impl Policy {
         }
     }
 
+    /// Whether an entry covers the name.
+    pub fn covers(&self, name: &str) -> bool
+        ensures { result ≡ list_any (λ e. covers e.pattern name.now) self.now.entries }
+    {
+        self.granted(name).is_at_least(Level::See)
+    }
+
     // The greatest level that an entry which covers the name gives.
     fn granted(&self, name: &str) -> Level
         ensures { result ≡ granted_by self.now.entries name.now }

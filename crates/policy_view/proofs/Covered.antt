@@ -1,16 +1,15 @@
 -- A name that an entry covers is seen, so a hidden owner change tells nothing.
-use Rattle.std.proofs.Common.{◌≡◌, Bool, true, false, ◌||◌, ◌&&◌, if◌then◌else◌, List, [], ◌∷◌, ◌++◌, Option, Some, None, refl, ◌⊎◌, inl, inr}
+use Rattle.std.proofs.Common.{◌≡◌, Bool, true, false, ◌||◌, ◌&&◌, if◌then◌else◌, List, [], ◌++◌, Option, Some, None, refl, ◌∙◌, ◌⊎◌, inl, inr}
 use Rattle.std.specs.List.{list_any}
 use Rattle.dbus_names.specs.Names.{is_bus, is_unique, is_well_known}
 use Rattle.dbus_names.specs.Texts.{Text}
 use Rattle.name_patterns.specs.Patterns.{covers}
 use Rattle.policy_args.specs.Levels.{level_of, level_of_id}
-use Rattle.policy_args.specs.Policy.{Policy, at_least, given_by, granted, greater, level}
+use Rattle.policy_args.specs.Policy.{Policy, at_least, granted, greater, level}
+use Rattle.policy_args.proofs.PolicyLevels.{seen_left, seen_where_covered}
 use Rattle.policy_args.specs.declared.Level.{Level}
 use Rattle.policy_args.specs.declared.Level.TheVariants.{None as Hidden, See, Talk, Own}
 use Rattle.policy_args.specs.declared.entry.Entry.{Entry}
-use Rattle.policy_args.specs.declared.entry.Grant.{Grant}
-use Rattle.policy_args.specs.declared.entry.Grant.TheVariants.{See as to_see, Talk as to_talk, Own as to_own, Call as to_call, Broadcast as to_broadcast}
 use Rattle.policy_args.specs.declared.fact.Fact.{Fact}
 use Rattle.policy_args.specs.declared.fact.Fact.TheVariants.{Owned}
 use Rattle.policy_view.specs.Knowledge.{knowledge}
@@ -21,42 +20,11 @@ use Rattle.policy_view.specs.declared.Reason.{Reason}
 use Rattle.policy_view.specs.declared.Reason.TheVariants.{BadArgument, NameHidden}
 use Rattle.policy_view.specs.declared.Showing.TheVariants.{Whole, Hide}
 
-grant_seen : (g : Grant) → at_least See (given_by g) ≡ true
-grant_seen to_see = refl
-grant_seen to_talk = refl
-grant_seen to_own = refl
-grant_seen (to_call rule) = refl
-grant_seen (to_broadcast rule) = refl
-
-seen_left : (a b : Level) → at_least See a ≡ true → at_least See (greater a b) ≡ true
-seen_left Hidden b h = absurd cc
-seen_left See Hidden h = refl
-seen_left See See h = refl
-seen_left See Talk h = refl
-seen_left See Own h = refl
-seen_left Talk Hidden h = refl
-seen_left Talk See h = refl
-seen_left Talk Talk h = refl
-seen_left Talk Own h = refl
-seen_left Own Hidden h = refl
-seen_left Own See h = refl
-seen_left Own Talk h = refl
-seen_left Own Own h = refl
-
 seen_beside_talk : (b : Level) → at_least See (greater Talk b) ≡ true
 seen_beside_talk b = seen_left Talk b refl
 
 abbrev covers_it : Text → Entry → Bool
 covers_it name e = covers e.pattern name
-
-granted_seen : (es : List Entry) (name : Text) → list_any (covers_it name) es ≡ true → at_least See (granted es name) ≡ true
-granted_seen [] name h = absurd cc
-granted_seen (e ∷ es) name h = by (covers e.pattern name) (granted_seen es name) h
-  where
-    by : (b : Bool) → (list_any (covers_it name) es ≡ true → at_least See (granted es name) ≡ true) → (b || list_any (covers_it name) es) ≡ true
-        → at_least See (if b then greater (given_by e.grant) (granted es name) else granted es name) ≡ true
-    by true rest h = seen_left (given_by e.grant) (granted es name) (grant_seen e.grant)
-    by false rest h = rest h
 
 level_seen : (policy : Policy) (name : Text) → list_any (covers_it name) policy.entries ≡ true → at_least See (level policy name) ≡ true
 unfolding level
@@ -64,7 +32,7 @@ level_seen policy name h = by (is_bus name)
   where
     by : (b : Bool) → at_least See (if b then greater Talk (granted policy.entries name) else granted policy.entries name) ≡ true
     by true = seen_beside_talk (granted policy.entries name)
-    by false = granted_seen policy.entries name h
+    by false = seen_where_covered policy.entries name ∙ h
 
 pub covered_seen : (policy : Policy) (facts : List Fact) (name : Text) → is_covered policy name ≡ true → at_least See (level_of policy facts name) ≡ true
 unfolding level_of
