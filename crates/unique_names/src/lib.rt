@@ -6,7 +6,9 @@
 
 mod entries;
 mod known;
+mod looked_up;
 mod tracker;
 
 pub use entries::Entries;
+pub use looked_up::LookedUp;
 pub use tracker::Tracker;

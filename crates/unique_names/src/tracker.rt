@@ -4,7 +4,6 @@ ghost use Rattle.std.specs.FinMap as map;
 ghost use Rattle.std.specs.Option.{option_copied};
 ghost use Rattle.policy_args.specs.Policy.{Policy as PolicyValue};
 ghost use Rattle.policy_args.specs.Levels.{entries as entries_of, level_of};
-ghost use Rattle.policy_args.specs.declared.Level.TheVariants.{See as LevelSee, Talk as LevelTalk};
 ghost use Rattle.policy_args.specs.declared.fact.Fact.{Fact as FactValue};
 ghost use Rattle.policy_args.specs.declared.fact.Fact.TheVariants.{Owned, SelfId, Met};
 ghost use Rattle.unique_names.specs.Known.{Known as KnownValue};
@@ -12,7 +11,8 @@ ghost use Rattle.unique_names.specs.Taught.{AreNumbers, Fits, Taught, kept_level
 
 use crate::entries::Entries;
 use crate::known::{Known, has_level, level_in, numbers_in};
-use dbus_names::{is_unique, is_well_known};
+use crate::looked_up::LookedUp;
+use dbus_names::{BusName, is_unique, is_well_known};
 use policy_args::{Fact, Level, Policy};
 use std::alloc::{AllocError, Global};
 use std::collections::BTreeMap;
@@ -74,6 +74,15 @@ impl Tracker {
         self.entries_of(policy, name)
     }
 
+    /// A bus name, with what is known of it. It is looked up once for all that is asked of it.
+    pub fn look_up<'a>(&'a self, policy: &'a Policy, name: BusName<'a>) -> LookedUp<'a>
+        ensures tracker { result.tracker.now ≡ self.entry.now }
+        ensures policy { result.policy.now ≡ policy.entry.now }
+        ensures name { result.name.now ≡ name.entry.text.now }
+    {
+        LookedUp::new(self, policy, name)
+    }
+
     /// Learns a fact. One that is known already adds nothing, and one that gives no level keeps nothing. Where memory is
     /// refused, nothing changes.
     pub fn learn(&mut self, policy: &Policy, fact: Fact) -> Result<(), AllocError>
@@ -130,8 +139,8 @@ impl Tracker {
         }
     }
 
-    // What is known of a unique name.
-    fn known(&self, id: &str) -> Option<&Known>
+    /// What is known of a unique name.
+    pub(crate) fn known(&self, id: &str) -> Option<&Known>
         ensures { option_copied result ≡ map.get self.now id.now }
     {
         self.ids.get(id)
