@@ -1,10 +1,10 @@
 //! Levels and entries of unique names by what was taught.
-use dbus_names::Name;
+use dbus_names::{BusName, Name};
 use policy_args::{Fact, Level, Options, Policy, read_options, words_of};
 use std::alloc::Global;
 use std::process::Abort;
 use std::test::Fail;
-use unique_names::Tracker;
+use unique_names::{LookedUp, Tracker};
 
 fn options_of(alloc: Global, words: &str) -> Result<Options, Fail> {
     let words = words_of(alloc, words.as_bytes())?;
@@ -42,15 +42,29 @@ fn taught(alloc: Global, policy: &Policy, facts: &str) -> Result<Tracker, Fail> 
 }
 
 /// Whether these are the numbers of the name's entries.
-fn has_entries(tracker: &Tracker, policy: &Policy, name: &str, expected: &[u32]) -> bool {
+fn has_entries(known: LookedUp<'_>, expected: &[u32]) -> bool {
     let mut left = expected;
-    for number in tracker.entries(policy, name) {
+    for number in known.entries() {
         match left {
             [first, rest @ ..] if *first == number => left = rest,
             _ => return false,
         }
     }
     left.is_empty()
+}
+
+/// The level of a text, where it is looked up with the same and with entries of these numbers if it is a bus name, and has
+/// no entries if it isn't.
+fn level_with(tracker: &Tracker, policy: &Policy, text: &str, entries: &[u32]) -> Option<Level> {
+    let level = tracker.level(policy, text);
+    let is_told = match BusName::read(text) {
+        Some(name) => {
+            let known = tracker.look_up(policy, name);
+            known.level() == level && has_entries(known, entries)
+        }
+        None => entries.is_empty(),
+    };
+    if is_told { Some(level) } else { None }
 }
 
 fn assert_known(
@@ -61,8 +75,8 @@ fn assert_known(
     level: Level,
     entries: &[u32],
 ) {
-    assert_eq!(rt; tracker.level(policy, name), level, "{name}");
-    assert!(rt; has_entries(tracker, policy, name, entries), "{name}");
+    let told = level_with(tracker, policy, name, entries);
+    assert_eq!(rt; told, Some(level), "{name}");
 }
 
 /// The level of `:1.7` by the facts, where its entries have these numbers.
@@ -73,10 +87,7 @@ fn level_by(
     entries: &[u32],
 ) -> Result<Option<Level>, Fail> {
     let tracker = taught(alloc, policy, facts)?;
-    if !has_entries(&tracker, policy, ":1.7", entries) {
-        return Ok(None);
-    }
-    Ok(Some(tracker.level(policy, ":1.7")))
+    Ok(level_with(&tracker, policy, ":1.7", entries))
 }
 
 #[test]

@@ -14,11 +14,11 @@ abbrev pub client_role_seen : ClientRoleRead → ClientRole
 client_role_seen client.OfUnknownType = OfUnknownType
 client_role_seen client.Reply = Reply
 client_role_seen client.Broadcast = Broadcast
-client_role_seen (client.SignalTo name) = SignalTo name.now
+client_role_seen (client.SignalTo name) = SignalTo name.text.now
 client_role_seen client.StandardBusCall = StandardBusCall
 client_role_seen client.OtherBusCall = OtherBusCall
 client_role_seen client.BusCall = BusCall
-client_role_seen (client.CallTo name) = CallTo name.now
+client_role_seen (client.CallTo name) = CallTo name.text.now
 
 abbrev pub text_demand_seen : TextDemandRead → TextDemand
 text_demand_seen text.NoEavesdrop = NoEavesdrop

@@ -12,11 +12,11 @@ use crate::bus_members::judge_bus_call;
 use crate::entries::judge_seen;
 use crate::roles::ClientRole;
 use dbus_header::{Instead, Message};
-use dbus_names::is_unique;
+use dbus_names::BusName;
 use policy_args::{Level, Policy};
 use policy_view::{Reason, Verdict};
 use reply_ledger::Ledger;
-use unique_names::{Entries, Tracker};
+use unique_names::{Entries, LookedUp, Tracker};
 
 /// The verdict on a message of this role.
 pub(crate) fn judge_as(
@@ -32,11 +32,13 @@ pub(crate) fn judge_as(
         ClientRole::OfUnknownType => Verdict::Drop(Reason::UnknownType),
         ClientRole::Reply => judge_reply(ledger, message),
         ClientRole::Broadcast => Verdict::Pass,
-        ClientRole::SignalTo(name) => judge_signal(policy, tracker, name),
+        ClientRole::SignalTo(name) => judge_signal(tracker.look_up(policy, name)),
         ClientRole::StandardBusCall => Verdict::Pass,
         ClientRole::OtherBusCall => refused(message, Instead::AccessDenied, Reason::BusInterface),
         ClientRole::BusCall => judge_bus_call(policy, tracker, message),
-        ClientRole::CallTo(name) => judge_call(policy, tracker, message, name),
+        ClientRole::CallTo(name) => {
+            judge_call(policy, message, name, tracker.look_up(policy, name))
+        }
     }
 }
 
@@ -77,12 +79,12 @@ fn is_owed(ledger: &Ledger, peer: Option<&str>, serial: u32) -> bool
 }
 
 // A signal for one name.
-fn judge_signal(policy: &Policy, tracker: &Tracker, name: &str) -> Verdict
-    ensures { result ≡ on_signal (kept_numbers policy.now tracker.now name.now) (kept_level policy.now tracker.now name.now) }
+fn judge_signal(name: LookedUp<'_>) -> Verdict
+    ensures { result ≡ on_signal (kept_numbers name.entry.policy.now name.entry.tracker.now name.entry.name.now) (kept_level name.entry.policy.now name.entry.tracker.now name.entry.name.now) }
 {
-    match tracker.level(policy, name) {
+    match name.level() {
         Level::None => Verdict::Drop(Reason::NotVisible),
-        Level::See => Verdict::Drop(Reason::OnlySee(lowest(tracker.entries(policy, name)))),
+        Level::See => Verdict::Drop(Reason::OnlySee(lowest(name.entries()))),
         Level::Talk | Level::Own => Verdict::Pass,
     }
 }
@@ -95,21 +97,26 @@ fn lowest(mut numbers: Entries<'_>) -> u32
 }
 
 // A call of a name other than the bus's own.
-fn judge_call(policy: &Policy, tracker: &Tracker, message: &Message<'_>, name: &str) -> Verdict
-    ensures { result ≡ call_by policy.now (message_seen message.now) name.now (kept_numbers policy.now tracker.now name.now) (kept_level policy.now tracker.now name.now) }
+fn judge_call(
+    policy: &Policy,
+    message: &Message<'_>,
+    name: BusName<'_>,
+    known: LookedUp<'_>,
+) -> Verdict
+    ensures { result ≡ call_by policy.now (message_seen message.now) name.entry.text.now (kept_numbers known.entry.policy.now known.entry.tracker.now known.entry.name.now) (kept_level known.entry.policy.now known.entry.tracker.now known.entry.name.now) }
 {
-    match tracker.level(policy, name) {
+    match known.level() {
         Level::None => judge_hidden(message, name),
-        Level::See => judge_seen(policy, message, tracker.entries(policy, name)),
+        Level::See => judge_seen(policy, message, known.entries()),
         Level::Talk | Level::Own => Verdict::Pass,
     }
 }
 
 // A call of a name that is hidden: a service that it could have started is unknown, and any other name has no owner.
-fn judge_hidden(message: &Message<'_>, name: &str) -> Verdict
-    ensures { result ≡ hidden_call_by message.now.flags name.now }
+fn judge_hidden(message: &Message<'_>, name: BusName<'_>) -> Verdict
+    ensures { result ≡ hidden_call_by message.now.flags name.entry.text.now }
 {
-    let what = if is_unique(name.as_bytes()) || message.forbids_auto_start() {
+    let what = if name.is_unique() || message.forbids_auto_start() {
         Instead::NameHasNoOwner
     } else {
         Instead::ServiceUnknown

@@ -2,7 +2,7 @@
 ghost use Rattle.std.specs.Prelude.{◌≡◌, true, false};
 ghost use Rattle.std.specs.Option.{option_copied};
 ghost use Rattle.dbus_header.specs.Read.{message_seen};
-ghost use Rattle.dbus_header.specs.Seen.{text_seen};
+ghost use Rattle.dbus_header.specs.Seen.{name_seen, text_seen};
 ghost use Rattle.policy_view.specs.Shown.{role_of_reply as reply_role};
 ghost use Rattle.policy_view.specs.Texts.{has_text as text_is, is_one_of};
 ghost use Rattle.policy_view.specs.Verdicts.{role_of_bus_call as bus_call_role, role_of_call as call_role, role_of_signal as signal_role, standard_interfaces};
@@ -10,7 +10,7 @@ ghost use Rattle.verdicts.specs.Roles.{bus_role_of, client_role_of, is_owner_cha
 ghost use Rattle.verdicts.specs.Seen.{bus_role_seen, client_role_seen};
 
 use dbus_header::{ERROR, Instead, METHOD_CALL, METHOD_RETURN, Message, SIGNAL};
-use dbus_names::{BUS_NAME, Name, is_bus};
+use dbus_names::{BUS_NAME, BusName, Name, is_bus};
 use dbus_values::Order;
 use reply_ledger::Kind;
 
@@ -24,7 +24,7 @@ pub(crate) enum ClientRole<'a> {
     /// A signal without DESTINATION.
     Broadcast,
     /// A signal for this name.
-    SignalTo(&'a str),
+    SignalTo(BusName<'a>),
     /// A call of the bus by an interface that each object has.
     StandardBusCall,
     /// A call of the bus by an interface that is neither such nor its own.
@@ -32,7 +32,7 @@ pub(crate) enum ClientRole<'a> {
     /// A call of the bus by its own interface, or by none.
     BusCall,
     /// A call of another name.
-    CallTo(&'a str),
+    CallTo(BusName<'a>),
 }
 
 /// What a message of the bus is.
@@ -75,21 +75,21 @@ pub(crate) fn client_role<'a>(message: &Message<'a>) -> ClientRole<'a>
     ensures { client_role_seen result ≡ client_role_of (message_seen message.now) }
 {
     match message.kind {
-        METHOD_CALL => role_of_call(message.destination, message.interface),
+        METHOD_CALL => role_of_call(message.destination_name(), message.interface),
         METHOD_RETURN => ClientRole::Reply,
         ERROR => ClientRole::Reply,
-        SIGNAL => role_of_signal(message.destination),
+        SIGNAL => role_of_signal(message.destination_name()),
         _ => ClientRole::OfUnknownType,
     }
 }
 
-fn role_of_call<'a>(destination: Option<&'a str>, interface: Option<&str>) -> ClientRole<'a>
-    ensures { client_role_seen result ≡ call_role (text_seen destination.entry) (text_seen interface.entry) }
+fn role_of_call<'a>(destination: Option<BusName<'a>>, interface: Option<&str>) -> ClientRole<'a>
+    ensures { client_role_seen result ≡ call_role (name_seen destination.entry) (text_seen interface.entry) }
 {
     match destination {
         None => role_of_bus_call(interface),
         Some(name) => {
-            if is_bus(name) {
+            if is_bus(name.text) {
                 role_of_bus_call(interface)
             } else {
                 ClientRole::CallTo(name)
@@ -124,8 +124,8 @@ fn is_standard(interface: &str) -> bool
         || interface == "org.freedesktop.DBus.Introspectable"
 }
 
-fn role_of_signal(destination: Option<&str>) -> ClientRole<'_>
-    ensures { client_role_seen result ≡ signal_role (text_seen destination.entry) }
+fn role_of_signal(destination: Option<BusName<'_>>) -> ClientRole<'_>
+    ensures { client_role_seen result ≡ signal_role (name_seen destination.entry) }
 {
     match destination {
         None => ClientRole::Broadcast,

@@ -1,7 +1,7 @@
 //! What the client is shown of a bus message, by its role.
 ghost use Rattle.std.specs.Prelude.{◌≡◌};
 ghost use Rattle.dbus_header.specs.Read.{message_seen};
-ghost use Rattle.dbus_header.specs.Seen.{text_seen};
+ghost use Rattle.dbus_header.specs.Seen.{name_seen, text_seen};
 ghost use Rattle.unique_names.specs.Taught.{kept_level, kept_numbers};
 ghost use Rattle.verdicts.specs.Kept.{kept};
 ghost use Rattle.verdicts.specs.Seen.{bus_role_seen};
@@ -10,6 +10,7 @@ ghost use Rattle.verdicts.specs.Showing.{broadcast_by, changed_name_in, has_list
 use crate::entries::is_announced;
 use crate::roles::BusRole;
 use dbus_header::Message;
+use dbus_names::BusName;
 use policy_args::{Level, Policy};
 use policy_view::{Reason, Showing};
 use unique_names::Tracker;
@@ -92,7 +93,7 @@ fn changed_name<'a>(message: &Message<'a>) -> Option<&'a str>
 fn show_broadcast(policy: &Policy, tracker: &Tracker, message: &Message<'_>) -> Showing
     ensures { result ≡ broadcast_by policy.now (kept_level policy.now tracker.now) (kept_numbers policy.now tracker.now) (message_seen message.now) }
 {
-    if may_announce(policy, tracker, message, message.sender) {
+    if may_announce(policy, tracker, message, message.sender_name()) {
         Showing::Whole
     } else {
         Showing::Hide(Reason::SenderNotTalk)
@@ -104,15 +105,16 @@ fn may_announce(
     policy: &Policy,
     tracker: &Tracker,
     message: &Message<'_>,
-    sender: Option<&str>,
+    sender: Option<BusName<'_>>,
 ) -> bool
-    ensures { result ≡ may_be_announced policy.now (kept_level policy.now tracker.now) (kept_numbers policy.now tracker.now) (message_seen message.now) (text_seen sender.entry) }
+    ensures { result ≡ may_be_announced policy.now (kept_level policy.now tracker.now) (kept_numbers policy.now tracker.now) (message_seen message.now) (name_seen sender.entry) }
 {
     match sender {
         None => false,
         Some(name) => {
-            tracker.level(policy, name).is_at_least(Level::Talk)
-                || is_announced(policy, message, tracker.entries(policy, name))
+            let sender = tracker.look_up(policy, name);
+            sender.level().is_at_least(Level::Talk)
+                || is_announced(policy, message, sender.entries())
         }
     }
 }
