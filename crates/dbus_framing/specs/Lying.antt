@@ -4,5 +4,5 @@ use Rattle.dbus_framing.specs.declared.buffer.Content.{Content}
 use Rattle.dbus_framing.specs.declared.buffer.Content.TheVariants.{Open, Shared}
 
 abbrev pub lying_in : Content → List ℕ
-lying_in (Open bytes) = bytes.items
+lying_in (Open bytes) = bytes
 lying_in (Shared bytes) = bytes

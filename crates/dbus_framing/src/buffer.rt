@@ -1,7 +1,8 @@
 //! Bytes that are put in at the back and taken from the front. Those of a long message are given to others without a copy.
 ghost use Rattle.std.specs.Prelude.{◌≡◌, ◌==◌, ◌^◌, ◌<◌, ◌≤◌, ◌++◌, [], IfOk, IfSome, OnOk, OnErr, length, take, drop};
 
-use bytes::{Bytes, BytesMut};
+use crate::queue::ByteQueue;
+use bytes::Bytes;
 use std::alloc::{AllocError, Global};
 use std::marker::Model;
 use std::mem;
@@ -22,25 +23,15 @@ const LONG: usize = 65_536;
 #[derive(Drop)]
 pub(crate) enum Content {
     /// Nothing else reaches them, and there may be room behind them.
-    Open(BytesMut),
+    Open(ByteQueue),
     /// Others may have parts of them, so that nothing is put behind them.
     Shared(Bytes),
 }
 
 /// Bytes that came and weren't taken yet.
-///
-/// ```text
-///   given      bytes that wait
-/// +----------+---------------------------------+------+
-/// |          |                                 | room |
-/// +----------+---------------------------------+------+
-///              ^ take                          ^ push
-/// ```
 #[derive(Drop)]
 pub(crate) struct Buffer {
     content: Content,
-    /// How many bytes were taken from the memory that they lie in now.
-    given: usize,
     /// How often it was found empty when memory was freed, counted up to `OFTEN`.
     emptied: u8,
     alloc: Global,
@@ -55,37 +46,12 @@ impl Model for Buffer {
     ghost view = { λ b. lying_in b.content };
 }
 
-/// Frees the memory of what was given, where that is more than is kept and more than has to be copied. Where memory is
-/// short the old buffer serves on. It returns how many bytes were given from the buffer that stands now.
-fn renew(alloc: Global, bytes: &mut BytesMut, given: usize, kept: usize) -> usize
-    ensures { bytes.new.items ≡ bytes.old.items }
-{
-    if bytes.is_empty() {
-        bytes.clear();
-        if bytes.capacity() > kept {
-            *bytes = BytesMut::new(alloc);
-        }
-        return 0;
-    }
-    let beside = given.saturating_add(bytes.capacity() - bytes.len());
-    if beside <= kept || given < bytes.len() {
-        return given;
-    }
-    match BytesMut::copy_from_slice(alloc, bytes.as_slice()) {
-        Ok(fresh) => {
-            *bytes = fresh;
-            0
-        }
-        Err(_) => given,
-    }
-}
-
 /// A copy of bytes with others behind them.
-fn joined(alloc: Global, bytes: &[u8], others: &[u8]) -> Result<BytesMut, AllocError>
-    ensures { IfOk result (λ all. all.items ≡ bytes.now ++ others.now) }
+fn joined(alloc: Global, bytes: &[u8], others: &[u8]) -> Result<ByteQueue, AllocError>
+    ensures { IfOk result (λ all. all ≡ bytes.now ++ others.now) }
 {
-    let mut all = BytesMut::copy_from_slice(alloc, bytes)?;
-    all.extend_from_slice(others)?;
+    let mut all = ByteQueue::copy_from_slice(alloc, bytes)?;
+    all.push(others)?;
     Ok(all)
 }
 
@@ -95,8 +61,7 @@ impl Buffer {
         ensures { result ≡ [] }
     {
         Buffer {
-            content: Content::Open(BytesMut::new(alloc)),
-            given: 0,
+            content: Content::Open(ByteQueue::new(alloc)),
             emptied: 0,
             alloc,
         }
@@ -107,12 +72,11 @@ impl Buffer {
         ensures { IfOk result (λ buffer. buffer ≡ bytes) }
     {
         let bytes = match bytes.try_into_mut() {
-            Ok(bytes) => bytes,
-            Err(bytes) => BytesMut::copy_from_slice(alloc, bytes.as_slice())?,
+            Ok(bytes) => bytes.into_vec()?,
+            Err(bytes) => Vec::from_slice(alloc, bytes.as_slice())?,
         };
         Ok(Buffer {
-            content: Content::Open(bytes),
-            given: 0,
+            content: Content::Open(ByteQueue::from_vec(bytes)),
             emptied: 0,
             alloc,
         })
@@ -139,17 +103,23 @@ impl Buffer {
         }
     }
 
-    /// Puts bytes behind the others.
-    pub(crate) fn push(&mut self, piece: &[u8]) -> Result<(), AllocError>
+    /// Puts bytes behind the others. Where they belong to a message of so many bytes in front, and those are many, there is room for all of
+    /// it at once, as far as memory for that is left.
+    pub(crate) fn push(&mut self, piece: &[u8], whole: usize) -> Result<(), AllocError>
         ensures ok { OnOk result (self.new ≡ self.old ++ piece.now) }
         ensures err { OnErr result (self.new ≡ self.old) }
     {
         match &mut self.content {
-            Content::Open(bytes) => bytes.extend_from_slice(piece),
+            Content::Open(bytes) => {
+                // A sender that states much and sends little takes addresses alone: no page is touched before bytes come to lie there.
+                if whole >= LONG {
+                    bytes.make_room(whole);
+                }
+                bytes.push(piece)
+            }
             Content::Shared(bytes) => {
                 let all = joined(self.alloc, bytes.as_slice(), piece)?;
                 self.content = Content::Open(all);
-                self.given = 0;
                 Ok(())
             }
         }
@@ -161,21 +131,20 @@ impl Buffer {
         ensures { self.new ≡ drop len self.old }
     {
         match &mut self.content {
-            Content::Open(bytes) => bytes.advance(len),
+            Content::Open(bytes) => bytes.take(len),
             Content::Shared(bytes) => bytes.advance(len),
         }
-        self.given = self.given.saturating_add(len);
     }
 
     /// Makes the bytes such that they can be shared, where memory for that is left.
     fn share(&mut self)
         ensures { self.new ≡ self.old }
     {
-        let content = mem::replace(&mut self.content, Content::Open(BytesMut::new(self.alloc)));
+        let content = mem::replace(&mut self.content, Content::Open(ByteQueue::new(self.alloc)));
         self.content = match content {
             Content::Open(bytes) => match bytes.freeze() {
                 Ok(bytes) => Content::Shared(bytes),
-                Err(refused) => Content::Open(refused.value),
+                Err(bytes) => Content::Open(bytes),
             },
             Content::Shared(bytes) => Content::Shared(bytes),
         };
@@ -204,7 +173,7 @@ impl Buffer {
         ensures err { OnErr result (self.new ≡ self.old) }
     {
         match &mut self.content {
-            Content::Open(bytes) => bytes.freeze_to(bytes.len()),
+            Content::Open(bytes) => bytes.take_all(self.alloc),
             Content::Shared(bytes) => Ok(mem::replace(bytes, Bytes::new())),
         }
     }
@@ -228,11 +197,10 @@ impl Buffer {
     {
         let kept = self.kept();
         match &mut self.content {
-            Content::Open(bytes) => self.given = renew(self.alloc, bytes, self.given, kept),
+            Content::Open(bytes) => bytes.release(self.alloc, kept),
             Content::Shared(bytes) => {
-                if let Ok(bytes) = BytesMut::copy_from_slice(self.alloc, bytes.as_slice()) {
+                if let Ok(bytes) = ByteQueue::copy_from_slice(self.alloc, bytes.as_slice()) {
                     self.content = Content::Open(bytes);
-                    self.given = 0;
                 }
             }
         }

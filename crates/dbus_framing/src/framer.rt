@@ -116,7 +116,7 @@ impl Framer {
         ensures err { OnErr result (self.new ≡ self.old) }
         ensures bad_stays { (f : Fault) → fault self.old ≡ Some f → fault self.new ≡ Some f }
     {
-        self.bytes.push(piece)
+        self.bytes.push(piece, self.state.awaited())
     }
 
     /// What stands in front, of which only the head is looked at, and that once. Nothing changes.

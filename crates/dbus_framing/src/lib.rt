@@ -6,6 +6,7 @@
 mod buffer;
 mod framer;
 mod laws;
+mod queue;
 mod state;
 
 use bytes::Bytes;

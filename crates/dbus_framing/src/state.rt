@@ -1,7 +1,7 @@
 //! What is known of the message in front.
-ghost use Rattle.std.specs.Prelude.{◌≡◌, ◌<◌, length};
+ghost use Rattle.std.specs.Prelude.{◌≡◌, ℕ, ◌<◌, length};
 ghost use Rattle.dbus_framing.specs.Knows.{Knows};
-ghost use Rattle.dbus_framing.specs.declared.state.State.TheVariants.{AwaitsHead};
+ghost use Rattle.dbus_framing.specs.declared.state.State.TheVariants.{AwaitsHead, AwaitsMessage};
 
 use dbus_header::Malformed;
 
@@ -31,6 +31,16 @@ fn read_head(left: &[u8]) -> State
 }
 
 impl State {
+    /// The length of the whole message in front, or 0 where it isn't known.
+    pub(crate) fn awaited(self) -> usize
+        ensures { (len : ℕ) → self ≡ AwaitsMessage len → result ≡ len }
+    {
+        match self {
+            State::AwaitsMessage(len) => len,
+            _ => 0,
+        }
+    }
+
     /// What is known once the head was looked at.
     pub(crate) fn with_head(self, left: &[u8]) -> State
         requires { Knows self left.now }
