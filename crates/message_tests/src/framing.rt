@@ -1,36 +1,69 @@
 //! The messages of streams that come in pieces.
 ghost use Rattle.std.specs.Prelude.{◌<◌, ◌≤◌, length};
 
-use crate::messages::changed;
+use crate::messages::{changed, long_call};
 use bytes::Bytes;
-use dbus_framing::{Framer, Next};
+use dbus_framing::{Framer, Front, Next};
 use std::alloc::{AllocError, Global};
 use std::test::Fail;
 use test_tables::wrong_row;
 
 /// The size of the pieces of a stream and the messages in it, and how many bytes each message has that is taken of it, and
-/// what stands behind them.
+/// what stands behind them. A long call has as many bytes in its body as stand behind its name.
 const STREAMS: &str = "\
 1, call, return => 80 56 Rest
 1000, call, return, call cut=40 => 80 56 Rest
+100, call, call, return => 80 80 56 Rest
 15, call cut=15 => Rest
 4, newer cut=15 => Rest
 4, newer => Version 3
 16, newer, call => Version 3
 7, call, unnumbered => 80 Serial 8
 200, stray, call => Body 24
+65536, call, long 200000, return => 80 200060 56 Rest
+65536, long 70000, call, long 70000, return => 70060 80 70060 56 Rest
+300, call, call, long 100000, call => 80 80 100060 80 Rest
+5000, return, long 65476, long 65475, call cut=79 => 56 65536 65535 Rest
+40000, long 100000, newer, call => 100060 Version 3
+20, longest => Rest
+65536, call, longest => 80 Rest
+90, call, longest => 80 Rest
 ";
 
 fn stream_of(alloc: Global, messages: &str) -> Result<Vec<u8>, AllocError> {
     let mut stream = Vec::new(alloc);
     for message in messages.split(", ") {
-        stream.extend_from_slice(&changed(alloc, message)?)?;
+        match message.split_once(' ') {
+            Some(("long", len)) => {
+                stream.extend_from_slice(&long_call(alloc, len.parse().unwrap_or(0))?)?;
+            }
+            _ => stream.extend_from_slice(&changed(alloc, message)?)?,
+        }
     }
     Ok(stream)
 }
 
-/// The messages of a stream that comes in pieces of a size, and what stands behind them.
-fn taken(alloc: Global, stream: &[u8], size: usize) -> Result<(Vec<Bytes>, Next), AllocError>
+/// The message in front, whose bytes are shared where they can be.
+fn shared_next(framer: &mut Framer) -> Result<Next, AllocError> {
+    if let Front::Whole(len) = framer.front() {
+        if let Some(frame) = framer.shared(len) {
+            if let Err(fault) = framer.message(len) {
+                return Ok(Next::Bad(fault));
+            }
+            framer.take(len);
+            return Ok(Next::Whole(frame));
+        }
+    }
+    framer.next()
+}
+
+/// The messages of a stream that comes in pieces of a size, what stands behind them, and what is left of the stream.
+fn taken(
+    alloc: Global,
+    stream: &[u8],
+    size: usize,
+    shares: bool,
+) -> Result<(Vec<Bytes>, Next, Bytes), AllocError>
     requires { 0 < size }
 {
     let mut framer = Framer::new(alloc);
@@ -39,24 +72,36 @@ fn taken(alloc: Global, stream: &[u8], size: usize) -> Result<(Vec<Bytes>, Next)
     for piece in stream.chunks(size) {
         framer.push(piece)?;
         for _ in 0..3 {
-            match framer.next()? {
+            let next = if shares {
+                shared_next(&mut framer)?
+            } else {
+                framer.next()?
+            };
+            match next {
                 Next::Whole(frame) => frames.push(frame)?,
                 other => last = other,
             }
         }
     }
-    Ok((frames, last))
+    let mut again = Framer::with_bytes(alloc, framer.left()?)?;
+    Ok((frames, last, again.left()?))
 }
 
-/// How many bytes each message has, where they stand in front of the stream.
-fn told_frames(alloc: Global, stream: &[u8], frames: &[Bytes]) -> Result<String, AllocError> {
+/// How many bytes each message has, where they and what is left are the stream.
+fn told_frames(
+    alloc: Global,
+    stream: &[u8],
+    frames: &[Bytes],
+    left: &Bytes,
+) -> Result<String, AllocError> {
     let mut told = String::new(alloc);
     let mut all = Vec::new(alloc);
     for frame in frames {
         all.extend_from_slice(frame.as_slice())?;
         told.push_str(&format!(in alloc; "{} ", frame.len())?)?;
     }
-    if !stream.starts_with(&all) {
+    all.extend_from_slice(left.as_slice())?;
+    if all.as_slice() != stream {
         told.push_str("of other bytes ")?;
     }
     Ok(told)
@@ -70,16 +115,31 @@ fn told_next(alloc: Global, next: &Next) -> Result<String, AllocError> {
     }
 }
 
+fn told_taken(
+    alloc: Global,
+    stream: &[u8],
+    size: usize,
+    shares: bool,
+) -> Result<String, AllocError> {
+    let (frames, next, left) = taken(alloc, stream, size.max(1), shares)?;
+    let (frames, next) = (
+        told_frames(alloc, stream, &frames, &left)?,
+        told_next(alloc, &next)?,
+    );
+    format!(in alloc; "{frames}{next}")
+}
+
+/// The same is told whether the bytes of messages are shared or copied.
 fn told_stream(alloc: Global, row: &str) -> Result<String, AllocError> {
     let (size, messages) = row.split_once(", ").unwrap_or((row, ""));
     let stream = stream_of(alloc, messages)?;
     let size: usize = size.parse().unwrap_or(1);
-    let (frames, next) = taken(alloc, &stream, size.max(1))?;
-    let (frames, next) = (
-        told_frames(alloc, &stream, &frames)?,
-        told_next(alloc, &next)?,
-    );
-    format!(in alloc; "{frames}{next}")
+    let copied = told_taken(alloc, &stream, size, false)?;
+    let shared = told_taken(alloc, &stream, size, true)?;
+    if copied.as_str() != shared.as_str() {
+        return format!(in alloc; "{copied} or {shared}");
+    }
+    Ok(copied)
 }
 
 #[test]

@@ -47,6 +47,14 @@ const UNNUMBERED: &[u8] = b"l\x02\x00\x01\x00\x00\x00\x00\x00\x00\x00\x00\x00\x0
 const STRAY: &[u8] =
     b"l\x02\x01\x01\x01\x00\x00\x00<\x00\x00\x00\x08\x00\x00\x00\x05\x01u\x00\x02\x00\x00\x00\x00";
 
+/// The first bytes of a call whose body has an array of bytes. It states no body.
+const ARRAY_CALL: &[u8] =
+    b"l\x01\x00\x01\x00\x00\x00\x00\x07\x00\x00\x00\x28\x00\x00\x00\x01\x01o\x00\x02\x00\x00\x00/p\x00\x00\x00\x00\x00\x00\x03\x01s\x00\x01\x00\x00\x00A\x00\x00\x00\x00\x00\x00\x00\x08\x01g\x00\x02ay\x00";
+
+/// The same, which states as long a body as may be: with it the message would have 128 MiB.
+const LONGEST: &[u8] =
+    b"l\x01\x00\x01\xc8\xff\xff\x07\x07\x00\x00\x00\x28\x00\x00\x00\x01\x01o\x00\x02\x00\x00\x00/p\x00\x00\x00\x00\x00\x00\x03\x01s\x00\x01\x00\x00\x00A\x00\x00\x00\x00\x00\x00\x00\x08\x01g\x00\x02ay\x00";
+
 /// The message of a name.
 pub fn bytes_of(name: &str) -> &'static [u8] {
     match name {
@@ -61,6 +69,7 @@ pub fn bytes_of(name: &str) -> &'static [u8] {
         "newer" => NEWER,
         "unnumbered" => UNNUMBERED,
         "stray" => STRAY,
+        "longest" => LONGEST,
         _ => b"",
     }
 }
@@ -76,6 +85,17 @@ pub fn changed(alloc: Global, row: &str) -> Result<Vec<u8>, AllocError> {
             Some((place, byte)) => put(&mut bytes, place, byte),
             None => (),
         }
+    }
+    Ok(bytes)
+}
+
+/// A call with an array of so many bytes.
+pub fn long_call(alloc: Global, len: u32) -> Result<Vec<u8>, AllocError> {
+    let mut bytes = Vec::from_slice(alloc, ARRAY_CALL)?;
+    bytes.extend_from_slice(&len.to_le_bytes())?;
+    bytes[4..8].copy_from_slice(&len.saturating_add(4).to_le_bytes());
+    for at in 0..len {
+        bytes.push((at % 251) as u8)?;
     }
     Ok(bytes)
 }
