@@ -38,7 +38,7 @@ end_placed policy before end items = by (nat_le (length before.told.sent + lengt
     by true = (end, refl)
     by false = (SerialsSpent, refl)
 
-end_follows : (policy : Policy) (items : History) (end : End) → HasEnd (followed_by policy items (Ended end))
+pub end_follows : (policy : Policy) (items : History) (end : End) → HasEnd (followed_by policy items (Ended end))
 unfolding followed_by
 end_follows policy items end = by (end_of items) refl
   where
@@ -138,7 +138,7 @@ streams_same one two (Stopped end) same Bus = same Bus
 
 -- ---- what follows a history, in two parts
 
-parts : (policy : Policy) (h : History) (xs ys zs : List Item) → followed_by_all policy h (xs ++ (ys ++ zs)) ≡ followed_by_all policy (followed_by_all policy (followed_by_all policy h xs) ys) zs
+pub parts : (policy : Policy) (h : History) (xs ys zs : List Item) → followed_by_all policy h (xs ++ (ys ++ zs)) ≡ followed_by_all policy (followed_by_all policy (followed_by_all policy h xs) ys) zs
 parts policy h xs ys zs = all_append policy h xs (ys ++ zs) ∙ all_append policy (followed_by_all policy h xs) ys zs
 
 none_followed : (policy : Policy) (h : History) → followed_by_all policy h [] ≡ h
@@ -153,7 +153,7 @@ ended_then policy h end one other after = end_last policy h [] one end ∙ sym (
 abbrev three : Side → List Item → List ℕ → Option Fault → Bool → List Item
 three side items bytes f over = items ++ (raw_item side bytes ++ (fault_end side f ++ end_if over (finished side)))
 
-brought_three : (mode : Mode) (side : Side) (events : List Event) (piece : List ℕ) (items : List Item) (bytes : List ℕ)
+pub brought_three : (mode : Mode) (side : Side) (events : List Event) (piece : List ℕ) (items : List Item) (bytes : List ℕ)
     → found mode side (Bytes side piece ∷ events) ≡ found mode side events ++ items → raw mode side (Bytes side piece ∷ events) ≡ raw mode side events ++ bytes
     → brought mode side events piece ≡ three side items bytes (fault_in mode side (Bytes side piece ∷ events)) (is_over side events piece)
 brought_three mode side events piece items bytes found_is raw_is =

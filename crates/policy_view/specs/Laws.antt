@@ -1,11 +1,12 @@
 -- The laws of histories, as statements.
-use Rattle.std.specs.Prelude.{◌≡◌, IsTrue, List, ◌++◌}
+use Rattle.std.specs.Prelude.{◌≡◌, IsTrue, false, List, [], ◌++◌, flat_map}
+use Rattle.sasl_watch.specs.Lines.{for_bus, joined}
 use Rattle.dbus_header.specs.Message.{Message, reply_serial}
 use Rattle.policy_args.specs.Policy.{Policy}
 use Rattle.policy_view.specs.Sent.{Exchange, Past, answered, owed}
 use Rattle.policy_view.specs.Shown.{shown}
 use Rattle.policy_view.specs.Past.{Msg, History, due, judged, past}
-use Rattle.policy_view.specs.History.{Event, end_of, history}
+use Rattle.policy_view.specs.History.{Event, end_of, history, lines, raw, stream}
 use Rattle.policy_view.specs.Outputs.{bus_bytes, client_bytes, seen_in, sent}
 use Rattle.policy_view.specs.Notes.{notes, numbered}
 use Rattle.policy_view.specs.Visible.{part}
@@ -29,6 +30,17 @@ pub record GivesTheSame (policy : Policy) (one other : History) : Type 0 where
   pub noted : numbered policy one ≡ numbered policy other
   pub told : past policy one ≡ past policy other
   pub end_is : end_of one ≡ end_of other
+
+-- what a session that doesn't filter gives: the bus has the client's lines, each as the bus is to get it, and then the
+-- client's bytes behind them; the client has the bus's lines and then the bus's bytes behind them, all as they came;
+-- without lines either has the other's stream, byte for byte; nothing of the proxy's own was sent, and nothing noted
+pub record PassesAll (policy : Policy) (mode : Mode) (events : List Event) : Type 0 where
+  pub to_bus : bus_bytes policy (history policy mode events) ≡ flat_map for_bus (lines mode Client events) ++ raw mode Client events
+  pub to_client : client_bytes policy (history policy mode events) ≡ joined (lines mode Bus events) ++ raw mode Bus events
+  pub whole_to_bus : mode.auth ≡ false → bus_bytes policy (history policy mode events) ≡ stream Client events
+  pub whole_to_client : mode.auth ≡ false → client_bytes policy (history policy mode events) ≡ stream Bus events
+  pub sent : sent policy (history policy mode events) ≡ []
+  pub noted : notes policy (history policy mode events) ≡ []
 
 -- pasts with the same facts and the same sent messages, in which the same replies are owed
 pub record KnowTheSame (one other : Past) : Type 0 where

@@ -7,12 +7,12 @@
 mod note;
 mod visible;
 
-ghost use Rattle.std.specs.Prelude.{◌≡◌, ℕ, ◌∷◌, ◌++◌, ◌&&◌, not, List, IsTrue};
+ghost use Rattle.std.specs.Prelude.{◌≡◌, ℕ, [], ◌∷◌, ◌++◌, ◌&&◌, not, false, List, None, IsTrue};
 ghost use Rattle.std.specs.List.{AllByRecursion};
 ghost use Rattle.policy_args.specs.Policy.{Policy};
 ghost use Rattle.policy_view.specs.Elements.{BringsBytes, DifferAsGiven, TellThePart};
-ghost use Rattle.policy_view.specs.History.{Event, Bytes, history};
-ghost use Rattle.policy_view.specs.Laws.{DecideTheSame, GivesTheSame, HiddenChangesNothing, KnowTheSame, OnlyGrows};
+ghost use Rattle.policy_view.specs.History.{Event, Bytes, end_of, history, is_over, line_fault};
+ghost use Rattle.policy_view.specs.Laws.{DecideTheSame, GivesTheSame, HiddenChangesNothing, KnowTheSame, OnlyGrows, PassesAll};
 ghost use Rattle.policy_view.specs.Sent.{Past};
 ghost use Rattle.policy_view.specs.declared.Mode.{Mode as SessionMode};
 ghost use Rattle.policy_view.specs.declared.Side.{Side as StreamSide};
@@ -187,6 +187,17 @@ pub fn cuts_change_nothing()
 /// the bytes are cut at which nobody looks.
 pub fn cuts_change_no_bytes()
     ensures { (policy : Policy) (mode : SessionMode) (later earlier : List Event) (side : StreamSide) (first second : List ℕ) → GivesTheSame policy (history policy mode (later ++ Bytes side (first ++ second) ∷ earlier)) (history policy mode (later ++ Bytes side second ∷ Bytes side first ∷ earlier)) }
+{}
+
+/// A session that doesn't filter passes everything. After each event, up to and with the one that ends it, the bus has the
+/// client's lines, each as the bus is to get it, and all bytes behind them as they came; the client has the bus's lines and
+/// all bytes behind them, as they came. Without lines each has the other's stream, what was sent up to the stream's limit:
+/// not a byte is lost, added or changed. Nothing of the proxy's own is sent, and nothing noted. It goes on with each piece
+/// that leaves its side's lines without a fault and for which its stream has room, whatever bytes follow the lines.
+pub fn an_unfiltered_session_passes_all()
+    ensures at_start { (policy : Policy) (mode : SessionMode) → mode.filter ≡ false → PassesAll policy mode [] }
+    ensures with_each_event { (policy : Policy) (mode : SessionMode) (event : Event) (events : List Event) → mode.filter ≡ false → end_of (history policy mode events) ≡ None → PassesAll policy mode (event ∷ events) }
+    ensures goes_on { (policy : Policy) (mode : SessionMode) (side : StreamSide) (piece : List ℕ) (events : List Event) → mode.filter ≡ false → end_of (history policy mode events) ≡ None → line_fault mode side (Bytes side piece ∷ events) ≡ None → is_over side events piece ≡ false → end_of (history policy mode (Bytes side piece ∷ events)) ≡ None }
 {}
 
 /// Pasts with the same facts, the same sent messages and the same owed replies decide the same: each message of the client
