@@ -8,10 +8,10 @@ use Rattle.std.proofs.lemmas.List.Folds.{flat_map-map}
 use Rattle.std.proofs.lemmas.Option.{none-some}
 use Rattle.dbus_header.specs.Message.{Message}
 use Rattle.policy_args.specs.Policy.{Policy}
-use Rattle.sasl_watch.specs.Lines.{asked, for_bus, joined}
+use Rattle.sasl_watch.specs.Lines.{after_begin, after_lines, asked, bus_lines, client_lines, for_bus, has_begun, joined}
 use Rattle.sasl_watch.proofs.LinesGrow.{bus_lines-append}
 use Rattle.sasl_watch.proofs.LinesLaws.{Begins, client_lines-append}
-use Rattle.policy_view.specs.History.{Event, Bytes, Finished, Stopped, arrived, content, end_if, end_of, fault, fault_end, fault_in, first_fault, finished, followed_by, followed_by_all, followed_unless, found, history, is_over, line_fault, lines, malformed, messages_in, most_sent, new_in, placed, raw, raw_item, stream, taken_of}
+use Rattle.policy_view.specs.History.{Event, Bytes, Finished, Stopped, arrived, content, end_if, end_of, fault, fault_end, fault_in, first_fault, finished, followed_by, followed_by_all, followed_unless, found, history, is_over, line_fault, lines, malformed, messages_in, most_sent, new_in, placed, raw, raw_in, raw_item, stream, taken_of}
 use Rattle.policy_view.specs.Laws.{PassesAll}
 use Rattle.policy_view.specs.Notes.{Note, numbered}
 use Rattle.policy_view.specs.Outputs.{bus_bytes, client_bytes, to_bus, to_client}
@@ -26,6 +26,7 @@ use Rattle.policy_view.specs.declared.Side.TheVariants.{Client, Bus}
 use Rattle.policy_view.proofs.CutLaws.{brought_three, end_follows, new_last, parts}
 use Rattle.policy_view.proofs.PastLaws.{ended_all, ended_is_final}
 use Rattle.policy_view.proofs.Streams.{Grown, Unmoved, apart, bus_apart_client, bus_kept, client_by, client_stream, grows, stream_more}
+use Rattle.policy_view.proofs.WholeStreams.{bus_is_whole, client_is_whole}
 
 -- ---- items that are no messages
 
@@ -399,6 +400,33 @@ module _ (policy : Policy) (mode : Mode) (unfiltered : mode.filter ≡ false) wh
   unfolding lines content raw
   bus_whole events e = rw (e, unfiltered) refl
 
+  -- and with lines, what follows them is the rest of the stream
+  client_all : (events : List Event) → mode.auth ≡ true → has_begun (stream Client events) ≡ true → joined (lines mode Client events) ++ raw mode Client events ≡ stream Client events
+  unfolding lines content raw
+  client_all events e begun =
+      ap (λ (a : Bool). given a mode.filter (has_begun C)) e ∙ ap (λ (b : Bool). given true b (has_begun C)) unfiltered ∙ ap (given true false) begun ∙ client_is_whole C begun
+    where
+      C : List ℕ
+      C = stream Client events
+
+      given : Bool → Bool → Bool → List ℕ
+      given auth filter b = joined (cond auth (client_lines C) []) ++ raw_in filter (cond auth (cond b (Some (after_begin C)) None) (Some C))
+
+  bus_all : (events : List Event) → mode.auth ≡ true → has_begun (stream Client events) ≡ true → length (lines mode Bus events) ≡ asked (stream Client events) → to_the_client mode events ≡ stream Bus events
+  unfolding lines content raw
+  bus_all events e begun all =
+      ap (λ (a : Bool). given a mode.filter (has_begun C)) e ∙ ap (λ (b : Bool). given true b (has_begun C)) unfiltered ∙ ap (given true false) begun
+      ∙ bus_is_whole (asked C) S (sym (ap (λ (a : Bool). length (cond a (bus_lines (asked C) S) [])) e) ∙ all)
+    where
+      C : List ℕ
+      C = stream Client events
+
+      S : List ℕ
+      S = stream Bus events
+
+      given : Bool → Bool → Bool → List ℕ
+      given auth filter b = joined (cond auth (bus_lines (asked C) S) []) ++ raw_in filter (cond auth (cond b (Some (after_lines (asked C) S)) None) (Some S))
+
   all_passed : (events : List Event) → Passed policy mode events → PassesAll policy mode events
   unfolding nothing_before
   all_passed events p = record {
@@ -406,6 +434,8 @@ module _ (policy : Policy) (mode : Mode) (unfiltered : mode.filter ≡ false) wh
     to_client = p.gave.to_client;
     whole_to_bus = λ e. p.gave.to_bus ∙ client_whole events e;
     whole_to_client = λ e. p.gave.to_client ∙ bus_whole events e;
+    begun = client_all events;
+    answered = λ e begun all. p.gave.to_client ∙ bus_all events e begun all;
     sent = ap (λ (before : Past). before.told.sent) p.gave.past_is;
     noted = ap (λ (so_far : List Note × ℕ). so_far.0) p.gave.noted;
   }

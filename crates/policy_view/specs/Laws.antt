@@ -1,6 +1,6 @@
 -- The laws of histories, as statements.
-use Rattle.std.specs.Prelude.{◌≡◌, IsTrue, false, List, [], ◌++◌, flat_map}
-use Rattle.sasl_watch.specs.Lines.{for_bus, joined}
+use Rattle.std.specs.Prelude.{◌≡◌, IsTrue, true, false, List, [], ◌++◌, length, flat_map}
+use Rattle.sasl_watch.specs.Lines.{asked, for_bus, has_begun, joined}
 use Rattle.dbus_header.specs.Message.{Message, reply_serial}
 use Rattle.policy_args.specs.Policy.{Policy}
 use Rattle.policy_view.specs.Sent.{Exchange, Past, answered, owed}
@@ -32,13 +32,18 @@ pub record GivesTheSame (policy : Policy) (one other : History) : Type 0 where
   pub end_is : end_of one ≡ end_of other
 
 -- what a session that doesn't filter gives: the bus has the client's lines, each as the bus is to get it, and then the
--- client's bytes behind them; the client has the bus's lines and then the bus's bytes behind them, all as they came;
--- without lines either has the other's stream, byte for byte; nothing of the proxy's own was sent, and nothing noted
+-- client's bytes behind them; the client has the bus's lines and then the bus's bytes behind them, all as they came
 pub record PassesAll (policy : Policy) (mode : Mode) (events : List Event) : Type 0 where
   pub to_bus : bus_bytes policy (history policy mode events) ≡ flat_map for_bus (lines mode Client events) ++ raw mode Client events
   pub to_client : client_bytes policy (history policy mode events) ≡ joined (lines mode Bus events) ++ raw mode Bus events
+  -- without lines each has the other's stream, byte for byte
   pub whole_to_bus : mode.auth ≡ false → bus_bytes policy (history policy mode events) ≡ stream Client events
   pub whole_to_client : mode.auth ≡ false → client_bytes policy (history policy mode events) ≡ stream Bus events
+  -- with lines, once BEGIN was seen, the client's lines and the bytes behind them are its stream; and once the bus has
+  -- answered all that it was asked, the client has the bus's stream, byte for byte
+  pub begun : mode.auth ≡ true → has_begun (stream Client events) ≡ true → joined (lines mode Client events) ++ raw mode Client events ≡ stream Client events
+  pub answered : mode.auth ≡ true → has_begun (stream Client events) ≡ true → length (lines mode Bus events) ≡ asked (stream Client events) → client_bytes policy (history policy mode events) ≡ stream Bus events
+  -- nothing of the proxy's own was sent, and nothing noted
   pub sent : sent policy (history policy mode events) ≡ []
   pub noted : notes policy (history policy mode events) ≡ []
 

@@ -191,9 +191,10 @@ pub fn cuts_change_no_bytes()
 
 /// A session that doesn't filter passes everything. After each event, up to and with the one that ends it, the bus has the
 /// client's lines, each as the bus is to get it, and all bytes behind them as they came; the client has the bus's lines and
-/// all bytes behind them, as they came. Without lines each has the other's stream, what was sent up to the stream's limit:
-/// not a byte is lost, added or changed. Nothing of the proxy's own is sent, and nothing noted. It goes on with each piece
-/// that leaves its side's lines without a fault and for which its stream has room, whatever bytes follow the lines.
+/// all bytes behind them, as they came. Without lines each has the other's stream, which is what came up to its limit: not a
+/// byte is lost, added or changed. With lines nothing is lost between them and the bytes behind them. Nothing of the proxy's
+/// own is sent, and nothing noted. It goes on with each piece that leaves its side's lines without a fault and for which its
+/// stream has room, whatever bytes follow the lines.
 pub fn an_unfiltered_session_passes_all()
     ensures at_start { (policy : Policy) (mode : SessionMode) → mode.filter ≡ false → PassesAll policy mode [] }
     ensures with_each_event { (policy : Policy) (mode : SessionMode) (event : Event) (events : List Event) → mode.filter ≡ false → end_of (history policy mode events) ≡ None → PassesAll policy mode (event ∷ events) }
