@@ -5,6 +5,7 @@ use Rattle.std.specs.List.{list_any}
 use Rattle.std.proofs.lemmas.List.{drop_all}
 use Rattle.dbus_names.specs.Names.{is_well_known}
 use Rattle.dbus_names.specs.Texts.{Text}
+use Rattle.name_patterns.specs.Patterns.{covers}
 use Rattle.policy_args.specs.Policy.{Policy}
 use Rattle.policy_args.specs.declared.entry.Entry.{Entry}
 use Rattle.policy_view.specs.Sent.{is_asked, is_subtree}
@@ -67,6 +68,19 @@ none-left es k before name le = ap (λ xs. covered_by before xs name) (drop_all 
     by false = refl
 
 -- ---- which names are asked for
+
+-- a name that no entry covers is covered by no subtree
+none-below : (es : List Entry) (name : Text) → list_any (λ e. covers e.pattern name) es ≡ false → list_any (is_below name) es ≡ false
+none-below [] name none = refl
+none-below (e ∷ es) name none = by (covers e.pattern name) (is_subtree e) (none-below es name) none
+  where
+    by : (c s : Bool) → (list_any (λ x. covers x.pattern name) es ≡ false → list_any (is_below name) es ≡ false) → (c || list_any (λ x. covers x.pattern name) es) ≡ false → ((s && c) || list_any (is_below name) es) ≡ false
+    by true s rest none = absurd cc
+    by false true rest none = rest none
+    by false false rest none = rest none
+
+pub uncovered : (es : List Entry) (name : Text) → list_any (λ e. covers e.pattern name) es ≡ false → is_covered es name ≡ false
+uncovered es name none = ap (λ b. b && not (list_any (is_named_by name) es)) (none-below es name none)
 
 pub asked-is : (policy : Policy) (name : Text) → is_asked policy name ≡ (is_well_known name && is_covered policy.entries name)
 asked-is policy name = by (is_well_known name)

@@ -63,10 +63,13 @@ fn is_asked(policy: &Policy, name: &str) -> bool
     is_well_known(name.as_bytes()) && is_covered_alone(policy, name)
 }
 
-/// Whether an `N.*` covers a name that no exact pattern names.
+/// Whether an `N.*` covers a name that no exact pattern names. The entries are passed over only for a name that one covers.
 fn is_covered_alone(policy: &Policy, name: &str) -> bool
     ensures { result ≡ is_covered policy.now.entries name.now }
 {
+    if !policy.covers(name) {
+        return false;
+    }
     let mut covered = false;
     for index in 0..policy.len() {
         let pattern = &policy.entry(index + 1).pattern;

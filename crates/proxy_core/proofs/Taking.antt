@@ -141,21 +141,6 @@ pub number_is : (o : Option ℕ) → number_or_0 o ≡ unwrap_or o 0
 number_is None = refl
 number_is (Some n) = refl
 
--- ---- one of a list that passes a test
-
-any_from : {A : Type 0} (test : A → Bool) (xs : List A) (i : ℕ) (x : A) → slice_get xs i ≡ Some x → list_any test (drop i xs) ≡ (test x || list_any test (drop (i + 1) xs))
-any_from test [] i x at = absurd cc
-any_from test (y ∷ ys) zero x at = let same : y ≡ x = same_Some y x at in ap (λ (z : _). test z || list_any test ys) same
-any_from test (y ∷ ys) (suc i) x at =
-    let next : suc (i + 1) ≡ suc i + 1 = omega arith in
-    any_from test ys i x at ∙ ap (λ (n : ℕ). test x || list_any test (drop n (y ∷ ys))) next
-
-pub any_here : {A : Type 0} (test : A → Bool) (xs : List A) (i : ℕ) (x : A) → slice_get xs i ≡ Some x → test x ≡ true → list_any test (drop i xs) ≡ true
-any_here test xs i x at passes = any_from test xs i x at ∙ ap (λ (b : Bool). b || list_any test (drop (i + 1) xs)) passes
-
-pub any_behind : {A : Type 0} (test : A → Bool) (xs : List A) (i : ℕ) (x : A) → slice_get xs i ≡ Some x → test x ≡ false → list_any test (drop i xs) ≡ list_any test (drop (i + 1) xs)
-any_behind test xs i x at fails = any_from test xs i x at ∙ ap (λ (b : Bool). b || list_any test (drop (i + 1) xs)) fails
-
 -- what is so where memory sufficed
 pub on_ok : {A E : Type 0} (r : Result A E) (P Q : Type 0) → (P → Q) → OnOk r P → OnOk r Q
 on_ok (Ok x) P Q f p = f p

@@ -1,8 +1,6 @@
 //! What messages of the bus tell of names.
 ghost use Rattle.std.specs.Prelude.{◌≡◌};
-ghost use Rattle.std.specs.List.{list_any};
 ghost use Rattle.dbus_header.specs.Seen.{text_seen};
-ghost use Rattle.name_patterns.specs.Patterns.{covers};
 ghost use Rattle.policy_view.specs.Past.{if_unique, is_covered as covered, returned_names as names_returned, returned_text};
 ghost use Rattle.policy_view.specs.Notes.{message_in};
 
@@ -43,21 +41,19 @@ pub(crate) fn returned_names<'a>(message: &Message<'a>) -> Option<Texts<'a>>
     }
 }
 
+/// The sender of a message where it is a unique name.
+pub(crate) fn unique_sender<'a>(message: &Message<'a>) -> Option<&'a str>
+    ensures { text_seen result ≡ if_unique (text_seen message.now.sender) }
+{
+    match message.sender_name() {
+        Some(name) if name.is_unique() => Some(name.text),
+        _ => None,
+    }
+}
+
 /// Whether it is a well-known name that an entry of the policy covers.
 pub(crate) fn is_covered(policy: &Policy, name: &str) -> bool
     ensures { result ≡ covered policy.now name.now }
 {
-    is_well_known(name.as_bytes()) && has_entry(policy, name)
-}
-
-/// Whether an entry of the policy covers the name.
-fn has_entry(policy: &Policy, name: &str) -> bool
-    ensures { result ≡ list_any (λ e. covers e.pattern name.now) policy.now.entries }
-{
-    for index in 0..policy.len() {
-        if policy.entry(index + 1).pattern.covers(name) {
-            return true;
-        }
-    }
-    false
+    is_well_known(name.as_bytes()) && policy.covers(name)
 }

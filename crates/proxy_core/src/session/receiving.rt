@@ -16,7 +16,7 @@ ghost use Rattle.proxy_core.specs.Steps.{TookMessage};
 ghost use Rattle.verdicts.specs.Kept.{expected_at};
 
 use super::Session;
-use crate::facts::{is_covered, returned_id, returned_names, unique};
+use crate::facts::{is_covered, returned_id, returned_names, unique, unique_sender};
 use crate::incoming::Incoming;
 use crate::queue::{push_cut, push_reply, push_whole};
 use bytes::BytesMut;
@@ -119,7 +119,7 @@ impl Session {
         ensures ok { OnOk result (self.new ≡ with_told policy.now (message_in message.now.bytes.now) CallIn self.old) }
         ensures err { OnErr result (KeepsSides self.old self.new) }
     {
-        self.learn_met(policy, unique(message.sender))?;
+        self.learn_met(policy, unique_sender(message))?;
         match message.sender {
             Some(sender) if message.expects_reply() => self.ledger.called(sender, message.serial),
             _ => Ok(()),
@@ -135,7 +135,7 @@ impl Session {
         if is_owner_change(message) {
             self.learn_owners(policy, message.three_texts())
         } else if message.destination.is_some() {
-            self.learn_met(policy, unique(message.sender))
+            self.learn_met(policy, unique_sender(message))
         } else {
             Ok(())
         }

@@ -1,7 +1,10 @@
 use Rattle.std.proofs.Common.{◌+◌, true, false, drop, ap, sym, ◌∙◌}
-use Rattle.own_calls.proofs.Covering.{covered-here, covered_by, named-here, or-false, or-true}
+use Rattle.own_calls.proofs.Covering.{covered-here, covered_by, named-here, or-false, or-true, uncovered}
 use Rattle.own_calls.proofs.listed.is_covered_alone.Goals as goal
 use Rattle.own_calls.proofs.listed.is_covered_alone.Goals.{then-is_below, else-is_below}
+
+pub returns-then-not-covers : goal.returns-then-not-covers
+returns-then-not-covers c = sym (uncovered c.args.policy.now.entries c.args.name.now (sym c.covers.ensures ∙ c.if-not-covers.true))
 
 pub returns-then-is_named : goal.returns-then-is_named
 returns-then-is_named c =

@@ -15,7 +15,7 @@ returns-then-is_owner_change-clause-ok c =
 pub returns-then-is_some-clause-ok : goal.returns-then-is_some-clause-ok
 returns-then-is_some-clause-ok c =
     on_ok c.learn_met.result _ _ (λ is.
-    is ∙ ap (λ id. with_facts c.args.policy.now (fact_of Met id) c.args.self.now) c.unique.ensures
+    is ∙ ap (λ id. with_facts c.args.policy.now (fact_of Met id) c.args.self.now) c.unique_sender.ensures
     ∙ told_signal c.args.policy.now c.args.message.now c.args.self.now (sym c.is_owner_change.ensures ∙ c.if-is_owner_change.false) (sym c.is_some.ensures ∙ c.if-is_some.true)) c.learn_met.ensures.ok
 
 pub returns-else-is_some-clause-ok : goal.returns-else-is_some-clause-ok
