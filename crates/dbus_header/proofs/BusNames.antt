@@ -1,6 +1,6 @@
 -- The fields of a valid message are in the grammars of their codes; so DESTINATION and SENDER are bus names.
 use Rattle.std.proofs.Common.{◌≡◌, ℕ, Bool, true, false, cond, List, [], ◌∷◌, Option, Some, None, refl, ap, sym, ◌∙◌}
-use Rattle.std.specs.Prelude.{not, ◌&&◌, ◌||◌, ◌==◌, nat_lt, option_map}
+use Rattle.std.specs.Prelude.{not, ◌||◌, ◌==◌, nat_lt, option_map}
 use Rattle.std.proofs.lemmas.Bool.{and_parts, eqb-true}
 use Rattle.dbus_names.specs.Names.{is_bus_name}
 use Rattle.dbus_values.specs.Values.{Value, a_number, a_string, a_path, a_signature, a_variant, an_array, a_struct, an_entry}

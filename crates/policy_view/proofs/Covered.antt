@@ -1,5 +1,5 @@
 -- A name that an entry covers is seen, so a hidden owner change tells nothing.
-use Rattle.std.proofs.Common.{◌≡◌, Bool, true, false, ◌||◌, ◌&&◌, if◌then◌else◌, List, [], ◌++◌, Option, Some, None, refl, ◌∙◌, ◌⊎◌, inl, inr}
+use Rattle.std.proofs.Common.{◌≡◌, Bool, true, false, ◌&&◌, if◌then◌else◌, List, [], ◌++◌, Option, Some, None, refl, ◌∙◌, ◌⊎◌, inl, inr}
 use Rattle.std.specs.List.{list_any}
 use Rattle.dbus_names.specs.Names.{is_bus, is_unique, is_well_known}
 use Rattle.dbus_names.specs.Texts.{Text}
@@ -8,7 +8,7 @@ use Rattle.policy_args.specs.Levels.{level_of, level_of_id}
 use Rattle.policy_args.specs.Policy.{Policy, at_least, granted, greater, level}
 use Rattle.policy_args.proofs.PolicyLevels.{seen_left, seen_where_covered}
 use Rattle.policy_args.specs.declared.Level.{Level}
-use Rattle.policy_args.specs.declared.Level.TheVariants.{None as Hidden, See, Talk, Own}
+use Rattle.policy_args.specs.declared.Level.TheVariants.{None as Hidden, See, Talk}
 use Rattle.policy_args.specs.declared.entry.Entry.{Entry}
 use Rattle.policy_args.specs.declared.fact.Fact.{Fact}
 use Rattle.policy_args.specs.declared.fact.Fact.TheVariants.{Owned}

@@ -9,7 +9,6 @@ pub mod Covered
 pub mod Decisions
 pub mod EachItem
 pub mod Filtered
-pub mod WholeStreams
 pub mod Unfiltered
 pub mod Worlds
 pub mod VisibleExamples

@@ -9,7 +9,7 @@ use Rattle.std.proofs.lemmas.Option.{none-some}
 use Rattle.dbus_header.specs.Message.{Message}
 use Rattle.policy_args.specs.Policy.{Policy}
 use Rattle.sasl_watch.specs.Lines.{after_begin, after_lines, asked, bus_lines, client_lines, for_bus, has_begun, joined}
-use Rattle.sasl_watch.proofs.LinesGrow.{bus_lines-append}
+use Rattle.sasl_watch.proofs.LinesGrow.{bus_lines-append, bus_is_whole, client_is_whole}
 use Rattle.sasl_watch.proofs.LinesLaws.{Begins, client_lines-append}
 use Rattle.policy_view.specs.History.{Event, Bytes, Finished, Stopped, arrived, content, end_if, end_of, fault, fault_end, fault_in, first_fault, finished, followed_by, followed_by_all, followed_unless, found, history, is_over, line_fault, lines, malformed, messages_in, most_sent, new_in, placed, raw, raw_in, raw_item, stream, taken_of}
 use Rattle.policy_view.specs.Laws.{PassesAll}
@@ -26,7 +26,6 @@ use Rattle.policy_view.specs.declared.Side.TheVariants.{Client, Bus}
 use Rattle.policy_view.proofs.CutLaws.{brought_three, end_follows, new_last, parts}
 use Rattle.policy_view.proofs.PastLaws.{ended_all, ended_is_final}
 use Rattle.policy_view.proofs.Streams.{Grown, Unmoved, apart, bus_apart_client, bus_kept, client_by, client_stream, grows, stream_more}
-use Rattle.policy_view.proofs.WholeStreams.{bus_is_whole, client_is_whole}
 
 -- ---- items that are no messages
 

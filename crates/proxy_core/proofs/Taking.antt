@@ -1,7 +1,6 @@
 -- What the code reads of a message is of the message that its bytes spell.
-use Rattle.std.proofs.Common.{ℕ, zero, suc, ◌≡◌, Bool, true, false, cond, List, [], ◌∷◌, Option, Some, None, drop, ◌+◌, refl, ap, ap₂, ◌∙◌, sym, codes, arith}
-use Rattle.std.specs.Prelude.{◌||◌, ◌==◌, IsSome, OnOk, Result, Ok, Err, option_map, slice_get, unwrap_or}
-use Rattle.std.specs.List.{list_any}
+use Rattle.std.proofs.Common.{ℕ, ◌≡◌, Bool, true, false, cond, List, Option, Some, None, refl, ap, ap₂, ◌∙◌, sym, codes}
+use Rattle.std.specs.Prelude.{◌||◌, ◌==◌, IsSome, OnOk, Result, Ok, Err, option_map, unwrap_or}
 use Rattle.std.proofs.lemmas.Option.{same_Some}
 use Rattle.dbus_header.specs.Contents.{Contents, contents_of, message_of}
 use Rattle.dbus_header.specs.Message.{Message, Valid, destination, sender, reply_serial, only_text, spell, text_list, with_number, with_reply_serial, with_serial}

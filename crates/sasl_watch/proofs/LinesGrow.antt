@@ -3,6 +3,7 @@ use Rattle.std.proofs.Common.{◌≡◌, ℕ, zero, suc, ◌+◌, ◌-◌, ◌�
 use Rattle.std.specs.Prelude.{not, ◌&&◌, ◌||◌, ◌==◌, nat_lt}
 use Rattle.std.specs.List.{list_any}
 use Rattle.std.proofs.lemmas.List.{length-append, length-take, length-drop, drop-append-le, append_cancel_left, take_all, nil_from_length}
+use Rattle.std.proofs.Math.Seq.{drop-append_seam}
 use Rattle.std.proofs.lemmas.Bool.{eq-eqb, eqb-true, ltb-true, ltb-false, lt-ltb, le-ltb}
 use Rattle.sasl_watch.specs.Lines.{Cut, with_line, after_byte, at_byte, cut_from, byte_fault, joined, through, is_begin, agrees, client_cut, client_lines, has_begun, after_begin, asked, client_fault, bus_cut, bus_lines, after_lines, bus_fault, line_fault}
 use Rattle.sasl_watch.specs.declared.LineKind.{LineKind}
@@ -60,6 +61,13 @@ fronts-le bytes lines (rest, e) = omega (arith, ap length e, length-append (join
 -- what follows lines that are the first bytes goes on with the stream
 drop_fronts : (bytes x : List ℕ) (lines : List (List ℕ)) → Fronts bytes lines → drop (length (joined lines)) (bytes ++ x) ≡ drop (length (joined lines)) bytes ++ x
 drop_fronts bytes x lines f = drop-append-le (length (joined lines)) bytes x (fronts-le bytes lines f)
+
+-- lines that are the first bytes and what follows them are the whole stream
+fronts-whole : (bytes : List ℕ) (lines : List (List ℕ)) → Fronts bytes lines → joined lines ++ drop (length (joined lines)) bytes ≡ bytes
+fronts-whole bytes lines (rest, e) =
+    ap (λ (t : List ℕ). joined lines ++ drop (length (joined lines)) t) e
+    ∙ ap (λ (t : List ℕ). joined lines ++ t) (drop-append_seam (joined lines) rest)
+    ∙ sym e
 
 -- ---- a fault stays, with the lines before it
 
@@ -139,6 +147,13 @@ after_begin-append s x h =
     ∙ drop_fronts s x lines front
     ∙ sym (ap (λ (b : Bool). cond b (drop (length (joined lines)) s) [] ++ x) h)
 
+-- once BEGIN was seen, the lines and what follows them are the whole stream
+pub client_is_whole : (s : List ℕ) → has_begun s ≡ true → joined (client_lines s) ++ after_begin s ≡ s
+client_is_whole s h =
+    let lines = client_lines s in
+    ap (λ (b : Bool). joined lines ++ cond b (drop (length (joined lines)) s) []) h
+    ∙ fronts-whole s lines (through-fronts s is_begin (client_cut s).lines (client_cut-fronts s))
+
 -- a fault stays, with the lines before it, and BEGIN stays unseen
 pub client_fault-stays : (s x : List ℕ) (f : LineFault) → client_fault s ≡ Some f → (client_lines (s ++ x) ≡ client_lines s) × (client_fault (s ++ x) ≡ Some f) × (has_begun s ≡ false)
 client_fault-stays s x f e = go (has_begun s) refl e
@@ -198,6 +213,11 @@ taken-fronts n s =
 
 pub if_all_is : (n : ℕ) (s : List ℕ) → length (bus_lines n s) ≡ n → after_lines n s ≡ drop (length (joined (bus_lines n s))) s
 if_all_is n s e = ap (λ (b : Bool). cond b (drop (length (joined (bus_lines n s))) s) []) (eq-eqb (length (bus_lines n s)) n e)
+
+-- once all n have come, they and what follows them are the whole stream
+pub bus_is_whole : (n : ℕ) (s : List ℕ) → length (bus_lines n s) ≡ n → joined (bus_lines n s) ++ after_lines n s ≡ s
+bus_is_whole n s e =
+    ap (λ (t : List ℕ). joined (bus_lines n s) ++ t) (if_all_is n s e) ∙ fronts-whole s (bus_lines n s) (taken-fronts n s)
 
 -- what follows the lines goes on with the stream
 pub after_lines-append : (n : ℕ) (s x : List ℕ) → length (bus_lines n s) ≡ n → after_lines n (s ++ x) ≡ after_lines n s ++ x

@@ -1,6 +1,4 @@
-use Rattle.std.proofs.Common.{◌≡◌, ◌∙◌, Some, sym, ap, arith, rules}
-use Rattle.dbus_header.specs.Malformed.{whole, fault_in}
-use Rattle.dbus_header.specs.Refusals.{refusal}
+use Rattle.std.proofs.Common.{arith, rules}
 use Rattle.dbus_header.proofs.WholeMessage.{fields_wrong, parts_on_ok, rest_is_read}
 use Rattle.dbus_header.proofs.decoding.read_whole.Goals as goal
 
