@@ -67,7 +67,7 @@ impl Buffer {
         }
     }
 
-    /// A buffer with these bytes. They aren't copied where nothing else holds them.
+    /// A buffer with these bytes. They stay in their memory where nothing else holds them, and lie at its front then.
     pub(crate) fn with_bytes(alloc: Global, bytes: Bytes) -> Result<Buffer, AllocError>
         ensures { IfOk result (λ buffer. buffer ≡ bytes) }
     {

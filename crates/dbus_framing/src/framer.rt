@@ -84,7 +84,7 @@ impl Framer {
         }
     }
 
-    /// A framer to which these bytes were pushed. They aren't copied where nothing else holds them.
+    /// A framer to which these bytes were pushed. They stay in their memory where nothing else holds them.
     pub fn with_bytes(alloc: Global, bytes: Bytes) -> Result<Framer, AllocError>
         ensures { IfOk result (λ framer. framer ≡ bytes) }
     {

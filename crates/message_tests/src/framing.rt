@@ -27,7 +27,7 @@ const STREAMS: &str = "\
 40000, long 100000, newer, call => 100060 Version 3
 20, longest => Rest
 65536, call, longest => 80 Rest
-90, call, longest => 80 Rest
+100, call, longest => 80 Rest
 ";
 
 fn stream_of(alloc: Global, messages: &str) -> Result<Vec<u8>, AllocError> {
