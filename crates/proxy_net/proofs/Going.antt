@@ -6,7 +6,7 @@ use Rattle.link_traits.specs.declared.links.Accepted.{Accepted}
 use Rattle.link_traits.specs.declared.links.Accepted.TheVariants.{New, NotReady, Failed as Refused, Memory}
 use Rattle.link_traits.specs.declared.links.Ready.{Ready}
 use Rattle.link_traits.specs.declared.links.Ready.TheVariants.{Listener, Link, Quiet, Failed}
-use Rattle.proxy_net.specs.Sockets.{GoesOn, Grows, KeepsWishesIn, AfterAcceptIn, wishes_in, IsWished}
+use Rattle.proxy_net.specs.Sockets.{GoesOn, Grows, KeepsWishesIn, AfterAcceptIn, IsWished}
 use Rattle.proxy_net.specs.declared.sockets.SocketSet.{SocketSet}
 
 -- a count that rose, and then didn't fall
@@ -27,10 +27,12 @@ goes_through p q = record {
   sessions = q.sessions ∙ p.sessions;
   links = λ link placed. q.links link (p.links link placed);
   listeners = λ listener placed. q.listeners listener (p.listeners listener placed);
+  link_tokens = λ number own. q.link_tokens number (p.link_tokens number own);
+  listener_tokens = λ place own. q.listener_tokens place (p.listener_tokens place own);
 }
 
 pub goes_grows : {a b : SocketSet} → GoesOn a b → Grows a b
-goes_grows p = record { each = p.counts; links = p.links; listeners = p.listeners }
+goes_grows p = record { each = p.counts; links = p.links; listeners = p.listeners; link_tokens = p.link_tokens; listener_tokens = p.listener_tokens }
 
 -- what only grows after what goes on
 pub grows_through : {a b c : SocketSet} → GoesOn a b → Grows b c → Grows a c
@@ -38,6 +40,8 @@ grows_through p q = record {
   each = λ count. let x = p.counts count in let y = q.each count in omega (arith, x, y);
   links = λ link placed. q.links link (p.links link placed);
   listeners = λ listener placed. q.listeners listener (p.listeners listener placed);
+  link_tokens = λ number own. q.link_tokens number (p.link_tokens number own);
+  listener_tokens = λ place own. q.listener_tokens place (p.listener_tokens place own);
 }
 
 -- what goes on after what only grows
@@ -46,6 +50,8 @@ grows_on p q = record {
   each = λ count. let x = p.each count in let y = q.counts count in omega (arith, x, y);
   links = λ link placed. q.links link (p.links link placed);
   listeners = λ listener placed. q.listeners listener (p.listeners listener placed);
+  link_tokens = λ number own. q.link_tokens number (p.link_tokens number own);
+  listener_tokens = λ place own. q.listener_tokens place (p.listener_tokens place own);
 }
 
 pub keeps_wishes : {a b : SocketSet} → GoesOn a b → KeepsWishesIn a b
@@ -62,8 +68,8 @@ accept_through c Refused p q = keeps_through p q
 accept_through c Memory p q = keeps_through p q
 
 -- what is wished after what keeps all wishes was wished before
-pub wished_before : (a b : SocketSet) (ready : Ready) → GoesOn a b → IsWished (wishes_in b) ready → IsWished (wishes_in a) ready
-wished_before a b (Listener listener) p wished = wished
-wished_before a b (Link link) p wished = subst HasWish (p.wishes link) wished
-wished_before a b Quiet p wished = wished
-wished_before a b Failed p wished = wished
+pub wished_before : (a b c : SocketSet) (ready : Ready) → GoesOn a b → IsWished b c ready → IsWished a c ready
+wished_before a b c (Listener listener) p wished = wished
+wished_before a b c (Link link) p wished = subst HasWish (p.wishes link) wished
+wished_before a b c Quiet p wished = wished
+wished_before a b c Failed p wished = wished

@@ -1,2 +1,4 @@
 pub mod Going
 pub mod Dues
+pub mod Notes
+pub mod Tokens

@@ -1,3 +1,5 @@
 pub mod Sockets
 pub mod Naming
+pub mod Noting
 pub mod Connecting
+pub mod Registering

@@ -1,5 +1,5 @@
 -- What a set of sockets shows, and how that goes on from call to call. It tells no journal.
-use Rattle.std.specs.Prelude.{ℕ, ◌≡◌, ◌≤◌, ◌+◌, ◌-◌, ◌%◌, nat_eq, if◌then◌else◌, false, true, Bool, List, Option, Some, None, slice_get, unwrap_or}
+use Rattle.std.specs.Prelude.{ℕ, ◌≡◌, ◌≤◌, ◌+◌, ◌-◌, ◌%◌, nat_eq, nat_lt, ◌||◌, not, if◌then◌else◌, false, true, Bool, List, Option, Some, None, slice_get, unwrap_or}
 use Rattle.std.specs.Option.{option_map}
 use Rattle.std.specs.List.{list_any}
 use Rattle.std.specs.Ordering.{nat_cmp}
@@ -21,7 +21,10 @@ use Rattle.link_traits.specs.declared.links.Accepted.{Accepted}
 use Rattle.link_traits.specs.declared.links.Accepted.TheVariants.{New, NotReady, Failed as Refused, Memory}
 use Rattle.link_traits.specs.Answers.{client_link}
 use Rattle.proxy_net.specs.Naming.{is_link_placed, is_listener_placed, is_link_closed, is_to_fail}
+use Rattle.mio.specs.declared.event.event.Event.{Event}
 use Rattle.proxy_net.specs.Connecting.{is_pending, due_of}
+use Rattle.proxy_net.specs.Registering.{is_own_link, is_own_listener, listeners_from}
+use Rattle.proxy_net.specs.Noting.{is_link_noted, is_listener_noted, is_listener_named, number_in, is_bus_number, tells_read, tells_write, same_side}
 use Rattle.proxy_net.specs.declared.link_sockets.LinkSocket.{LinkSocket}
 use Rattle.proxy_net.specs.declared.listeners.ListenerSocket.{ListenerSocket}
 use Rattle.proxy_net.specs.declared.sockets.SocketSet.{SocketSet}
@@ -62,20 +65,38 @@ has_link_placed sockets link = is_link_placed (socket_in sockets link)
 abbrev pub has_listener_placed : SocketSet → ℕ → Bool
 has_listener_placed sockets listener = is_listener_placed (slice_get sockets.listeners.items listener)
 
--- no count falls, and nothing that is ready for a wish falls out of the queue
+-- the link of a number is registered by it, or there is no such link
+abbrev pub is_link_registered : SocketSet → ℕ → Bool
+is_link_registered sockets number = is_own_link number (tree.get nat_cmp sockets.links number)
+
+-- the listener at a place is registered by the number of the place, or there is no such listener
+abbrev pub is_listener_registered : SocketSet → ℕ → Bool
+is_listener_registered sockets place = is_own_listener place (slice_get sockets.listeners.items place)
+
+-- each socket is registered by its own number
+pub record IsRegistered (sockets : SocketSet) : Type 0 where
+  pub links : (number : ℕ) → is_link_registered sockets number ≡ true
+  pub listeners : (place : ℕ) → is_listener_registered sockets place ≡ true
+
+-- no count falls, nothing that is ready for a wish falls out of the queue, and what is registered by
+-- its own number stays so
 pub record Grows (old new : SocketSet) : Type 0 where
   pub each : (count : Count) → count_in old count ≤ count_in new count
   pub links : (link : Link) → has_link_placed old link ≡ true → has_link_placed new link ≡ true
   pub listeners : (listener : ℕ) → has_listener_placed old listener ≡ true → has_listener_placed new listener ≡ true
+  pub link_tokens : (number : ℕ) → is_link_registered old number ≡ true → is_link_registered new number ≡ true
+  pub listener_tokens : (place : ℕ) → is_listener_registered old place ≡ true → is_listener_registered new place ≡ true
 
--- no count falls, the wishes of all links and the number of sessions are as before, and nothing that
--- is ready for a wish falls out of the queue
+-- no count falls, the wishes of all links and the number of sessions are as before, nothing that is
+-- ready for a wish falls out of the queue, and what is registered by its own number stays so
 pub record GoesOn (old new : SocketSet) : Type 0 where
   pub counts : (count : Count) → count_in old count ≤ count_in new count
   pub wishes : (link : Link) → wishes_in new link ≡ wishes_in old link
   pub sessions : new.sessions ≡ old.sessions
   pub links : (link : Link) → has_link_placed old link ≡ true → has_link_placed new link ≡ true
   pub listeners : (listener : ℕ) → has_listener_placed old listener ≡ true → has_listener_placed new listener ≡ true
+  pub link_tokens : (number : ℕ) → is_link_registered old number ≡ true → is_link_registered new number ≡ true
+  pub listener_tokens : (place : ℕ) → is_listener_registered old place ≡ true → is_listener_registered new place ≡ true
 
 -- when the next try to connect a link is due, where there is a link and a try
 abbrev pub due_in : Option LinkSocket → Option Instant
@@ -132,9 +153,30 @@ pub record IsUnused (net : NetView) : Type 0 where
   pub counts : (count : Count) → net.counts count ≡ 0
   pub wishes : (link : Link) → net.wishes link ≡ None
 
--- a listener is named, or a link for which there is a wish
-abbrev pub IsWished : (Link → Option Wishes) → Ready → Type 0
-IsWished wishes (OfListener listener) = Unit {0}
-IsWished wishes (IsLink link) = HasWish (wishes link)
-IsWished wishes Quiet = ⊥
-IsWished wishes Failed = ⊥
+-- What is named has a reason: a client came to the listener, which isn't stalled and is marked as
+-- named now, or there is a wish for the link.
+abbrev pub IsWished : SocketSet → SocketSet → Ready → Type 0
+IsWished old new (OfListener listener) = is_listener_named (slice_get new.listeners.items listener) ≡ true
+IsWished old new (IsLink link) = HasWish (wishes_in old link)
+IsWished old new Quiet = ⊥
+IsWished old new Failed = ⊥
+
+-- what the system reported of the socket of a number is noted, where there is such a socket
+abbrev pub is_noted : SocketSet → ℕ → Bool → Bool → Bool
+is_noted sockets number readable writable =
+    if nat_lt number listeners_from
+    then is_link_noted readable writable (tree.get nat_cmp sockets.links number)
+    else is_listener_noted (slice_get sockets.listeners.items (number - listeners_from))
+
+-- what an event reports is noted
+abbrev pub is_event_noted : SocketSet → Event → Bool
+is_event_noted sockets event = is_noted sockets (number_in event) (tells_read event) (tells_write event)
+
+-- what an event reports is noted, where it is of a bus, or of all else
+abbrev pub is_side_noted : Bool → SocketSet → Event → Bool
+is_side_noted of_buses sockets event = not (same_side (is_bus_number (number_in event)) of_buses) || is_event_noted sockets event
+
+-- what was noted stays noted
+pub record KeepsNotes (old new : SocketSet) : Type 0 where
+  pub links : (number : ℕ) (readable writable : Bool) → is_link_noted readable writable (tree.get nat_cmp old.links number) ≡ true → is_link_noted readable writable (tree.get nat_cmp new.links number) ≡ true
+  pub listeners : (place : ℕ) → is_listener_noted (slice_get old.listeners.items place) ≡ true → is_listener_noted (slice_get new.listeners.items place) ≡ true

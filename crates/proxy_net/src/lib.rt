@@ -6,6 +6,7 @@
 mod link_sockets;
 mod listeners;
 pub mod net;
+mod registered;
 mod sockets;
 mod streams;
 

@@ -1,17 +1,20 @@
 //! What is kept of each link: its wishes, its faults and its socket.
-ghost use Rattle.std.specs.Prelude.{◌≡◌, ◌≢◌, ◌≤◌, ◌<◌, ◌+◌, ◌*◌, ◌&&◌, ◌||◌, ◌⊎◌, ◌↔◌, not, ℕ, Some, IfSome, IsTrue, length, true, false};
+ghost use Rattle.std.specs.Prelude.{◌≡◌, ◌≢◌, ◌≤◌, ◌<◌, ◌+◌, ◌*◌, ◌&&◌, ◌||◌, ◌⊎◌, ◌↔◌, not, ℕ, Bool, Some, IsTrue, length, true, false};
 ghost use Rattle.link_traits.specs.Told.{Rose};
 ghost use Rattle.link_traits.specs.Tables.{HasWish};
 ghost use Rattle.link_traits.specs.Answers.{no_wishes};
 ghost use Rattle.proxy_net.specs.Naming.{is_ready, is_link_placed, is_link_closed, is_to_fail};
+ghost use Rattle.proxy_net.specs.Registering.{is_registered_by, is_connected_by};
+ghost use Rattle.proxy_net.specs.Noting.{is_link_noted};
 ghost use Rattle.proxy_net.specs.Connecting.{IsLater, is_pending, is_given_up as is_failed, due_of};
 ghost use Rattle.std.specs.Time.{instant_nanos};
 ghost use Rattle.std.specs.Duration.{as_nanos};
 
-use crate::streams::{StreamRead, StreamWrite, read_stream, write_stream};
+use crate::registered::Registered;
+use crate::streams::{StreamRead, StreamWrite};
 use link_traits::{Got, Wishes};
 use mio::net::UnixStream;
-use mio::{Interest, Registry, Token};
+use mio::{Interest, Registry};
 use std::io::ErrorKind;
 use std::time::{Duration, Instant};
 
@@ -36,6 +39,8 @@ pub fn raised(count: u64) -> u64
 #[derive(Drop)]
 pub struct Retry {
     path: String,
+    // What its stream is to be registered with.
+    token: u64,
     delay: u64,
     due: Instant,
     until: Instant,
@@ -44,7 +49,7 @@ pub struct Retry {
 /// The stream of a link.
 #[derive(Drop)]
 pub enum Connection {
-    Open(UnixStream),
+    Open(Registered<UnixStream>),
     /// The bus had no room yet. Reads and writes aren't ready.
     Pending(Retry),
     /// It was given up. Reads and writes fail.
@@ -54,13 +59,14 @@ pub enum Connection {
 /// What came of a try to connect.
 #[derive(Drop)]
 enum Connected {
-    To(UnixStream),
+    To(Registered<UnixStream>),
     /// It wasn't time for one.
     NotDue,
     /// The bus had no room.
     WouldBlock,
     /// It was connected or given up before.
     Before,
+    /// It can't be connected, or not be watched.
     Failed,
 }
 
@@ -110,7 +116,8 @@ pub struct LinkSocket {
 
 impl Retry {
     /// A connect that had no room now.
-    pub fn new(path: String, now: Instant) -> Retry
+    pub fn new(token: u64, path: String, now: Instant) -> Retry
+        ensures token { result.token ≡ token }
         ensures path { result.path ≡ path }
         ensures delay { result.delay ≡ FIRST_DELAY }
         ensures due { IsLater now (FIRST_DELAY * 1_000_000) result.due }
@@ -118,6 +125,7 @@ impl Retry {
     {
         Retry {
             path,
+            token,
             delay: FIRST_DELAY,
             due: later(now, Duration::from_millis(FIRST_DELAY)),
             until: later(now, Duration::from_secs(TRIED_FOR)),
@@ -125,7 +133,8 @@ impl Retry {
     }
 
     /// Tries again to connect, where it is time to.
-    fn connect(&mut self, rt: &HostRuntime, now: Instant) -> Connected
+    fn connect(&mut self, rt: &HostRuntime, registry: &Registry, now: Instant) -> Connected
+        ensures token { is_connected_by self.old.token result ≡ true }
         ensures early { instant_nanos now < instant_nanos self.old.due → (result ≡ Connected.NotDue) × (self.new ≡ self.old) }
         ensures again { result ≡ Connected.WouldBlock → instant_nanos now ≤ instant_nanos self.old.until }
         ensures due { result ≡ Connected.WouldBlock → IsLater now (self.new.delay * 1_000_000) self.new.due }
@@ -136,7 +145,7 @@ impl Retry {
             return Connected::NotDue;
         }
         match UnixStream::connect(rt, self.path.as_str()) {
-            Ok(stream) => Connected::To(stream),
+            Ok(stream) => connection_of(registry, self.token, stream),
             Err(error) => {
                 if is_put_off(error.kind()) && self.has_time(now) {
                     self.put_off(now);
@@ -164,6 +173,19 @@ impl Retry {
     {
         self.delay = self.delay.saturating_mul(2).min(LONGEST_DELAY);
         self.due = later(now, Duration::from_millis(self.delay));
+    }
+}
+
+/// What comes of a stream that was connected.
+fn connection_of(registry: &Registry, token: u64, stream: UnixStream) -> Connected
+    ensures token { is_connected_by token result ≡ true }
+    ensures early { result ≢ Connected.NotDue }
+    ensures again { result ≢ Connected.WouldBlock }
+    ensures tried { result ≢ Connected.Before }
+{
+    match Registered::new(registry, token, stream) {
+        Some(stream) => Connected::To(stream),
+        None => Connected::Failed,
     }
 }
 
@@ -221,6 +243,7 @@ impl LinkSocket {
         ensures goes_on { result ≢ Got.Finished → (self.new.end_read ≡ self.old.end_read) × (self.new.given_up ≡ self.old.given_up) }
         ensures readable { result ≢ Got.NotReady → self.new.readable ≡ self.old.readable }
         ensures rest { (self.new.writable ≡ self.old.writable) × (self.new.peer_closed ≡ self.old.peer_closed) }
+        ensures token { (token : ℕ) → is_registered_by token self.old.connection ≡ true → is_registered_by token self.new.connection ≡ true }
         ensures faults { self.old.faults ≤ self.new.faults }
         ensures wishes { self.new.wishes ≡ self.old.wishes }
     {
@@ -248,17 +271,18 @@ impl LinkSocket {
         ensures progress { (n : ℕ) → result ≡ StreamRead.Bytes n → 0 < length into.new → 0 < n }
         ensures pending { is_pending self.old.connection ≡ true → result ≡ StreamRead.Nothing }
         ensures never { is_failed self.old.connection ≡ true → result ≡ StreamRead.Fault }
+        ensures token { (token : ℕ) → is_registered_by token self.new.connection ≡ is_registered_by token self.old.connection }
         ensures rest { self.new ≡ record self.old { connection = self.new.connection } }
     {
         match &mut self.connection {
-            Connection::Open(stream) => read_stream(stream, into),
+            Connection::Open(stream) => stream.read(into),
             Connection::Pending(_) => StreamRead::Nothing,
             Connection::Failed => StreamRead::Fault,
         }
     }
 
     /// Writes once.
-    pub fn write(&mut self, registry: &Registry, number: u64, piece: &[u8]) -> LinkWrite
+    pub fn write(&mut self, registry: &Registry, piece: &[u8]) -> LinkWrite
         ensures within { (n : ℕ) → result ≡ LinkWrite.Bytes n → n ≤ length piece.now }
         ensures progress { (n : ℕ) → result ≡ LinkWrite.Bytes n → 0 < length piece.now → 0 < n }
         ensures failed { result ≡ LinkWrite.Failed → Rose self.old.faults self.new.faults }
@@ -268,12 +292,13 @@ impl LinkSocket {
         ensures peer { result ≡ LinkWrite.PeerClosed → (self.new.peer_closed ≡ true) × (self.new.readable ≡ true) }
         ensures goes_on { result ≢ LinkWrite.PeerClosed → (self.new.peer_closed ≡ self.old.peer_closed) × (self.new.readable ≡ self.old.readable) }
         ensures end { self.new.end_read ≡ self.old.end_read }
+        ensures token { (token : ℕ) → is_registered_by token self.old.connection ≡ true → is_registered_by token self.new.connection ≡ true }
         ensures faults { self.old.faults ≤ self.new.faults }
         ensures wishes { self.new.wishes ≡ self.old.wishes }
     {
         match self.write_connection(piece) {
             StreamWrite::Bytes(n) => LinkWrite::Bytes(n),
-            StreamWrite::Full => self.await_room(registry, number),
+            StreamWrite::Full => self.await_room(registry),
             StreamWrite::PeerClosed => {
                 self.note_closed();
                 LinkWrite::PeerClosed
@@ -291,10 +316,11 @@ impl LinkSocket {
         ensures progress { (n : ℕ) → result ≡ StreamWrite.Bytes n → 0 < length piece.now → 0 < n }
         ensures pending { is_pending self.old.connection ≡ true → result ≡ StreamWrite.Again }
         ensures never { is_failed self.old.connection ≡ true → result ≡ StreamWrite.Fault }
+        ensures token { (token : ℕ) → is_registered_by token self.new.connection ≡ is_registered_by token self.old.connection }
         ensures rest { self.new ≡ record self.old { connection = self.new.connection } }
     {
         match &mut self.connection {
-            Connection::Open(stream) => write_stream(stream, piece),
+            Connection::Open(stream) => stream.write(piece),
             Connection::Pending(_) => StreamWrite::Again,
             Connection::Failed => StreamWrite::Fault,
         }
@@ -314,7 +340,7 @@ impl LinkSocket {
     }
 
     /// Has the system report when there is room to write.
-    fn await_room(&mut self, registry: &Registry, number: u64) -> LinkWrite
+    fn await_room(&mut self, registry: &Registry) -> LinkWrite
         ensures bytes { (n : ℕ) → result ≡ LinkWrite.Bytes n → ⊥ }
         ensures failed { result ≡ LinkWrite.Failed → Rose self.old.faults self.new.faults }
         ensures closed { result ≡ LinkWrite.PeerClosed → ⊥ }
@@ -323,7 +349,7 @@ impl LinkSocket {
     {
         if self.writable {
             self.writable = false;
-            if !self.watch(registry, number, Interest::READABLE | Interest::WRITABLE) {
+            if !self.watch(registry, Interest::READABLE | Interest::WRITABLE) {
                 self.faults = raised(self.faults);
                 return LinkWrite::Failed;
             }
@@ -332,19 +358,19 @@ impl LinkSocket {
     }
 
     /// Changes what the system reports. Answers whether it could.
-    fn watch(&mut self, registry: &Registry, number: u64, interest: Interest) -> bool
+    fn watch(&mut self, registry: &Registry, interest: Interest) -> bool
         ensures { self.new ≡ self.old }
     {
         match &mut self.connection {
-            Connection::Open(stream) => registry
-                .reregister(stream, Token(number as usize), interest)
-                .is_ok(),
+            Connection::Open(stream) => stream.report(registry, interest),
             Connection::Pending(_) | Connection::Failed => true,
         }
     }
 
     /// Notes what the system reports. One that can't be watched on counts a fault.
-    pub fn note(&mut self, registry: &Registry, number: u64, readable: bool, writable: bool)
+    pub fn note(&mut self, registry: &Registry, readable: bool, writable: bool)
+        ensures noted { is_link_noted readable writable (Some self.new) ≡ true }
+        ensures kept { (read write : Bool) → is_link_noted read write (Some self.old) ≡ true → is_link_noted read write (Some self.new) ≡ true }
         ensures readable { self.new.readable ≡ (self.old.readable || readable) }
         ensures writable { self.new.writable ≡ (self.old.writable || (writable && not self.old.peer_closed)) }
         ensures rest { self.new ≡ record self.old { faults = self.new.faults; readable = self.new.readable; writable = self.new.writable } }
@@ -353,7 +379,7 @@ impl LinkSocket {
         self.readable = self.readable || readable;
         if writable && !self.writable && !self.peer_closed {
             self.writable = true;
-            if !self.watch(registry, number, Interest::READABLE) {
+            if !self.watch(registry, Interest::READABLE) {
                 self.faults = raised(self.faults);
             }
         }
@@ -436,18 +462,19 @@ impl LinkSocket {
         &mut self,
         rt: &HostRuntime,
         registry: &Registry,
-        number: u64,
         now: Option<Instant>,
     ) -> Attempt
+        ensures token { (token : ℕ) → is_registered_by token self.old.connection ≡ true → is_registered_by token self.new.connection ≡ true }
+        ensures noted { (read write : Bool) → is_link_noted read write (Some self.old) ≡ true → is_link_noted read write (Some self.new) ≡ true }
         ensures other { is_pending self.old.connection ≡ false → self.new ≡ self.old }
         ensures done { result ≡ Attempt.Done → is_pending self.new.connection ≡ false }
         ensures pending { result ≢ Attempt.Done → is_pending self.new.connection ≡ true }
         ensures faults { self.old.faults ≤ self.new.faults }
         ensures wishes { self.new.wishes ≡ self.old.wishes }
     {
-        match self.connect(rt, now) {
+        match self.connect(rt, registry, now) {
             Connected::To(stream) => {
-                self.open(registry, number, stream);
+                self.open(stream);
                 Attempt::Done
             }
             Connected::NotDue => Attempt::NotDue,
@@ -460,7 +487,9 @@ impl LinkSocket {
         }
     }
 
-    fn connect(&mut self, rt: &HostRuntime, now: Option<Instant>) -> Connected
+    fn connect(&mut self, rt: &HostRuntime, registry: &Registry, now: Option<Instant>) -> Connected
+        ensures to { (token : ℕ) → is_registered_by token self.old.connection ≡ true → is_connected_by token result ≡ true }
+        ensures token { (token : ℕ) → is_registered_by token self.new.connection ≡ is_registered_by token self.old.connection }
         ensures before { result ≡ Connected.Before → is_pending self.old.connection ≡ false }
         ensures other { is_pending self.old.connection ≡ false → (result ≡ Connected.Before) × (self.new ≡ self.old) }
         ensures pending { is_pending self.new.connection ≡ is_pending self.old.connection }
@@ -468,7 +497,7 @@ impl LinkSocket {
     {
         match &mut self.connection {
             Connection::Pending(retry) => match now {
-                Some(now) => retry.connect(rt, now),
+                Some(now) => retry.connect(rt, registry, now),
                 None => Connected::Failed,
             },
             Connection::Open(_) | Connection::Failed => Connected::Before,
@@ -476,19 +505,11 @@ impl LinkSocket {
     }
 
     /// Goes on with a stream that was connected.
-    fn open(&mut self, registry: &Registry, number: u64, stream: UnixStream)
-        ensures pending { is_pending self.new.connection ≡ false }
-        ensures writable { self.new.writable ≡ true }
-        ensures faults { self.old.faults ≤ self.new.faults }
-        ensures wishes { self.new.wishes ≡ self.old.wishes }
+    fn open(&mut self, stream: Registered<UnixStream>)
+        ensures { self.new ≡ record self.old { connection = Connection.Open stream; writable = true } }
     {
-        match watched(registry, number, stream) {
-            Some(stream) => {
-                self.connection = Connection::Open(stream);
-                self.writable = true;
-            }
-            None => self.fail(),
-        }
+        self.connection = Connection::Open(stream);
+        self.writable = true;
     }
 
     /// Counts a fault, and has reads and writes fail from now on.
@@ -501,16 +522,5 @@ impl LinkSocket {
         self.connection = Connection::Failed;
         self.readable = true;
         self.writable = true;
-    }
-}
-
-/// Has the system report when there is something to read from a stream. `None` where it refuses to.
-pub fn watched(registry: &Registry, number: u64, stream: UnixStream) -> Option<UnixStream>
-    ensures { IfSome result (λ watched. watched ≡ stream) }
-{
-    let mut stream = stream;
-    match registry.register(&mut stream, Token(number as usize), Interest::READABLE) {
-        Ok(()) => Some(stream),
-        Err(_) => None,
     }
 }

@@ -4,6 +4,7 @@ ghost use Rattle.link_traits.specs.Told.{Rose};
 ghost use Rattle.proxy_net.specs.Naming.{is_awaited, is_listener_placed};
 
 use crate::link_sockets::raised;
+use crate::registered::Registered;
 use mio::net::{UnixListener, UnixStream};
 use std::io::ErrorKind;
 
@@ -16,7 +17,7 @@ use std::io::ErrorKind;
 pub struct ListenerSocket {
     /// How often it failed.
     pub faults: u64,
-    listener: UnixListener,
+    listener: Registered<UnixListener>,
     ready: bool,
     stalled: bool,
     queued: bool,
@@ -36,7 +37,8 @@ pub enum Arrival {
 
 impl ListenerSocket {
     /// A listener that nobody came to.
-    pub fn new(faults: u64, listener: UnixListener) -> ListenerSocket
+    pub fn new(faults: u64, listener: Registered<UnixListener>) -> ListenerSocket
+        ensures listener { result.listener ≡ listener }
         ensures faults { result.faults ≡ faults }
         ensures quiet { (result.ready ≡ false) × (result.queued ≡ false) }
         ensures listed { (result.listed ≡ false) × (result.stalled ≡ false) × (result.unheeded ≡ false) }
@@ -57,6 +59,7 @@ impl ListenerSocket {
         ensures placed { is_listener_placed (Some self.new) ≡ true }
         ensures queued { result.1 ≡ true → (self.new.queued ≡ true) × (self.old.queued ≡ false) }
         ensures stays { result.1 ≡ false → self.new.queued ≡ self.old.queued }
+        ensures listener { self.new.listener ≡ self.old.listener }
         ensures failed { result.0 ≡ Arrival.Failed → Rose self.old.faults self.new.faults }
         ensures faults { self.old.faults ≤ self.new.faults }
     {
@@ -73,7 +76,7 @@ impl ListenerSocket {
     {
         self.unheeded = false;
         match self.listener.accept() {
-            Ok((stream, _)) => Arrival::Client(stream),
+            Ok(stream) => Arrival::Client(stream),
             Err(error) => self.refuse(error.kind()),
         }
     }

@@ -29,11 +29,14 @@ pub struct MioNet<'a> {
 }
 
 impl<'a> MioNet<'a> {
-    ghost use Rattle.proxy_net.specs.Sockets.{shown, wishes_in, GoesOn, IsUnused, IsWished};
+    ghost use Rattle.proxy_net.specs.Sockets.{shown, GoesOn, IsUnused, IsRegistered, IsWished};
 
     /// A net without listeners and links.
     pub fn new(rt: &'a HostRuntime) -> io::Result<MioNet<'a>>
-        ensures { IfOk result (λ net. IsUnused (shown net.sockets)) }
+        ensures unused { IfOk result (λ net. IsUnused (shown net.sockets)) }
+
+        // Each socket is registered by its own number, and stays so.
+        ensures registered { IfOk result (λ net. IsRegistered net.sockets) }
     {
         Ok(MioNet {
             rt,
@@ -51,7 +54,7 @@ impl<'a> MioNet<'a> {
 
     /// Waits until something is to be named. `None` where the system fails.
     fn next(&mut self) -> Option<Ready>
-        ensures wished { IfSome result (IsWished (wishes_in self.old.sockets)) }
+        ensures wished { IfSome result (IsWished self.old.sockets self.new.sockets) }
         ensures goes { GoesOn self.old.sockets self.new.sockets }
     {
         for _ in 0..u64::MAX {
@@ -74,7 +77,7 @@ impl<'a> Net for MioNet<'a> {
     ghost use Rattle.link_traits.specs.Answers.{listen_entry, accept_entry, connect_entry, read_entry, write_entry, no_wishes, client_link, bus_link, AfterAccept};
     ghost use Rattle.link_traits.specs.Numbers.{number_of};
     ghost use Rattle.link_traits.specs.Views.{Adds, RoseAt, KeepsOthers, KeepsWishes};
-    ghost use Rattle.proxy_net.specs.Sockets.{shown, wishes_in, is_pending_in, is_closed_at, IsWished};
+    ghost use Rattle.proxy_net.specs.Sockets.{shown, is_pending_in, is_closed_at, IsWished};
 
     ghost view = { λ net. shown net.sockets };
 
@@ -97,8 +100,8 @@ impl<'a> Net for MioNet<'a> {
 
     /// It is never quiet.
     fn wait(&mut self) -> Ready
-        // It names a link only for a wish that is true.
-        ensures wished { result ≢ Ready.Failed → IsWished (wishes_in self.old.sockets) result }
+        // It names a link only for a wish that is true, and a listener only for a client that came and wasn't named before.
+        ensures wished { result ≢ Ready.Failed → IsWished self.old.sockets self.new.sockets result }
 
         // What the trait says.
         ensures told { Adds (shown self.old.sockets) (shown self.new.sockets) (ready result ∷ []) }

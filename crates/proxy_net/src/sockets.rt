@@ -7,7 +7,9 @@ ghost use Rattle.std.specs.Option.{option_map};
 ghost use Rattle.std.specs.Ordering.{nat_cmp};
 ghost use Rattle.std.specs.BTreeMap as tree;
 ghost use Rattle.link_traits.specs.Answers.{no_wishes};
+ghost use Rattle.link_traits.specs.Numbers.{number_of as link_number};
 ghost use Rattle.proxy_net.specs.Naming.{is_to_fail};
+ghost use Rattle.proxy_net.specs.Registering.{is_registered_by};
 ghost use Rattle.proxy_net.specs.Sockets.{other_of, is_closed_at, given_up_at, is_to_fail_at};
 
 mod calls;
@@ -66,12 +68,13 @@ fn other_number(number: u64) -> u64
 }
 
 impl SocketSet {
-    ghost use Rattle.proxy_net.specs.Sockets.{shown, count_in, wishes_in, RoseIn, Grows, GoesOn, KeepsOthersIn, IsUnused};
+    ghost use Rattle.proxy_net.specs.Sockets.{shown, count_in, wishes_in, RoseIn, Grows, GoesOn, KeepsOthersIn, IsUnused, IsRegistered};
     ghost use Rattle.link_traits.specs.declared.links.Wishes.{Wishes};
 
     /// No sockets.
     pub fn new(rt: &HostRuntime) -> io::Result<SocketSet>
-        ensures { IfOk result (λ sockets. IsUnused (shown sockets)) }
+        ensures unused { IfOk result (λ sockets. IsUnused (shown sockets)) }
+        ensures registered { IfOk result (λ sockets. IsRegistered sockets) }
     {
         Ok(SocketSet {
             own: 0,
@@ -153,6 +156,7 @@ impl SocketSet {
 
     /// Makes a link, without a wish.
     fn add_link(&mut self, link: Link, connection: Connection) -> Result<(), AllocError>
+        requires { is_registered_by (link_number link) connection ≡ true }
         ensures sessions { self.new.sessions ≡ self.old.sessions }
         ensures own { OnOk result (wishes_in self.new link ≡ Some no_wishes) }
         ensures others { KeepsOthersIn link self.old self.new }
@@ -160,10 +164,7 @@ impl SocketSet {
         ensures err { OnErr result (GoesOn self.old self.new) }
     {
         let number = number_of(link);
-        let faults = match self.links.get(&number) {
-            Some(socket) => socket.faults,
-            None => self.absent,
-        };
+        let faults = self.link_faults(link);
         self.links
             .insert(number, LinkSocket::new(faults, connection))?;
         Ok(())

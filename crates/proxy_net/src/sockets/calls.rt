@@ -84,7 +84,7 @@ impl SocketSet {
         let number = number_of(link);
         match self.links.get_mut(&number) {
             Some(socket) => {
-                let wrote = socket.write(self.poll.registry(), number, piece);
+                let wrote = socket.write(self.poll.registry(), piece);
                 if socket.take_place() {
                     let _ = self.ready.push_back(number);
                 }

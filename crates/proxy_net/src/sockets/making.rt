@@ -3,12 +3,12 @@ ghost use Rattle.std.specs.Prelude.{◌≡◌, ◌≢◌, ◌≤◌, ◌+◌, �
 ghost use Rattle.link_traits.specs.Answers.{no_wishes, client_link, bus_link};
 
 use super::{LISTENERS, SocketSet};
-use crate::link_sockets::{Connection, Retry, is_put_off, raised, watched};
+use crate::link_sockets::{Connection, Retry, is_put_off, raised};
 use crate::listeners::{Arrival, ListenerSocket};
+use crate::registered::Registered;
 use link_traits::tables::number_of;
 use link_traits::{Accepted, Count, Link, NetFault, Side};
 use mio::net::{UnixListener, UnixStream};
-use mio::{Interest, Token};
 use std::alloc::AllocError;
 use std::time::Instant;
 
@@ -65,20 +65,16 @@ impl SocketSet {
     }
 
     fn add_listener(&mut self, listener: u32, socket: UnixListener) -> Result<u32, NetFault>
+        requires { listener ≡ vec_len self.old.listeners }
         ensures numbered { IfOk result (λ number. number ≡ listener) }
         ensures made { OnOk result (vec_len self.new.listeners ≡ vec_len self.old.listeners + 1) }
         ensures err { OnErr result (vec_len self.new.listeners ≡ vec_len self.old.listeners) }
         ensures goes { GoesOn self.old self.new }
     {
-        let mut socket = socket;
-        let token = Token((LISTENERS + u64::from(listener)) as usize);
-        let registry = self.poll.registry();
-        if registry
-            .register(&mut socket, token, Interest::READABLE)
-            .is_err()
-        {
+        let number = LISTENERS + u64::from(listener);
+        let Some(socket) = Registered::new(self.poll.registry(), number, socket) else {
             return Err(NetFault::Failed);
-        }
+        };
         match self
             .listeners
             .push(ListenerSocket::new(self.absent, socket))
@@ -198,7 +194,7 @@ impl SocketSet {
             session,
             side: Side::Client,
         };
-        let Some(stream) = watched(self.poll.registry(), number_of(link), stream) else {
+        let Some(stream) = Registered::new(self.poll.registry(), number_of(link), stream) else {
             return self.fail_accept(listener);
         };
         match self.add_link(link, Connection::Open(stream)) {
@@ -283,7 +279,7 @@ impl SocketSet {
         ensures others { KeepsOthersIn link self.old self.new }
         ensures grows { Grows self.old self.new }
     {
-        let Some(stream) = watched(self.poll.registry(), number_of(link), stream) else {
+        let Some(stream) = Registered::new(self.poll.registry(), number_of(link), stream) else {
             return Err(NetFault::Failed);
         };
         match self.add_link(link, Connection::Open(stream)) {
@@ -305,10 +301,11 @@ impl SocketSet {
         let Ok(path) = String::from_str(rt.alloc(), path) else {
             return Err(NetFault::Memory);
         };
-        match self.add_link(link, Connection::Pending(Retry::new(path, now))) {
+        let number = number_of(link);
+        match self.add_link(link, Connection::Pending(Retry::new(number, path, now))) {
             Ok(()) => {
                 self.waits = raised(self.waits);
-                let _ = self.pending.push_back(number_of(link));
+                let _ = self.pending.push_back(number);
                 Ok(())
             }
             Err(_) => Err(NetFault::Memory),

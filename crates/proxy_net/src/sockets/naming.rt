@@ -1,15 +1,21 @@
 //! What the system reports of sockets, and what is named for it.
-ghost use Rattle.std.specs.Prelude.{◌≡◌, ◌≢◌, ◌≤◌, ◌<◌, ◌%◌, ◌&&◌, ◌⊎◌, ◌++◌, nat_eq, nat_lt, [], Some, None, IfSome, IfNone, drop, take};
+ghost use Rattle.std.specs.Prelude.{◌≡◌, ◌≢◌, ◌≤◌, ◌<◌, ◌%◌, ◌&&◌, ◌⊎◌, ◌++◌, ◌-◌, nat_eq, nat_lt, [], true, Some, None, IfSome, IfNone, OnErr, length, drop, take, slice_get};
 ghost use Rattle.std.specs.VecDeque.{deque_len};
 ghost use Rattle.std.specs.Option.{option_map};
 ghost use Rattle.std.specs.Time.{instant_nanos};
 ghost use Rattle.std.specs.Duration.{as_nanos};
+ghost use Rattle.std.specs.List.{list_all};
+ghost use Rattle.std.specs.Ordering.{nat_cmp};
+ghost use Rattle.std.specs.BTreeMap as tree;
+ghost use Rattle.mio.specs.Events.{items, capacity as events_capacity};
 ghost use Rattle.link_traits.specs.Numbers.{number_of as link_number};
+ghost use Rattle.proxy_net.specs.Noting.{is_link_noted, is_listener_noted, tells_read, tells_write};
 
 use super::{LISTENERS, SocketSet};
 use crate::link_sockets::{Attempt, raised};
 use link_traits::{Link, Ready, Side};
 use mio::Events;
+use mio::event::Event;
 use std::io;
 use std::time::{Duration, Instant};
 
@@ -42,12 +48,29 @@ fn is_bus(number: u64) -> bool
     number < LISTENERS && number % 2 == 1
 }
 
+/// Whether an event says that a read wouldn't wait.
+fn is_read_told(event: &Event) -> bool
+    ensures { result ≡ tells_read event.now }
+{
+    event.is_error() || event.is_readable() || event.is_read_closed()
+}
+
+/// Whether an event says that a write wouldn't wait.
+fn is_write_told(event: &Event) -> bool
+    ensures { result ≡ tells_write event.now }
+{
+    event.is_error() || event.is_writable() || event.is_write_closed()
+}
+
 impl SocketSet {
-    ghost use Rattle.proxy_net.specs.Sockets.{wishes_in, GoesOn, IsWished};
+    ghost use Rattle.proxy_net.specs.Sockets.{GoesOn, IsWished, is_noted, is_event_noted, is_side_noted, KeepsNotes};
 
     /// Asks the system what became ready, and waits for it where nothing is to be named yet.
     pub fn ask(&mut self, rt: &HostRuntime, events: &mut Events) -> io::Result<()>
         ensures named { self.new.named ≡ 0 }
+        ensures err { OnErr result (items events.new ≡ []) }
+        ensures count { length (items events.new) ≤ events_capacity events.old }
+        ensures capacity { events_capacity events.new ≡ events_capacity events.old }
         ensures goes { GoesOn self.old self.new }
     {
         let timeout = self.timeout(rt);
@@ -57,7 +80,9 @@ impl SocketSet {
 
     /// Notes what the system reported, of clients before what it reported of buses.
     pub fn note_all(&mut self, rt: &HostRuntime, events: &Events)
-        ensures { GoesOn self.old self.new }
+        ensures noted { list_all (is_event_noted self.new) (items events.now) ≡ true }
+        ensures kept { KeepsNotes self.old self.new }
+        ensures goes { GoesOn self.old self.new }
     {
         self.note_side(events, false);
         self.note_side(events, true);
@@ -66,29 +91,46 @@ impl SocketSet {
 
     /// Notes what the system reported of buses, or of all else.
     fn note_side(&mut self, events: &Events, of_buses: bool)
-        ensures { GoesOn self.old self.new }
+        ensures noted { list_all (is_side_noted of_buses self.new) (items events.now) ≡ true }
+        ensures kept { KeepsNotes self.old self.new }
+        ensures goes { GoesOn self.old self.new }
     {
         for event in events.iter() {
-            let number = event.token().0 as u64;
-            if is_bus(number) == of_buses {
-                let failed = event.is_error();
-                let readable = failed || event.is_readable() || event.is_read_closed();
-                let writable = failed || event.is_writable() || event.is_write_closed();
-                self.note(number, readable, writable);
+            if is_bus(event.token().0 as u64) == of_buses {
+                self.note_event(event);
             }
         }
     }
 
+    fn note_event(&mut self, event: &Event)
+        ensures noted { is_event_noted self.new event.now ≡ true }
+        ensures kept { KeepsNotes self.old self.new }
+        ensures goes { GoesOn self.old self.new }
+    {
+        let number = event.token().0 as u64;
+        self.note(number, is_read_told(event), is_write_told(event));
+    }
+
     /// Notes that a listener has a client, or what a link is ready for.
     fn note(&mut self, number: u64, readable: bool, writable: bool)
-        ensures { GoesOn self.old self.new }
+        ensures noted { is_noted self.new number readable writable ≡ true }
+        ensures kept { KeepsNotes self.old self.new }
+        ensures goes { GoesOn self.old self.new }
     {
         if number >= LISTENERS {
             self.note_listener(number);
-            return;
+        } else {
+            self.note_link(number, readable, writable);
         }
+    }
+
+    fn note_link(&mut self, number: u64, readable: bool, writable: bool)
+        ensures noted { is_link_noted readable writable (tree.get nat_cmp self.new.links number) ≡ true }
+        ensures kept { KeepsNotes self.old self.new }
+        ensures goes { GoesOn self.old self.new }
+    {
         if let Some(socket) = self.links.get_mut(&number) {
-            socket.note(self.poll.registry(), number, readable, writable);
+            socket.note(self.poll.registry(), readable, writable);
             if socket.take_place() {
                 let _ = self.ready.push_back(number);
             }
@@ -97,7 +139,9 @@ impl SocketSet {
 
     fn note_listener(&mut self, number: u64)
         requires { LISTENERS ≤ number }
-        ensures { GoesOn self.old self.new }
+        ensures noted { is_listener_noted (slice_get self.new.listeners.items (number - LISTENERS)) ≡ true }
+        ensures kept { KeepsNotes self.old self.new }
+        ensures goes { GoesOn self.old self.new }
     {
         let place = (number - LISTENERS) as usize;
         if let Some(socket) = self.listeners.get_mut(place)
@@ -122,7 +166,7 @@ impl SocketSet {
     pub fn next(&mut self) -> Option<Ready>
         ensures ask { NAMED_BETWEEN_ASKS ≤ self.old.named → result ≡ None }
         ensures none { IfNone result (self.old.named < NAMED_BETWEEN_ASKS → deque_len self.new.ready ≡ 0) }
-        ensures wished { IfSome result (IsWished (wishes_in self.old)) }
+        ensures wished { IfSome result (IsWished self.old self.new) }
         ensures goes { GoesOn self.old self.new }
     {
         if self.named >= NAMED_BETWEEN_ASKS {
@@ -141,7 +185,7 @@ impl SocketSet {
         requires { 0 < deque_len self.old.ready }
         ensures named { IfSome result (λ _. self.new.ready.items ≡ drop 1 self.old.ready.items ++ take 1 self.old.ready.items) }
         ensures left { IfNone result (deque_len self.new.ready < deque_len self.old.ready) }
-        ensures wished { IfSome result (IsWished (wishes_in self.old)) }
+        ensures wished { IfSome result (IsWished self.old self.new) }
         ensures goes { GoesOn self.old self.new }
     {
         let Some(&number) = self.ready.front() else {
@@ -159,7 +203,7 @@ impl SocketSet {
 
     fn named_by(&mut self, number: u64) -> Option<Ready>
         ensures queue { self.new.ready ≡ self.old.ready }
-        ensures wished { IfSome result (IsWished (wishes_in self.old)) }
+        ensures wished { IfSome result (IsWished self.old self.new) }
         ensures goes { GoesOn self.old self.new }
     {
         if number >= LISTENERS {
@@ -178,7 +222,7 @@ impl SocketSet {
     fn named_listener(&mut self, number: u64) -> Option<Ready>
         requires { LISTENERS ≤ number }
         ensures queue { self.new.ready ≡ self.old.ready }
-        ensures wished { IfSome result (IsWished (wishes_in self.old)) }
+        ensures wished { IfSome result (IsWished self.old self.new) }
         ensures goes { GoesOn self.old self.new }
     {
         let place = number - LISTENERS;
@@ -195,7 +239,7 @@ impl SocketSet {
 }
 
 impl SocketSet {
-    ghost use Rattle.proxy_net.specs.Sockets.{GoesOn, due_at, IsFirstDue};
+    ghost use Rattle.proxy_net.specs.Sockets.{GoesOn, KeepsNotes, due_at, IsFirstDue};
     ghost use Rattle.std.specs.declared.time.Duration.{Duration};
 
     /// How long the system is waited for: not at all where something is to be named, and else until the next try to connect.
@@ -239,7 +283,8 @@ impl SocketSet {
 
     /// Tries again to connect the links that aren't connected yet.
     fn retry_all(&mut self, rt: &HostRuntime)
-        ensures { GoesOn self.old self.new }
+        ensures kept { KeepsNotes self.old self.new }
+        ensures goes { GoesOn self.old self.new }
     {
         if self.pending.is_empty() {
             return;
@@ -252,13 +297,14 @@ impl SocketSet {
 
     /// Tries the first of these again. It goes to their end, unless nothing is to be tried any more.
     fn retry_first(&mut self, rt: &HostRuntime, now: Option<Instant>)
-        ensures { GoesOn self.old self.new }
+        ensures kept { KeepsNotes self.old self.new }
+        ensures goes { GoesOn self.old self.new }
     {
         let Some(number) = self.pending.pop_front() else {
             return;
         };
         if let Some(socket) = self.links.get_mut(&number) {
-            let attempt = socket.attempt(rt, self.poll.registry(), number, now);
+            let attempt = socket.attempt(rt, self.poll.registry(), now);
             if socket.take_place() {
                 let _ = self.ready.push_back(number);
             }

@@ -5,7 +5,7 @@ pub loop-self-preserved : goal.loop-self-preserved
 loop-self-preserved c = goes_through c.loop-self.invariant c.name_first.ensures.goes
 
 pub returns-in-Some-clause-wished : goal.returns-in-Some-clause-wished
-returns-in-Some-clause-wished c = wished_before _ _ c.in-Some.ready c.loop-self.invariant c.in-Some.ensures.wished
+returns-in-Some-clause-wished c = wished_before c.args.self.now c.loop-self.self c.name_first.new.self c.in-Some.ready c.loop-self.invariant c.in-Some.ensures.wished
 
 pub returns-in-Some-clause-goes : goal.returns-in-Some-clause-goes
 returns-in-Some-clause-goes c = goes_through c.loop-self.invariant c.name_first.ensures.goes

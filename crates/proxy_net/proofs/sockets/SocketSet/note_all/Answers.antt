@@ -1,5 +1,12 @@
+use Rattle.mio.specs.Events.{items}
 use Rattle.proxy_net.proofs.Going.{goes_through}
+use Rattle.proxy_net.proofs.Notes.{both_sides, all_kept}
 use Rattle.proxy_net.proofs.sockets.SocketSet.note_all.Goals as goal
 
-pub returns : goal.returns
-returns c = goes_through c.note_side.ensures (goes_through c.note_side-2.ensures c.retry_all.ensures)
+pub returns-clause-noted : goal.returns-clause-noted
+returns-clause-noted c =
+    all_kept c.note_side-2.new.self c.retry_all.new.self c.retry_all.ensures.kept (items c.args.events.now)
+    (both_sides c.note_side.new.self c.note_side-2.new.self c.note_side-2.ensures.kept (items c.args.events.now) c.note_side.ensures.noted c.note_side-2.ensures.noted)
+
+pub returns-clause-goes : goal.returns-clause-goes
+returns-clause-goes c = goes_through c.note_side.ensures.goes (goes_through c.note_side-2.ensures.goes c.retry_all.ensures.goes)

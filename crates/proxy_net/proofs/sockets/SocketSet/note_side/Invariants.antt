@@ -1,5 +1,15 @@
-use Rattle.proxy_net.specs.Sockets.{GoesOn}
+use Rattle.std.proofs.Common.{◌≡◌, true}
+use Rattle.std.specs.List.{list_all}
+use Rattle.std.specs.Slice.Iter.{iter_rest}
+use Rattle.mio.specs.Events.{items}
+use Rattle.proxy_net.specs.Sockets.{GoesOn, KeepsNotes, is_side_noted}
+use Rattle.proxy_net.specs.declared.sockets.SocketSet.{SocketSet}
 use Rattle.proxy_net.proofs.sockets.SocketSet.note_side.Given as goal
 
 abbrev pub invariant-loop-event : goal.invariant-loop-event
-invariant-loop-event l = GoesOn l.fn.self l.self
+invariant-loop-event l = record {
+  goes : GoesOn l.fn.self l.self;
+  kept : KeepsNotes l.fn.self l.self;
+  noted : (after : SocketSet) → KeepsNotes l.self after → list_all (is_side_noted l.of_buses after) (iter_rest l.event-iterator) ≡ true
+      → list_all (is_side_noted l.of_buses after) (items l.events) ≡ true;
+}

@@ -1,0 +1,17 @@
+-- The numbers that links are registered by.
+use Rattle.std.proofs.Common.{ℕ, ◌≡◌, Bool, true, false, cond, Some, refl, ap, subst, ◌∙◌, rules}
+use Rattle.std.specs.Ordering.{nat_cmp, is_eq}
+use Rattle.std.specs.BTreeMap as tree
+use Rattle.std.specs.BTreeMap.{BTreeMap}
+use Rattle.proxy_net.specs.Registering.{is_own_link}
+use Rattle.proxy_net.specs.declared.link_sockets.LinkSocket.{LinkSocket}
+
+-- a link that is made under the number that it is registered by
+pub own_link_made : (old new : BTreeMap ℕ LinkSocket) (number : ℕ) (socket : LinkSocket) → tree.Updates nat_cmp old new number (Some socket) → is_own_link number (Some socket) ≡ true
+    → (other : ℕ) → is_own_link other (tree.get nat_cmp old other) ≡ true → is_own_link other (tree.get nat_cmp new other) ≡ true
+own_link_made old new number socket updates own other before =
+    ap (is_own_link other) (updates.0 other) ∙ by (is_eq (nat_cmp number other)) refl
+  where
+    by : (b : Bool) → is_eq (nat_cmp number other) ≡ b → is_own_link other (cond b (Some socket) (tree.get nat_cmp old other)) ≡ true
+    by true e = let same : number ≡ other = search (rules, e) in subst (λ n. is_own_link n (Some socket) ≡ true) same own
+    by false e = before
