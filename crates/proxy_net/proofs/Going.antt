@@ -27,12 +27,14 @@ goes_through p q = record {
   sessions = q.sessions ∙ p.sessions;
   links = λ link placed. q.links link (p.links link placed);
   listeners = λ listener placed. q.listeners listener (p.listeners listener placed);
+  link_places = λ number below queued. q.link_places number below (p.link_places number below queued);
+  listener_places = λ place below queued. q.listener_places place below (p.listener_places place below queued);
   link_tokens = λ number own. q.link_tokens number (p.link_tokens number own);
   listener_tokens = λ place own. q.listener_tokens place (p.listener_tokens place own);
 }
 
 pub goes_grows : {a b : SocketSet} → GoesOn a b → Grows a b
-goes_grows p = record { each = p.counts; links = p.links; listeners = p.listeners; link_tokens = p.link_tokens; listener_tokens = p.listener_tokens }
+goes_grows p = record { each = p.counts; links = p.links; listeners = p.listeners; link_places = p.link_places; listener_places = p.listener_places; link_tokens = p.link_tokens; listener_tokens = p.listener_tokens }
 
 -- what only grows after what goes on
 pub grows_through : {a b c : SocketSet} → GoesOn a b → Grows b c → Grows a c
@@ -40,6 +42,8 @@ grows_through p q = record {
   each = λ count. let x = p.counts count in let y = q.each count in omega (arith, x, y);
   links = λ link placed. q.links link (p.links link placed);
   listeners = λ listener placed. q.listeners listener (p.listeners listener placed);
+  link_places = λ number below queued. q.link_places number below (p.link_places number below queued);
+  listener_places = λ place below queued. q.listener_places place below (p.listener_places place below queued);
   link_tokens = λ number own. q.link_tokens number (p.link_tokens number own);
   listener_tokens = λ place own. q.listener_tokens place (p.listener_tokens place own);
 }
@@ -50,6 +54,8 @@ grows_on p q = record {
   each = λ count. let x = p.each count in let y = q.counts count in omega (arith, x, y);
   links = λ link placed. q.links link (p.links link placed);
   listeners = λ listener placed. q.listeners listener (p.listeners listener placed);
+  link_places = λ number below queued. q.link_places number below (p.link_places number below queued);
+  listener_places = λ place below queued. q.listener_places place below (p.listener_places place below queued);
   link_tokens = λ number own. q.link_tokens number (p.link_tokens number own);
   listener_tokens = λ place own. q.listener_tokens place (p.listener_tokens place own);
 }

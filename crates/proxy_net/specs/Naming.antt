@@ -20,6 +20,14 @@ is_link_placed socket = unwrap_or (option_map (λ (s : LinkSocket). not (is_read
 abbrev pub is_listener_placed : Option ListenerSocket → Bool
 is_listener_placed socket = unwrap_or (option_map (λ (s : ListenerSocket). not (is_awaited s) || s.queued) socket) true
 
+-- a link isn't marked as queued, or isn't there
+abbrev pub is_link_unmarked : Option LinkSocket → Bool
+is_link_unmarked socket = unwrap_or (option_map (λ (s : LinkSocket). not s.queued) socket) true
+
+-- a listener isn't marked as queued, or isn't there
+abbrev pub is_listener_unmarked : Option ListenerSocket → Bool
+is_listener_unmarked socket = unwrap_or (option_map (λ (s : ListenerSocket). not s.queued) socket) true
+
 -- nothing more passes between a link and its peer
 abbrev pub is_link_closed : LinkSocket → Bool
 is_link_closed s = s.peer_closed || s.end_read

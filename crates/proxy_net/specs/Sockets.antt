@@ -1,5 +1,5 @@
 -- What a set of sockets shows, and how that goes on from call to call. It tells no journal.
-use Rattle.std.specs.Prelude.{ℕ, ◌≡◌, ◌≤◌, ◌+◌, ◌-◌, ◌%◌, nat_eq, nat_lt, ◌||◌, not, if◌then◌else◌, false, true, Bool, List, Option, Some, None, slice_get, unwrap_or}
+use Rattle.std.specs.Prelude.{ℕ, ◌≡◌, ◌≤◌, ◌<◌, ◌+◌, ◌-◌, ◌^◌, ◌%◌, nat_eq, nat_lt, ◌||◌, not, if◌then◌else◌, false, true, Bool, List, Option, Some, None, slice_get, unwrap_or}
 use Rattle.std.specs.Option.{option_map}
 use Rattle.std.specs.List.{list_any}
 use Rattle.std.specs.Ordering.{nat_cmp}
@@ -20,7 +20,7 @@ use Rattle.link_traits.specs.declared.links.Ready.TheVariants.{Listener as OfLis
 use Rattle.link_traits.specs.declared.links.Accepted.{Accepted}
 use Rattle.link_traits.specs.declared.links.Accepted.TheVariants.{New, NotReady, Failed as Refused, Memory}
 use Rattle.link_traits.specs.Answers.{client_link}
-use Rattle.proxy_net.specs.Naming.{is_link_placed, is_listener_placed, is_link_closed, is_to_fail}
+use Rattle.proxy_net.specs.Naming.{is_link_placed, is_listener_placed, is_link_unmarked, is_listener_unmarked, is_link_closed, is_to_fail}
 use Rattle.mio.specs.declared.event.event.Event.{Event}
 use Rattle.proxy_net.specs.Connecting.{is_pending, due_of}
 use Rattle.proxy_net.specs.Registering.{is_own_link, is_own_listener, listeners_from}
@@ -65,6 +65,19 @@ has_link_placed sockets link = is_link_placed (socket_in sockets link)
 abbrev pub has_listener_placed : SocketSet → ℕ → Bool
 has_listener_placed sockets listener = is_listener_placed (slice_get sockets.listeners.items listener)
 
+-- A number stands in the queue. It need not once the net counted a fault of its own, which it does where
+-- the queue has no room.
+abbrev pub has_place : SocketSet → ℕ → Bool
+has_place sockets number = nat_lt 0 sockets.own || list_any (nat_eq number) sockets.ready.items
+
+-- a link that is marked as queued stands in the queue
+abbrev pub is_link_queued : SocketSet → ℕ → Bool
+is_link_queued sockets number = is_link_unmarked (tree.get nat_cmp sockets.links number) || has_place sockets number
+
+-- a listener that is marked as queued stands in the queue
+abbrev pub is_listener_queued : SocketSet → ℕ → Bool
+is_listener_queued sockets place = is_listener_unmarked (slice_get sockets.listeners.items place) || has_place sockets (listeners_from + place)
+
 -- the link of a number is registered by it, or there is no such link
 abbrev pub is_link_registered : SocketSet → ℕ → Bool
 is_link_registered sockets number = is_own_link number (tree.get nat_cmp sockets.links number)
@@ -78,23 +91,28 @@ pub record IsRegistered (sockets : SocketSet) : Type 0 where
   pub links : (number : ℕ) → is_link_registered sockets number ≡ true
   pub listeners : (place : ℕ) → is_listener_registered sockets place ≡ true
 
--- no count falls, nothing that is ready for a wish falls out of the queue, and what is registered by
--- its own number stays so
+-- no count falls, nothing that is ready for a wish falls out of the queue, what is marked as queued
+-- stands in it, and what is registered by its own number stays so
 pub record Grows (old new : SocketSet) : Type 0 where
   pub each : (count : Count) → count_in old count ≤ count_in new count
   pub links : (link : Link) → has_link_placed old link ≡ true → has_link_placed new link ≡ true
   pub listeners : (listener : ℕ) → has_listener_placed old listener ≡ true → has_listener_placed new listener ≡ true
+  pub link_places : (number : ℕ) → number < listeners_from → is_link_queued old number ≡ true → is_link_queued new number ≡ true
+  pub listener_places : (place : ℕ) → place < 2 ^ 32 → is_listener_queued old place ≡ true → is_listener_queued new place ≡ true
   pub link_tokens : (number : ℕ) → is_link_registered old number ≡ true → is_link_registered new number ≡ true
   pub listener_tokens : (place : ℕ) → is_listener_registered old place ≡ true → is_listener_registered new place ≡ true
 
 -- no count falls, the wishes of all links and the number of sessions are as before, nothing that is
--- ready for a wish falls out of the queue, and what is registered by its own number stays so
+-- ready for a wish falls out of the queue, what is marked as queued stands in it, and what is
+-- registered by its own number stays so
 pub record GoesOn (old new : SocketSet) : Type 0 where
   pub counts : (count : Count) → count_in old count ≤ count_in new count
   pub wishes : (link : Link) → wishes_in new link ≡ wishes_in old link
   pub sessions : new.sessions ≡ old.sessions
   pub links : (link : Link) → has_link_placed old link ≡ true → has_link_placed new link ≡ true
   pub listeners : (listener : ℕ) → has_listener_placed old listener ≡ true → has_listener_placed new listener ≡ true
+  pub link_places : (number : ℕ) → number < listeners_from → is_link_queued old number ≡ true → is_link_queued new number ≡ true
+  pub listener_places : (place : ℕ) → place < 2 ^ 32 → is_listener_queued old place ≡ true → is_listener_queued new place ≡ true
   pub link_tokens : (number : ℕ) → is_link_registered old number ≡ true → is_link_registered new number ≡ true
   pub listener_tokens : (place : ℕ) → is_listener_registered old place ≡ true → is_listener_registered new place ≡ true
 

@@ -31,6 +31,7 @@ const TRIED_FOR: u64 = 5;
 pub fn raised(count: u64) -> u64
     ensures rose { Rose count result }
     ensures grows { count ≤ result }
+    ensures some { 0 < result }
 {
     count.saturating_add(1)
 }
@@ -243,6 +244,7 @@ impl LinkSocket {
         ensures goes_on { result ≢ Got.Finished → (self.new.end_read ≡ self.old.end_read) × (self.new.given_up ≡ self.old.given_up) }
         ensures readable { result ≢ Got.NotReady → self.new.readable ≡ self.old.readable }
         ensures rest { (self.new.writable ≡ self.old.writable) × (self.new.peer_closed ≡ self.old.peer_closed) }
+        ensures queued { self.new.queued ≡ self.old.queued }
         ensures token { (token : ℕ) → is_registered_by token self.old.connection ≡ true → is_registered_by token self.new.connection ≡ true }
         ensures faults { self.old.faults ≤ self.new.faults }
         ensures wishes { self.new.wishes ≡ self.old.wishes }
@@ -292,6 +294,7 @@ impl LinkSocket {
         ensures peer { result ≡ LinkWrite.PeerClosed → (self.new.peer_closed ≡ true) × (self.new.readable ≡ true) }
         ensures goes_on { result ≢ LinkWrite.PeerClosed → (self.new.peer_closed ≡ self.old.peer_closed) × (self.new.readable ≡ self.old.readable) }
         ensures end { self.new.end_read ≡ self.old.end_read }
+        ensures queued { self.new.queued ≡ self.old.queued }
         ensures token { (token : ℕ) → is_registered_by token self.old.connection ≡ true → is_registered_by token self.new.connection ≡ true }
         ensures faults { self.old.faults ≤ self.new.faults }
         ensures wishes { self.new.wishes ≡ self.old.wishes }
@@ -469,6 +472,7 @@ impl LinkSocket {
         ensures other { is_pending self.old.connection ≡ false → self.new ≡ self.old }
         ensures done { result ≡ Attempt.Done → is_pending self.new.connection ≡ false }
         ensures pending { result ≢ Attempt.Done → is_pending self.new.connection ≡ true }
+        ensures queued { self.new.queued ≡ self.old.queued }
         ensures faults { self.old.faults ≤ self.new.faults }
         ensures wishes { self.new.wishes ≡ self.old.wishes }
     {

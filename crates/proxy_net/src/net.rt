@@ -81,7 +81,7 @@ impl<'a> Net for MioNet<'a> {
 
     ghost view = { λ net. shown net.sockets };
 
-    /// It is refused where a file stands at the path, and where the path is empty. Nothing is removed.
+    /// It is refused where a file stands at the path, and where the path is empty. No file that stood there is removed.
     fn listen(&mut self, path: &str) -> Result<u32, NetFault>
         // Listeners are numbered in the order of their listens.
         ensures order { IfOk result (λ listener. listener ≡ vec_len self.old.sockets.listeners) }

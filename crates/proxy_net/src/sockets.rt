@@ -1,8 +1,8 @@
 //! The sockets of a net, and what of them is to be named.
 //!
 //! What is ready and wished for stands in a queue, and what was named goes to its end, so that a busy link doesn't hold up the
-//! others. Room in it is taken where a listener or a link is made.
-ghost use Rattle.std.specs.Prelude.{◌≡◌, ℕ, Bool, true, unwrap_or, None, Some, IfOk, OnOk, OnErr, vec_len};
+//! others. Room in it is taken where a listener or a link is made. What is marked as queued stands in it.
+ghost use Rattle.std.specs.Prelude.{◌≡◌, ◌≤◌, ℕ, Bool, true, unwrap_or, None, Some, IfOk, OnOk, OnErr, vec_len};
 ghost use Rattle.std.specs.Option.{option_map};
 ghost use Rattle.std.specs.Ordering.{nat_cmp};
 ghost use Rattle.std.specs.BTreeMap as tree;
@@ -68,7 +68,7 @@ fn other_number(number: u64) -> u64
 }
 
 impl SocketSet {
-    ghost use Rattle.proxy_net.specs.Sockets.{shown, count_in, wishes_in, RoseIn, Grows, GoesOn, KeepsOthersIn, IsUnused, IsRegistered};
+    ghost use Rattle.proxy_net.specs.Sockets.{shown, count_in, wishes_in, RoseIn, Grows, GoesOn, KeepsOthersIn, IsUnused, IsRegistered, has_place};
     ghost use Rattle.link_traits.specs.declared.links.Wishes.{Wishes};
 
     /// No sockets.
@@ -192,10 +192,10 @@ impl SocketSet {
         match self.links.get_mut(&number) {
             Some(socket) => {
                 socket.wishes = wishes;
-                if socket.take_place() {
-                    let _ = self.ready.push_back(number);
-                }
-                socket.is_peer_closed()
+                let is_new = socket.take_place();
+                let is_peer_closed = socket.is_peer_closed();
+                self.queue(number, is_new);
+                is_peer_closed
             }
             None => false,
         }
@@ -229,9 +229,21 @@ impl SocketSet {
     {
         if let Some(socket) = self.links.get_mut(&number) {
             socket.judge(is_other_closed);
-            if socket.take_place() {
-                let _ = self.ready.push_back(number);
-            }
+            let is_new = socket.take_place();
+            self.queue(number, is_new);
+        }
+    }
+
+    /// Puts a number at the queue's end, where it took a new place there. Room for that was taken when its socket was made: where
+    /// there is none, it counts a fault of the net's own.
+    fn queue(&mut self, number: u64, is_new: bool)
+        ensures placed { is_new ≡ true → has_place self.new number ≡ true }
+        ensures kept { (other : ℕ) → has_place self.old other ≡ true → has_place self.new other ≡ true }
+        ensures own { self.old.own ≤ self.new.own }
+        ensures rest { self.new ≡ record self.old { own = self.new.own; ready = self.new.ready } }
+    {
+        if is_new && self.ready.push_back(number).is_err() {
+            self.own = raised(self.own);
         }
     }
 

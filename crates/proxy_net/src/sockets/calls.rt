@@ -34,16 +34,30 @@ impl SocketSet {
         ensures finished { result ≡ Got.Finished → is_closed_at self.new (link_number link) ≡ true }
         ensures goes { GoesOn self.old self.new }
     {
+        let got = self.read_link(link, into);
+        if got == Got::NotReady {
+            self.waits = raised(self.waits);
+        }
+        got
+    }
+
+    /// Reads once, and counts no wait.
+    fn read_link(&mut self, link: Link, into: &mut [u8]) -> Got
+        ensures within { (n : ℕ) → result ≡ Got.Bytes n → n ≤ length into.new }
+        ensures progress { (n : ℕ) → result ≡ Got.Bytes n → 0 < length into.new → 0 < n }
+        ensures missing { wishes_in self.old link ≡ None → result ≡ Got.Failed }
+        ensures pending { is_pending_in self.old link ≡ true → result ≡ Got.NotReady }
+        ensures failed { result ≡ Got.Failed → RoseIn (Count.Link link) self.old self.new }
+        ensures finished { result ≡ Got.Finished → is_closed_at self.new (link_number link) ≡ true }
+        ensures waits { self.new.waits ≡ self.old.waits }
+        ensures goes { GoesOn self.old self.new }
+    {
         let number = number_of(link);
         match self.links.get_mut(&number) {
             Some(socket) => {
                 let got = socket.read(into);
-                if socket.take_place() {
-                    let _ = self.ready.push_back(number);
-                }
-                if got == Got::NotReady {
-                    self.waits = raised(self.waits);
-                }
+                let is_new = socket.take_place();
+                self.queue(number, is_new);
                 got
             }
             None => {
@@ -65,12 +79,16 @@ impl SocketSet {
     {
         match self.write_link(link, piece) {
             LinkWrite::Bytes(n) => Took::Bytes(n),
-            LinkWrite::NotReady => Took::NotReady,
+            LinkWrite::NotReady => {
+                self.waits = raised(self.waits);
+                Took::NotReady
+            }
             LinkWrite::PeerClosed => self.answer_closed(number_of(link)),
             LinkWrite::Failed => Took::Failed,
         }
     }
 
+    /// Writes once, and counts no wait.
     fn write_link(&mut self, link: Link, piece: &[u8]) -> LinkWrite
         ensures within { (n : ℕ) → result ≡ LinkWrite.Bytes n → n ≤ length piece.now }
         ensures progress { (n : ℕ) → result ≡ LinkWrite.Bytes n → 0 < length piece.now → 0 < n }
@@ -78,19 +96,15 @@ impl SocketSet {
         ensures pending { is_pending_in self.old link ≡ true → result ≡ LinkWrite.NotReady }
         ensures failed { result ≡ LinkWrite.Failed → RoseIn (Count.Link link) self.old self.new }
         ensures closed { result ≡ LinkWrite.PeerClosed → RoseIn (Count.Link link) self.old self.new }
-        ensures not_ready { result ≡ LinkWrite.NotReady → RoseIn Count.Waits self.old self.new }
+        ensures waits { self.new.waits ≡ self.old.waits }
         ensures goes { GoesOn self.old self.new }
     {
         let number = number_of(link);
         match self.links.get_mut(&number) {
             Some(socket) => {
                 let wrote = socket.write(self.poll.registry(), piece);
-                if socket.take_place() {
-                    let _ = self.ready.push_back(number);
-                }
-                if matches!(wrote, LinkWrite::NotReady) {
-                    self.waits = raised(self.waits);
-                }
+                let is_new = socket.take_place();
+                self.queue(number, is_new);
                 wrote
             }
             None => {

@@ -10,6 +10,7 @@ use link_traits::tables::number_of;
 use link_traits::{Accepted, Count, Link, NetFault, Side};
 use mio::net::{UnixListener, UnixStream};
 use std::alloc::AllocError;
+use std::fs;
 use std::time::Instant;
 
 impl SocketSet {
@@ -48,7 +49,7 @@ impl SocketSet {
             return Err(NetFault::Memory);
         }
         match bound(rt, path) {
-            Some(socket) => self.add_listener(listener, socket),
+            Some(socket) => cleaned_up(rt, path, self.add_listener(listener, socket)),
             None => Err(NetFault::Failed),
         }
     }
@@ -93,6 +94,16 @@ fn bound(rt: &HostRuntime, path: &str) -> Option<UnixListener>
         return None;
     }
     UnixListener::bind(rt, path).ok()
+}
+
+/// Removes the file that a bind made, where the socket can't listen.
+fn cleaned_up(rt: &HostRuntime, path: &str, answer: Result<u32, NetFault>) -> Result<u32, NetFault>
+    ensures { result ≡ answer }
+{
+    if answer.is_err() {
+        let _ = fs::remove_file(rt, path);
+    }
+    answer
 }
 
 impl SocketSet {
@@ -143,9 +154,7 @@ impl SocketSet {
         match self.listeners.get_mut(listener as usize) {
             Some(socket) => {
                 let (arrival, is_new) = socket.accept();
-                if is_new {
-                    let _ = self.ready.push_back(LISTENERS + u64::from(listener));
-                }
+                self.queue(LISTENERS + u64::from(listener), is_new);
                 arrival
             }
             None => Arrival::Failed,

@@ -1,15 +1,16 @@
 //! What the system reports of sockets, and what is named for it.
-ghost use Rattle.std.specs.Prelude.{◌≡◌, ◌≢◌, ◌≤◌, ◌<◌, ◌%◌, ◌&&◌, ◌⊎◌, ◌++◌, ◌-◌, nat_eq, nat_lt, [], true, Some, None, IfSome, IfNone, OnErr, length, drop, take, slice_get};
+ghost use Rattle.std.specs.Prelude.{◌≡◌, ◌≢◌, ◌≤◌, ◌<◌, ◌%◌, ◌&&◌, ◌⊎◌, ◌++◌, ◌+◌, ◌-◌, ◌^◌, ℕ, nat_eq, nat_lt, [], true, Some, None, IfSome, IfNone, OnErr, length, drop, take, slice_get};
 ghost use Rattle.std.specs.VecDeque.{deque_len};
 ghost use Rattle.std.specs.Option.{option_map};
 ghost use Rattle.std.specs.Time.{instant_nanos};
 ghost use Rattle.std.specs.Duration.{as_nanos};
-ghost use Rattle.std.specs.List.{list_all};
+ghost use Rattle.std.specs.List.{list_all, list_any};
 ghost use Rattle.std.specs.Ordering.{nat_cmp};
 ghost use Rattle.std.specs.BTreeMap as tree;
 ghost use Rattle.mio.specs.Events.{items, capacity as events_capacity};
 ghost use Rattle.link_traits.specs.Numbers.{number_of as link_number};
 ghost use Rattle.proxy_net.specs.Noting.{is_link_noted, is_listener_noted, tells_read, tells_write};
+ghost use Rattle.proxy_net.specs.Naming.{is_link_unmarked, is_listener_unmarked};
 
 use super::{LISTENERS, SocketSet};
 use crate::link_sockets::{Attempt, raised};
@@ -131,9 +132,8 @@ impl SocketSet {
     {
         if let Some(socket) = self.links.get_mut(&number) {
             socket.note(self.poll.registry(), readable, writable);
-            if socket.take_place() {
-                let _ = self.ready.push_back(number);
-            }
+            let is_new = socket.take_place();
+            self.queue(number, is_new);
         }
     }
 
@@ -144,10 +144,9 @@ impl SocketSet {
         ensures goes { GoesOn self.old self.new }
     {
         let place = (number - LISTENERS) as usize;
-        if let Some(socket) = self.listeners.get_mut(place)
-            && socket.note()
-        {
-            let _ = self.ready.push_back(number);
+        if let Some(socket) = self.listeners.get_mut(place) {
+            let is_new = socket.note();
+            self.queue(number, is_new);
         }
     }
 
@@ -155,10 +154,9 @@ impl SocketSet {
     pub(super) fn revive(&mut self, listener: u32)
         ensures { GoesOn self.old self.new }
     {
-        if let Some(socket) = self.listeners.get_mut(listener as usize)
-            && socket.revive()
-        {
-            let _ = self.ready.push_back(LISTENERS + u64::from(listener));
+        if let Some(socket) = self.listeners.get_mut(listener as usize) {
+            let is_new = socket.revive();
+            self.queue(LISTENERS + u64::from(listener), is_new);
         }
     }
 
@@ -191,18 +189,24 @@ impl SocketSet {
         let Some(&number) = self.ready.front() else {
             unreachable!();
         };
-        let named = self.named_by(number);
-        if named.is_some() {
-            self.named = self.named.saturating_add(1);
-            self.ready.rotate_left(1);
-        } else {
-            let _ = self.ready.pop_front();
+        match self.named_by(number) {
+            Some(ready) => {
+                self.named = self.named.saturating_add(1);
+                self.ready.rotate_left(1);
+                Some(ready)
+            }
+            None => {
+                let _ = self.ready.pop_front();
+                None
+            }
         }
-        named
     }
 
     fn named_by(&mut self, number: u64) -> Option<Ready>
+        requires { list_any (nat_eq number) self.old.ready.items ≡ true }
         ensures queue { self.new.ready ≡ self.old.ready }
+        ensures left { IfNone result (number < LISTENERS → is_link_unmarked (tree.get nat_cmp self.new.links number) ≡ true) }
+        ensures left_listener { IfNone result ((place : ℕ) → place < 2 ^ 32 → number ≡ LISTENERS + place → is_listener_unmarked (slice_get self.new.listeners.items place) ≡ true) }
         ensures wished { IfSome result (IsWished self.old self.new) }
         ensures goes { GoesOn self.old self.new }
     {
@@ -220,8 +224,10 @@ impl SocketSet {
     }
 
     fn named_listener(&mut self, number: u64) -> Option<Ready>
-        requires { LISTENERS ≤ number }
+        requires of_listener { LISTENERS ≤ number }
+        requires queued { list_any (nat_eq number) self.old.ready.items ≡ true }
         ensures queue { self.new.ready ≡ self.old.ready }
+        ensures left { IfNone result ((place : ℕ) → place < 2 ^ 32 → number ≡ LISTENERS + place → is_listener_unmarked (slice_get self.new.listeners.items place) ≡ true) }
         ensures wished { IfSome result (IsWished self.old self.new) }
         ensures goes { GoesOn self.old self.new }
     {
@@ -300,20 +306,47 @@ impl SocketSet {
         ensures kept { KeepsNotes self.old self.new }
         ensures goes { GoesOn self.old self.new }
     {
-        let Some(number) = self.pending.pop_front() else {
+        let Some(number) = self.pop_pending() else {
             return;
         };
-        if let Some(socket) = self.links.get_mut(&number) {
-            let attempt = socket.attempt(rt, self.poll.registry(), now);
-            if socket.take_place() {
-                let _ = self.ready.push_back(number);
+        let attempt = self.attempt(rt, number, now);
+        self.count_attempt(number, attempt);
+    }
+
+    /// Counts a try that would have waited, and keeps a link that is to be tried again.
+    fn count_attempt(&mut self, number: u64, attempt: Attempt)
+        ensures kept { KeepsNotes self.old self.new }
+        ensures goes { GoesOn self.old self.new }
+    {
+        if matches!(attempt, Attempt::WouldBlock) {
+            self.waits = raised(self.waits);
+        }
+        if !matches!(attempt, Attempt::Done) {
+            let _ = self.pending.push_back(number);
+        }
+    }
+
+    /// Takes the first of the links that aren't connected yet.
+    fn pop_pending(&mut self) -> Option<u64>
+        ensures kept { KeepsNotes self.old self.new }
+        ensures goes { GoesOn self.old self.new }
+    {
+        self.pending.pop_front()
+    }
+
+    /// Tries again to connect a link. Where it isn't there any more, nothing is to be tried.
+    fn attempt(&mut self, rt: &HostRuntime, number: u64, now: Option<Instant>) -> Attempt
+        ensures kept { KeepsNotes self.old self.new }
+        ensures goes { GoesOn self.old self.new }
+    {
+        match self.links.get_mut(&number) {
+            Some(socket) => {
+                let attempt = socket.attempt(rt, self.poll.registry(), now);
+                let is_new = socket.take_place();
+                self.queue(number, is_new);
+                attempt
             }
-            if matches!(attempt, Attempt::WouldBlock) {
-                self.waits = raised(self.waits);
-            }
-            if !matches!(attempt, Attempt::Done) {
-                let _ = self.pending.push_back(number);
-            }
+            None => Attempt::Done,
         }
     }
 }

@@ -8,6 +8,8 @@ returns-clause-grows c = record {
   each = search rules;
   links = search rules;
   listeners = search rules;
+  link_places = search rules;
+  listener_places = search rules;
   link_tokens = own_link_made c.args.self.now.links c.insert.new.self c.number_of-number.result c.new.result c.in_ok-insert.ensures.updates
       (ap (is_registered_by c.number_of-number.result) c.new.ensures.connection ∙ ap (λ n. is_registered_by n c.args.connection) c.number_of-number.ensures.number ∙ c.requires);
   listener_tokens = search rules;
