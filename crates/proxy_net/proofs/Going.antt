@@ -76,6 +76,6 @@ accept_through c Memory p q = keeps_through p q
 -- what is wished after what keeps all wishes was wished before
 pub wished_before : (a b c : SocketSet) (ready : Ready) → GoesOn a b → IsWished b c ready → IsWished a c ready
 wished_before a b c (Listener listener) p wished = wished
-wished_before a b c (Link link) p wished = subst HasWish (p.wishes link) wished
+wished_before a b c (Link link) p wished = (subst HasWish (p.wishes link) wished.0, wished.1)
 wished_before a b c Quiet p wished = wished
 wished_before a b c Failed p wished = wished

@@ -3,7 +3,7 @@ use Rattle.std.specs.Prelude.{ℕ, ◌%◌, nat_eq, nat_lt, Bool, true, false, n
 use Rattle.std.specs.Option.{option_map}
 use Rattle.mio.specs.Event.{event_token, is_readable, is_writable, is_error, is_read_closed, is_write_closed}
 use Rattle.mio.specs.declared.event.event.Event.{Event}
-use Rattle.proxy_net.specs.Naming.{is_awaited}
+use Rattle.proxy_net.specs.Naming.{is_awaited, is_ready}
 use Rattle.proxy_net.specs.Registering.{listeners_from}
 use Rattle.proxy_net.specs.declared.link_sockets.LinkSocket.{LinkSocket}
 use Rattle.proxy_net.specs.declared.listeners.ListenerSocket.{ListenerSocket}
@@ -41,3 +41,7 @@ is_listener_noted socket = unwrap_or (option_map is_awaited socket) true
 -- a listener that was to be named is marked as named
 abbrev pub is_listener_named : Option ListenerSocket → Bool
 is_listener_named socket = unwrap_or (option_map (λ (s : ListenerSocket). (s.ready && not s.stalled) && (s.unheeded && s.queued)) socket) false
+
+-- a link is ready for what is wished
+abbrev pub is_link_named : Option LinkSocket → Bool
+is_link_named socket = unwrap_or (option_map is_ready socket) false

@@ -24,7 +24,7 @@ use Rattle.proxy_net.specs.Naming.{is_link_placed, is_listener_placed, is_link_u
 use Rattle.mio.specs.declared.event.event.Event.{Event}
 use Rattle.proxy_net.specs.Connecting.{is_pending, due_of}
 use Rattle.proxy_net.specs.Registering.{is_own_link, is_own_listener, listeners_from}
-use Rattle.proxy_net.specs.Noting.{is_link_noted, is_listener_noted, is_listener_named, number_in, is_bus_number, tells_read, tells_write, same_side}
+use Rattle.proxy_net.specs.Noting.{is_link_noted, is_listener_noted, is_listener_named, is_link_named, number_in, is_bus_number, tells_read, tells_write, same_side}
 use Rattle.proxy_net.specs.declared.link_sockets.LinkSocket.{LinkSocket}
 use Rattle.proxy_net.specs.declared.listeners.ListenerSocket.{ListenerSocket}
 use Rattle.proxy_net.specs.declared.sockets.SocketSet.{SocketSet}
@@ -86,10 +86,15 @@ is_link_registered sockets number = is_own_link number (tree.get nat_cmp sockets
 abbrev pub is_listener_registered : SocketSet → ℕ → Bool
 is_listener_registered sockets place = is_own_listener place (slice_get sockets.listeners.items place)
 
--- each socket is registered by its own number
-pub record IsRegistered (sockets : SocketSet) : Type 0 where
-  pub links : (number : ℕ) → is_link_registered sockets number ≡ true
-  pub listeners : (place : ℕ) → is_listener_registered sockets place ≡ true
+-- what is ready for a wish is marked as queued, what is marked so stands in the queue, and each socket
+-- is registered by its own number
+pub record IsConsistent (sockets : SocketSet) : Type 0 where
+  pub links : (link : Link) → has_link_placed sockets link ≡ true
+  pub listeners : (listener : ℕ) → has_listener_placed sockets listener ≡ true
+  pub link_places : (number : ℕ) → number < listeners_from → is_link_queued sockets number ≡ true
+  pub listener_places : (place : ℕ) → place < 2 ^ 32 → is_listener_queued sockets place ≡ true
+  pub link_tokens : (number : ℕ) → is_link_registered sockets number ≡ true
+  pub listener_tokens : (place : ℕ) → is_listener_registered sockets place ≡ true
 
 -- no count falls, nothing that is ready for a wish falls out of the queue, what is marked as queued
 -- stands in it, and what is registered by its own number stays so
@@ -172,10 +177,10 @@ pub record IsUnused (net : NetView) : Type 0 where
   pub wishes : (link : Link) → net.wishes link ≡ None
 
 -- What is named has a reason: a client came to the listener, which isn't stalled and is marked as
--- named now, or there is a wish for the link.
+-- named now, or there is a wish for the link, which is ready for it.
 abbrev pub IsWished : SocketSet → SocketSet → Ready → Type 0
 IsWished old new (OfListener listener) = is_listener_named (slice_get new.listeners.items listener) ≡ true
-IsWished old new (IsLink link) = HasWish (wishes_in old link)
+IsWished old new (IsLink link) = HasWish (wishes_in old link) × (is_link_named (socket_in new link) ≡ true)
 IsWished old new Quiet = ⊥
 IsWished old new Failed = ⊥
 

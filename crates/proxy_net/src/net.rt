@@ -1,5 +1,6 @@
 //! A net over Unix sockets.
 ghost use Rattle.std.specs.Prelude.{◌≡◌, IfOk, IfSome};
+ghost use Rattle.proxy_net.specs.Sockets.{IsConsistent};
 
 use crate::sockets::SocketSet;
 use link_traits::{Accepted, Count, Got, Link, Net, NetFault, Ready, Took, Wishes};
@@ -26,17 +27,15 @@ pub struct MioNet<'a> {
     rt: &'a HostRuntime,
     sockets: SocketSet,
     events: Events,
+    ghost consistent: { IsConsistent sockets },
 }
 
 impl<'a> MioNet<'a> {
-    ghost use Rattle.proxy_net.specs.Sockets.{shown, GoesOn, IsUnused, IsRegistered, IsWished};
+    ghost use Rattle.proxy_net.specs.Sockets.{shown, GoesOn, IsUnused, IsWished};
 
     /// A net without listeners and links.
     pub fn new(rt: &'a HostRuntime) -> io::Result<MioNet<'a>>
-        ensures unused { IfOk result (λ net. IsUnused (shown net.sockets)) }
-
-        // Each socket is registered by its own number, and stays so.
-        ensures registered { IfOk result (λ net. IsRegistered net.sockets) }
+        ensures { IfOk result (λ net. IsUnused (shown net.sockets)) }
     {
         Ok(MioNet {
             rt,

@@ -68,13 +68,13 @@ fn other_number(number: u64) -> u64
 }
 
 impl SocketSet {
-    ghost use Rattle.proxy_net.specs.Sockets.{shown, count_in, wishes_in, RoseIn, Grows, GoesOn, KeepsOthersIn, IsUnused, IsRegistered, has_place};
+    ghost use Rattle.proxy_net.specs.Sockets.{shown, count_in, wishes_in, RoseIn, Grows, GoesOn, KeepsOthersIn, IsUnused, IsConsistent, has_place};
     ghost use Rattle.link_traits.specs.declared.links.Wishes.{Wishes};
 
     /// No sockets.
     pub fn new(rt: &HostRuntime) -> io::Result<SocketSet>
         ensures unused { IfOk result (λ sockets. IsUnused (shown sockets)) }
-        ensures registered { IfOk result (λ sockets. IsRegistered sockets) }
+        ensures consistent { IfOk result (λ sockets. IsConsistent sockets) }
     {
         Ok(SocketSet {
             own: 0,
