@@ -3,3 +3,4 @@ pub mod Naming
 pub mod Noting
 pub mod Connecting
 pub mod Registering
+pub mod Streams

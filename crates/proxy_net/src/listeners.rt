@@ -83,6 +83,9 @@ impl ListenerSocket {
 
     /// Answers an accept that the system refused.
     fn refuse(&mut self, kind: ErrorKind) -> Arrival
+        ensures nobody { kind ≡ ErrorKind.WouldBlock → (result ≡ Arrival.NotReady) × (self.new.ready ≡ false) }
+        ensures again { kind ≡ ErrorKind.Interrupted → (result ≡ Arrival.NotReady) × (self.new.ready ≡ self.old.ready) }
+        ensures fault { kind ≢ ErrorKind.WouldBlock → kind ≢ ErrorKind.Interrupted → result ≡ Arrival.Failed }
         ensures ready { result ≢ Arrival.NotReady → self.new.ready ≡ self.old.ready }
         ensures rest { self.new ≡ record self.old { faults = self.new.faults; ready = self.new.ready } }
         ensures failed { result ≡ Arrival.Failed → Rose self.old.faults self.new.faults }

@@ -1,7 +1,10 @@
 //! What the streams of the system answer, by what a link does about it.
-ghost use Rattle.std.specs.Prelude.{◌≡◌, ◌≤◌, ◌<◌, ℕ, length};
+ghost use Rattle.std.specs.Prelude.{◌≡◌, ◌≢◌, ◌≤◌, ◌<◌, ℕ, Ok, IfErr, length, true};
+ghost use Rattle.std.specs.IoError.{error_kind};
+ghost use Rattle.proxy_net.specs.Streams.{IsRefusedRead, IsRefusedWrite};
 
 use mio::net::UnixStream;
+use std::io;
 use std::io::{ErrorKind, Read, Write};
 
 /// What a read of a stream gave.
@@ -39,8 +42,19 @@ pub fn read_stream(stream: &mut UnixStream, into: &mut [u8]) -> StreamRead
     ensures within { (n : ℕ) → result ≡ StreamRead.Bytes n → n ≤ length into.new }
     ensures progress { (n : ℕ) → result ≡ StreamRead.Bytes n → 0 < length into.new → 0 < n }
 {
-    match stream.read(into) {
-        Ok(0) if !into.is_empty() => StreamRead::End,
+    let has_room = !into.is_empty();
+    read_of(stream.read(into), has_room)
+}
+
+/// What the answer of a read means. Nothing is read into room for something at the end alone.
+fn read_of(answer: io::Result<usize>, has_room: bool) -> StreamRead
+    ensures bytes { (n : ℕ) → answer ≡ Ok n → (has_room ≡ true → 0 < n) → result ≡ StreamRead.Bytes n }
+    ensures end { answer ≡ Ok 0 → has_room ≡ true → result ≡ StreamRead.End }
+    ensures refused { IfErr answer (λ error. IsRefusedRead (error_kind error) result) }
+    ensures only { (n : ℕ) → result ≡ StreamRead.Bytes n → (answer ≡ Ok n) × (has_room ≡ true → 0 < n) }
+{
+    match answer {
+        Ok(0) if has_room => StreamRead::End,
         Ok(n) => StreamRead::Bytes(n),
         Err(error) => refused_read(error.kind()),
     }
@@ -48,6 +62,7 @@ pub fn read_stream(stream: &mut UnixStream, into: &mut [u8]) -> StreamRead
 
 fn refused_read(kind: ErrorKind) -> StreamRead
     ensures none { (n : ℕ) → result ≡ StreamRead.Bytes n → ⊥ }
+    ensures refused { IsRefusedRead kind result }
 {
     match kind {
         ErrorKind::WouldBlock => StreamRead::Nothing,
@@ -62,8 +77,18 @@ pub fn write_stream(stream: &mut UnixStream, piece: &[u8]) -> StreamWrite
     ensures within { (n : ℕ) → result ≡ StreamWrite.Bytes n → n ≤ length piece.now }
     ensures progress { (n : ℕ) → result ≡ StreamWrite.Bytes n → 0 < length piece.now → 0 < n }
 {
-    match stream.write(piece) {
-        Ok(0) if !piece.is_empty() => StreamWrite::Fault,
+    write_of(stream.write(piece), !piece.is_empty())
+}
+
+/// What the answer of a write means. Of something, something is taken.
+fn write_of(answer: io::Result<usize>, has_bytes: bool) -> StreamWrite
+    ensures bytes { (n : ℕ) → answer ≡ Ok n → (has_bytes ≡ true → 0 < n) → result ≡ StreamWrite.Bytes n }
+    ensures none { answer ≡ Ok 0 → has_bytes ≡ true → result ≡ StreamWrite.Fault }
+    ensures refused { IfErr answer (λ error. IsRefusedWrite (error_kind error) result) }
+    ensures only { (n : ℕ) → result ≡ StreamWrite.Bytes n → (answer ≡ Ok n) × (has_bytes ≡ true → 0 < n) }
+{
+    match answer {
+        Ok(0) if has_bytes => StreamWrite::Fault,
         Ok(n) => StreamWrite::Bytes(n),
         Err(error) => refused_write(error.kind()),
     }
@@ -71,6 +96,7 @@ pub fn write_stream(stream: &mut UnixStream, piece: &[u8]) -> StreamWrite
 
 fn refused_write(kind: ErrorKind) -> StreamWrite
     ensures none { (n : ℕ) → result ≡ StreamWrite.Bytes n → ⊥ }
+    ensures refused { IsRefusedWrite kind result }
 {
     match kind {
         ErrorKind::WouldBlock => StreamWrite::Full,
