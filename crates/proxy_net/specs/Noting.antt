@@ -28,8 +28,8 @@ tells_write event = (is_error event || is_writable event) || is_write_closed eve
 abbrev pub same_side : Bool → Bool → Bool
 same_side one other = if one then other else not other
 
--- A link is marked as readable and as writable, as far as it was reported so. One whose peer closed is
--- never marked as writable.
+-- A link is marked as readable and as writable, as far as it was reported so. One whose peer closed
+-- needn't be marked as writable.
 abbrev pub is_link_noted : Bool → Bool → Option LinkSocket → Bool
 is_link_noted readable writable socket =
     unwrap_or (option_map (λ (s : LinkSocket). (not readable || s.readable) && (not writable || (s.writable || s.peer_closed))) socket) true

@@ -57,11 +57,11 @@ shown sockets = record {
 abbrev pub RoseIn : Count → SocketSet → SocketSet → Type 0
 RoseIn count old new = Rose (count_in old count) (count_in new count)
 
--- a link that is ready for what is wished has a place in the queue
+-- a link that is ready for what is wished is marked as queued
 abbrev pub has_link_placed : SocketSet → Link → Bool
 has_link_placed sockets link = is_link_placed (socket_in sockets link)
 
--- a listener that is to be named has a place in the queue
+-- a listener that is to be named is marked as queued
 abbrev pub has_listener_placed : SocketSet → ℕ → Bool
 has_listener_placed sockets listener = is_listener_placed (slice_get sockets.listeners.items listener)
 

@@ -450,6 +450,8 @@ impl LinkSocket {
 }
 
 impl LinkSocket {
+    ghost use Rattle.std.specs.declared.time.Instant.{Instant};
+
     /// When the next try to connect is due, where there is one.
     pub fn due(&self) -> Option<Instant>
         ensures { result ≡ due_of self.now.connection }
@@ -470,6 +472,7 @@ impl LinkSocket {
         ensures token { (token : ℕ) → is_registered_by token self.old.connection ≡ true → is_registered_by token self.new.connection ≡ true }
         ensures noted { (read write : Bool) → is_link_noted read write (Some self.old) ≡ true → is_link_noted read write (Some self.new) ≡ true }
         ensures other { is_pending self.old.connection ≡ false → self.new ≡ self.old }
+        ensures early { (time due : Instant) → now ≡ Some time → due_of self.old.connection ≡ Some due → instant_nanos time < instant_nanos due → (result ≡ Attempt.NotDue) × (self.new ≡ self.old) }
         ensures done { result ≡ Attempt.Done → is_pending self.new.connection ≡ false }
         ensures pending { result ≢ Attempt.Done → is_pending self.new.connection ≡ true }
         ensures queued { self.new.queued ≡ self.old.queued }
@@ -497,6 +500,7 @@ impl LinkSocket {
         ensures before { result ≡ Connected.Before → is_pending self.old.connection ≡ false }
         ensures other { is_pending self.old.connection ≡ false → (result ≡ Connected.Before) × (self.new ≡ self.old) }
         ensures pending { is_pending self.new.connection ≡ is_pending self.old.connection }
+        ensures early { (time due : Instant) → now ≡ Some time → due_of self.old.connection ≡ Some due → instant_nanos time < instant_nanos due → (result ≡ Connected.NotDue) × (self.new ≡ self.old) }
         ensures rest { self.new ≡ record self.old { connection = self.new.connection } }
     {
         match &mut self.connection {
