@@ -20,7 +20,7 @@ chosen_kept : (b : Bool) (x y x' y' : Bool) → (x ≡ true → x' ≡ true) →
 chosen_kept true x y x' y' f g e = f e
 chosen_kept false x y x' y' f g e = g e
 
-or_kept : (b x y : Bool) → (x ≡ true → y ≡ true) → b || x ≡ true → b || y ≡ true
+pub or_kept : (b x y : Bool) → (x ≡ true → y ≡ true) → b || x ≡ true → b || y ≡ true
 or_kept true x y f e = refl
 or_kept false x y f e = f e
 

@@ -4,3 +4,4 @@ pub mod Noting
 pub mod Connecting
 pub mod Registering
 pub mod Streams
+pub mod Room

@@ -1,8 +1,12 @@
 -- What is to be named, and that it has a place in the queue.
-use Rattle.std.specs.Prelude.{Bool, true, not, ◌&&◌, ◌||◌, Option, unwrap_or}
+use Rattle.std.specs.Prelude.{ℕ, ◌+◌, ◌-◌, ◌%◌, nat_eq, if◌then◌else◌, Bool, true, not, ◌&&◌, ◌||◌, Option, unwrap_or}
 use Rattle.std.specs.Option.{option_map}
 use Rattle.proxy_net.specs.declared.link_sockets.LinkSocket.{LinkSocket}
 use Rattle.proxy_net.specs.declared.listeners.ListenerSocket.{ListenerSocket}
+
+-- the number of the other link of a session
+abbrev pub other_of : ℕ → ℕ
+other_of number = if nat_eq (number % 2) 0 then number + 1 else number - 1
 
 -- a link is ready for what is wished
 abbrev pub is_ready : LinkSocket → Bool

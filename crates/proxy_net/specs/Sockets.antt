@@ -20,7 +20,9 @@ use Rattle.link_traits.specs.declared.links.Ready.TheVariants.{Listener as OfLis
 use Rattle.link_traits.specs.declared.links.Accepted.{Accepted}
 use Rattle.link_traits.specs.declared.links.Accepted.TheVariants.{New, NotReady, Failed as Refused, Memory}
 use Rattle.link_traits.specs.Answers.{client_link}
-use Rattle.proxy_net.specs.Naming.{is_link_placed, is_listener_placed, is_link_unmarked, is_listener_unmarked, is_link_closed, is_to_fail}
+use Rattle.proxy_net.specs.Room.{room_for}
+use Rattle.std.specs.VecDeque.{deque_len, deque_capacity}
+use Rattle.proxy_net.specs.Naming.{other_of, is_link_placed, is_listener_placed, is_link_unmarked, is_listener_unmarked, is_link_closed, is_to_fail}
 use Rattle.mio.specs.declared.event.event.Event.{Event}
 use Rattle.proxy_net.specs.Connecting.{is_pending, due_of}
 use Rattle.proxy_net.specs.Registering.{is_own_link, is_own_listener, listeners_from}
@@ -65,10 +67,14 @@ has_link_placed sockets link = is_link_placed (socket_in sockets link)
 abbrev pub has_listener_placed : SocketSet → ℕ → Bool
 has_listener_placed sockets listener = is_listener_placed (slice_get sockets.listeners.items listener)
 
--- A number stands in the queue. It need not once the net counted a fault of its own, which it does where
--- the queue has no room.
+-- a number stands in the queue
 abbrev pub has_place : SocketSet → ℕ → Bool
-has_place sockets number = nat_lt 0 sockets.own || list_any (nat_eq number) sockets.ready.items
+has_place sockets number = list_any (nat_eq number) sockets.ready.items
+
+-- the queue has room for what is in it, for each listener and link that isn't marked as queued, and for
+-- so many more
+abbrev pub HasRoomFor : ℕ → SocketSet → Type 0
+HasRoomFor more sockets = room_for more (deque_len sockets.ready) sockets.listeners.items sockets.links.entries ≤ deque_capacity sockets.ready
 
 -- a link that is marked as queued stands in the queue
 abbrev pub is_link_queued : SocketSet → ℕ → Bool
@@ -140,10 +146,6 @@ AfterAcceptIn (New session) old new = KeepsOthersIn (client_link session) old ne
 AfterAcceptIn NotReady old new = KeepsWishesIn old new
 AfterAcceptIn Refused old new = KeepsWishesIn old new
 AfterAcceptIn Memory old new = KeepsWishesIn old new
-
--- the number of the other link of a session
-abbrev pub other_of : ℕ → ℕ
-other_of number = if nat_eq (number % 2) 0 then number + 1 else number - 1
 
 -- whether the writes of the link of a number fail by now, where there is one
 abbrev pub given_up_at : SocketSet → ℕ → Option Bool

@@ -21,7 +21,6 @@ pub struct ListenerSocket {
     ready: bool,
     stalled: bool,
     queued: bool,
-    listed: bool,
     // It was named, and nothing was accepted since.
     unheeded: bool,
 }
@@ -41,7 +40,7 @@ impl ListenerSocket {
         ensures listener { result.listener ≡ listener }
         ensures faults { result.faults ≡ faults }
         ensures quiet { (result.ready ≡ false) × (result.queued ≡ false) }
-        ensures listed { (result.listed ≡ false) × (result.stalled ≡ false) × (result.unheeded ≡ false) }
+        ensures awaited { (result.stalled ≡ false) × (result.unheeded ≡ false) }
     {
         ListenerSocket {
             faults,
@@ -49,7 +48,6 @@ impl ListenerSocket {
             ready: false,
             stalled: false,
             queued: false,
-            listed: false,
             unheeded: false,
         }
     }
@@ -104,24 +102,19 @@ impl ListenerSocket {
         }
     }
 
-    /// Isn't named until it is noted or revived. Answers whether it is to be listed as stalled.
-    pub fn stall(&mut self) -> bool
-        ensures listed { result ≡ not self.old.listed }
-        ensures stalled { self.new ≡ record self.old { stalled = true; listed = true } }
+    /// Isn't named until it is noted or revived.
+    pub fn stall(&mut self)
+        ensures { self.new ≡ record self.old { stalled = true } }
     {
-        let was_listed = self.listed;
         self.stalled = true;
-        self.listed = true;
-        !was_listed
     }
 
     /// Is named again, where it was stalled. Answers whether it is to be queued.
     pub fn revive(&mut self) -> bool
         ensures queued { result ≡ (self.old.stalled && not self.old.queued) }
-        ensures other { self.old.stalled ≡ false → self.new ≡ record self.old { listed = false } }
-        ensures stalled { self.old.stalled ≡ true → self.new ≡ record self.old { listed = false; ready = true; stalled = false; unheeded = false; queued = true } }
+        ensures other { self.old.stalled ≡ false → self.new ≡ self.old }
+        ensures stalled { self.old.stalled ≡ true → self.new ≡ record self.old { ready = true; stalled = false; unheeded = false; queued = true } }
     {
-        self.listed = false;
         if !self.stalled {
             return false;
         }

@@ -2,15 +2,16 @@
 //!
 //! What is ready and wished for stands in a queue, and what was named goes to its end, so that a busy link doesn't hold up the
 //! others. Room in it is taken where a listener or a link is made. What is marked as queued stands in it.
-ghost use Rattle.std.specs.Prelude.{◌≡◌, ◌≤◌, ℕ, Bool, true, unwrap_or, None, Some, IfOk, OnOk, OnErr, vec_len};
+ghost use Rattle.std.specs.Prelude.{◌≡◌, ◌≤◌, ◌+◌, ◌++◌, ◌∷◌, [], ℕ, Bool, true, if◌then◌else◌, unwrap_or, None, Some, IfOk, OnOk, OnErr, vec_len};
+ghost use Rattle.std.specs.VecDeque.{deque_len, deque_capacity};
 ghost use Rattle.std.specs.Option.{option_map};
 ghost use Rattle.std.specs.Ordering.{nat_cmp};
 ghost use Rattle.std.specs.BTreeMap as tree;
 ghost use Rattle.link_traits.specs.Answers.{no_wishes};
 ghost use Rattle.link_traits.specs.Numbers.{number_of as link_number};
-ghost use Rattle.proxy_net.specs.Naming.{is_to_fail};
+ghost use Rattle.proxy_net.specs.Naming.{is_to_fail, other_of};
+ghost use Rattle.proxy_net.specs.Room.{room_for};
 ghost use Rattle.proxy_net.specs.Registering.{is_registered_by};
-ghost use Rattle.proxy_net.specs.Sockets.{other_of, is_closed_at, given_up_at, is_to_fail_at};
 
 mod calls;
 mod making;
@@ -49,11 +50,12 @@ pub struct SocketSet {
     ready: VecDeque<u64>,
     /// How much was named since the system was asked.
     named: u32,
-    /// Listeners that are to be named again when a link is shut.
-    stalled: Vec<u32>,
+    /// Whether there are listeners that are to be named again when a link is shut.
+    has_stalled: bool,
     /// Numbers of links that aren't connected yet.
     pending: VecDeque<u64>,
     poll: Poll,
+    ghost room: { room_for 0 (deque_len ready) listeners.items links.entries ≤ deque_capacity ready },
 }
 
 /// The number of the other link of a link's session.
@@ -68,7 +70,7 @@ fn other_number(number: u64) -> u64
 }
 
 impl SocketSet {
-    ghost use Rattle.proxy_net.specs.Sockets.{shown, count_in, wishes_in, RoseIn, Grows, GoesOn, KeepsOthersIn, IsUnused, IsConsistent, has_place};
+    ghost use Rattle.proxy_net.specs.Sockets.{is_closed_at, given_up_at, is_to_fail_at, shown, count_in, wishes_in, RoseIn, Grows, GoesOn, KeepsOthersIn, IsUnused, IsConsistent, HasRoomFor, has_place};
     ghost use Rattle.link_traits.specs.declared.links.Wishes.{Wishes};
 
     /// No sockets.
@@ -85,7 +87,7 @@ impl SocketSet {
             sessions: 0,
             ready: VecDeque::new(rt.alloc()),
             named: 0,
-            stalled: Vec::new(rt.alloc()),
+            has_stalled: false,
             pending: VecDeque::new(rt.alloc()),
             poll: Poll::new(rt)?,
         })
@@ -156,8 +158,10 @@ impl SocketSet {
 
     /// Makes a link, without a wish.
     fn add_link(&mut self, link: Link, connection: Connection) -> Result<(), AllocError>
-        requires { is_registered_by (link_number link) connection ≡ true }
+        requires room { HasRoomFor 1 self.old }
+        requires token { is_registered_by (link_number link) connection ≡ true }
         ensures sessions { self.new.sessions ≡ self.old.sessions }
+        ensures pending { self.new.pending ≡ self.old.pending }
         ensures own { OnOk result (wishes_in self.new link ≡ Some no_wishes) }
         ensures others { KeepsOthersIn link self.old self.new }
         ensures grows { Grows self.old self.new }
@@ -234,21 +238,32 @@ impl SocketSet {
         }
     }
 
-    /// Puts a number at the queue's end, where it took a new place there. Room for that was taken when its socket was made: where
-    /// there is none, it counts a fault of the net's own.
+    /// Puts a number at the queue's end, where it took a new place there. Room for that was taken when its socket was made.
     fn queue(&mut self, number: u64, is_new: bool)
+        requires { is_new ≡ true → HasRoomFor 1 self.old }
+        ensures queue { self.new.ready.items ≡ (if is_new then self.old.ready.items ++ number ∷ [] else self.old.ready.items) }
+        ensures len { deque_len self.new.ready ≡ deque_len self.old.ready + (if is_new then 1 else 0) }
+        ensures capacity { deque_capacity self.old.ready ≤ deque_capacity self.new.ready }
         ensures placed { is_new ≡ true → has_place self.new number ≡ true }
         ensures kept { (other : ℕ) → has_place self.old other ≡ true → has_place self.new other ≡ true }
-        ensures own { self.old.own ≤ self.new.own }
-        ensures rest { self.new ≡ record self.old { own = self.new.own; ready = self.new.ready } }
+        ensures own { self.new.own ≡ self.old.own }
+        ensures waits { self.new.waits ≡ self.old.waits }
+        ensures absent { self.new.absent ≡ self.old.absent }
+        ensures listeners { self.new.listeners ≡ self.old.listeners }
+        ensures links { self.new.links ≡ self.old.links }
+        ensures sessions { self.new.sessions ≡ self.old.sessions }
+        ensures named { self.new.named ≡ self.old.named }
+        ensures pending { self.new.pending ≡ self.old.pending }
     {
-        if is_new && self.ready.push_back(number).is_err() {
-            self.own = raised(self.own);
+        if is_new {
+            let _ = self.ready.push_back(number);
         }
     }
 
     /// Takes the room for one more in the queue, whatever is in it and however many go back to it.
     fn reserve(&mut self) -> Result<(), AllocError>
+        ensures room { OnOk result (HasRoomFor 1 self.new) }
+        ensures pending { self.new.pending ≡ self.old.pending }
         ensures number { vec_len self.new.listeners ≡ vec_len self.old.listeners }
         ensures goes { GoesOn self.old self.new }
     {

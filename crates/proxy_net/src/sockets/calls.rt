@@ -166,20 +166,16 @@ impl SocketSet {
         self.revive_all();
     }
 
-    /// Names the stalled listeners again.
+    /// Names the stalled listeners again, where there are any.
     fn revive_all(&mut self)
         ensures { GoesOn self.old self.new }
     {
-        for _ in 0..self.stalled.len() {
-            self.revive_last();
+        if !self.has_stalled {
+            return;
         }
-    }
-
-    fn revive_last(&mut self)
-        ensures { GoesOn self.old self.new }
-    {
-        if let Some(listener) = self.stalled.pop() {
-            self.revive(listener);
+        self.has_stalled = false;
+        for place in 0..self.listeners.len() {
+            self.revive(place);
         }
     }
 }

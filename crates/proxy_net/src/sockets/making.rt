@@ -1,6 +1,8 @@
 //! How listeners and links are made.
-ghost use Rattle.std.specs.Prelude.{◌≡◌, ◌≢◌, ◌≤◌, ◌+◌, ◌⊎◌, ℕ, [], Err, None, Some, IsErrOf, IsSome, IfOk, OnErr, OnOk, vec_len};
+ghost use Rattle.std.specs.Prelude.{◌≡◌, ◌≢◌, ◌≤◌, ◌<◌, ◌+◌, ◌++◌, ◌∷◌, ◌⊎◌, ℕ, [], Err, None, Some, IsErrOf, IsSome, IfOk, OnErr, OnOk, vec_len};
+ghost use Rattle.std.specs.VecDeque.{deque_len, deque_capacity};
 ghost use Rattle.link_traits.specs.Answers.{no_wishes, client_link, bus_link};
+ghost use Rattle.link_traits.specs.Numbers.{number_of as link_number};
 
 use super::{LISTENERS, SocketSet};
 use crate::link_sockets::{Connection, Retry, is_put_off, raised};
@@ -14,7 +16,7 @@ use std::fs;
 use std::time::Instant;
 
 impl SocketSet {
-    ghost use Rattle.proxy_net.specs.Sockets.{wishes_in, RoseIn, Grows, GoesOn, KeepsOthersIn, KeepsWishesIn, AfterAcceptIn};
+    ghost use Rattle.proxy_net.specs.Sockets.{HasRoomFor, wishes_in, RoseIn, Grows, GoesOn, KeepsOthersIn, KeepsWishesIn, AfterAcceptIn};
 
     /// Listens at a path. An empty one is refused, since the system would take a name of its own for it.
     pub fn listen(&mut self, rt: &HostRuntime, path: &str) -> Result<u32, NetFault>
@@ -56,17 +58,17 @@ impl SocketSet {
 
     /// Takes the room for one more listener.
     fn reserve_listener(&mut self) -> Result<(), AllocError>
+        ensures room { OnOk result (HasRoomFor 1 self.new) }
         ensures number { vec_len self.new.listeners ≡ vec_len self.old.listeners }
         ensures goes { GoesOn self.old self.new }
     {
         self.listeners.reserve(1)?;
-        let most = self.listeners.len().saturating_add(1);
-        self.stalled.reserve(most)?;
         self.reserve()
     }
 
     fn add_listener(&mut self, listener: u32, socket: UnixListener) -> Result<u32, NetFault>
-        requires { listener ≡ vec_len self.old.listeners }
+        requires room { HasRoomFor 1 self.old }
+        requires next { listener ≡ vec_len self.old.listeners }
         ensures numbered { IfOk result (λ number. number ≡ listener) }
         ensures made { OnOk result (vec_len self.new.listeners ≡ vec_len self.old.listeners + 1) }
         ensures err { OnErr result (vec_len self.new.listeners ≡ vec_len self.old.listeners) }
@@ -107,7 +109,7 @@ fn cleaned_up(rt: &HostRuntime, path: &str, answer: Result<u32, NetFault>) -> Re
 }
 
 impl SocketSet {
-    ghost use Rattle.proxy_net.specs.Sockets.{wishes_in, RoseIn, Grows, GoesOn, KeepsOthersIn, KeepsWishesIn, AfterAcceptIn};
+    ghost use Rattle.proxy_net.specs.Sockets.{HasRoomFor, wishes_in, RoseIn, Grows, GoesOn, KeepsOthersIn, KeepsWishesIn, AfterAcceptIn};
 
     /// Takes a client that waits at a listener.
     pub fn accept(&mut self, listener: u32) -> Accepted
@@ -134,6 +136,7 @@ impl SocketSet {
     }
 
     fn take_client(&mut self, listener: u32) -> Arrival
+        ensures room { HasRoomFor 1 self.old → HasRoomFor 1 self.new }
         ensures not_ready { result ≡ Arrival.NotReady → RoseIn Count.Waits self.old self.new }
         ensures missing { vec_len self.old.listeners ≤ listener → result ≡ Arrival.Failed }
         ensures goes { GoesOn self.old self.new }
@@ -147,6 +150,7 @@ impl SocketSet {
 
     /// Accepts once, and queues a listener again that is to be named by that.
     fn accept_at(&mut self, listener: u32) -> Arrival
+        ensures room { HasRoomFor 1 self.old → HasRoomFor 1 self.new }
         ensures missing { vec_len self.old.listeners ≤ listener → result ≡ Arrival.Failed }
         ensures waits { self.new.waits ≡ self.old.waits }
         ensures goes { GoesOn self.old self.new }
@@ -170,9 +174,8 @@ impl SocketSet {
         match self.listeners.get_mut(listener as usize) {
             Some(socket) => {
                 socket.faults = raised(socket.faults);
-                if socket.stall() {
-                    let _ = self.stalled.push(listener);
-                }
+                socket.stall();
+                self.has_stalled = true;
             }
             None => self.absent = raised(self.absent),
         }
@@ -183,15 +186,15 @@ impl SocketSet {
     fn stall(&mut self, listener: u32)
         ensures { GoesOn self.old self.new }
     {
-        if let Some(socket) = self.listeners.get_mut(listener as usize)
-            && socket.stall()
-        {
-            let _ = self.stalled.push(listener);
+        if let Some(socket) = self.listeners.get_mut(listener as usize) {
+            socket.stall();
+            self.has_stalled = true;
         }
     }
 
     /// Makes a session of a client.
     fn make_session(&mut self, listener: u32, session: u32, stream: UnixStream) -> Accepted
+        requires { HasRoomFor 1 self.old }
         ensures numbered { (other : ℕ) → result ≡ Accepted.New other → (other ≡ session) × (self.new.sessions ≡ session) }
         ensures failed { result ≡ Accepted.Failed → RoseIn (Count.Listener listener) self.old self.new }
         ensures ready { result ≢ Accepted.NotReady }
@@ -220,7 +223,7 @@ impl SocketSet {
 }
 
 impl SocketSet {
-    ghost use Rattle.proxy_net.specs.Sockets.{wishes_in, RoseIn, Grows, GoesOn, KeepsOthersIn, KeepsWishesIn, AfterAcceptIn};
+    ghost use Rattle.proxy_net.specs.Sockets.{HasRoomFor, wishes_in, RoseIn, Grows, GoesOn, KeepsOthersIn, KeepsWishesIn, AfterAcceptIn};
 
     /// Connects a session to the bus at a path. An empty one is refused, since the system would take a name of its own for it,
     /// and so is a session that has a link to its bus. Where the bus has no room for one more, it is tried again later.
@@ -275,7 +278,9 @@ impl SocketSet {
 
     /// Takes the room for a link that isn't connected yet.
     fn reserve_pending(&mut self) -> Result<(), AllocError>
-        ensures { GoesOn self.old self.new }
+        ensures room { OnOk result (HasRoomFor 1 self.new) }
+        ensures pending { OnOk result (deque_len self.new.pending < deque_capacity self.new.pending) }
+        ensures goes { GoesOn self.old self.new }
     {
         self.pending.reserve(1)?;
         self.reserve()
@@ -283,6 +288,7 @@ impl SocketSet {
 
     /// Makes a link of a stream.
     fn join(&mut self, link: Link, stream: UnixStream) -> Result<(), NetFault>
+        requires { HasRoomFor 1 self.old }
         ensures err { OnErr result (GoesOn self.old self.new) }
         ensures own { OnOk result (wishes_in self.new link ≡ Some no_wishes) }
         ensures others { KeepsOthersIn link self.old self.new }
@@ -299,6 +305,9 @@ impl SocketSet {
 
     /// Makes a link that is to be connected later. The connect would have waited, and is counted so.
     fn join_later(&mut self, rt: &HostRuntime, link: Link, path: &str) -> Result<(), NetFault>
+        requires room { HasRoomFor 1 self.old }
+        requires pending { deque_len self.old.pending < deque_capacity self.old.pending }
+        ensures pending { OnOk result (self.new.pending.items ≡ self.old.pending.items ++ link_number link ∷ []) }
         ensures err { OnErr result (GoesOn self.old self.new) }
         ensures own { OnOk result (wishes_in self.new link ≡ Some no_wishes) }
         ensures others { KeepsOthersIn link self.old self.new }

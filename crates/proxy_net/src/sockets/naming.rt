@@ -150,13 +150,14 @@ impl SocketSet {
         }
     }
 
-    /// Names a stalled listener again.
-    pub(super) fn revive(&mut self, listener: u32)
+    /// Names the listener at a place again, where it is stalled.
+    pub(super) fn revive(&mut self, place: usize)
+        requires { place < 2 ^ 63 }
         ensures { GoesOn self.old self.new }
     {
-        if let Some(socket) = self.listeners.get_mut(listener as usize) {
+        if let Some(socket) = self.listeners.get_mut(place) {
             let is_new = socket.revive();
-            self.queue(LISTENERS + u64::from(listener), is_new);
+            self.queue(LISTENERS + place as u64, is_new);
         }
     }
 
@@ -189,57 +190,60 @@ impl SocketSet {
         let Some(&number) = self.ready.front() else {
             unreachable!();
         };
-        match self.named_by(number) {
-            Some(ready) => {
-                self.named = self.named.saturating_add(1);
-                self.ready.rotate_left(1);
-                Some(ready)
-            }
-            None => {
-                let _ = self.ready.pop_front();
-                None
-            }
+        if number >= LISTENERS {
+            self.name_listener(number)
+        } else {
+            self.name_link(number)
         }
     }
 
-    fn named_by(&mut self, number: u64) -> Option<Ready>
-        requires { list_any (nat_eq number) self.old.ready.items ≡ true }
-        ensures queue { self.new.ready ≡ self.old.ready }
-        ensures left { IfNone result (number < LISTENERS → is_link_unmarked (tree.get nat_cmp self.new.links number) ≡ true) }
-        ensures left_listener { IfNone result ((place : ℕ) → place < 2 ^ 32 → number ≡ LISTENERS + place → is_listener_unmarked (slice_get self.new.listeners.items place) ≡ true) }
+    /// What the link of the queue's first number names.
+    fn name_link(&mut self, number: u64) -> Option<Ready>
+        requires of_link { number < LISTENERS }
+        requires first { slice_get self.old.ready.items 0 ≡ Some number }
+        ensures named { IfSome result (λ _. self.new.ready.items ≡ drop 1 self.old.ready.items ++ take 1 self.old.ready.items) }
+        ensures left { IfNone result (deque_len self.new.ready < deque_len self.old.ready) }
         ensures wished { IfSome result (IsWished self.old self.new) }
         ensures goes { GoesOn self.old self.new }
     {
-        if number >= LISTENERS {
-            return self.named_listener(number);
-        }
         let Some(socket) = self.links.get_mut(&number) else {
+            let _ = self.ready.pop_front();
             return None;
         };
         if socket.is_nameable() {
+            self.named = self.named.saturating_add(1);
+            self.ready.rotate_left(1);
             return Some(Ready::Link(link_of(number)));
         }
         socket.leave_place();
+        let _ = self.ready.pop_front();
         None
     }
 
-    fn named_listener(&mut self, number: u64) -> Option<Ready>
+    /// What the listener of the queue's first number names.
+    fn name_listener(&mut self, number: u64) -> Option<Ready>
         requires of_listener { LISTENERS ≤ number }
-        requires queued { list_any (nat_eq number) self.old.ready.items ≡ true }
-        ensures queue { self.new.ready ≡ self.old.ready }
-        ensures left { IfNone result ((place : ℕ) → place < 2 ^ 32 → number ≡ LISTENERS + place → is_listener_unmarked (slice_get self.new.listeners.items place) ≡ true) }
+        requires first { slice_get self.old.ready.items 0 ≡ Some number }
+        ensures named { IfSome result (λ _. self.new.ready.items ≡ drop 1 self.old.ready.items ++ take 1 self.old.ready.items) }
+        ensures left { IfNone result (deque_len self.new.ready < deque_len self.old.ready) }
         ensures wished { IfSome result (IsWished self.old self.new) }
         ensures goes { GoesOn self.old self.new }
     {
         let place = number - LISTENERS;
         let Ok(listener) = u32::try_from(place) else {
+            let _ = self.ready.pop_front();
             return None;
         };
-        if let Some(socket) = self.listeners.get_mut(place as usize)
-            && socket.keeps_place()
-        {
+        let Some(socket) = self.listeners.get_mut(place as usize) else {
+            let _ = self.ready.pop_front();
+            return None;
+        };
+        if socket.keeps_place() {
+            self.named = self.named.saturating_add(1);
+            self.ready.rotate_left(1);
             return Some(Ready::Listener(listener));
         }
+        let _ = self.ready.pop_front();
         None
     }
 }
@@ -306,36 +310,24 @@ impl SocketSet {
         ensures kept { KeepsNotes self.old self.new }
         ensures goes { GoesOn self.old self.new }
     {
-        let Some(number) = self.pop_pending() else {
+        let Some(&number) = self.pending.front() else {
             return;
         };
-        let attempt = self.attempt(rt, number, now);
-        self.count_attempt(number, attempt);
-    }
-
-    /// Counts a try that would have waited, and keeps a link that is to be tried again.
-    fn count_attempt(&mut self, number: u64, attempt: Attempt)
-        ensures kept { KeepsNotes self.old self.new }
-        ensures goes { GoesOn self.old self.new }
-    {
-        if matches!(attempt, Attempt::WouldBlock) {
-            self.waits = raised(self.waits);
+        match self.attempt(rt, number, now) {
+            Attempt::NotDue => self.pending.rotate_left(1),
+            Attempt::WouldBlock => {
+                self.waits = raised(self.waits);
+                self.pending.rotate_left(1);
+            }
+            Attempt::Done => {
+                let _ = self.pending.pop_front();
+            }
         }
-        if !matches!(attempt, Attempt::Done) {
-            let _ = self.pending.push_back(number);
-        }
-    }
-
-    /// Takes the first of the links that aren't connected yet.
-    fn pop_pending(&mut self) -> Option<u64>
-        ensures kept { KeepsNotes self.old self.new }
-        ensures goes { GoesOn self.old self.new }
-    {
-        self.pending.pop_front()
     }
 
     /// Tries again to connect a link. Where it isn't there any more, nothing is to be tried.
     fn attempt(&mut self, rt: &HostRuntime, number: u64, now: Option<Instant>) -> Attempt
+        ensures pending { self.new.pending ≡ self.old.pending }
         ensures kept { KeepsNotes self.old self.new }
         ensures goes { GoesOn self.old self.new }
     {

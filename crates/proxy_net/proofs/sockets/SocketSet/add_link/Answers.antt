@@ -1,5 +1,7 @@
 use Rattle.std.proofs.Common.{rules, ap, ◌∙◌}
 use Rattle.proxy_net.specs.Registering.{is_registered_by}
+use Rattle.std.specs.VecDeque.{deque_len, deque_capacity}
+use Rattle.proxy_net.proofs.Room.{made_fits}
 use Rattle.proxy_net.proofs.Tokens.{own_link_made}
 use Rattle.proxy_net.proofs.sockets.SocketSet.add_link.Goals as goal
 
@@ -11,6 +13,11 @@ returns-clause-grows c = record {
   link_places = search rules;
   listener_places = search rules;
   link_tokens = own_link_made c.args.self.now.links c.insert.new.self c.number_of-number.result c.new.result c.in_ok-insert.ensures.updates
-      (ap (is_registered_by c.number_of-number.result) c.new.ensures.connection ∙ ap (λ n. is_registered_by n c.args.connection) c.number_of-number.ensures.number ∙ c.requires);
+      (ap (is_registered_by c.number_of-number.result) c.new.ensures.connection ∙ ap (λ n. is_registered_by n c.args.connection) c.number_of-number.ensures.number ∙ c.requires.token);
   listener_tokens = search rules;
 }
+
+pub invariant_of-self : goal.invariant_of-self
+invariant_of-self c =
+    let sockets = c.args.self.now in
+    record { room = made_fits 0 (deque_len sockets.ready) (deque_capacity sockets.ready) sockets.listeners.items sockets.links.entries c.requires.room c.insert.result _ _ _ c.insert.ensures.entries c.insert.ensures.err }

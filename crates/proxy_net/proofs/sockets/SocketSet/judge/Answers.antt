@@ -2,8 +2,8 @@ use Rattle.std.proofs.Common.{ap, ◌∙◌, true, unwrap_or}
 use Rattle.std.specs.Option.{option_map}
 use Rattle.std.specs.Ordering.{nat_cmp}
 use Rattle.std.specs.BTreeMap as tree
-use Rattle.proxy_net.specs.Naming.{is_to_fail}
-use Rattle.proxy_net.specs.Sockets.{is_closed_at, other_of}
+use Rattle.proxy_net.specs.Naming.{is_to_fail, other_of}
+use Rattle.proxy_net.specs.Sockets.{is_closed_at}
 use Rattle.proxy_net.proofs.sockets.SocketSet.judge.Goals as goal
 
 pub returns-clause-judged : goal.returns-clause-judged

@@ -1,5 +1,5 @@
 use Rattle.proxy_net.specs.Sockets.{GoesOn}
 use Rattle.proxy_net.proofs.sockets.SocketSet.revive_all.Given as goal
 
-abbrev pub invariant-loop : goal.invariant-loop
-invariant-loop l = GoesOn l.fn.self l.self
+abbrev pub invariant-loop-place : goal.invariant-loop-place
+invariant-loop-place l = GoesOn l.fn.self l.self
