@@ -4,3 +4,4 @@ pub mod Notes
 pub mod Tokens
 pub mod Room
 pub mod Written
+pub mod Judging

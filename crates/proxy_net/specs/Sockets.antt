@@ -151,6 +151,14 @@ AfterAcceptIn Memory old new = KeepsWishesIn old new
 abbrev pub given_up_at : SocketSet → ℕ → Option Bool
 given_up_at sockets number = option_map (λ (s : LinkSocket). s.given_up) (tree.get nat_cmp sockets.links number)
 
+-- the peer of the link of a number is known to have closed
+abbrev pub is_peer_closed_at : SocketSet → ℕ → Bool
+is_peer_closed_at sockets number = unwrap_or (option_map (λ (s : LinkSocket). s.peer_closed) (tree.get nat_cmp sockets.links number)) false
+
+-- the listener at a place is stalled
+abbrev pub is_stalled_at : SocketSet → ℕ → Bool
+is_stalled_at sockets place = unwrap_or (option_map (λ (s : ListenerSocket). s.stalled) (slice_get sockets.listeners.items place)) false
+
 -- nothing more passes between the link of a number and its peer, or there is no such link
 abbrev pub is_closed_at : SocketSet → ℕ → Bool
 is_closed_at sockets number = unwrap_or (option_map is_link_closed (tree.get nat_cmp sockets.links number)) true
@@ -158,6 +166,10 @@ is_closed_at sockets number = unwrap_or (option_map is_link_closed (tree.get nat
 -- the writes of the link of a number are to fail, or there is no such link
 abbrev pub is_to_fail_at : SocketSet → ℕ → Bool
 is_to_fail_at sockets number = unwrap_or (option_map (is_to_fail (is_closed_at sockets (other_of number))) (tree.get nat_cmp sockets.links number)) true
+
+-- whether the writes of the link of a number fail by now is as it is to be, or there is no such link
+abbrev pub IsJudgedAt : SocketSet → ℕ → Type 0
+IsJudgedAt sockets number = unwrap_or (given_up_at sockets number) true ≡ is_to_fail_at sockets number
 
 -- when the next try to connect the link of a number is due, where there is one
 abbrev pub due_at : SocketSet → ℕ → Option Instant

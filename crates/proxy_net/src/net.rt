@@ -70,13 +70,16 @@ impl<'a> MioNet<'a> {
 }
 
 impl<'a> Net for MioNet<'a> {
-    ghost use Rattle.std.specs.Prelude.{◌≢◌, ◌≤◌, ◌<◌, ◌+◌, ◌⊎◌, ℕ, [], ◌∷◌, length, vec_len, None, Some, OnOk, OnErr, IsErrOf, true};
-    ghost use Rattle.link_traits.specs.Entries.{ready};
+    ghost use Rattle.std.specs.Prelude.{◌≢◌, ◌≤◌, ◌<◌, ◌+◌, ◌⊎◌, ℕ, [], ◌∷◌, length, vec_len, None, Some, OnOk, OnErr, IsErrOf, true, false};
+    ghost use Rattle.link_traits.specs.Entries.{ready, shut};
     ghost use Rattle.link_traits.specs.Journals.{Journal, accepts, listens};
     ghost use Rattle.link_traits.specs.Answers.{listen_entry, accept_entry, connect_entry, read_entry, write_entry, no_wishes, client_link, bus_link, AfterAccept};
     ghost use Rattle.link_traits.specs.Numbers.{number_of};
     ghost use Rattle.link_traits.specs.Views.{Adds, RoseAt, KeepsOthers, KeepsWishes};
-    ghost use Rattle.proxy_net.specs.Sockets.{shown, is_pending_in, is_closed_at, IsWished};
+    ghost use Rattle.link_traits.specs.declared.links.Wishes.{Wishes};
+    ghost use Rattle.std.specs.Option.{option_map};
+    ghost use Rattle.proxy_net.specs.Naming.{other_of};
+    ghost use Rattle.proxy_net.specs.Sockets.{shown, is_pending_in, is_closed_at, is_peer_closed_at, is_stalled_at, IsJudgedAt, IsWished};
 
     ghost view = { λ net. shown net.sockets };
 
@@ -151,7 +154,15 @@ impl<'a> Net for MioNet<'a> {
         self.sockets.connect(self.rt, session, path)
     }
 
-    fn want(&mut self, link: Link, read: bool, write: bool) {
+    fn want(&mut self, link: Link, read: bool, write: bool)
+        // Whether the writes of a link whose peer closed fail is judged by the new wishes.
+        ensures judged { is_peer_closed_at self.new.sockets (number_of link) ≡ true → IsJudgedAt self.new.sockets (number_of link) }
+
+        // What the trait says.
+        ensures told { Adds (shown self.old.sockets) (shown self.new.sockets) [] }
+        ensures own { (shown self.new.sockets).wishes link ≡ option_map (λ (_ : Wishes). record { read = read; write = write }) ((shown self.old.sockets).wishes link) }
+        ensures wishes { KeepsOthers link (shown self.old.sockets) (shown self.new.sockets) }
+    {
         self.sockets.want(link, Wishes { read, write });
     }
 
@@ -188,7 +199,16 @@ impl<'a> Net for MioNet<'a> {
         self.sockets.write(link, piece)
     }
 
-    fn shut(&mut self, link: Link) {
+    fn shut(&mut self, link: Link)
+        // Whether the writes of its session's other link fail is judged without it, and no listener stays stalled.
+        ensures judged { IsJudgedAt self.new.sockets (other_of (number_of link)) }
+        ensures revived { (listener : ℕ) → is_stalled_at self.new.sockets listener ≡ false }
+
+        // What the trait says.
+        ensures told { Adds (shown self.old.sockets) (shown self.new.sockets) (shut link ∷ []) }
+        ensures gone { (shown self.new.sockets).wishes link ≡ None }
+        ensures wishes { KeepsOthers link (shown self.old.sockets) (shown self.new.sockets) }
+    {
         self.sockets.shut(link);
     }
 }

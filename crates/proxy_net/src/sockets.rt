@@ -50,8 +50,6 @@ pub struct SocketSet {
     ready: VecDeque<u64>,
     /// How much was named since the system was asked.
     named: u32,
-    /// Whether there are listeners that are to be named again when a link is shut.
-    has_stalled: bool,
     /// Numbers of links that aren't connected yet.
     pending: VecDeque<u64>,
     poll: Poll,
@@ -70,7 +68,7 @@ fn other_number(number: u64) -> u64
 }
 
 impl SocketSet {
-    ghost use Rattle.proxy_net.specs.Sockets.{is_closed_at, given_up_at, is_to_fail_at, shown, count_in, wishes_in, RoseIn, Grows, GoesOn, KeepsOthersIn, IsUnused, IsConsistent, HasRoomFor, has_place};
+    ghost use Rattle.proxy_net.specs.Sockets.{is_peer_closed_at, is_closed_at, given_up_at, is_to_fail_at, shown, count_in, wishes_in, RoseIn, Grows, GoesOn, KeepsOthersIn, IsUnused, IsConsistent, HasRoomFor, has_place};
     ghost use Rattle.link_traits.specs.declared.links.Wishes.{Wishes};
 
     /// No sockets.
@@ -87,7 +85,6 @@ impl SocketSet {
             sessions: 0,
             ready: VecDeque::new(rt.alloc()),
             named: 0,
-            has_stalled: false,
             pending: VecDeque::new(rt.alloc()),
             poll: Poll::new(rt)?,
         })
@@ -187,6 +184,7 @@ impl SocketSet {
 
     /// Replaces the wishes of a link. Answers whether its peer is known to have closed.
     fn set_wishes(&mut self, link: Link, wishes: Wishes) -> bool
+        ensures closed { result ≡ is_peer_closed_at self.new (link_number link) }
         ensures sessions { self.new.sessions ≡ self.old.sessions }
         ensures own { wishes_in self.new link ≡ option_map (λ (_ : Wishes). wishes) (wishes_in self.old link) }
         ensures others { KeepsOthersIn link self.old self.new }

@@ -2,6 +2,7 @@
 ghost use Rattle.std.specs.Prelude.{◌≡◌, ◌≤◌, ◌<◌, ℕ, None, length, false, true, unwrap_or};
 ghost use Rattle.std.specs.Option.{option_map};
 ghost use Rattle.link_traits.specs.Numbers.{number_of as link_number};
+ghost use Rattle.proxy_net.specs.Naming.{other_of};
 
 use super::{SocketSet, other_number};
 use crate::link_sockets::{LinkWrite, raised};
@@ -9,11 +10,12 @@ use link_traits::tables::number_of;
 use link_traits::{Count, Got, Link, Took, Wishes};
 
 impl SocketSet {
-    ghost use Rattle.proxy_net.specs.Sockets.{wishes_in, is_pending_in, given_up_at, is_closed_at, is_to_fail_at, RoseIn, Grows, GoesOn, KeepsOthersIn};
+    ghost use Rattle.proxy_net.specs.Sockets.{is_stalled_at, is_peer_closed_at, IsJudgedAt, wishes_in, is_pending_in, given_up_at, is_closed_at, is_to_fail_at, RoseIn, Grows, GoesOn, KeepsOthersIn};
     ghost use Rattle.link_traits.specs.declared.links.Wishes.{Wishes};
 
     /// Replaces the wishes of a link.
     pub fn want(&mut self, link: Link, wishes: Wishes)
+        ensures judged { is_peer_closed_at self.new (link_number link) ≡ true → IsJudgedAt self.new (link_number link) }
         ensures own { wishes_in self.new link ≡ option_map (λ (_ : Wishes). wishes) (wishes_in self.old link) }
         ensures others { KeepsOthersIn link self.old self.new }
         ensures grows { Grows self.old self.new }
@@ -150,6 +152,8 @@ impl SocketSet {
 
     /// Closes a link and forgets it. One that isn't there stays so.
     pub fn shut(&mut self, link: Link)
+        ensures judged { IsJudgedAt self.new (other_of (link_number link)) }
+        ensures revived { (listener : ℕ) → is_stalled_at self.new listener ≡ false }
         ensures gone { wishes_in self.new link ≡ None }
         ensures others { KeepsOthersIn link self.old self.new }
         ensures grows { Grows self.old self.new }
@@ -160,20 +164,20 @@ impl SocketSet {
 
     /// Has the other link of a session and the stalled listeners go on without a link that was shut.
     fn settle(&mut self, number: u64)
-        ensures { GoesOn self.old self.new }
+        ensures judged { IsJudgedAt self.new (other_of number) }
+        ensures revived { (listener : ℕ) → is_stalled_at self.new listener ≡ false }
+        ensures goes { GoesOn self.old self.new }
     {
         self.judge(other_number(number));
         self.revive_all();
     }
 
-    /// Names the stalled listeners again, where there are any.
+    /// Names the stalled listeners again.
     fn revive_all(&mut self)
-        ensures { GoesOn self.old self.new }
+        ensures revived { (listener : ℕ) → is_stalled_at self.new listener ≡ false }
+        ensures links { self.new.links ≡ self.old.links }
+        ensures goes { GoesOn self.old self.new }
     {
-        if !self.has_stalled {
-            return;
-        }
-        self.has_stalled = false;
         for place in 0..self.listeners.len() {
             self.revive(place);
         }

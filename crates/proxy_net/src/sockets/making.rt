@@ -175,7 +175,6 @@ impl SocketSet {
             Some(socket) => {
                 socket.faults = raised(socket.faults);
                 socket.stall();
-                self.has_stalled = true;
             }
             None => self.absent = raised(self.absent),
         }
@@ -188,7 +187,6 @@ impl SocketSet {
     {
         if let Some(socket) = self.listeners.get_mut(listener as usize) {
             socket.stall();
-            self.has_stalled = true;
         }
     }
 

@@ -1,5 +1,5 @@
 //! What the system reports of sockets, and what is named for it.
-ghost use Rattle.std.specs.Prelude.{◌≡◌, ◌≢◌, ◌≤◌, ◌<◌, ◌%◌, ◌&&◌, ◌⊎◌, ◌++◌, ◌+◌, ◌-◌, ◌^◌, ℕ, nat_eq, nat_lt, [], true, Some, None, IfSome, IfNone, OnErr, length, drop, take, slice_get};
+ghost use Rattle.std.specs.Prelude.{◌≡◌, ◌≢◌, ◌≤◌, ◌<◌, ◌%◌, ◌&&◌, ◌⊎◌, ◌++◌, ◌+◌, ◌-◌, ◌*◌, ◌^◌, min, vec_len, ℕ, nat_eq, nat_lt, [], true, false, Some, None, IfSome, IfNone, OnErr, length, drop, take, slice_get};
 ghost use Rattle.std.specs.VecDeque.{deque_len};
 ghost use Rattle.std.specs.Option.{option_map};
 ghost use Rattle.std.specs.Time.{instant_nanos};
@@ -64,7 +64,7 @@ fn is_write_told(event: &Event) -> bool
 }
 
 impl SocketSet {
-    ghost use Rattle.proxy_net.specs.Sockets.{GoesOn, IsWished, is_noted, is_event_noted, is_side_noted, KeepsNotes};
+    ghost use Rattle.proxy_net.specs.Sockets.{is_stalled_at, GoesOn, IsWished, is_noted, is_event_noted, is_side_noted, KeepsNotes};
 
     /// Asks the system what became ready, and waits for it where nothing is to be named yet.
     pub fn ask(&mut self, rt: &HostRuntime, events: &mut Events) -> io::Result<()>
@@ -153,7 +153,11 @@ impl SocketSet {
     /// Names the listener at a place again, where it is stalled.
     pub(super) fn revive(&mut self, place: usize)
         requires { place < 2 ^ 63 }
-        ensures { GoesOn self.old self.new }
+        ensures revived { is_stalled_at self.new place ≡ false }
+        ensures others { (other : ℕ) → is_stalled_at self.old other ≡ false → is_stalled_at self.new other ≡ false }
+        ensures number { vec_len self.new.listeners ≡ vec_len self.old.listeners }
+        ensures links { self.new.links ≡ self.old.links }
+        ensures goes { GoesOn self.old self.new }
     {
         if let Some(socket) = self.listeners.get_mut(place) {
             let is_new = socket.revive();
@@ -165,6 +169,8 @@ impl SocketSet {
     pub fn next(&mut self) -> Option<Ready>
         ensures ask { NAMED_BETWEEN_ASKS ≤ self.old.named → result ≡ None }
         ensures none { IfNone result (self.old.named < NAMED_BETWEEN_ASKS → deque_len self.new.ready ≡ 0) }
+        ensures counted { IfSome result (λ _. self.new.named ≡ self.old.named + 1) }
+        ensures uncounted { IfNone result (self.new.named ≡ self.old.named) }
         ensures wished { IfSome result (IsWished self.old self.new) }
         ensures goes { GoesOn self.old self.new }
     {
@@ -184,6 +190,8 @@ impl SocketSet {
         requires { 0 < deque_len self.old.ready }
         ensures named { IfSome result (λ _. self.new.ready.items ≡ drop 1 self.old.ready.items ++ take 1 self.old.ready.items) }
         ensures left { IfNone result (deque_len self.new.ready < deque_len self.old.ready) }
+        ensures counted { IfSome result (λ _. self.new.named ≡ min (self.old.named + 1) (2 ^ 32 - 1)) }
+        ensures uncounted { IfNone result (self.new.named ≡ self.old.named) }
         ensures wished { IfSome result (IsWished self.old self.new) }
         ensures goes { GoesOn self.old self.new }
     {
@@ -203,6 +211,8 @@ impl SocketSet {
         requires first { slice_get self.old.ready.items 0 ≡ Some number }
         ensures named { IfSome result (λ _. self.new.ready.items ≡ drop 1 self.old.ready.items ++ take 1 self.old.ready.items) }
         ensures left { IfNone result (deque_len self.new.ready < deque_len self.old.ready) }
+        ensures counted { IfSome result (λ _. self.new.named ≡ min (self.old.named + 1) (2 ^ 32 - 1)) }
+        ensures uncounted { IfNone result (self.new.named ≡ self.old.named) }
         ensures wished { IfSome result (IsWished self.old self.new) }
         ensures goes { GoesOn self.old self.new }
     {
@@ -226,6 +236,8 @@ impl SocketSet {
         requires first { slice_get self.old.ready.items 0 ≡ Some number }
         ensures named { IfSome result (λ _. self.new.ready.items ≡ drop 1 self.old.ready.items ++ take 1 self.old.ready.items) }
         ensures left { IfNone result (deque_len self.new.ready < deque_len self.old.ready) }
+        ensures counted { IfSome result (λ _. self.new.named ≡ min (self.old.named + 1) (2 ^ 32 - 1)) }
+        ensures uncounted { IfNone result (self.new.named ≡ self.old.named) }
         ensures wished { IfSome result (IsWished self.old self.new) }
         ensures goes { GoesOn self.old self.new }
     {
@@ -262,10 +274,7 @@ impl SocketSet {
             return Some(Duration::ZERO);
         }
         let due = self.next_due()?;
-        match Instant::now(rt) {
-            Ok(now) => Some(due.saturating_duration_since(now)),
-            Err(_) => Some(Duration::from_millis(BLIND_DELAY)),
-        }
+        Some(delay_until(due, Instant::now(rt).ok()))
     }
 
     /// When the next try to connect a link is due, where there is one.
@@ -340,6 +349,17 @@ impl SocketSet {
             }
             None => Attempt::Done,
         }
+    }
+}
+
+/// How long it is until a time, or so long as the system is waited for where the clock can't be read.
+fn delay_until(time: Instant, now: Option<Instant>) -> Duration
+    ensures known { (clock : Instant) → now ≡ Some clock → as_nanos result ≡ instant_nanos time - instant_nanos clock }
+    ensures blind { now ≡ None → as_nanos result ≡ BLIND_DELAY * 1_000_000 }
+{
+    match now {
+        Some(now) => time.saturating_duration_since(now),
+        None => Duration::from_millis(BLIND_DELAY),
     }
 }
 
