@@ -1,5 +1,5 @@
 -- The calls for the patterns of a policy, one pattern after the other.
-use Rattle.std.proofs.Common.{◌≡◌, ℕ, ◌+◌, ◌-◌, ◌≤◌, ◌<◌, Bool, true, List, [], ◌∷◌, ◌++◌, length, take, drop, Some, slice_get, refl, ap, ap₂, sym, subst, ◌∙◌, arith, append-nil, length-append}
+use Rattle.std.proofs.Common.{◌≡◌, ℕ, ◌+◌, ◌-◌, ◌≤◌, ◌<◌, Bool, true, List, [], ◌∷◌, ◌++◌, length, take, drop, Some, slice_get, refl, ap, ap₂, sym, subst, ◌∙◌, arith, append_assoc, append-nil, length-append}
 use Rattle.std.specs.List.{flat_map, list_any}
 use Rattle.std.proofs.lemmas.List.{take-append-drop, take_all, take_more, drop_more}
 use Rattle.std.proofs.lemmas.List.Concat.{flat_map-append}
@@ -10,8 +10,8 @@ use Rattle.name_patterns.specs.Patterns.{Pattern}
 use Rattle.policy_view.specs.Sent.{Sent, calls_for, is_subtree, own_calls, spelled_from, OwnNames}
 use Rattle.policy_view.specs.Texts.{only_if}
 use Rattle.reply_ledger.specs.Ledger.{Ledger}
-use Rattle.own_calls.specs.Sending.{AreSent}
-use Rattle.own_calls.proofs.SendingLaws.{both-sent, spelled_from-append}
+use Rattle.own_calls.specs.Sending.{AreCutOff, AreSent}
+use Rattle.own_calls.proofs.SendingLaws.{both-sent, cut_first, cut_later, spelled_from-append}
 
 -- ---- a place in a list
 
@@ -89,23 +89,29 @@ own-len policy k n m b le is n_is m_is serial =
 
 -- ---- sending them
 
+-- those that are left behind the first patterns
+abbrev calls_left : Policy → ℕ → List Sent
+calls_left policy k = flat_map calls_for (drop k (patterns_of policy.entries)) ++ only_if (list_any is_subtree policy.entries) OwnNames
+
+own-calls-from : (policy : Policy) (k : ℕ) → own_calls policy ≡ calls_for_first k policy.entries ++ calls_left policy k
+unfolding own_calls
+own-calls-from policy k =
+    let ps = patterns_of policy.entries in
+    let names = only_if (list_any is_subtree policy.entries) OwnNames in
+    let all : flat_map calls_for ps ≡ calls_for_first k policy.entries ++ flat_map calls_for (drop k ps) =
+    ap (flat_map calls_for) (sym (take-append-drop k ps)) ∙ flat_map-append calls_for (take k ps) (drop k ps) in
+    ap (λ (calls : List Sent). calls ++ names) all ∙ append_assoc (calls_for_first k policy.entries) (flat_map calls_for (drop k ps)) names
+
 -- there are serials for those of one more pattern
 pub serials-left : (policy : Policy) (k : ℕ) (p : Pattern) (given now most : ℕ) → slice_get (patterns_of policy.entries) (k + 1 - 1) ≡ Some p →
     now ≡ given + length (calls_for_first k policy.entries) → given + length (own_calls policy) ≤ most → now + length (calls_for p) ≤ most
 serials-left policy k p given now most at now_is le =
-    let ps = patterns_of policy.entries in
-    let all : flat_map calls_for ps ≡ calls_for_first (k + 1) policy.entries ++ flat_map calls_for (drop (k + 1) ps) =
-    ap (flat_map calls_for) (sym (take-append-drop (k + 1) ps)) ∙ flat_map-append calls_for (take (k + 1) ps) (drop (k + 1) ps) in
-    let whole : own_calls policy ≡ calls_for_first (length ps) policy.entries ++ only_if (list_any is_subtree policy.entries) OwnNames = own-calls policy (length ps) (list_any is_subtree policy.entries) (omega arith) refl in
     omega (
       arith,
       now_is,
       le,
-      ap length whole,
-      length-append (calls_for_first (length ps) policy.entries) (only_if (list_any is_subtree policy.entries) OwnNames),
-      ap length (all-calls policy.entries (length ps) (omega arith)),
-      ap length all,
-      length-append (calls_for_first (k + 1) policy.entries) (flat_map calls_for (drop (k + 1) ps)),
+      ap length (own-calls-from policy (k + 1)),
+      length-append (calls_for_first (k + 1) policy.entries) (calls_left policy (k + 1)),
       ap length (next-calls policy.entries k p at),
       length-append (calls_for_first k policy.entries) (calls_for p),
     )
@@ -127,3 +133,19 @@ module _ {calls calls_between calls_then : List ℕ} {given given_between given_
       AreSent (own_calls policy) calls given ledger calls_then given_then ledger_then
   all-sent policy k b le is first second =
       subst (λ (s : List Sent). AreSent s calls given ledger calls_then given_then ledger_then) (sym (own-calls policy k b le is)) (both-sent _ _ _ _ _ _ _ _ _ _ _ first second)
+
+  -- memory was refused amid the calls for a pattern
+  pub cut_at_pattern : (policy : Policy) (k : ℕ) (p : Pattern) → slice_get (patterns_of policy.entries) (k + 1 - 1) ≡ Some p →
+      AreSent (calls_for_first k policy.entries) calls given ledger calls_between given_between ledger_between →
+      AreCutOff (calls_for p) calls_between given_between ledger_between calls_then given_then ledger_then → AreCutOff (own_calls policy) calls given ledger calls_then given_then ledger_then
+  cut_at_pattern policy k p at first cut =
+      let so_far = cut_later (calls_for_first k policy.entries) (calls_for p) first cut in
+      let more = subst (λ (s : List Sent). AreCutOff s calls given ledger calls_then given_then ledger_then) (sym (next-calls policy.entries k p at)) so_far in
+      subst (λ (s : List Sent). AreCutOff s calls given ledger calls_then given_then ledger_then) (sym (own-calls-from policy (k + 1))) (cut_first (calls_for_first (k + 1) policy.entries) (calls_left policy (k + 1)) more)
+
+  -- and behind those for all patterns
+  pub cut_behind_patterns : (policy : Policy) (k : ℕ) (b : Bool) → length (patterns_of policy.entries) ≤ k → b ≡ list_any is_subtree policy.entries →
+      AreSent (calls_for_first k policy.entries) calls given ledger calls_between given_between ledger_between → AreCutOff (only_if b OwnNames) calls_between given_between ledger_between calls_then given_then ledger_then →
+      AreCutOff (own_calls policy) calls given ledger calls_then given_then ledger_then
+  cut_behind_patterns policy k b le is first cut =
+      subst (λ (s : List Sent). AreCutOff s calls given ledger calls_then given_then ledger_then) (sym (own-calls policy k b le is)) (cut_later _ _ first cut)

@@ -1,7 +1,7 @@
 //! The calls right behind the first `Hello`: those for each pattern of the policy, and ListNames where one is `N.*`.
-ghost use Rattle.std.specs.Prelude.{◌≡◌, ◌≤◌, ◌++◌, ◌+◌, ◌*◌, ℕ, OnOk, length};
+ghost use Rattle.std.specs.Prelude.{◌≡◌, ◌≤◌, ◌++◌, ◌+◌, ◌*◌, ℕ, OnErr, OnOk, length};
 ghost use Rattle.std.specs.List.{list_any};
-ghost use Rattle.own_calls.specs.Sending.{expecting};
+ghost use Rattle.own_calls.specs.Sending.{AreCutOff, expecting};
 ghost use Rattle.policy_args.specs.Policy.{patterns_of};
 ghost use Rattle.policy_view.specs.Sent.{calls_for, is_subtree, own_calls, spelled_from};
 ghost use Rattle.serial_map.specs.Serials.{most_serials};
@@ -52,6 +52,8 @@ pub fn after_hello_len(policy: &Policy) -> usize
 
 /// Puts the calls that follow the first `Hello` behind the calls: for each pattern of the policy, in order and once, an
 /// AddMatch, and for an exact name a GetNameOwner behind it; where a pattern is `N.*`, a ListNames comes last.
+/// Where memory is refused, the bytes that were put, the serials that were taken and the answers that are expected are each those of a front of
+/// these calls.
 pub fn after_hello(
     alloc: Global,
     calls: &mut BytesMut,
@@ -63,6 +65,7 @@ pub fn after_hello(
     ensures bytes { OnOk result (calls.new.items ≡ calls.old.items ++ spelled_from (serials.old + 1) (own_calls policy.now)) }
     ensures serials { OnOk result (serials.new ≡ serials.old + length (own_calls policy.now)) }
     ensures ledger { OnOk result (ledger.new ≡ record ledger.old { expected = expecting ledger.old.expected (serials.old + 1) (own_calls policy.now) }) }
+    ensures err { OnErr result (AreCutOff (own_calls policy.now) calls.old.items serials.old ledger.old calls.new.items serials.new ledger.new) }
 {
     for index in 0..pattern_count(policy) {
         put_calls_for(alloc, calls, serials, ledger, policy.pattern(index + 1))?;

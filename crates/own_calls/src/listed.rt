@@ -1,9 +1,9 @@
 //! The calls on the answer to ListNames: GetNameOwner for each name in it that an `N.*` covers.
-ghost use Rattle.std.specs.Prelude.{◌≡◌, ◌≤◌, ◌++◌, ◌+◌, ◌&&◌, All, IfOk, OnOk, bytes_eq, length, map, not, true};
+ghost use Rattle.std.specs.Prelude.{◌≡◌, ◌≤◌, ◌++◌, ◌+◌, ◌&&◌, All, IfOk, OnErr, OnOk, bytes_eq, length, map, not, true};
 ghost use Rattle.dbus_names.specs.Names.{is_well_known as is_well_known_name};
 ghost use Rattle.name_patterns.specs.Patterns.{covers};
 ghost use Rattle.own_calls.specs.Asked.{is_covered};
-ghost use Rattle.own_calls.specs.Sending.{expecting};
+ghost use Rattle.own_calls.specs.Sending.{AreCutOff, expecting};
 ghost use Rattle.policy_view.specs.Sent.{asked as asked_names, is_asked as is_asked_name, spelled_from, OwnOwner};
 ghost use Rattle.serial_map.specs.Serials.{most_serials};
 
@@ -36,7 +36,8 @@ pub fn asked<'a>(
     Ok(asked)
 }
 
-/// Puts a GetNameOwner for each of the names behind the calls.
+/// Puts a GetNameOwner for each of the names behind the calls. Where memory is refused, the bytes that were put, the serials that were taken
+/// and the answers that are expected are each those of a front of these calls.
 pub fn after_names(
     alloc: Global,
     calls: &mut BytesMut,
@@ -49,6 +50,7 @@ pub fn after_names(
     ensures bytes { OnOk result (calls.new.items ≡ calls.old.items ++ spelled_from (serials.old + 1) (map OwnOwner (map (λ name. name.now) names.now))) }
     ensures serials { OnOk result (serials.new ≡ serials.old + length (map OwnOwner (map (λ name. name.now) names.now))) }
     ensures ledger { OnOk result (ledger.new ≡ record ledger.old { expected = expecting ledger.old.expected (serials.old + 1) (map OwnOwner (map (λ name. name.now) names.now)) }) }
+    ensures err { OnErr result (AreCutOff (map OwnOwner (map (λ name. name.now) names.now)) calls.old.items serials.old ledger.old calls.new.items serials.new ledger.new) }
 {
     for name in names {
         put_owner(alloc, calls, serials, ledger, name)?;

@@ -7,7 +7,7 @@ use dbus_header::Message;
 use std::alloc::{AllocError, Global};
 
 /// A message in front of a side's stream. The bytes of a long one are shared: they go on, and are kept, without a copy.
-#[derive(Clone, Copy)]
+#[derive(Drop)]
 pub(crate) struct Incoming<'a, 'b> {
     pub(crate) message: &'a Message<'b>,
     pub(crate) shared: Option<&'a Bytes>,
