@@ -16,7 +16,7 @@ pub read_all : (named reads new_reads : List (List ℕ)) → new_reads ≡ reads
 read_all named reads new_reads e = record { count = length named; are = e ∙ ap (λ (paths : List (List ℕ)). reads ++ paths) (sym (take-all named)) }
 
 -- .. and so are the first of two parts
-read_first : (named first rest reads new_reads : List (List ℕ)) → named ≡ first ++ rest → new_reads ≡ reads ++ first → ReadFront named reads new_reads
+pub read_first : (named first rest reads new_reads : List (List ℕ)) → named ≡ first ++ rest → new_reads ≡ reads ++ first → ReadFront named reads new_reads
 read_first named first rest reads new_reads two e = record {
   count = length first;
   are = e ∙ ap (λ (paths : List (List ℕ)). reads ++ paths) (sym (ap (take (length first)) two ∙ take-append_seam first rest));

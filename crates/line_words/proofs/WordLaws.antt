@@ -135,7 +135,7 @@ file_same : (before : List (List ℕ)) (o : Option (List ℕ)) (f h : List (List
 file_same before None f h same = refl
 file_same before (Some bytes) f h same = ap (λ (l : Line). cond (nat_lt ARGS_LIMIT (length bytes)) TooLong l) (words_same before (words_in bytes) f h same)
 
-line_same : (was now : Told) → ((p : List ℕ) → now p ≡ was p) → (before words : List (List ℕ)) → line_from now before words ≡ line_from was before words
+pub line_same : (was now : Told) → ((p : List ℕ) → now p ≡ was p) → (before words : List (List ℕ)) → line_from now before words ≡ line_from was before words
 line_same was now same before [] = refl
 line_same was now same before (word ∷ words) = by (args_path word) (λ (b : List (List ℕ)). line_same was now same b words)
   where

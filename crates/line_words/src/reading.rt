@@ -4,8 +4,8 @@ ghost use Rattle.link_traits.specs.Told.{Rose};
 ghost use Rattle.policy_args.specs.Reading.{line_seen};
 ghost use Rattle.policy_args.specs.Words.{words_in};
 ghost use Rattle.line_words.specs.Words.{args_path, Reads, line_in};
-ghost use Rattle.line_words.specs.FilesRead.{paths_in, ReadUntil, IsNamedBy};
-ghost use Rattle.line_words.specs.Stops.{Agrees, StopsBy, StopsFrom, FileStops, IsBehind, Expands, CausedBy};
+ghost use Rattle.line_words.specs.FilesRead.{paths_in, ReadUntil, IsNamedBy, needed_by, ReadsNeeded, NoneIsBad, EndsNeeded};
+ghost use Rattle.line_words.specs.Stops.{IsSettled, Agrees, StopsBy, StopsFrom, FileStops, IsBehind, Expands, CausedBy};
 
 use link_traits::{FileFault, Files, read_whole};
 use policy_args::{BadWord, LineRefusal, ProxyLine, read_line, words_of};
@@ -48,6 +48,10 @@ pub fn read_words<'a, F: Files>(
     // stop, a front of these was, up to the one that could not be.
     ensures read { OnOk result (F.reads files.new ≡ F.reads files.old ++ paths_in (map (λ w. string_bytes w) words.now)) }
     ensures until { IfErr result (λ stop. ReadUntil (paths_in (map (λ w. string_bytes w) words.now)) (F.reads files.old) (F.reads files.new) stop) }
+
+    // None was read behind one that is bad, by what is told of the files. Where that settles what the
+    // words come to, they are refused only once all were read up to that one.
+    ensures needed { ReadsNeeded (IsSettled (line_in (F.told files.old) (map (λ w. string_bytes w) words.now))) (needed_by (F.told files.old) (map (λ w. string_bytes w) words.now)) (F.reads files.old) (F.reads files.new) result }
 {
     match expand(alloc, files, words) {
         Ok(all) => match read_line(alloc, &all) {
@@ -71,6 +75,8 @@ fn expand<'a, F: Files>(
     ensures count { F.faults files.old ≤ F.faults files.new }
     ensures read { OnOk result (F.reads files.new ≡ F.reads files.old ++ paths_in (map (λ w. string_bytes w) words.now)) }
     ensures until { IfErr result (λ stop. ReadUntil (paths_in (map (λ w. string_bytes w) words.now)) (F.reads files.old) (F.reads files.new) stop) }
+    ensures needed { ReadsNeeded (IsSettled (line_in (F.told files.old) (map (λ w. string_bytes w) words.now))) (needed_by (F.told files.old) (map (λ w. string_bytes w) words.now)) (F.reads files.old) (F.reads files.new) result }
+    ensures sound { OnOk result (NoneIsBad (F.told files.old) (map (λ w. string_bytes w) words.now)) }
 {
     let mut all = Vec::new(alloc);
     for word in words {
@@ -96,6 +102,8 @@ fn add_word<'a, F: Files>(
     ensures kept { (p : List ℕ) → F.told files.new p ≡ F.told files.old p }
     ensures read { F.reads files.new ≡ F.reads files.old ++ paths_in (word.now ∷ []) }
     ensures named { IfErr result (λ stop. IsNamedBy word.now stop) }
+    ensures sound { OnOk result (NoneIsBad (F.told files.old) (word.now ∷ [])) }
+    ensures ends { IfErr result (λ stop. EndsNeeded (F.told files.old) (map (λ w. string_bytes w) all.old.items) word.now stop) }
 {
     match path_in(word) {
         Some(path) => match file_words(alloc, files, path) {
