@@ -1,4 +1,8 @@
 //! Nets in memory that are made of texts.
+ghost use Rattle.std.specs.Prelude.{◌≡◌, ◌++◌, IfOk, decimal, string_bytes};
+ghost use Rattle.link_traits.specs.MemNets.{IsNew, mem_view};
+ghost use Rattle.test_nets.specs.Names.{letter_of};
+
 use link_traits::{Exception, Link, MemNet, Script, Side};
 use std::alloc::{AllocError, Global};
 use test_tables::{plain, text_of};
@@ -6,7 +10,9 @@ use test_tables::{plain, text_of};
 /// A net of a script that is written in words: `arrival 0`, `piece c1 bytes`, `end c1`, `pace b1 2`, `limit b1 9`, an
 /// exception with its place as `ReadFails 2`, and `room 9 8` for the room of entries and of bytes, which is else ample. In a piece
 /// `~` is a zero, and `%` stands before two hexadecimal digits of a byte.
-pub fn net_of(alloc: Global, words: &str) -> Result<MemNet, AllocError> {
+pub fn net_of(alloc: Global, words: &str) -> Result<MemNet, AllocError>
+    ensures { IfOk result (λ net. IsNew (mem_view net)) }
+{
     let mut script = Script::new(alloc);
     let mut room = (999, 9999);
     for word in words.split(", ") {
@@ -69,7 +75,9 @@ pub fn link_of(name: &str) -> Link {
 }
 
 /// The name of a link.
-pub fn name_of(alloc: Global, link: Link) -> Result<String, AllocError> {
+pub fn name_of(alloc: Global, link: Link) -> Result<String, AllocError>
+    ensures { IfOk result (λ name. string_bytes name ≡ letter_of link.side ++ decimal link.session) }
+{
     match link.side {
         Side::Client => format!(in alloc; "c{}", link.session),
         Side::Bus => format!(in alloc; "b{}", link.session),
