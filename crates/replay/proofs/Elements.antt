@@ -1,8 +1,8 @@
 -- The elements that a recording gives, as its events are played and as they are taken.
-use Rattle.std.proofs.Common.{◌≡◌, ◌≤◌, ◌+◌, ℕ, List, [], ◌∷◌, ◌++◌, Option, Some, None, false, refl, ap, sym, ◌∙◌, subst, append-nil, length, take, drop}
+use Rattle.std.proofs.Common.{◌≡◌, ◌≤◌, ◌+◌, ℕ, List, [], ◌∷◌, ◌++◌, Option, Some, None, false, refl, ap, sym, ◌∙◌, subst, append-nil, arith, length, take, drop}
 use Rattle.std.specs.Prelude.{IfNone, IfOk, IfSome, Result, Ok, Err, option_to_list}
 use Rattle.std.specs.List.{AllByRecursion}
-use Rattle.std.proofs.lemmas.List.{take_all}
+use Rattle.std.proofs.lemmas.List.{drop_all, take_all}
 use Rattle.policy_args.specs.Policy.{Policy}
 use Rattle.policy_view.specs.Elements.{BringsBytes, elements}
 use Rattle.policy_view.specs.History.{Event, end_of, history}
@@ -14,7 +14,7 @@ use Rattle.proxy_core.specs.Steps.{IsLight}
 use Rattle.recording.specs.Recording.{Event as Recorded, Recording}
 use Rattle.replay.specs.Output.{event_of, events_of, mode_of}
 use Rattle.replay.specs.Twins.{compared_under}
-use Rattle.replay.specs.Watching.{Gave, GaveAll, GaveNext, GaveWaiting}
+use Rattle.replay.specs.Watching.{Gave, GaveAll, GaveNext, GaveWaiting, NothingWaits}
 use Rattle.replay.specs.declared.watching.Watched.{Watched}
 
 -- nothing was played
@@ -42,6 +42,15 @@ gave-played policy recording old session event n given next brings light stands 
   bytes = subst (λ events. AllByRecursion BringsBytes events) (sym next) (brings, gave.bytes);
   visible = gave.visible;
 }
+
+-- all bytes that waited were taken
+pub none_waits : (old between new : SessionView) (n m : ℕ) → n ≡ length old.bus_side → m ≡ length between.client_side → between ≡ record old { bus_side = drop n old.bus_side } →
+    new ≡ record between { client_side = drop m between.client_side } → NothingWaits new
+none_waits old between new n m n_is m_is bus client =
+    record {
+      for_bus = ap (λ (v : SessionView). v.bus_side) (client ∙ ap (λ (v : SessionView). record v { client_side = drop m between.client_side }) bus) ∙ drop_all n old.bus_side (omega (arith, n_is));
+      for_client = ap (λ (v : SessionView). v.client_side) client ∙ drop_all m between.client_side (omega (arith, m_is));
+    }
 
 -- bytes for either side were taken
 pub gave-bus : (policy : Policy) (recording : Recording) (old : Watched) (session : SessionView) (n : ℕ) (given : List Element) → session ≡ record (old.session) { bus_side = drop n old.session.bus_side } →

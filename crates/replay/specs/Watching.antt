@@ -5,7 +5,7 @@ use Rattle.policy_args.specs.Policy.{Policy}
 use Rattle.policy_view.specs.Elements.{BringsBytes, elements}
 use Rattle.policy_view.specs.History.{end_of}
 use Rattle.policy_view.specs.declared.visible.Visible.{Visible as Element}
-use Rattle.proxy_core.specs.Sessions.{StandsFor, Taken}
+use Rattle.proxy_core.specs.Sessions.{SessionView, StandsFor, Taken}
 use Rattle.recording.specs.Recording.{Recording}
 use Rattle.replay.specs.Output.{events_of, history_of, mode_of}
 use Rattle.replay.specs.Twins.{compared_under}
@@ -19,6 +19,11 @@ pub record Gave (policy : Policy) (recording : Recording) (watched : Watched) (g
   pub stands : StandsFor policy watched.session (events_of (take watched.played recording.events)) taken
   pub bytes : AllByRecursion BringsBytes (events_of (take watched.played recording.events))
   pub visible : taken.visible ≡ given
+
+-- no bytes wait for either side
+pub record NothingWaits (view : SessionView) : Type 0 where
+  pub for_bus : view.bus_side ≡ []
+  pub for_client : view.client_side ≡ []
 
 -- all events were played, these are all elements, and the session has the history's End
 pub record GaveAll (policy : Policy) (recording : Recording) (watched : Watched) (given : List Element) : Type 0 where

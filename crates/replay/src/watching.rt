@@ -5,7 +5,7 @@ ghost use Rattle.policy_view.specs.declared.visible.Visible.{Visible as Element}
 ghost use Rattle.proxy_core.specs.Sessions.{is_memory as ended_for_memory};
 ghost use Rattle.recording.specs.Recording.{Recording as RecordingValue};
 ghost use Rattle.recording.specs.Seen.{recording_seen};
-ghost use Rattle.replay.specs.Watching.{Gave, GaveNext, GaveWaiting};
+ghost use Rattle.replay.specs.Watching.{Gave, GaveNext, GaveWaiting, NothingWaits};
 
 use crate::playing::{is_memory, play_event};
 use policy_args::Policy;
@@ -37,6 +37,7 @@ impl Watched {
     fn let_go_bytes(&mut self)
         ensures gave { (policy : PolicyValue) (recording : RecordingValue) (given : List Element) → Gave policy recording self.old given → Gave policy recording self.new given }
         ensures played { self.new.played ≡ self.old.played }
+        ensures none { NothingWaits self.new.session }
     {
         let for_bus = self.session.bus_waits();
         self.session.took_bus(for_bus as usize);
@@ -49,6 +50,7 @@ impl Watched {
         requires { self.old.played < length recording.now.events.items }
         ensures gave { (given : List Element) → Gave policy.now (recording_seen recording.now) self.old given → Gave policy.now (recording_seen recording.now) self.new given }
         ensures played { self.new.played ≡ self.old.played + 1 }
+        ensures none { NothingWaits self.new.session }
     {
         play_event(&mut self.session, policy, &recording.events[self.played]);
         self.played += 1;
