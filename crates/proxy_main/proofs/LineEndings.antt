@@ -1,6 +1,6 @@
 -- How the run of a proxy line ends, and what follows from it.
 use Rattle.std.proofs.Common.{◌≡◌, ◌≤◌, ◌⊎◌, ◌++◌, inl, inr, ℕ, Bool, true, false, if◌then◌else◌, List, Option, Some, Ok, Err, ap, sym, ◌∙◌, subst, refl, arith}
-use Rattle.link_traits.specs.Told.{Rose}
+use Rattle.link_traits.specs.Told.{Rose, ReadFront}
 use Rattle.link_traits.specs.Views.{NetView, RoseAt}
 use Rattle.link_traits.specs.declared.links.Count.TheVariants.{Own as OfNet}
 use Rattle.policy_args.specs.declared.line.ProxyLine.{ProxyLine}
@@ -12,7 +12,7 @@ use Rattle.line_words.specs.declared.reading.LineStop.{LineStop}
 use Rattle.line_words.specs.declared.reading.LineStop.TheVariants as line_stop
 use Rattle.line_words.specs.Words.{Line, Untold, TooLong, Bad, Reads, line_in}
 use Rattle.line_words.specs.Stops.{IsSettled, Agrees, StopsBy, CausedBy, without}
-use Rattle.line_words.specs.FilesRead.{paths_in}
+use Rattle.line_words.specs.FilesRead.{paths_in, needed_by}
 use Rattle.proxy_main.specs.declared.Refusal.{Refusal}
 use Rattle.proxy_main.specs.declared.Refusal.TheVariants.{Usage, LineWord, ArgsTooLong, PolicyWord, PolicyTooLong, Recording as BadFile, NoSuchMessage}
 use Rattle.proxy_main.specs.declared.Stop.{Stop}
@@ -196,8 +196,9 @@ module _ (told : List ℕ → Option (List ℕ)) (words : List (List ℕ)) (file
   unserves (Serves s) = inr s
 
   pub line_run : (reads new_reads : List (List ℕ)) → LineEnds told words files err before after first last code → LineReads (paths_in words) reads new_reads err first.told last.told code →
-      (after ≡ before) ⊎ (new_reads ≡ reads ++ paths_in words) → LineRun told words reads new_reads files err before after first last code
-  line_run reads new_reads ends named read_first = record {
+      (after ≡ before) ⊎ (new_reads ≡ reads ++ paths_in words) → ReadFront (needed_by told words) reads new_reads →
+      (IsSettled (line_in told words) → (new_reads ≡ reads ++ needed_by told words) ⊎ ((code ≡ 4) ⊎ (code ≡ 8))) → LineRun told words reads new_reads files err before after first last code
+  line_run reads new_reads ends named read_first needed exactly_needed = record {
     ends = ends;
     words_refused = λ settled. exactly 1 (inl refl) ends settled;
     policy_refused = λ settled. exactly 2 (inr refl) ends settled;
@@ -208,4 +209,6 @@ module _ (told : List ℕ → Option (List ℕ)) (words : List (List ℕ)) (file
     unserved = unserves ends;
     reads_named = named;
     reads_first = read_first;
+    reads_needed = needed;
+    reads_exactly = exactly_needed;
   }

@@ -1,7 +1,10 @@
--- Which of the files that a command needs were read when its run ended.
+-- Which of the files that words need were read when its run ended.
 use Rattle.std.proofs.Common.{◌≡◌, ◌⊎◌, inl, inr, ℕ, List, [], ◌∷◌, ◌++◌, Option, Some, None, Result, Ok, Err, IfSome, ap, sym, ◌∙◌, subst, refl, take}
 use Rattle.std.proofs.lemmas.List.{append-nil}
 use Rattle.link_traits.specs.Told.{ReadFront}
+use Rattle.line_words.specs.declared.reading.LineStop.{LineStop}
+use Rattle.line_words.specs.declared.reading.LineStop.TheVariants as line_stop
+use Rattle.line_words.specs.FilesRead.{NeededUntil as LineNeededUntil}
 use Rattle.line_words.proofs.ReadLaws.{read_all}
 use Rattle.policy_args.specs.Words.{PolicyOptions}
 use Rattle.recording.specs.Recording.{Recording}
@@ -12,6 +15,7 @@ use Rattle.proxy_main.specs.Words.{Command}
 use Rattle.proxy_main.specs.Answers.{Answer, IsSettled, checked_policy, checked_recording, then_read, then_load}
 use Rattle.proxy_main.specs.Loads.{LoadStops}
 use Rattle.proxy_main.specs.Endings.{StopTold}
+use Rattle.proxy_main.specs.LineRuns.{IsToldAs}
 use Rattle.proxy_main.specs.FilesRead.{paths_of, needed, up_to_bad, recordings_up_to_bad, behind, unless_refused, NeededUntil, ReadsNeeded}
 use Rattle.proxy_main.proofs.Loading.{read_ok}
 
@@ -107,7 +111,7 @@ module _ (settled : Type 0) (files reads new_reads : List (List ℕ)) (all : new
 pub none_needed : (told : List ℕ → Option (List ℕ)) (command : Option Command) (reads : List (List ℕ)) → paths_of command ≡ [] → reads ≡ reads ++ needed told command
 none_needed told command reads e = sym (append-nil reads) ∙ ap (λ (paths : List (List ℕ)). reads ++ up_to_bad told paths) (sym e)
 
--- ---- a tool's run
+-- ---- a run
 
 module _ (settled : Type 0) (files reads new_reads : List (List ℕ)) where
   pub needed_front : (s : Stop) → NeededUntil settled files reads new_reads s → ReadFront files reads new_reads
@@ -125,3 +129,21 @@ module _ (settled : Type 0) (files reads new_reads : List (List ℕ)) where
   needed_exactly rose err new_err code Output h t now = inl h
   needed_exactly rose err new_err code Log h t now = inl h
   needed_exactly rose err new_err code Memory h t now = inr (inr t.0)
+
+  pub line_needed_front : (why : LineStop) → LineNeededUntil settled files reads new_reads why → ReadFront files reads new_reads
+  line_needed_front (line_stop.File path) h = h
+  line_needed_front line_stop.TooLong h = h.0
+  line_needed_front (line_stop.Bad bad) h = h.0
+  line_needed_front line_stop.Memory h = h
+
+  pub line_needed_exactly : (rose : Type 0) (err new_err : Option (List ℕ)) (code : ℕ) (why : LineStop) (stop : Stop) → LineNeededUntil settled files reads new_reads why → IsToldAs why stop →
+      StopTold rose err new_err code stop → settled → (new_reads ≡ reads ++ files) ⊎ ((code ≡ 4) ⊎ (code ≡ 8))
+  line_needed_exactly rose err new_err code (line_stop.File path) stop h same t now = by (subst (λ (s : Stop). StopTold rose err new_err code s) same t)
+    where
+      by : StopTold rose err new_err code (File path) → (new_reads ≡ reads ++ files) ⊎ ((code ≡ 4) ⊎ (code ≡ 8))
+      by (inl told) = inr (inl told.0)
+      by (inr told) = inr (inr told.0)
+  line_needed_exactly rose err new_err code line_stop.TooLong stop h same t now = inl (h.1 now)
+  line_needed_exactly rose err new_err code (line_stop.Bad bad) stop h same t now = inl (h.1 now)
+  line_needed_exactly rose err new_err code line_stop.Memory stop h same t now =
+      let m = subst (λ (s : Stop). StopTold rose err new_err code s) same t in inr (inr m.0)

@@ -7,6 +7,7 @@
 --     5    the net could not listen, or wait
 --     8    memory ran out
 use Rattle.std.specs.Prelude.{◌≡◌, ◌⊎◌, ◌++◌, ℕ, List, Option, Some, None, Ok, Err}
+use Rattle.link_traits.specs.Told.{ReadFront}
 use Rattle.link_traits.specs.Views.{NetView, RoseAt}
 use Rattle.link_traits.specs.declared.links.Count.TheVariants.{Own as OfNet}
 use Rattle.policy_args.specs.declared.line.ProxyLine.{ProxyLine}
@@ -17,7 +18,7 @@ use Rattle.proxy_run.specs.Runs.{RunEnd, RunDid, RunLinks}
 use Rattle.proxy_run.specs.Logs.{RunLogs}
 use Rattle.line_words.specs.Words.{Line, Untold, TooLong, Bad, Reads, line_in}
 use Rattle.line_words.specs.Stops.{IsSettled, Agrees, without}
-use Rattle.line_words.specs.FilesRead.{paths_in}
+use Rattle.line_words.specs.FilesRead.{paths_in, needed_by}
 use Rattle.line_words.specs.declared.reading.LineStop.{LineStop}
 use Rattle.line_words.specs.declared.reading.LineStop.TheVariants as line_stop
 use Rattle.proxy_main.specs.declared.Stop.{Stop}
@@ -124,3 +125,7 @@ pub record LineRun (told : List ℕ → Option (List ℕ)) (words reads new_read
   -- over the net unless all were.
   pub reads_named : LineReads (paths_in words) reads new_reads err_rose first.told last.told code
   pub reads_first : (after ≡ before) ⊎ (new_reads ≡ reads ++ paths_in words)
+  -- No file was read behind one that is bad, by what is told of the files. Where that settles what the words come to, exactly those were
+  -- read that they need, unless a file failed or memory ran out.
+  pub reads_needed : ReadFront (needed_by told words) reads new_reads
+  pub reads_exactly : IsSettled (line_in told words) → (new_reads ≡ reads ++ needed_by told words) ⊎ ((code ≡ 4) ⊎ (code ≡ 8))

@@ -1,13 +1,15 @@
 //! The program behind its command line.
 //!
 //! `ADDRESS PATH [OPTION..]` and further such blocks are a proxy line: the program listens at each PATH, and serves each client that comes
-//! between it and the bus at ADDRESS, by the block's options. The tools work on files. `replay POLICY RECORDING` plays a recorded session under a policy, and writes what its sides get
-//! on the standard output. Where the policy asks for a log, that is written first, on the standard
-//! error. `explain POLICY RECORDING N` plays it too, and writes what was decided on its message of
-//! number N, and the entry of the policy on which that rests. `twin POLICY A B` plays two, and writes
-//! whether they are the same to the policy, or where they first differ. `sample N SEED` plays a
-//! generated session, and sums it up. `--help` and `--version` write what they say. A run ends with a status,
-//! and with a line on the standard error where the status says that something is wrong.
+//! between it and the bus at ADDRESS, by the block's options.
+//!
+//! The tools work on files. `replay POLICY RECORDING` plays a recorded session under a policy, and writes what its sides get on the
+//! standard output; where the policy asks for a log, that is written first, on the standard error. `explain POLICY RECORDING N` plays it,
+//! too, and writes what was decided on its message of number N, and the entry of the policy on which that rests. `twin POLICY A B` plays
+//! two, and writes whether they are the same to the policy, or where they first differ. `sample N SEED` plays a generated session, and
+//! sums it up. `--help` and `--version` write what they say.
+//!
+//! A run ends with a status, and with a line on the standard error where the status says that something is wrong.
 #![tactic(auto)]
 
 mod disk_files;
@@ -67,7 +69,7 @@ pub enum Refusal {
 /// Why a run stops before its work is done.
 #[derive(Clone, Copy, Debug, PartialEq, Eq, Error)]
 pub(crate) enum Stop<'a> {
-    /// The words or a file are refused, before any work.
+    /// The words, a file, or the number of a message are refused, and nothing was written.
     #[error("{0}")]
     Refused(Refusal),
     /// The file at this path, which the words name, was not read.
@@ -86,11 +88,10 @@ pub(crate) enum Stop<'a> {
 
 /// The status of a run.
 ///
-/// 0: the whole log and the whole output were written, or nothing is left to be served. 1: the words
-/// are refused. 2: a word of the policy is refused. 3: a recording is refused. 4: a file was not read.
-/// 5: the net could not listen, or wait. 6: the output or the log of a tool was not written. 7: the parts
-/// differ that the policy leaves of two recordings. 8: memory ran out. 9: the recording has no message of
-/// the number.
+/// 0: the whole log and the whole output were written, or nothing is left to be served. 1: the words are refused, or a file of them is
+/// too long. 2: a word of the policy, or its NAME or RULE in a proxy line, is refused, or the policy file is too long. 3: a recording is
+/// refused. 4: a file was not read. 5: the net could not listen, or wait. 6: the output or the log of a tool was not written. 7: the parts
+/// differ that the policy leaves of two recordings. 8: memory ran out. 9: the recording has no message of the number.
 #[derive(Clone, Copy, Debug, PartialEq, Eq)]
 pub struct Status {
     /// The number that the process ends with.

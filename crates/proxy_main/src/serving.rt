@@ -1,9 +1,11 @@
 //! The run of a proxy line.
 ghost use Rattle.std.specs.Prelude.{◌≡◌, ◌≤◌, ◌⊎◌, ◌++◌, map, string_bytes};
-ghost use Rattle.link_traits.specs.Told.{Rose};
+ghost use Rattle.link_traits.specs.Told.{Rose, ReadFront};
 ghost use Rattle.proxy_loop.specs.Sinks.{sink_of};
 ghost use Rattle.proxy_main.specs.Endings.{Said};
-ghost use Rattle.line_words.specs.FilesRead.{paths_in};
+ghost use Rattle.line_words.specs.Words.{line_in};
+ghost use Rattle.line_words.specs.Stops.{IsSettled};
+ghost use Rattle.line_words.specs.FilesRead.{paths_in, needed_by};
 ghost use Rattle.proxy_main.specs.FilesRead.{LineReads};
 ghost use Rattle.proxy_main.specs.LineRuns.{LineRun, LineEnds, EndSaid, IsToldAs};
 
@@ -40,6 +42,8 @@ fn serve_to_end<F: Files, N: Net, E: Sink>(
     ensures ends { LineEnds (F.told files.old) (map (λ w. string_bytes w) words.now) (Rose (F.faults files.old) (F.faults files.new)) (Rose (E.faults err.old) (E.faults err.new)) (N.view net.old) (N.view net.new) (sink_of (E.told err.old) (E.faults err.old)) (sink_of (E.told err.new) (E.faults err.new)) result.code }
     ensures reads_named { LineReads (paths_in (map (λ w. string_bytes w) words.now)) (F.reads files.old) (F.reads files.new) (Rose (E.faults err.old) (E.faults err.new)) (E.told err.old) (E.told err.new) result.code }
     ensures reads_first { (N.view net.new ≡ N.view net.old) ⊎ (F.reads files.new ≡ F.reads files.old ++ paths_in (map (λ w. string_bytes w) words.now)) }
+    ensures reads_needed { ReadFront (needed_by (F.told files.old) (map (λ w. string_bytes w) words.now)) (F.reads files.old) (F.reads files.new) }
+    ensures reads_exactly { IsSettled (line_in (F.told files.old) (map (λ w. string_bytes w) words.now)) → (F.reads files.new ≡ F.reads files.old ++ needed_by (F.told files.old) (map (λ w. string_bytes w) words.now)) ⊎ ((result.code ≡ 4) ⊎ (result.code ≡ 8)) }
 {
     match read_words(alloc, files, words) {
         Ok(line) => {

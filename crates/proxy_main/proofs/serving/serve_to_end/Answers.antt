@@ -1,6 +1,10 @@
 use Rattle.proxy_loop.specs.Sinks.{sink_of}
-use Rattle.std.proofs.Common.{map, string_bytes}
-use Rattle.line_words.specs.FilesRead.{paths_in}
+use Rattle.std.proofs.Common.{inl, map, string_bytes}
+use Rattle.line_words.specs.Words.{line_in}
+use Rattle.line_words.specs.Stops.{IsSettled}
+use Rattle.line_words.specs.FilesRead.{paths_in, needed_by}
+use Rattle.line_words.proofs.ReadLaws.{read_all}
+use Rattle.proxy_main.proofs.Needed.{line_needed_front, line_needed_exactly}
 use Rattle.proxy_main.proofs.ReadFiles.{line_end_reads, line_stop_reads}
 use Rattle.proxy_main.proofs.LineEndings.{stop_ends, served_ends}
 use Rattle.proxy_main.proofs.serving.serve_to_end.Goals as goal
@@ -26,3 +30,20 @@ pub returns-in-Err-clause-reads_named : goal.returns-in-Err-clause-reads_named
 returns-in-Err-clause-reads_named g c =
     line_stop_reads (paths_in (map (λ w. string_bytes w) c.args.words.now)) (g.F.Files.reads c.args.files.now) (g.F.Files.reads c.read_words.new.files) _ _ _ _ c.in-Err.stop c.told_as.result
     c.in-Err.ensures.until c.told_as.ensures c.tell.ensures.told
+
+pub returns-in-Ok-clause-reads_needed : goal.returns-in-Ok-clause-reads_needed
+returns-in-Ok-clause-reads_needed g c =
+    read_all (needed_by (g.F.Files.told c.args.files.now) (map (λ w. string_bytes w) c.args.words.now)) (g.F.Files.reads c.args.files.now) (g.F.Files.reads c.read_words.new.files) c.in-Ok.ensures.needed
+
+pub returns-in-Ok-clause-reads_exactly : goal.returns-in-Ok-clause-reads_exactly
+returns-in-Ok-clause-reads_exactly g c = λ settled. inl c.in-Ok.ensures.needed
+
+pub returns-in-Err-clause-reads_needed : goal.returns-in-Err-clause-reads_needed
+returns-in-Err-clause-reads_needed g c =
+    line_needed_front (IsSettled (line_in (g.F.Files.told c.args.files.now) (map (λ w. string_bytes w) c.args.words.now))) (needed_by (g.F.Files.told c.args.files.now) (map (λ w. string_bytes w) c.args.words.now))
+    (g.F.Files.reads c.args.files.now) (g.F.Files.reads c.read_words.new.files) c.in-Err.stop c.in-Err.ensures.needed
+
+pub returns-in-Err-clause-reads_exactly : goal.returns-in-Err-clause-reads_exactly
+returns-in-Err-clause-reads_exactly g c =
+    line_needed_exactly (IsSettled (line_in (g.F.Files.told c.args.files.now) (map (λ w. string_bytes w) c.args.words.now))) (needed_by (g.F.Files.told c.args.files.now) (map (λ w. string_bytes w) c.args.words.now))
+    (g.F.Files.reads c.args.files.now) (g.F.Files.reads c.read_words.new.files) _ _ _ _ c.in-Err.stop c.told_as.result c.in-Err.ensures.needed c.told_as.ensures c.tell.ensures.told
