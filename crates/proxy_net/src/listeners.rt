@@ -1,9 +1,7 @@
 //! The sockets that listen.
 ghost use Rattle.std.specs.Prelude.{◌≡◌, ◌≢◌, ◌≤◌, ◌&&◌, ◌||◌, not, Some, true, false};
-ghost use Rattle.link_traits.specs.Told.{Rose};
 ghost use Rattle.proxy_net.specs.Naming.{is_awaited, is_listener_placed};
 
-use crate::link_sockets::raised;
 use crate::registered::Registered;
 use mio::net::{UnixListener, UnixStream};
 use std::io::ErrorKind;
@@ -52,14 +50,13 @@ impl ListenerSocket {
         }
     }
 
-    /// Takes a client. Answers also whether it is to be queued.
+    /// Takes a client. Answers also whether it is to be queued. A failure isn't counted here.
     pub fn accept(&mut self) -> (Arrival, bool)
         ensures placed { is_listener_placed (Some self.new) ≡ true }
         ensures queued { result.1 ≡ true → (self.new.queued ≡ true) × (self.old.queued ≡ false) }
         ensures stays { result.1 ≡ false → self.new.queued ≡ self.old.queued }
         ensures listener { self.new.listener ≡ self.old.listener }
-        ensures failed { result.0 ≡ Arrival.Failed → Rose self.old.faults self.new.faults }
-        ensures faults { self.old.faults ≤ self.new.faults }
+        ensures uncounted { self.new.faults ≡ self.old.faults }
     {
         let arrival = self.take_client();
         (arrival, self.take_place())
@@ -68,9 +65,7 @@ impl ListenerSocket {
     fn take_client(&mut self) -> Arrival
         ensures heeded { self.new.unheeded ≡ false }
         ensures ready { result ≢ Arrival.NotReady → self.new.ready ≡ self.old.ready }
-        ensures rest { self.new ≡ record self.old { faults = self.new.faults; ready = self.new.ready; unheeded = false } }
-        ensures failed { result ≡ Arrival.Failed → Rose self.old.faults self.new.faults }
-        ensures faults { self.old.faults ≤ self.new.faults }
+        ensures rest { self.new ≡ record self.old { ready = self.new.ready; unheeded = false } }
     {
         self.unheeded = false;
         match self.listener.accept() {
@@ -79,15 +74,13 @@ impl ListenerSocket {
         }
     }
 
-    /// Answers an accept that the system refused.
+    /// Answers an accept that the system refused. It isn't counted here.
     fn refuse(&mut self, kind: ErrorKind) -> Arrival
         ensures nobody { kind ≡ ErrorKind.WouldBlock → (result ≡ Arrival.NotReady) × (self.new.ready ≡ false) }
         ensures again { kind ≡ ErrorKind.Interrupted → (result ≡ Arrival.NotReady) × (self.new.ready ≡ self.old.ready) }
         ensures fault { kind ≢ ErrorKind.WouldBlock → kind ≢ ErrorKind.Interrupted → result ≡ Arrival.Failed }
         ensures ready { result ≢ Arrival.NotReady → self.new.ready ≡ self.old.ready }
-        ensures rest { self.new ≡ record self.old { faults = self.new.faults; ready = self.new.ready } }
-        ensures failed { result ≡ Arrival.Failed → Rose self.old.faults self.new.faults }
-        ensures faults { self.old.faults ≤ self.new.faults }
+        ensures rest { self.new ≡ record self.old { ready = self.new.ready } }
     {
         match kind {
             ErrorKind::WouldBlock => {
@@ -95,10 +88,7 @@ impl ListenerSocket {
                 Arrival::NotReady
             }
             ErrorKind::Interrupted => Arrival::NotReady,
-            _ => {
-                self.faults = raised(self.faults);
-                Arrival::Failed
-            }
+            _ => Arrival::Failed,
         }
     }
 

@@ -42,6 +42,6 @@ returns-in-Some-clause-goes c =
     let found = slice_get_read items (length items) _ c.in-Some.socket.now refl c.in-Some.ensures.item.3.0 c.in-Some.ensures.value in
     listener_goes sockets c.queue.new.self c.args.listener c.in-Some.socket.now c.accept-arrival.new.self found (ap (λ (v : Vec ListenerSocket Global). v.items) c.queue.ensures.listeners)
     c.queue.ensures.links c.queue.ensures.own c.queue.ensures.waits c.queue.ensures.absent c.queue.ensures.sessions
-    c.accept-arrival.ensures.faults c.accept-arrival.ensures.listener (λ _. c.accept-arrival.ensures.placed) (λ other _. c.queue.ensures.kept other)
+    (omega (arith, c.accept-arrival.ensures.uncounted)) c.accept-arrival.ensures.listener (λ _. c.accept-arrival.ensures.placed) (λ other _. c.queue.ensures.kept other)
     (still_queued c.in-Some.socket.now c.accept-arrival.new.self (has_place sockets (listeners_from + c.args.listener)) (has_place c.queue.new.self (listeners_from + c.args.listener)) c.accept-arrival.result.1
     (λ e. ap (has_place c.queue.new.self) (ap (λ n. listeners_from + n) (sym c.from.ensures)) ∙ c.queue.ensures.placed e) (c.queue.ensures.kept (listeners_from + c.args.listener)) c.accept-arrival.ensures.stays)

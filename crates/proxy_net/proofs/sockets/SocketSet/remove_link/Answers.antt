@@ -1,4 +1,3 @@
-use Rattle.std.proofs.Common.{arith}
 use Rattle.std.specs.VecDeque.{deque_len, deque_capacity}
 use Rattle.proxy_net.proofs.Room.{removed_fits}
 use Rattle.proxy_net.proofs.sockets.SocketSet.remove_link.Goals as goal
