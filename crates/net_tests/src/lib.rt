@@ -6,6 +6,8 @@ mod backlogs;
 #[cfg(test)]
 mod closed;
 #[cfg(test)]
+mod descriptors;
+#[cfg(test)]
 mod paths;
 #[cfg(test)]
 mod sessions;

@@ -1,0 +1,51 @@
+//! What goes on where the system has no descriptor left.
+use crate::sessions::{accept, client, listening, must, one_client};
+use link_traits::{Accepted, Count, Net, NetFault, Ready};
+use std::fs::{self, File};
+use std::io::Write;
+use std::os::unix::net::UnixStream;
+use std::test::Fail;
+
+/// How many descriptors are taken at most.
+const MOST: u32 = 200_000;
+
+/// Takes all descriptors that are left. `None` where there are more than can be taken.
+fn all_descriptors(rt: &HostRuntime) -> Result<Option<Vec<File>>, Fail> {
+    let mut held = Vec::new(rt.alloc());
+    for _ in 0..MOST {
+        match File::open(rt, "/dev/null") {
+            Ok(file) => held.push(file)?,
+            Err(_) => return Ok(Some(held)),
+        }
+    }
+    Ok(None)
+}
+
+/// A listener whose accept fails isn't named again until a link is shut, and then it is. Neither a listen nor a connect that
+/// fails leaves a thing behind.
+#[test]
+fn none_left(rt: HostRuntime) -> Result<(), Fail> {
+    let mut net = listening(&rt, "none_left")?;
+    let mut client_end = one_client(&rt, &mut net, "none_left")?;
+    let _second = UnixStream::connect(&rt, "none_left")?;
+    must(net.wait() == Ready::Listener(0), "the listener is named")?;
+    let Some(held) = all_descriptors(&rt)? else {
+        return Ok(());
+    };
+    assert_eq!(rt; net.accept(0), Accepted::Failed);
+    assert_eq!(rt; net.count(Count::Listener(0)), 1);
+    assert_eq!(rt; net.listen("none_left_other"), Err(NetFault::Failed));
+    assert_eq!(rt; net.count(Count::Own), 1);
+    assert_eq!(rt; net.connect(1, "none_left"), Err(NetFault::Failed));
+    drop(held);
+    assert!(rt; fs::read(&rt, "none_left_other").is_err());
+    client_end.write_all(b"hi")?;
+    net.want(client(1), true, false);
+    for _ in 0..40 {
+        assert_eq!(rt; net.wait(), Ready::Link(client(1)));
+    }
+    net.shut(client(1));
+    accept(&mut net, 2)?;
+    assert_eq!(rt; net.listen("none_left_other"), Ok(1));
+    Ok(())
+}
