@@ -293,6 +293,8 @@ impl LinkSocket {
         ensures never { is_failed self.old.connection ≡ true → result ≡ LinkWrite.Failed }
         ensures peer { result ≡ LinkWrite.PeerClosed → (self.new.peer_closed ≡ true) × (self.new.readable ≡ true) }
         ensures goes_on { result ≢ LinkWrite.PeerClosed → (self.new.peer_closed ≡ self.old.peer_closed) × (self.new.readable ≡ self.old.readable) }
+        ensures room { (n : ℕ) → result ≡ LinkWrite.Bytes n → self.new.writable ≡ self.old.writable }
+        ensures given_up { result ≢ LinkWrite.PeerClosed → self.new.given_up ≡ self.old.given_up }
         ensures end { self.new.end_read ≡ self.old.end_read }
         ensures queued { self.new.queued ≡ self.old.queued }
         ensures token { (token : ℕ) → is_registered_by token self.old.connection ≡ true → is_registered_by token self.new.connection ≡ true }

@@ -57,6 +57,8 @@ impl ListenerSocket {
         ensures stays { result.1 ≡ false → self.new.queued ≡ self.old.queued }
         ensures listener { self.new.listener ≡ self.old.listener }
         ensures uncounted { self.new.faults ≡ self.old.faults }
+        ensures ready { result.0 ≢ Arrival.NotReady → self.new.ready ≡ self.old.ready }
+        ensures stalled { self.new.stalled ≡ self.old.stalled }
     {
         let arrival = self.take_client();
         (arrival, self.take_place())
