@@ -37,6 +37,10 @@ is_text_of code text =
     else (if code == 7 then is_bus_name text
     else false)))))
 
+-- whether it is in the grammar of the field with this code, a signature's too
+abbrev pub is_sound_of : ℕ → List ℕ → Bool
+is_sound_of code text = if code == 8 then is_none (signature_fault text) else is_text_of code text
+
 -- so many bytes at a place and a NUL, and where that ends
 abbrev pub ended_text : ℕ → List ℕ → ℕ → Option (List ℕ × ℕ)
 ended_text n bytes at = if nat_lt (at + n) (length bytes) && get_or bytes (at + n) 0 == 0 then Some (take n (drop at bytes), at + n + 1) else None

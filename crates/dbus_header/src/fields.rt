@@ -1,33 +1,33 @@
 //! The header fields of a message, read in place.
-ghost use Rattle.std.specs.Prelude.{◌≡◌, ◌≤◌, ◌<◌, ◌+◌, ◌^◌, ◌∷◌, [], Some, None, option_map, length, if◌then◌else◌};
+ghost use Rattle.std.specs.Prelude.{◌≡◌, ◌≢◌, ◌≤◌, ◌<◌, ◌+◌, ◌^◌, ◌∷◌, [], Some, None, option_map, length, if◌then◌else◌};
 ghost use Rattle.dbus_types.specs.Signature.{variant};
 ghost use Rattle.dbus_values.specs.Ends.{values_end};
-ghost use Rattle.dbus_header.specs.HeaderReading.{is_text_of as is_value_text, type_code, ended_text as text_ended, text_part, number_part, signature_part, known_value as value_known, known_part, unread_to, coded_part, part_at, with_text, with_number_part, with_part, nothing_found};
+ghost use Rattle.dbus_header.specs.HeaderReading.{type_code, ended_text as text_ended, text_part, number_part, signature_part, known_value as value_known, known_part, unread_to, coded_part, part_at, with_text, with_number_part, with_part, nothing_found};
 ghost use Rattle.dbus_header.specs.HeaderFields.{FieldsRead};
 ghost use Rattle.dbus_header.specs.Seen.{part_seen, end_seen, fields_seen, parts_seen};
 
+use crate::grammars::Grammars;
 use crate::head::read_u32;
-use dbus_names::{is_bus_name, is_error_name, is_interface, is_member, is_path};
 use dbus_types::Signature;
 use dbus_values::{Order, is_zero, padding, value_end};
 use std::str;
 
 /// The codes of the header fields (D-Bus Specification, "Message Format", "Header Fields").
-const PATH: u8 = 1;
+pub(crate) const PATH: u8 = 1;
 
-const INTERFACE: u8 = 2;
+pub(crate) const INTERFACE: u8 = 2;
 
-const MEMBER: u8 = 3;
+pub(crate) const MEMBER: u8 = 3;
 
-const ERROR_NAME: u8 = 4;
+pub(crate) const ERROR_NAME: u8 = 4;
 
 const REPLY_SERIAL: u8 = 5;
 
-const DESTINATION: u8 = 6;
+pub(crate) const DESTINATION: u8 = 6;
 
-const SENDER: u8 = 7;
+pub(crate) const SENDER: u8 = 7;
 
-const SIGNATURE: u8 = 8;
+pub(crate) const SIGNATURE: u8 = 8;
 
 const UNIX_FDS: u8 = 9;
 
@@ -61,21 +61,6 @@ pub(crate) struct Fields<'a> {
     pub(crate) descriptors: Option<u32>,
 }
 
-/// Whether a text is in the grammar of the field with this code.
-fn is_text_of(code: u8, text: &[u8]) -> bool
-    ensures { result ≡ is_value_text code text.now }
-{
-    match code {
-        PATH => is_path(text),
-        INTERFACE => is_interface(text),
-        MEMBER => is_member(text),
-        ERROR_NAME => is_error_name(text),
-        DESTINATION => is_bus_name(text),
-        SENDER => is_bus_name(text),
-        _ => false,
-    }
-}
-
 /// The type that a known code's value has, as a signature spells it.
 fn type_of(code: u8) -> u8
     ensures { result ≡ type_code code }
@@ -106,7 +91,14 @@ fn ended_text(len: usize, bytes: &[u8], at: usize) -> Option<(&[u8], usize)>
 }
 
 /// A field that holds a path or a string, by the place of its value.
-fn text_field(order: Order, code: u8, bytes: &[u8], at: usize) -> Option<(HeaderField<'_>, usize)>
+fn text_field<'a, G: Grammars>(
+    grammars: &mut G,
+    order: Order,
+    code: u8,
+    bytes: &'a [u8],
+    at: usize,
+) -> Option<(HeaderField<'a>, usize)>
+    requires code { code ≢ 8 }
     requires inside { at ≤ length bytes.now }
     requires short { length bytes.now ≤ 2 ^ 28 }
     ensures { option_map end_seen result ≡ text_part order code bytes.now at }
@@ -119,7 +111,7 @@ fn text_field(order: Order, code: u8, bytes: &[u8], at: usize) -> Option<(Header
         Some(found) => found,
         None => return None,
     };
-    if !is_text_of(code, text) {
+    if !grammars.is_text_of(code, text) {
         return None;
     }
     // The grammar of each name lets ASCII alone pass.
@@ -144,7 +136,11 @@ fn number_field(order: Order, code: u8, bytes: &[u8], at: usize) -> Option<(Head
 }
 
 /// SIGNATURE.
-fn signature_field(bytes: &[u8], at: usize) -> Option<(HeaderField<'_>, usize)>
+fn signature_field<'a, G: Grammars>(
+    grammars: &mut G,
+    bytes: &'a [u8],
+    at: usize,
+) -> Option<(HeaderField<'a>, usize)>
     requires inside { at ≤ length bytes.now }
     requires short { length bytes.now ≤ 2 ^ 28 }
     ensures { option_map end_seen result ≡ signature_part bytes.now at }
@@ -156,14 +152,20 @@ fn signature_field(bytes: &[u8], at: usize) -> Option<(HeaderField<'_>, usize)>
         Some(found) => found,
         None => return None,
     };
-    match Signature::read(text) {
-        Ok(signature) => Some((HeaderField::Signed(signature), end)),
-        Err(_) => None,
+    match grammars.signature(text) {
+        Some(signature) => Some((HeaderField::Signed(signature), end)),
+        None => None,
     }
 }
 
 /// A known field by the place of its value.
-fn known_value(order: Order, code: u8, bytes: &[u8], at: usize) -> Option<(HeaderField<'_>, usize)>
+fn known_value<'a, G: Grammars>(
+    grammars: &mut G,
+    order: Order,
+    code: u8,
+    bytes: &'a [u8],
+    at: usize,
+) -> Option<(HeaderField<'a>, usize)>
     requires inside { at ≤ length bytes.now }
     requires short { length bytes.now ≤ 2 ^ 28 }
     ensures { option_map end_seen result ≡ value_known order code bytes.now at }
@@ -171,13 +173,19 @@ fn known_value(order: Order, code: u8, bytes: &[u8], at: usize) -> Option<(Heade
     match code {
         REPLY_SERIAL => number_field(order, code, bytes, at),
         UNIX_FDS => number_field(order, code, bytes, at),
-        SIGNATURE => signature_field(bytes, at),
-        _ => text_field(order, code, bytes, at),
+        SIGNATURE => signature_field(grammars, bytes, at),
+        _ => text_field(grammars, order, code, bytes, at),
     }
 }
 
 /// A known field by the place of its variant, whose signature has to be the code's type.
-fn known_field(order: Order, code: u8, bytes: &[u8], at: usize) -> Option<(HeaderField<'_>, usize)>
+fn known_field<'a, G: Grammars>(
+    grammars: &mut G,
+    order: Order,
+    code: u8,
+    bytes: &'a [u8],
+    at: usize,
+) -> Option<(HeaderField<'a>, usize)>
     requires inside { at ≤ length bytes.now }
     requires short { length bytes.now ≤ 2 ^ 28 }
     ensures { option_map end_seen result ≡ known_part order code bytes.now at }
@@ -189,7 +197,7 @@ fn known_field(order: Order, code: u8, bytes: &[u8], at: usize) -> Option<(Heade
     {
         return None;
     }
-    known_value(order, code, bytes, at + 3)
+    known_value(grammars, order, code, bytes, at + 3)
 }
 
 /// The signature of one variant.
@@ -211,20 +219,31 @@ fn unread_field(order: Order, bytes: &[u8], at: usize) -> Option<(HeaderField<'_
 }
 
 /// The field whose code stands at a place.
-fn coded_field(order: Order, code: u8, bytes: &[u8], at: usize) -> Option<(HeaderField<'_>, usize)>
+fn coded_field<'a, G: Grammars>(
+    grammars: &mut G,
+    order: Order,
+    code: u8,
+    bytes: &'a [u8],
+    at: usize,
+) -> Option<(HeaderField<'a>, usize)>
     requires inside { at < length bytes.now }
     requires short { length bytes.now ≤ 2 ^ 28 }
     ensures { option_map end_seen result ≡ coded_part order code bytes.now at }
 {
     match code {
         0 => None,
-        PATH..=UNIX_FDS => known_field(order, code, bytes, at + 1),
+        PATH..=UNIX_FDS => known_field(grammars, order, code, bytes, at + 1),
         _ => unread_field(order, bytes, at + 1),
     }
 }
 
 /// The field that stands behind the padding, and where it ends.
-fn read_field(order: Order, bytes: &[u8], place: usize) -> Option<(HeaderField<'_>, usize)>
+fn read_field<'a, G: Grammars>(
+    grammars: &mut G,
+    order: Order,
+    bytes: &'a [u8],
+    place: usize,
+) -> Option<(HeaderField<'a>, usize)>
     requires inside { place ≤ length bytes.now }
     requires short { length bytes.now ≤ 2 ^ 28 }
     ensures { option_map end_seen result ≡ part_at order bytes.now place }
@@ -238,7 +257,7 @@ fn read_field(order: Order, bytes: &[u8], place: usize) -> Option<(HeaderField<'
     if !is_zero(gap) {
         return None;
     }
-    coded_field(order, bytes[start], bytes, start)
+    coded_field(grammars, order, bytes[start], bytes, start)
 }
 
 impl<'a> Fields<'a> {
@@ -323,7 +342,12 @@ impl<'a> Fields<'a> {
 /// Reads the fields of a message that is cut behind them, and tells where the last valid one ended. They are put where they are
 /// to stay.
 #[inline(never)]
-pub(crate) fn read_fields<'a>(order: Order, bytes: &'a [u8], fields: &mut Fields<'a>) -> usize
+pub(crate) fn read_fields<'a, G: Grammars>(
+    grammars: &mut G,
+    order: Order,
+    bytes: &'a [u8],
+    fields: &mut Fields<'a>,
+) -> usize
     requires none { fields_seen fields.old ≡ nothing_found }
     requires long { 16 ≤ length bytes.now }
     requires short { length bytes.now ≤ 2 ^ 28 }
@@ -331,7 +355,7 @@ pub(crate) fn read_fields<'a>(order: Order, bytes: &'a [u8], fields: &mut Fields
 {
     let mut place = 16;
     loop {
-        let (field, end) = match read_field(order, bytes, place) {
+        let (field, end) = match read_field(grammars, order, bytes, place) {
             Some(found) => found,
             None => return place,
         };

@@ -1,11 +1,13 @@
 //! D-Bus messages: their parts, their spelling, which are valid, and the laws between spelling and reading.
 //!
 //! It is driven by `length`, with the first sixteen bytes of a message, and then by `decode`, with the whole of it; a `Message` lends its parts.
+//! `decode_knowing` reads the messages of a stream faster.
 #![tactic(auto)]
 
 mod bodies;
 mod decoding;
 mod fields;
+mod grammars;
 mod head;
 mod kinds;
 mod message;
@@ -18,7 +20,8 @@ ghost use Rattle.dbus_header.specs.Malformed.{front};
 ghost use Rattle.dbus_header.specs.Stream.{Splits, split, messages, bad};
 ghost use Rattle.dbus_header.specs.declared.Malformed.{Malformed as Fault};
 
-pub use decoding::decode;
+pub use decoding::{decode, decode_knowing};
+pub use grammars::KnownTexts;
 pub use head::length;
 pub use kinds::{ERROR, METHOD_CALL, METHOD_RETURN, NO_AUTO_START, NO_REPLY_EXPECTED, SIGNAL};
 pub use message::Message;
