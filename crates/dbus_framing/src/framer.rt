@@ -11,7 +11,7 @@ use crate::buffer::Buffer;
 use crate::state::State;
 use crate::{Front, Next};
 use bytes::Bytes;
-use dbus_header::{Malformed, Message, decode};
+use dbus_header::{KnownTexts, Malformed, Message, decode_knowing};
 use std::alloc::{AllocError, Global};
 use std::marker::Model;
 
@@ -62,14 +62,18 @@ fn looked(state: State, left: &[u8]) -> Front
 }
 
 /// The message of that length in front, or what is wrong with it.
-fn message_in_front(left: &[u8], len: usize) -> Result<Message<'_>, Malformed>
+fn message_in_front<'a>(
+    left: &'a [u8],
+    len: usize,
+    known: &mut KnownTexts,
+) -> Result<Message<'a>, Malformed>
     requires { IsWhole left.now len }
     ensures bytes { IfOk result (λ message. message.bytes.now ≡ take len left.now) }
     ensures valid { IfOk result (λ message. (m : MessageTree) × Takes left.now message.bytes.now (drop len left.now) m) }
     ensures bad { IfErr result (λ f. fault left.now ≡ Some f) }
 {
     let (message, _) = left.split_at(len);
-    decode(message)
+    decode_knowing(message, known)
 }
 
 impl Framer {
@@ -133,14 +137,19 @@ impl Framer {
         front
     }
 
-    /// The message in front, of as many bytes as `front` said, read in place; or what is wrong with it.
-    pub fn message(&self, len: usize) -> Result<Message<'_>, Malformed>
+    /// The message in front, of as many bytes as `front` said, read in place; or what is wrong with it. The texts that are known are
+    /// those of the stream's messages before it.
+    pub fn message<'a>(
+        &'a self,
+        len: usize,
+        known: &mut KnownTexts,
+    ) -> Result<Message<'a>, Malformed>
         requires { IsWhole self.now len }
         ensures bytes { IfOk result (λ message. message.bytes.now ≡ take len self.now) }
         ensures valid { IfOk result (λ message. (m : MessageTree) × Takes self.now message.bytes.now (drop len self.now) m) }
         ensures bad { IfErr result (λ f. fault self.now ≡ Some f) }
     {
-        message_in_front(self.bytes.as_slice(), len)
+        message_in_front(self.bytes.as_slice(), len, known)
     }
 
     /// The bytes of the message in front, of as many as `front` said, where they are many and memory for sharing them is left. They aren't
@@ -173,7 +182,7 @@ impl Framer {
             Front::Rest => return Ok(Next::Rest),
             Front::Bad(fault) => return Ok(Next::Bad(fault)),
         };
-        let frame = match self.message(len) {
+        let frame = match self.message(len, &mut KnownTexts::new(self.alloc)) {
             Ok(message) => Bytes::copy_from_slice(self.alloc, message.bytes)?,
             Err(fault) => return Ok(Next::Bad(fault)),
         };
