@@ -1,11 +1,16 @@
 //! The stream of a side: the lines of authentication, where the session begins with them, and then messages.
-ghost use Rattle.std.specs.Prelude.{◌≡◌, ◌≤◌, ◌<◌, ◌+◌, ◌^◌, [], true, IsTrue, IfOk, OnOk, OnErr, length};
+ghost use Rattle.std.specs.Prelude.{◌≡◌, ◌≤◌, ◌<◌, ◌+◌, ◌^◌, [], true, Some, IsTrue, IfOk, IfErr, OnOk, OnErr, length, take, drop};
+ghost use Rattle.dbus_framing.specs.Framing.{Takes};
+ghost use Rattle.dbus_framing.specs.Knows.{IsWhole};
+ghost use Rattle.dbus_header.specs.Malformed.{fault};
+ghost use Rattle.dbus_header.specs.Message.{Message as MessageTree};
 ghost use Rattle.sasl_watch.specs.Watching.{BusGives, ClientGives};
 ghost use Rattle.policy_view.specs.History.{longest_stream};
 ghost use Rattle.proxy_core.specs.Streams.{InMessages, GaveLine, is_in_lines as in_lines, new_stream, pushed};
 
 use bytes::Bytes;
 use dbus_framing::Framer;
+use dbus_header::{KnownTexts, Malformed, Message};
 use sasl_watch::{Lines, NextLine};
 use std::alloc::{AllocError, Global};
 use std::marker::Model;
@@ -26,6 +31,8 @@ pub(crate) struct Stream {
     content: Content,
     /// How many lines were given: of the client's without the NUL and BEGIN.
     lines: u64,
+    /// What is known of the texts in the messages that were read.
+    known: KnownTexts,
     alloc: Global,
 }
 
@@ -53,6 +60,7 @@ impl Stream {
             came: 0,
             content,
             lines: 0,
+            known: KnownTexts::new(alloc),
             alloc,
         }
     }
@@ -154,6 +162,22 @@ impl Stream {
             Content::Lines(_) => unreachable!(),
             Content::Messages(framer) => mem::replace(framer, Framer::new(self.alloc)),
         }
+    }
+
+    /// The message of as many bytes as its head states, in front of what was lent, or what is wrong with it. What is known of its texts
+    /// is kept here; nothing else changes.
+    pub(crate) fn read_message<'a>(
+        &mut self,
+        lent: &'a Framer,
+        len: usize,
+    ) -> Result<Message<'a>, Malformed>
+        requires { IsWhole lent.now len }
+        ensures bytes { IfOk result (λ message. message.bytes.now ≡ take len lent.now) }
+        ensures valid { IfOk result (λ message. (m : MessageTree) × Takes lent.now message.bytes.now (drop len lent.now) m) }
+        ensures bad { IfErr result (λ f. fault lent.now ≡ Some f) }
+        ensures stays { self.new ≡ self.old }
+    {
+        lent.message(len, &mut self.known)
     }
 
     /// Puts back what is left of what was lent.

@@ -1,7 +1,10 @@
 //! The message in front of a side's stream. What is left of the stream is lent out of the session meanwhile, so that the message is read
 //! where it stands, once.
-ghost use Rattle.std.specs.Prelude.{◌≡◌, [], false, true, None};
+ghost use Rattle.std.specs.Prelude.{◌≡◌, [], false, true, None, Some, IfOk, IfErr, drop};
+ghost use Rattle.dbus_framing.specs.Framing.{Takes};
 ghost use Rattle.dbus_framing.specs.Knows.{IsWhole};
+ghost use Rattle.dbus_header.specs.Malformed.{fault};
+ghost use Rattle.dbus_header.specs.Message.{Message as MessageTree};
 ghost use Rattle.policy_view.specs.History.{malformed as malformed_by};
 ghost use Rattle.policy_view.specs.declared.Fault.TheVariants.{Message as OfMessage};
 ghost use Rattle.proxy_core.specs.Messages.{ended_by};
@@ -13,7 +16,7 @@ ghost use Rattle.proxy_core.specs.Streams.{InMessages};
 use super::{Session, malformed};
 use crate::incoming::Incoming;
 use dbus_framing::{Framer, Front};
-use dbus_header::Malformed;
+use dbus_header::{Malformed, Message};
 use policy_args::Policy;
 use policy_view::{Fault, Side};
 
@@ -27,6 +30,24 @@ impl Session {
         match side {
             Side::Client => self.client.lend_messages(),
             Side::Bus => self.bus.lend_messages(),
+        }
+    }
+
+    /// The message of as many bytes as its head states, in front of what was lent of a side's stream, or what is wrong with it.
+    fn read_message<'a>(
+        &mut self,
+        side: Side,
+        messages: &'a Framer,
+        len: usize,
+    ) -> Result<Message<'a>, Malformed>
+        requires { IsWhole messages.now len }
+        ensures valid { IfOk result (λ message. (m : MessageTree) × Takes messages.now message.bytes.now (drop len messages.now) m) }
+        ensures bad { IfErr result (λ f. fault messages.now ≡ Some f) }
+        ensures stays { self.new ≡ self.old }
+    {
+        match side {
+            Side::Client => self.client.read_message(messages, len),
+            Side::Bus => self.bus.read_message(messages, len),
         }
     }
 
@@ -63,7 +84,7 @@ impl Session {
         ensures { TookFirst policy.now side messages.old messages.new self.old self.new result }
     {
         let shared = messages.shared(len);
-        match messages.message(len) {
+        match self.read_message(side, messages, len) {
             Ok(message) => {
                 let incoming = Incoming::new(&message, shared.as_ref());
                 self.take_whole(policy, side, &incoming);

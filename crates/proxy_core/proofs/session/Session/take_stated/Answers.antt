@@ -3,6 +3,7 @@ use Rattle.dbus_header.specs.Malformed.{fault}
 use Rattle.dbus_header.specs.declared.message.Message.{Message}
 use Rattle.policy_view.specs.Notes.{message_in}
 use Rattle.proxy_core.specs.Messages.{with_watched_message}
+use Rattle.proxy_core.specs.Seen.{TookFirst}
 use Rattle.proxy_core.specs.Sessions.{SessionView}
 use Rattle.proxy_core.specs.Steps.{TookMessage}
 use Rattle.proxy_core.proofs.Draining.{runs_by}
@@ -11,10 +12,12 @@ use Rattle.proxy_core.proofs.session.Session.take_stated.Goals as goal
 
 pub returns-in-Ok : goal.returns-in-Ok
 returns-in-Ok c =
-    whole_first c.args.policy.now c.args.side c.args.messages.now c.args.self.now c.take_whole.new.self c.is_none.result c.shared-shared.new.self c.in-Ok.message.bytes.now c.take.new.self c.args.len c.shared-shared.ensures.stays c.in-Ok.ensures.valid c.take.ensures
-    (subst (λ (m : Message). TookMessage (with_watched_message c.args.policy.now c.args.side (message_in m.bytes.now) c.args.self.now) c.args.self.now c.take_whole.new.self) c.new-incoming.ensures c.take_whole.ensures)
-    (runs_by c.self.inside.ended _ c.is_none.result c.is_none.ensures (ap (λ (v : SessionView). v.ended) c.self.view_is))
+    subst (λ (v : SessionView). TookFirst c.args.policy.now c.args.side c.args.messages.now c.take.new.self v c.take_whole.new.self c.is_none.result) c.read_message.ensures.stays
+    (whole_first c.args.policy.now c.args.side c.args.messages.now c.read_message.new.self c.take_whole.new.self c.is_none.result c.shared-shared.new.self c.in-Ok.message.bytes.now c.take.new.self c.args.len c.shared-shared.ensures.stays c.in-Ok.ensures.valid c.take.ensures
+    (subst (λ (m : Message). TookMessage (with_watched_message c.args.policy.now c.args.side (message_in m.bytes.now) c.read_message.new.self) c.read_message.new.self c.take_whole.new.self) c.new-incoming.ensures c.take_whole.ensures)
+    (runs_by c.self.inside.ended _ c.is_none.result c.is_none.ensures (ap (λ (v : SessionView). v.ended) c.self.view_is)))
 
 pub returns : goal.returns
 returns c =
-    bad_first c.args.policy.now c.args.side c.args.messages.now c.args.self.now c.end_malformed.new.self c.end_malformed.result c.shared-shared.new.self c.in-Err.fault c.shared-shared.ensures.stays (ap fault (sym c.shared-shared.ensures.stays) ∙ c.in-Err.ensures.bad) c.end_malformed.ensures.ended c.end_malformed.ensures.stops
+    subst (λ (v : SessionView). TookFirst c.args.policy.now c.args.side c.args.messages.now c.shared-shared.new.self v c.end_malformed.new.self c.end_malformed.result) c.read_message.ensures.stays
+    (bad_first c.args.policy.now c.args.side c.args.messages.now c.read_message.new.self c.end_malformed.new.self c.end_malformed.result c.shared-shared.new.self c.in-Err.fault c.shared-shared.ensures.stays (ap fault (sym c.shared-shared.ensures.stays) ∙ c.in-Err.ensures.bad) c.end_malformed.ensures.ended c.end_malformed.ensures.stops)
