@@ -43,10 +43,10 @@ awk '
     }
     END {
         if (failed) exit 1
-        printf "%-12s %9s %12s %12s %12s %12s %7s\n", "input", "bytes", "proved ns", "plain ns", "proved GB/s", "plain GB/s", "ratio"
+        printf "%-14s %9s %12s %12s %12s %12s %7s\n", "input", "bytes", "proved ns", "plain ns", "proved GB/s", "plain GB/s", "ratio"
         for (i = 1; i <= count; i++) {
             name = order[i]; a = least["proved " name]; b = least["plain " name]
-            printf "%-12s %9d %12.2f %12.2f %12.2f %12.2f %7.2f\n", name, size[name], a, b, size[name] / a, size[name] / b, a / b
+            printf "%-14s %9d %12.2f %12.2f %12.2f %12.2f %7.2f\n", name, size[name], a, b, size[name] / a, size[name] / b, a / b
         }
     }
 ' "$folder/lines"

@@ -694,6 +694,9 @@ fn main() -> ExitCode {
         print_line("byte_array", time, 20_000, &arrays);
         let time = shortest(|| read(first, second, 1_000));
         print_line("decode", time, 1_000, &messages);
+        // It has nothing that is known, so that the proved `decode_knowing` is beside the same reading.
+        let time = shortest(|| read(first, second, 1_000));
+        print_line("decode_knowing", time, 1_000, &messages);
     }
     if walk(entries, &dictionaries, 2) && walk(array, &arrays, 2) && read(first, second, 2) {
         ExitCode::SUCCESS

@@ -4,6 +4,7 @@ ghost use Rattle.std.specs.Prelude.{◌<◌, ◌≤◌, length};
 use crate::messages::{changed, long_call};
 use bytes::Bytes;
 use dbus_framing::{Framer, Front, Next};
+use dbus_header::KnownTexts;
 use std::alloc::{AllocError, Global};
 use std::test::Fail;
 use test_tables::wrong_row;
@@ -44,10 +45,10 @@ fn stream_of(alloc: Global, messages: &str) -> Result<Vec<u8>, AllocError> {
 }
 
 /// The message in front, whose bytes are shared where they can be.
-fn shared_next(framer: &mut Framer) -> Result<Next, AllocError> {
+fn shared_next(framer: &mut Framer, known: &mut KnownTexts) -> Result<Next, AllocError> {
     if let Front::Whole(len) = framer.front() {
         if let Some(frame) = framer.shared(len) {
-            if let Err(fault) = framer.message(len) {
+            if let Err(fault) = framer.message(len, known) {
                 return Ok(Next::Bad(fault));
             }
             framer.take(len);
@@ -67,13 +68,14 @@ fn taken(
     requires { 0 < size }
 {
     let mut framer = Framer::new(alloc);
+    let mut known = KnownTexts::new(alloc);
     let mut frames = Vec::new(alloc);
     let mut last = Next::Rest;
     for piece in stream.chunks(size) {
         framer.push(piece)?;
         for _ in 0..3 {
             let next = if shares {
-                shared_next(&mut framer)?
+                shared_next(&mut framer, &mut known)?
             } else {
                 framer.next()?
             };

@@ -1,8 +1,8 @@
 //! What bytes are as messages, what is wrong with others, and the numbers that are changed in place.
 use crate::messages::{changed, is_whole};
 use dbus_header::{
-    Malformed, MalformedKind, Message, SERIAL_PLACE, decode, length, set_reply_serial, set_serial,
-    write_u32,
+    KnownTexts, Malformed, MalformedKind, Message, SERIAL_PLACE, decode, decode_knowing, length,
+    set_reply_serial, set_serial, write_u32,
 };
 use dbus_values::Order;
 use std::alloc::{AllocError, Global};
@@ -97,26 +97,66 @@ fn told_fault(alloc: Global, fault: Malformed) -> Result<String, AllocError> {
     format!(in alloc; "{:?} {}", fault.kind, fault.at)
 }
 
-fn told_validity(alloc: Global, row: &str) -> Result<String, AllocError> {
-    let bytes = changed(alloc, row)?;
-    if !is_whole(&bytes) {
-        return String::from_str(alloc, "cut");
-    }
-    match decode(&bytes) {
+fn told_validity(
+    alloc: Global,
+    read: Result<Message<'_>, Malformed>,
+) -> Result<String, AllocError> {
+    match read {
         Ok(_) => String::from_str(alloc, "valid"),
         Err(fault) => told_fault(alloc, fault),
     }
 }
 
-fn told_message(alloc: Global, row: &str) -> Result<String, AllocError> {
+fn told_message(alloc: Global, read: Result<Message<'_>, Malformed>) -> Result<String, AllocError> {
+    match read {
+        Ok(message) => told_parts(alloc, &message),
+        Err(fault) => told_fault(alloc, fault),
+    }
+}
+
+/// The texts of a row's message as it is before the changes.
+fn known_before(alloc: Global, row: &str) -> Result<KnownTexts, AllocError> {
+    let (name, _) = row.split_once(' ').unwrap_or((row, ""));
+    let bytes = changed(alloc, name)?;
+    let mut known = KnownTexts::new(alloc);
+    if is_whole(&bytes) {
+        let _is_valid = decode_knowing(&bytes, &mut known).is_ok();
+    }
+    Ok(known)
+}
+
+fn told_validity_of(alloc: Global, row: &str) -> Result<String, AllocError> {
     let bytes = changed(alloc, row)?;
     if !is_whole(&bytes) {
         return String::from_str(alloc, "cut");
     }
-    match decode(&bytes) {
-        Ok(message) => told_parts(alloc, &message),
-        Err(fault) => told_fault(alloc, fault),
+    told_validity(alloc, decode(&bytes))
+}
+
+fn told_validity_where_known(alloc: Global, row: &str) -> Result<String, AllocError> {
+    let bytes = changed(alloc, row)?;
+    let mut known = known_before(alloc, row)?;
+    if !is_whole(&bytes) {
+        return String::from_str(alloc, "cut");
     }
+    told_validity(alloc, decode_knowing(&bytes, &mut known))
+}
+
+fn told_message_of(alloc: Global, row: &str) -> Result<String, AllocError> {
+    let bytes = changed(alloc, row)?;
+    if !is_whole(&bytes) {
+        return String::from_str(alloc, "cut");
+    }
+    told_message(alloc, decode(&bytes))
+}
+
+fn told_message_where_known(alloc: Global, row: &str) -> Result<String, AllocError> {
+    let bytes = changed(alloc, row)?;
+    let mut known = known_before(alloc, row)?;
+    if !is_whole(&bytes) {
+        return String::from_str(alloc, "cut");
+    }
+    told_message(alloc, decode_knowing(&bytes, &mut known))
 }
 
 fn told_parts(alloc: Global, message: &Message<'_>) -> Result<String, AllocError> {
@@ -192,13 +232,26 @@ fn the_first_sixteen_bytes_tell_the_length_or_a_fault(rt: HostRuntime) -> Result
 
 #[test]
 fn a_changed_message_is_malformed(rt: HostRuntime) -> Result<(), Fail> {
-    assert_eq!(rt; wrong_row(rt.alloc(), CHANGES, &told_validity)?, None);
+    assert_eq!(rt; wrong_row(rt.alloc(), CHANGES, &told_validity_of)?, None);
     Ok(())
 }
 
 #[test]
 fn a_message_is_read_in_place(rt: HostRuntime) -> Result<(), Fail> {
-    assert_eq!(rt; wrong_row(rt.alloc(), MESSAGES, &told_message)?, None);
+    assert_eq!(rt; wrong_row(rt.alloc(), MESSAGES, &told_message_of)?, None);
+    Ok(())
+}
+
+#[test]
+fn a_message_is_the_same_where_texts_are_known(rt: HostRuntime) -> Result<(), Fail> {
+    assert_eq!(rt;
+        wrong_row(rt.alloc(), CHANGES, &told_validity_where_known)?,
+        None
+    );
+    assert_eq!(rt;
+        wrong_row(rt.alloc(), MESSAGES, &told_message_where_known)?,
+        None
+    );
     Ok(())
 }
 
