@@ -25,8 +25,8 @@ use Rattle.policy_view.specs.History.{Event, Bytes, Finished as FinishedEvent, S
 use Rattle.proxy_core.specs.Sessions.{SessionView, Taken, StandsFor, IsFront}
 use Rattle.proxy_core.specs.Messages.{ended_by}
 use Rattle.proxy_loop.specs.Sessions.{events_of, events_by, side_of, read_end, write_end}
-use Rattle.proxy_loop.specs.Kinds.{is_write, all_are, some_of, gone_by, last_write}
-use Rattle.proxy_loop.specs.Works.{with_taken, with_queue, more_taken, Moves, Stood, StoodFor, Goes, Any, Only, Cause, queue_of, OneWrite, Writes, WroteOut, OneRead, read_room, ShutWhere, KeepsEnd}
+use Rattle.proxy_loop.specs.Kinds.{is_write, is_taken, all_are, some_of, gone_by, last_write, only_newest_stops}
+use Rattle.proxy_loop.specs.Works.{with_taken, with_queue, more_taken, Moves, Stood, StoodFor, Goes, Any, Only, Cause, queue_of, OneWrite, Writes, WritesOn, WroteOut, OneRead, read_room, ShutWhere, KeepsEnd}
 use Rattle.proxy_loop.proofs.Ends.{is_plain, event_cause}
 
 pub same_number : (n : ℕ) → nat_eq n n ≡ true
@@ -319,26 +319,34 @@ unwritten_goes link session before after piece front adds =
     (λ end e. e) (λ policy u s end e. inl e) refl
 
 -- so far no write failed
-pub writes_none : (link : Link) (session : SessionView) → Writes link session session false []
+pub writes_none : (link : Link) (session : SessionView) → WritesOn link session session []
 unfolding all_are some_of
-writes_none link session = record { all = refl; gone = refl; took = refl; ended = or_nothing (is_some session.ended) (is_some session.ended) refl }
+writes_none link session = record {
+  writes = record { all = refl; gone = refl; took = refl; ended = or_nothing (is_some session.ended) (is_some session.ended) refl };
+  taken = refl;
+  stops = refl;
+}
+
+taken_one : (link : Link) (bytes : List ℕ) → all_are (is_taken link) (Wrote link bytes ∷ []) ≡ true
+unfolding all_are
+taken_one link bytes = rw (same_link_self link) refl
 
 -- one write more
-module _ (link : Link) (old mid new : SessionView) (first second : Journal) (so_far : Writes link old mid false first) where
+module _ (link : Link) (old mid new : SessionView) (first second : Journal) (so_far : WritesOn link old mid first) where
   took_more : queue_of link.side mid ≡ written link second ++ queue_of link.side new →
       queue_of link.side old ≡ written link (second ++ first) ++ queue_of link.side new
-  took_more e = so_far.took ∙ ap (λ (l : List ℕ). written link first ++ l) e ∙ sym (append_assoc (written link first) (written link second) (queue_of link.side new))
+  took_more e = so_far.writes.took ∙ ap (λ (l : List ℕ). written link first ++ l) e ∙ sym (append_assoc (written link first) (written link second) (queue_of link.side new))
       ∙ ap (λ (l : List ℕ). l ++ queue_of link.side new) (sym (wrote_append link second first))
 
   ended_more : (failed : Bool) → is_some new.ended ≡ (is_some mid.ended || failed) → is_some new.ended ≡ (is_some old.ended || failed)
-  ended_more failed e = e ∙ ap (λ (b : Bool). b || failed) (so_far.ended ∙ sym (or_nothing (is_some old.ended) (is_some old.ended) refl))
+  ended_more failed e = e ∙ ap (λ (b : Bool). b || failed) (so_far.writes.ended ∙ sym (or_nothing (is_some old.ended) (is_some old.ended) refl))
 
   writes_with : (entry : Entry) (failed : Bool) → second ≡ entry ∷ [] → is_write link entry ≡ true → gone_by link entry ≡ failed →
       queue_of link.side mid ≡ written link second ++ queue_of link.side new → is_some new.ended ≡ (is_some mid.ended || failed) →
       Writes link old new failed (second ++ first)
   writes_with entry failed is write gone took ended = record {
-    all = all_joined (is_write link) first second so_far.all (rw is (writes_one link entry write));
-    gone = some_append (gone_by link) second first ∙ ap₂ (λ (x y : Bool). x || y) (ap (some_of (gone_by link)) is ∙ some_one (gone_by link) entry ∙ gone) so_far.gone ∙ or_end failed;
+    all = all_joined (is_write link) first second so_far.writes.all (rw is (writes_one link entry write));
+    gone = some_append (gone_by link) second first ∙ ap₂ (λ (x y : Bool). x || y) (ap (some_of (gone_by link)) is ∙ some_one (gone_by link) entry ∙ gone) so_far.writes.gone ∙ or_end failed;
     took = took_more took;
     ended = ended_more failed ended;
   }
@@ -347,9 +355,16 @@ module _ (link : Link) (old mid new : SessionView) (first second : Journal) (so_
       or_end true = refl
       or_end false = refl
 
-  pub one_more : (n : ℕ) (answer : Took) → answer ≡ TookBytes n → OneWrite link mid new answer second → Writes link old new false (second ++ first)
-  one_more n answer e w = subst (λ (t : Took). OneWrite link mid new t second → Writes link old new false (second ++ first)) (sym e)
-      (λ o. writes_with (Wrote link (take n o.piece)) false o.is (same_link_self link) refl o.took o.ended) w
+  stops_first : (entry : Entry) → second ≡ entry ∷ [] → only_newest_stops link (second ++ first) ≡ true
+  stops_first entry is = rw is so_far.taken
+
+  pub one_more : (n : ℕ) (answer : Took) → answer ≡ TookBytes n → OneWrite link mid new answer second → WritesOn link old new (second ++ first)
+  one_more n answer e w = subst (λ (t : Took). OneWrite link mid new t second → WritesOn link old new (second ++ first)) (sym e)
+      (λ o. record {
+        writes = writes_with (Wrote link (take n o.piece)) false o.is (same_link_self link) refl o.took o.ended;
+        taken = all_joined (is_taken link) first second so_far.taken (rw o.is (taken_one link (take n o.piece)));
+        stops = stops_first (Wrote link (take n o.piece)) o.is;
+      }) w
 
   last_first : (entry : Entry) → second ≡ entry ∷ [] → is_write link entry ≡ true → last_write link (second ++ first) ≡ Some entry
   unfolding last_write
@@ -359,6 +374,7 @@ module _ (link : Link) (old mid new : SessionView) (first second : Journal) (so_
   then_waits answer e w = subst (λ (t : Took). OneWrite link mid new t second → WroteOut link old new false (second ++ first)) (sym e)
       (λ o. record {
         writes = writes_with (NotReady (WriteCall link)) false o.is (same_link_self link) refl o.took o.ended;
+        stops = stops_first (NotReady (WriteCall link)) o.is;
         drained = inr (inr (last_first (NotReady (WriteCall link)) o.is (same_link_self link)));
       }) w
 
@@ -366,6 +382,7 @@ module _ (link : Link) (old mid new : SessionView) (first second : Journal) (so_
   then_fails answer e w = subst (λ (t : Took). OneWrite link mid new t second → WroteOut link old new true (second ++ first)) (sym e)
       (λ o. record {
         writes = writes_with (Failed (WriteCall link)) true o.is (same_link_self link) (same_link_self link) o.took o.ended;
+        stops = stops_first (Failed (WriteCall link)) o.is;
         drained = inr (inl refl);
       }) w
 
@@ -525,5 +542,5 @@ not_failed true y false e h = h
 not_failed false y false e h = h
 not_failed x y true e h = cc
 
-pub drained_out : (link : Link) (old new : SessionView) (added : Journal) → queue_of link.side new ≡ [] → Writes link old new false added → WroteOut link old new false added
-drained_out link old new added e w = record { writes = w; drained = inl e }
+pub drained_out : (link : Link) (old new : SessionView) (added : Journal) → queue_of link.side new ≡ [] → WritesOn link old new added → WroteOut link old new false added
+drained_out link old new added e w = record { writes = w.writes; stops = w.stops; drained = inl e }

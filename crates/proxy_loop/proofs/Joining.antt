@@ -165,6 +165,13 @@ module _ (n : ℕ) (r0 r2 : Running) (s1 : SessionView) (first second : Journal)
     all = all_joined (writes_of n) first second
         (all_implied (is_write (client_link n)) (writes_of n) (λ e h. or_left (is_write (client_link n) e) (is_write (bus_link n) e) h) first a.all)
         (all_implied (is_write (bus_link n)) (writes_of n) (λ e h. or_right (is_write (client_link n) e) (is_write (bus_link n) e) h) second b.all);
+    order = record {
+      to_client = first;
+      to_bus = second;
+      is = refl;
+      client = record { all = a.all; stops = a.stops; none = a.none };
+      bus = record { all = b.all; stops = b.stops; none = b.none };
+    };
     client_took = a.took ∙ ap₂ (λ (x y : List ℕ). x ++ y) (sym client_wrote) (sym client_kept);
     bus_took = sym bus_kept ∙ b.took ∙ ap (λ (x : List ℕ). x ++ r2.session.bus_side) (sym bus_wrote);
     client_gone = a.gone ∙ ap (λ (x : Bool). x || r0.client.gone) (sym client_after);

@@ -17,11 +17,11 @@ use Rattle.proxy_core.specs.Sessions.{SessionView}
 use Rattle.proxy_loop.specs.declared.serving.Running.{Running}
 use Rattle.proxy_loop.specs.Sinks.{SinkView}
 use Rattle.proxy_loop.specs.Kinds.{some_of, gone_by, last_write}
-use Rattle.proxy_loop.specs.Works.{Any, Goes, Stood, StoodFor, Cause, ShutBoth, IsDrained, link_at, shuts_now, is_full, KeepsEnd}
+use Rattle.proxy_loop.specs.Works.{Any, Goes, Stood, StoodFor, Cause, ShutBoth, IsDrained, WritesInOrder, link_at, shuts_now, is_full, KeepsEnd}
 use Rattle.proxy_loop.specs.Logging.{IsLogEnd, stop_events}
 use Rattle.proxy_loop.specs.Runs.{Sound, KeepsPlace, KeepsShut, WroteBoth, ReadsAndLogs, ReadPart, IsDone, Served, ServedStands, CauseOf, Serving}
 use Rattle.proxy_loop.proofs.Holding.{moves_then, cause_later, cause_sooner, some_append}
-use Rattle.proxy_loop.proofs.Joining.{last_newer}
+use Rattle.proxy_loop.proofs.Joining.{last_newer, or_assoc}
 use Rattle.proxy_loop.proofs.Standing.{served_stands, idle_by, still_some}
 use Rattle.proxy_loop.proofs.Stopping.{both_stop, unread_stop, writes_stop, shuts_stop}
 
@@ -62,6 +62,13 @@ all_gone true b c d = refl
 all_gone false true c d = refl
 all_gone false false c d = refl
 
+-- whether a link is gone after two parts
+gone_twice : (link : Link) (later sooner : Journal) (g0 g1 g2 : Bool) → g1 ≡ (some_of (gone_by link) sooner || g0) → g2 ≡ (some_of (gone_by link) later || g1) →
+    g2 ≡ (some_of (gone_by link) (later ++ sooner) || g0)
+gone_twice link later sooner g0 g1 g2 x y =
+    y ∙ ap (λ (p : Bool). some_of (gone_by link) later || p) x ∙ sym (or_assoc (some_of (gone_by link) later) (some_of (gone_by link) sooner) g0)
+    ∙ ap (λ (p : Bool). p || g0) (sym (some_append (gone_by link) later sooner))
+
 shut_by_now : (gone shut ended nil : Bool) → (gone ≡ true → ended ≡ true) → gone || shut ≡ true → shut || (ended && (gone || nil)) ≡ true
 shut_by_now gone true ended nil h e = refl
 shut_by_now true false ended nil h e = rw (h refl) refl
@@ -78,7 +85,9 @@ module _ (policy : Policy) (log : Bool) (n : ℕ) (side : Side) (r0 r1 r2 r3 r4 
     (bus_shut : r4.bus.shut ≡ (r3.bus.shut || shuts_now Bus r3.session r3.bus.gone))
     (sound0 : Sound r0) (sound3 : Sound r3) (keeps0 : r0.session.mode.notes ≡ log) (stood0 : Stood policy r0.session)
     (first_kept : KeepsEnd r0.session r1.session) (second_kept : KeepsEnd r2.session r3.session)
-    (client_same : r1.client.shut ≡ r0.client.shut) (bus_same : r1.bus.shut ≡ r0.bus.shut) where
+    (client_same : r1.client.shut ≡ r0.client.shut) (bus_same : r1.bus.shut ≡ r0.bus.shut)
+    (client_read : r2.client.shut ≡ r0.client.shut) (bus_read : r2.bus.shut ≡ r0.bus.shut)
+    (client_last : r3.client.shut ≡ r0.client.shut) (bus_last : r3.bus.shut ≡ r0.bus.shut) where
   done_now : (link : Link) (shuts second older : Journal) (queue : List ℕ) (gone shut shut_after ended nil : Bool) →
       ShutBoth n client bus shuts → (gone ≡ true → ended ≡ true) → shut_after ≡ (shut || (ended && (gone || nil))) →
       IsDrained link queue (gone || shut) second → IsDone link queue shut_after (shuts ++ (second ++ older))
@@ -100,6 +109,10 @@ module _ (policy : Policy) (log : Bool) (n : ℕ) (side : Side) (r0 r1 r2 r3 r4 
       z ∙ ap (λ (p : Bool). some_of f second || p) (y ∙ ap (λ (p : Bool). some_of f reads || p) x)
       ∙ all_gone (some_of f second) (some_of f reads) (some_of f first) g0 ∙ ap (λ (p : Bool). p || g0) (sym whole)
 
+  closed_then : (link : Link) (reads first : Journal) (g0 g1 g2 s0 s2 : Bool) → g1 ≡ (some_of (gone_by link) first || g0) → g2 ≡ (some_of (gone_by link) reads || g1) → s2 ≡ s0 →
+      g2 || s2 ≡ ((some_of (gone_by link) (reads ++ first) || g0) || s0)
+  closed_then link reads first g0 g1 g2 s0 s2 x y z = ap₂ (λ (p r : Bool). p || r) (gone_twice link reads first g0 g1 g2 x y) z
+
   served_now : (first reads second shuts : Journal) → WroteBoth n r0 r1 first → ReadPart n side (is_some r1.session.ended || is_full side r1.session) r1 r2 reads →
       WroteBoth n r2 r3 second → ShutBoth n client bus shuts → Served n side r0 r4 (shuts ++ (second ++ (reads ++ first)))
   served_now first reads second shuts w x y s = record {
@@ -110,6 +123,7 @@ module _ (policy : Policy) (log : Bool) (n : ℕ) (side : Side) (r0 r1 r2 r3 r4 
     shuts = shuts;
     is = refl;
     first_writes = w.all;
+    first_order = w.order;
     client_took = w.client_took;
     bus_took = w.bus_took;
     client_drained = subst (λ (b : Bool). IsDrained (client_link n) r1.session.client_side b first) (ap₂ (λ (x y : Bool). x || y) w.client_gone client_same) w.client_drained;
@@ -117,6 +131,15 @@ module _ (policy : Policy) (log : Bool) (n : ℕ) (side : Side) (r0 r1 r2 r3 r4 
     mid_ended = w.ended;
     once = x.once;
     second_writes = y.all;
+    second_order =
+        subst (λ (p : Bool). WritesInOrder n p ((some_of (gone_by (bus_link n)) (reads ++ first) || r0.bus.gone) || r0.bus.shut) second)
+        (closed_then (client_link n) reads first r0.client.gone r1.client.gone r2.client.gone r0.client.shut r2.client.shut w.client_gone x.client_gone client_read)
+        (subst (λ (p : Bool). WritesInOrder n (r2.client.gone || r2.client.shut) p second)
+        (closed_then (bus_link n) reads first r0.bus.gone r1.bus.gone r2.bus.gone r0.bus.shut r2.bus.shut w.bus_gone x.bus_gone bus_read) y.order);
+    client_written = subst (λ (z : SessionView). IsDrained (client_link n) z.client_side (r4.client.gone || r0.client.shut) second) (sym same)
+        (subst (λ (b : Bool). IsDrained (client_link n) r3.session.client_side b second) (ap₂ (λ (p r : Bool). p || r) (sym client_gone) client_last) y.client_drained);
+    bus_written = subst (λ (z : SessionView). IsDrained (bus_link n) z.bus_side (r4.bus.gone || r0.bus.shut) second) (sym same)
+        (subst (λ (b : Bool). IsDrained (bus_link n) r3.session.bus_side b second) (ap₂ (λ (p r : Bool). p || r) (sym bus_gone) bus_last) y.bus_drained);
     shut = subst (λ (p : Bool). ShutBoth n p (not r0.bus.shut && r4.bus.shut) shuts) client_is (subst (λ (p : Bool). ShutBoth n client p shuts) bus_is s);
     client_gone = client_gone ∙ gone_now (client_link n) first reads second shuts r0.client.gone r1.client.gone r2.client.gone r3.client.gone s w.client_gone x.client_gone y.client_gone;
     bus_gone = bus_gone ∙ gone_now (bus_link n) first reads second shuts r0.bus.gone r1.bus.gone r2.bus.gone r3.bus.gone s w.bus_gone x.bus_gone y.bus_gone;
@@ -251,4 +274,4 @@ module _ (policy : Policy) (log : Bool) (side : Side) (r0 r1 r2 r3 r4 : Running)
       (subst (λ (m : ℕ). ReadsAndLogs policy log m side (is_some r1.session.ended || is_full side r1.session) r1 r2 v1 v2 l0 l1) n1 b)
       (subst (λ (m : ℕ). Goes Any m r2.session r3.session v2 v3 (WroteBoth m r2 r3)) n2 c)
       (subst (λ (m : ℕ). Goes Any m r3.session r3.session v3 v4 (ShutBoth m (not r3.client.shut && r4.client.shut) (not r3.bus.shut && r4.bus.shut))) n3 d)
-      q same cg bg (ap (λ (x : Bool). not x && r4.client.shut) client_kept) (ap (λ (x : Bool). not x && r4.bus.shut) bus_kept) cs bs sound0 sound3 keeps0 stood0 first_kept second_kept k1.client k1.bus
+      q same cg bg (ap (λ (x : Bool). not x && r4.client.shut) client_kept) (ap (λ (x : Bool). not x && r4.bus.shut) bus_kept) cs bs sound0 sound3 keeps0 stood0 first_kept second_kept k1.client k1.bus (k2.client ∙ k1.client) (k2.bus ∙ k1.bus) client_kept bus_kept

@@ -13,6 +13,8 @@ pub written_none : (link : Link) (session : SessionView) (state : LinkState) →
 unfolding all_are some_of
 written_none link session state done = record {
   all = refl;
+  stops = refl;
+  none = λ closed. refl;
   took = refl;
   gone = refl;
   ended = or_nothing (is_some session.ended) (is_some session.ended) refl;
@@ -31,6 +33,8 @@ pub written_out : (link : Link) (old new : SessionView) (state : LinkState) (fai
     WroteOut link old new failed added → Written link old new state (record { gone = failed; shut = false }) added
 written_out link old new state failed added open_ w = record {
   all = w.writes.all;
+  stops = w.stops;
+  none = λ closed. let open_too : state.gone || state.shut ≡ false = open_ in cc;
   took = w.writes.took;
   gone = gone_then (some_of (gone_by link) added) failed state.gone w.writes.gone (neither state.gone state.shut open_);
   ended = w.writes.ended ∙ ap (λ (b : Bool). is_some old.ended || b) (sym w.writes.gone);

@@ -30,6 +30,20 @@ is_write link (accepted listener session) = false
 is_write link (connected session path) = false
 is_write link (shut at) = false
 
+-- a write to a link that took bytes
+abbrev pub is_taken : Link → Entry → Bool
+is_taken link (wrote at bytes) = same_link link at
+is_taken link (not_ready call) = false
+is_taken link (failed call) = false
+is_taken link (read at bytes) = false
+is_taken link (finished at) = false
+is_taken link (refused call) = false
+is_taken link (listened listener path) = false
+is_taken link (ready answer) = false
+is_taken link (accepted listener session) = false
+is_taken link (connected session path) = false
+is_taken link (shut at) = false
+
 -- an answer of a read of a link
 abbrev pub read_call : Link → Call → Bool
 read_call link (Read at) = same_link link at
@@ -104,6 +118,11 @@ about n (ready answer) = false
 unfoldable pub all_are : (Entry → Bool) → Journal → Bool
 all_are test [] = true
 all_are test (entry ∷ before) = test entry && all_are test before
+
+-- each write to a link took bytes but the newest, which alone may not have been ready or have failed
+abbrev pub only_newest_stops : Link → Journal → Bool
+only_newest_stops link [] = true
+only_newest_stops link (newest ∷ before) = all_are (is_taken link) before
 
 -- some entry passes a test
 unfoldable pub some_of : (Entry → Bool) → Journal → Bool

@@ -21,7 +21,7 @@ use Rattle.proxy_loop.specs.declared.serving.Running.{Running}
 use Rattle.proxy_loop.specs.Sinks.{SinkView, Appends}
 use Rattle.proxy_loop.specs.Sessions.{Holds, events_of}
 use Rattle.proxy_loop.specs.Kinds.{writes_of, all_are, some_of, gone_by, last_write}
-use Rattle.proxy_loop.specs.Works.{Only, Goes, Stood, Cause, OneRead, IsDrained, link_at, is_full, ShutBoth}
+use Rattle.proxy_loop.specs.Works.{Only, Goes, Stood, Cause, OneRead, IsDrained, WritesInOrder, link_at, is_full, ShutBoth}
 use Rattle.proxy_loop.specs.Logging.{stop_events, IsLogEnd, WhyUnwritten, Logs}
 
 -- To a link that is gone nothing more is written: then an End stands. While a session that makes notes runs, none is left.
@@ -54,6 +54,7 @@ is_over running = is_some running.session.ended && (running.client.shut && runni
 -- or a write failed or wasn't ready. A failed write ends the session.
 pub record WroteBoth (n : ℕ) (old new : Running) (added : Journal) : Type 0 where
   pub all : all_are (writes_of n) added ≡ true
+  pub order : WritesInOrder n (old.client.gone || old.client.shut) (old.bus.gone || old.bus.shut) added
   pub client_took : old.session.client_side ≡ written (client_link n) added ++ new.session.client_side
   pub bus_took : old.session.bus_side ≡ written (bus_link n) added ++ new.session.bus_side
   pub client_gone : new.client.gone ≡ (some_of (gone_by (client_link n)) added || old.client.gone)
@@ -125,7 +126,8 @@ abbrev pub IsDone : Link → List ℕ → Bool → Journal → Type 0
 IsDone link queue shut added = (queue ≡ []) ⊎ (shut ≡ true) ⊎ (last_write link added ≡ Some (not_ready (Write link)))
 
 -- What a turn does for a session on one of whose links something is ready: it writes to both links, reads that link exactly
--- once unless the session has ended by then or too much waits for the other side, writes again, and shuts links.
+-- once unless the session has ended by then or too much waits for the other side, writes again, and shuts links. Both times it
+-- writes to the client first, nothing to a link that is gone or shut, and nothing behind a write that wasn't ready or failed.
 pub record Served (n : ℕ) (side : Side) (old new : Running) (added : Journal) : Type 0 where
   pub mid : SessionView
   pub first : Journal
@@ -134,6 +136,7 @@ pub record Served (n : ℕ) (side : Side) (old new : Running) (added : Journal) 
   pub shuts : Journal
   pub is : added ≡ shuts ++ (second ++ (reads ++ first))
   pub first_writes : all_are (writes_of n) first ≡ true
+  pub first_order : WritesInOrder n (old.client.gone || old.client.shut) (old.bus.gone || old.bus.shut) first
   pub client_took : old.session.client_side ≡ written (client_link n) first ++ mid.client_side
   pub bus_took : old.session.bus_side ≡ written (bus_link n) first ++ mid.bus_side
   pub client_drained : IsDrained (client_link n) mid.client_side ((some_of (gone_by (client_link n)) first || old.client.gone) || old.client.shut) first
@@ -141,6 +144,9 @@ pub record Served (n : ℕ) (side : Side) (old new : Running) (added : Journal) 
   pub mid_ended : is_some mid.ended ≡ (is_some old.session.ended || (some_of (gone_by (client_link n)) first || some_of (gone_by (bus_link n)) first))
   pub once : ReadUnless (is_some mid.ended || is_full side mid) (link_at n side) reads
   pub second_writes : all_are (writes_of n) second ≡ true
+  pub second_order : WritesInOrder n ((some_of (gone_by (client_link n)) (reads ++ first) || old.client.gone) || old.client.shut) ((some_of (gone_by (bus_link n)) (reads ++ first) || old.bus.gone) || old.bus.shut) second
+  pub client_written : IsDrained (client_link n) new.session.client_side (new.client.gone || old.client.shut) second
+  pub bus_written : IsDrained (bus_link n) new.session.bus_side (new.bus.gone || old.bus.shut) second
   pub shut : ShutBoth n (not old.client.shut && new.client.shut) (not old.bus.shut && new.bus.shut) shuts
   pub client_gone : new.client.gone ≡ (some_of (gone_by (client_link n)) added || old.client.gone)
   pub bus_gone : new.bus.gone ≡ (some_of (gone_by (bus_link n)) added || old.bus.gone)

@@ -22,7 +22,7 @@ use Rattle.policy_view.specs.declared.End.TheVariants.{ClientMalformed, BusMalfo
 use Rattle.policy_view.specs.History.{Event}
 use Rattle.proxy_core.specs.Sessions.{SessionView, Taken, StandsFor, IsFront}
 use Rattle.proxy_loop.specs.Sessions.{events_of}
-use Rattle.proxy_loop.specs.Kinds.{is_write, gone_by, all_are, some_of, last_write}
+use Rattle.proxy_loop.specs.Kinds.{is_write, is_taken, gone_by, all_are, some_of, last_write, only_newest_stops}
 
 -- ---- what waits
 
@@ -73,21 +73,43 @@ pub record OneWrite (link : Link) (old new : SessionView) (answer : Took) (added
   pub took : queue_of link.side old ≡ written link added ++ queue_of link.side new
   pub ended : is_some new.ended ≡ (is_some old.ended || is_failed answer)
 
--- the writes of a link, and nothing else: what they wrote was taken from the front of the queue; one that failed is the last
+-- the writes of a link, and nothing else: what they wrote was taken from the front of the queue
 pub record Writes (link : Link) (old new : SessionView) (fails : Bool) (added : Journal) : Type 0 where
   pub all : all_are (is_write link) added ≡ true
   pub gone : some_of (gone_by link) added ≡ fails
   pub took : queue_of link.side old ≡ written link added ++ queue_of link.side new
   pub ended : is_some new.ended ≡ (is_some old.ended || fails)
 
+-- .. each of which took bytes
+pub record WritesOn (link : Link) (old new : SessionView) (added : Journal) : Type 0 where
+  pub writes : Writes link old new false added
+  pub taken : all_are (is_taken link) added ≡ true
+  pub stops : only_newest_stops link added ≡ true
+
 -- nothing waits, or nothing is to be written to the link any more, or its last write among these wasn't ready
 abbrev pub IsDrained : Link → List ℕ → Bool → Journal → Type 0
 IsDrained link queue done added = (queue ≡ []) ⊎ (done ≡ true) ⊎ (last_write link added ≡ Some (not_ready (Write link)))
 
--- all that waits was written, until a write failed or wasn't ready
+-- all that waits was written, until a write failed or wasn't ready, which is the last
 pub record WroteOut (link : Link) (old new : SessionView) (fails : Bool) (added : Journal) : Type 0 where
   pub writes : Writes link old new fails added
+  pub stops : only_newest_stops link added ≡ true
   pub drained : IsDrained link (queue_of link.side new) fails added
+
+-- What is written to one link at a time: nothing where nothing is to be written to it any more; else one write after another, until
+-- one isn't ready or fails.
+pub record WritesTo (link : Link) (closed : Bool) (added : Journal) : Type 0 where
+  pub all : all_are (is_write link) added ≡ true
+  pub stops : only_newest_stops link added ≡ true
+  pub none : closed ≡ true → added ≡ []
+
+-- the writes to the client, and then those to the bus
+pub record WritesInOrder (n : ℕ) (client_closed bus_closed : Bool) (added : Journal) : Type 0 where
+  pub to_client : Journal
+  pub to_bus : Journal
+  pub is : added ≡ to_bus ++ to_client
+  pub client : WritesTo (client_link n) client_closed to_client
+  pub bus : WritesTo (bus_link n) bus_closed to_bus
 
 -- how many bytes a link is read into
 abbrev pub read_room : ℕ
