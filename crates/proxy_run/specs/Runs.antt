@@ -10,7 +10,7 @@ use Rattle.proxy_loop.specs.declared.turns.ServerEnd.TheVariants.{Memory}
 use Rattle.proxy_loop.specs.Sinks.{SinkView}
 use Rattle.proxy_loop.specs.Tables.{Table, IsEmpty, AllWished, SoundTable}
 use Rattle.proxy_loop.specs.Turns.{TurnDid}
-use Rattle.proxy_loop.specs.Servers.{GoesOn, LogExact, LinksStand, WithoutSessions}
+use Rattle.proxy_loop.specs.Servers.{Serves, GoesOn, LogExact, LinksStand, QueuesStand, WithoutSessions}
 use Rattle.proxy_loop.specs.Listening.{ListenDid}
 
 -- what comes of a run
@@ -24,13 +24,15 @@ end_at (Ok Stopped) = Some (Ok tt)
 end_at (Err end) = Some (Err end)
 
 -- One turn: each session was held under its number, and wasn't over; what was done for what was ready; sessions that served the
--- journal go on serving it; the wishes of their links stay as they are to be; and what was added to the log.
+-- journal go on serving it; the wishes of their links stay as they are to be; what was added to the log; and what waits behind what
+-- was written.
 pub record OneTurn (blocks : List Block) (limit : ℕ) (old new : Table) (before after : NetView) (first last : SinkView) (answer : Result Turn ServerEnd) : Type 0 where
   pub sound : SoundTable blocks old.at
   pub did : TurnDid blocks limit old new before after first last answer
   pub serves : GoesOn blocks old new before after
   pub wished : AllWished old.at before → AllWished new.at after
   pub log : LogExact blocks old new before after first last
+  pub queues : (journal : Journal) → Serves blocks new journal → QueuesStand blocks new journal
 
 -- so many turns that went on, one after the other
 abbrev pub Turns : List Block → ℕ → ℕ → Table → Table → NetView → NetView → SinkView → SinkView → Type 0
