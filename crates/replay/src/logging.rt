@@ -1,5 +1,5 @@
 //! Writing the log of a session: a line for each of its notes, joined so that one write carries many.
-ghost use Rattle.std.specs.Prelude.{◌≡◌, ◌≤◌, ◌<◌, ◌++◌, [], length, string_bytes, OnOk, IsErrOf};
+ghost use Rattle.std.specs.Prelude.{◌≡◌, ◌≤◌, ◌<◌, ◌++◌, [], length, string_bytes, string_len, OnOk, IsErrOf};
 ghost use Rattle.link_traits.specs.Told.{added, Rose, Part};
 ghost use Rattle.explain_log.specs.Lines.{log_line, log};
 ghost use Rattle.replay.specs.Logging.{Joins, LineRefused};
@@ -21,6 +21,7 @@ const LONG: usize = 65_536;
 fn write_lines<E: Sink>(lines: &mut String, err: &mut E) -> Result<(), ReplayFault>
     ensures ok { OnOk result (E.told err.new ≡ added (string_bytes lines.old) (E.told err.old)) }
     ensures none { OnOk result (string_bytes lines.new ≡ []) }
+    ensures len { OnOk result (string_len lines.new ≡ 0) }
     ensures part { Part (E.told err.old) (E.told err.new) (string_bytes lines.old) }
     ensures out { IsErrOf result ReplayFault.Out → ⊥ }
     ensures memory { IsErrOf result ReplayFault.Memory → ⊥ }
@@ -44,6 +45,7 @@ fn put_line<E: Sink>(
     err: &mut E,
 ) -> Result<(), ReplayFault>
     ensures ok { OnOk result (Joins (E.told err.old) (E.told err.new) (string_bytes lines.old ++ log_line 1 note) (string_bytes lines.new)) }
+    ensures short { OnOk result (string_len lines.new < LONG) }
     ensures part { Part (E.told err.old) (E.told err.new) (string_bytes lines.old ++ log_line 1 note) }
     ensures out { IsErrOf result ReplayFault.Out → ⊥ }
     ensures memory { IsErrOf result ReplayFault.Memory → E.told err.new ≡ added (string_bytes lines.old) (E.told err.old) }

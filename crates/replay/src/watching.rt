@@ -1,5 +1,5 @@
 //! A recording of which the visible part is given element by element, as its events are played.
-ghost use Rattle.std.specs.Prelude.{◌≡◌, ◌<◌, ◌+◌, List, [], None, false, IfOk, length};
+ghost use Rattle.std.specs.Prelude.{◌≡◌, ◌<◌, ◌+◌, List, [], None, false, IfOk, IfNone, length};
 ghost use Rattle.policy_args.specs.Policy.{Policy as PolicyValue};
 ghost use Rattle.policy_view.specs.declared.visible.Visible.{Visible as Element};
 ghost use Rattle.proxy_core.specs.Sessions.{is_memory as ended_for_memory};
@@ -45,9 +45,10 @@ impl Watched {
         self.session.took_client(for_client as usize);
     }
 
-    /// Plays the next event.
+    /// Plays the next event. No element of the visible part waits before, so none is held but what this event brings.
     fn play_next(&mut self, policy: &Policy, recording: &Recording)
-        requires { self.old.played < length recording.now.events.items }
+        requires left { self.old.played < length recording.now.events.items }
+        requires given { self.old.session.visible ≡ [] }
         ensures gave { (given : List Element) → Gave policy.now (recording_seen recording.now) self.old given → Gave policy.now (recording_seen recording.now) self.new given }
         ensures played { self.new.played ≡ self.old.played + 1 }
         ensures none { NothingWaits self.new.session }
@@ -61,6 +62,7 @@ impl Watched {
     fn next_waiting(&mut self) -> Option<Visible>
         ensures gave { (policy : PolicyValue) (recording : RecordingValue) (given : List Element) → Gave policy recording self.old given → GaveWaiting policy recording self.new given result }
         ensures played { self.new.played ≡ self.old.played }
+        ensures none { IfNone result (self.new.session.visible ≡ []) }
     {
         self.session.next_visible()
     }

@@ -8,5 +8,5 @@ returns-clause-gave c = λ given gave.
     let recording = recording_seen c.args.recording.now in
     c.let_go_bytes.ensures.gave c.args.policy.now recording given
     (gave-played c.args.policy.now recording c.args.self.now c.play_event.new.session (seen c.index.result.now) _ given
-    (event-played c.args.recording.now.events.items c.args.self.now.played c.index.result.now c.requires c.index.ensures)
+    (event-played c.args.recording.now.events.items c.args.self.now.played c.index.result.now c.requires.left c.index.ensures)
     c.play_event.ensures.bytes c.play_event.ensures.light (λ events taken. c.play_event.ensures.stands events taken) gave)
