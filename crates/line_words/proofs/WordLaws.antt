@@ -31,6 +31,10 @@ without-path path told = ap (λ (b : Bool). cond b None (told path)) (bytes_eq-r
 pub copied : (told : Told) (before : List (List ℕ)) (word : List ℕ) (rest : List (List ℕ)) → args_path word ≡ None → Expands told before (word ∷ rest) (before ++ word ∷ []) rest
 copied told before word rest e some knows = inr (ap (λ (o : Option (List ℕ)). with_word some before word o (λ now. line_from some now rest)) e)
 
+-- a file of words has 16 MiB at most
+longest : ARGS_LIMIT ≡ 16777216
+longest = refl
+
 within : (bytes : List ℕ) → length bytes ≤ ARGS_LIMIT → nat_lt ARGS_LIMIT (length bytes) ≡ false
 within bytes le = grind (arith, nat_tests, le)
 

@@ -5,6 +5,7 @@ use Rattle.recording.specs.declared.Side.TheVariants.{Client, Bus}
 use Rattle.recording.specs.declared.RecordingKind.{RecordingKind}
 use Rattle.recording.specs.declared.RecordingKind.TheVariants.{BadMagic, BadVersion, BadKind, Cut, BadAuth, BadLength}
 use Rattle.recording.specs.declared.BadRecording.{BadRecording}
+use Rattle.recording.specs.declared.TheConstants.{RECORDING_LIMIT}
 use Rattle.recording.specs.Recording.{record_len, events_at, head_of, recording_of, Recording, Bytes, Finished, spelled_recording}
 
 abbrev bad : RecordingKind → ℕ → Result Recording BadRecording
@@ -29,3 +30,7 @@ read_again = refl
 nothing_recorded : recording_of (hex (codes "444250520100")) ≡ Ok (record { auth = false; events = [] })
 unfolding record_len events_at head_of recording_of
 nothing_recorded = refl
+
+-- a recording has 64 MiB at most
+longest : RECORDING_LIMIT ≡ 67108864
+longest = refl
