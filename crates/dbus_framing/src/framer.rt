@@ -182,7 +182,7 @@ impl Framer {
             Front::Rest => return Ok(Next::Rest),
             Front::Bad(fault) => return Ok(Next::Bad(fault)),
         };
-        let frame = match self.message(len, &mut KnownTexts::new(self.alloc)) {
+        let frame = match self.message(len, &mut KnownTexts::none()) {
             Ok(message) => Bytes::copy_from_slice(self.alloc, message.bytes)?,
             Err(fault) => return Ok(Next::Bad(fault)),
         };

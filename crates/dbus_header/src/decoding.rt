@@ -10,7 +10,7 @@ ghost use Rattle.dbus_header.specs.Seen.{fields_seen, parts_seen};
 ghost use Rattle.dbus_header.specs.Whole.{body_fault_at, stated_in, HasParts, IsFieldsLen, fields_fault, fields_found, rest_fault};
 
 use crate::fields::{Fields, read_fields};
-use crate::grammars::{Grammars, KnownTexts, NoneKnown};
+use crate::grammars::KnownTexts;
 use crate::head::{HEAD_LEN, body_start, check_head, order_in, read_u32};
 use crate::kinds::{ERROR, METHOD_CALL, METHOD_RETURN, SIGNAL};
 use crate::message::Message;
@@ -90,8 +90,8 @@ fn header_fields_len(order: Order, bytes: &[u8]) -> u32
 }
 
 /// Reads the header fields of a whole message, which are to end where their length says, with zeros up to the body behind them.
-fn header_fields<'a, G: Grammars>(
-    grammars: &mut G,
+fn header_fields<'a>(
+    known: &mut KnownTexts,
     order: Order,
     fields_len: u32,
     bytes: &'a [u8],
@@ -105,7 +105,7 @@ fn header_fields<'a, G: Grammars>(
 {
     let fields_end = HEAD_LEN + fields_len as usize;
     let (header, _) = bytes.split_at(fields_end);
-    let end = read_fields(grammars, order, header, fields);
+    let end = read_fields(known, order, header, fields);
     if !is_header_end(bytes, end, fields_end) {
         return Err(Malformed {
             kind: MalformedKind::Fields,
@@ -149,8 +149,8 @@ fn check_rest(
 }
 
 /// Reads the header fields of a whole message whose first sixteen bytes are in order, and passes over its body.
-fn read_whole<'a, G: Grammars>(
-    grammars: &mut G,
+fn read_whole<'a>(
+    known: &mut KnownTexts,
     order: Order,
     bytes: &'a [u8],
     fields: &mut Fields<'a>,
@@ -164,12 +164,23 @@ fn read_whole<'a, G: Grammars>(
     ensures parts { OnOk result (HasParts bytes.now (fields_seen fields.new)) }
 {
     let fields_len = header_fields_len(order, bytes);
-    header_fields(grammars, order, fields_len, bytes, fields)?;
+    header_fields(known, order, fields_len, bytes, fields)?;
     check_rest(order, bytes, body_start(fields_len) as usize, fields)
 }
 
-/// The message that the bytes are, or what is wrong with them, and where.
-fn decode_by<'a, G: Grammars>(grammars: &mut G, bytes: &'a [u8]) -> Result<Message<'a>, Malformed>
+/// The message that the bytes are, or what is wrong with them, and where (D-Bus Specification, "Message Format"). One pass
+/// over the header and one over the body.
+pub fn decode(bytes: &[u8]) -> Result<Message<'_>, Malformed>
+    requires long { 16 ≤ length bytes.now }
+    requires whole { head_fault bytes.now ≡ None → length bytes.now ≡ whole_len bytes.now }
+    ensures refusal { refusal result ≡ fault bytes.now }
+    ensures bytes { IfOk result (λ m. m.bytes.now ≡ bytes.now) }
+{
+    decode_knowing(bytes, &mut KnownTexts::none())
+}
+
+/// The same, where texts of earlier messages are known, so that they aren't read once more. Those of this message are known then.
+pub fn decode_knowing<'a>(bytes: &'a [u8], known: &mut KnownTexts) -> Result<Message<'a>, Malformed>
     requires long { 16 ≤ length bytes.now }
     requires whole { head_fault bytes.now ≡ None → length bytes.now ≡ whole_len bytes.now }
     ensures refusal { refusal result ≡ fault bytes.now }
@@ -178,7 +189,7 @@ fn decode_by<'a, G: Grammars>(grammars: &mut G, bytes: &'a [u8]) -> Result<Messa
     check_head(bytes)?;
     let order = order_in(bytes);
     let mut fields = Fields::none();
-    read_whole(grammars, order, bytes, &mut fields)?;
+    read_whole(known, order, bytes, &mut fields)?;
     let start = body_start(read_u32(order, bytes, 12)) as usize;
     let (_, body) = bytes.split_at(start);
     Ok(Message {
@@ -198,25 +209,4 @@ fn decode_by<'a, G: Grammars>(grammars: &mut G, bytes: &'a [u8]) -> Result<Messa
         body,
         bytes,
     })
-}
-
-/// The message that the bytes are, or what is wrong with them, and where (D-Bus Specification, "Message Format"). One pass
-/// over the header and one over the body.
-pub fn decode(bytes: &[u8]) -> Result<Message<'_>, Malformed>
-    requires long { 16 ≤ length bytes.now }
-    requires whole { head_fault bytes.now ≡ None → length bytes.now ≡ whole_len bytes.now }
-    ensures refusal { refusal result ≡ fault bytes.now }
-    ensures bytes { IfOk result (λ m. m.bytes.now ≡ bytes.now) }
-{
-    decode_by(&mut NoneKnown, bytes)
-}
-
-/// The same, where texts of earlier messages are known, so that they aren't read once more. Those of this message are known then.
-pub fn decode_knowing<'a>(bytes: &'a [u8], known: &mut KnownTexts) -> Result<Message<'a>, Malformed>
-    requires long { 16 ≤ length bytes.now }
-    requires whole { head_fault bytes.now ≡ None → length bytes.now ≡ whole_len bytes.now }
-    ensures refusal { refusal result ≡ fault bytes.now }
-    ensures bytes { IfOk result (λ m. m.bytes.now ≡ bytes.now) }
-{
-    decode_by(known, bytes)
 }

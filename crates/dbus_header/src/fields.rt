@@ -6,7 +6,7 @@ ghost use Rattle.dbus_header.specs.HeaderReading.{type_code, ended_text as text_
 ghost use Rattle.dbus_header.specs.HeaderFields.{FieldsRead};
 ghost use Rattle.dbus_header.specs.Seen.{part_seen, end_seen, fields_seen, parts_seen};
 
-use crate::grammars::Grammars;
+use crate::grammars::KnownTexts;
 use crate::head::read_u32;
 use dbus_types::Signature;
 use dbus_values::{Order, is_zero, padding, value_end};
@@ -91,8 +91,8 @@ fn ended_text(len: usize, bytes: &[u8], at: usize) -> Option<(&[u8], usize)>
 }
 
 /// A field that holds a path or a string, by the place of its value.
-fn text_field<'a, G: Grammars>(
-    grammars: &mut G,
+fn text_field<'a>(
+    known: &mut KnownTexts,
     order: Order,
     code: u8,
     bytes: &'a [u8],
@@ -111,7 +111,7 @@ fn text_field<'a, G: Grammars>(
         Some(found) => found,
         None => return None,
     };
-    if !grammars.is_text_of(code, text) {
+    if !known.is_text_of(code, text) {
         return None;
     }
     // The grammar of each name lets ASCII alone pass.
@@ -136,8 +136,8 @@ fn number_field(order: Order, code: u8, bytes: &[u8], at: usize) -> Option<(Head
 }
 
 /// SIGNATURE.
-fn signature_field<'a, G: Grammars>(
-    grammars: &mut G,
+fn signature_field<'a>(
+    known: &mut KnownTexts,
     bytes: &'a [u8],
     at: usize,
 ) -> Option<(HeaderField<'a>, usize)>
@@ -152,15 +152,15 @@ fn signature_field<'a, G: Grammars>(
         Some(found) => found,
         None => return None,
     };
-    match grammars.signature(text) {
+    match known.signature(text) {
         Some(signature) => Some((HeaderField::Signed(signature), end)),
         None => None,
     }
 }
 
 /// A known field by the place of its value.
-fn known_value<'a, G: Grammars>(
-    grammars: &mut G,
+fn known_value<'a>(
+    known: &mut KnownTexts,
     order: Order,
     code: u8,
     bytes: &'a [u8],
@@ -173,14 +173,14 @@ fn known_value<'a, G: Grammars>(
     match code {
         REPLY_SERIAL => number_field(order, code, bytes, at),
         UNIX_FDS => number_field(order, code, bytes, at),
-        SIGNATURE => signature_field(grammars, bytes, at),
-        _ => text_field(grammars, order, code, bytes, at),
+        SIGNATURE => signature_field(known, bytes, at),
+        _ => text_field(known, order, code, bytes, at),
     }
 }
 
 /// A known field by the place of its variant, whose signature has to be the code's type.
-fn known_field<'a, G: Grammars>(
-    grammars: &mut G,
+fn known_field<'a>(
+    known: &mut KnownTexts,
     order: Order,
     code: u8,
     bytes: &'a [u8],
@@ -197,7 +197,7 @@ fn known_field<'a, G: Grammars>(
     {
         return None;
     }
-    known_value(grammars, order, code, bytes, at + 3)
+    known_value(known, order, code, bytes, at + 3)
 }
 
 /// The signature of one variant.
@@ -219,8 +219,8 @@ fn unread_field(order: Order, bytes: &[u8], at: usize) -> Option<(HeaderField<'_
 }
 
 /// The field whose code stands at a place.
-fn coded_field<'a, G: Grammars>(
-    grammars: &mut G,
+fn coded_field<'a>(
+    known: &mut KnownTexts,
     order: Order,
     code: u8,
     bytes: &'a [u8],
@@ -232,14 +232,14 @@ fn coded_field<'a, G: Grammars>(
 {
     match code {
         0 => None,
-        PATH..=UNIX_FDS => known_field(grammars, order, code, bytes, at + 1),
+        PATH..=UNIX_FDS => known_field(known, order, code, bytes, at + 1),
         _ => unread_field(order, bytes, at + 1),
     }
 }
 
 /// The field that stands behind the padding, and where it ends.
-fn read_field<'a, G: Grammars>(
-    grammars: &mut G,
+fn read_field<'a>(
+    known: &mut KnownTexts,
     order: Order,
     bytes: &'a [u8],
     place: usize,
@@ -257,7 +257,7 @@ fn read_field<'a, G: Grammars>(
     if !is_zero(gap) {
         return None;
     }
-    coded_field(grammars, order, bytes[start], bytes, start)
+    coded_field(known, order, bytes[start], bytes, start)
 }
 
 impl<'a> Fields<'a> {
@@ -342,8 +342,8 @@ impl<'a> Fields<'a> {
 /// Reads the fields of a message that is cut behind them, and tells where the last valid one ended. They are put where they are
 /// to stay.
 #[inline(never)]
-pub(crate) fn read_fields<'a, G: Grammars>(
-    grammars: &mut G,
+pub(crate) fn read_fields<'a>(
+    known: &mut KnownTexts,
     order: Order,
     bytes: &'a [u8],
     fields: &mut Fields<'a>,
@@ -355,7 +355,7 @@ pub(crate) fn read_fields<'a, G: Grammars>(
 {
     let mut place = 16;
     loop {
-        let (field, end) = match read_field(grammars, order, bytes, place) {
+        let (field, end) = match read_field(known, order, bytes, place) {
             Some(found) => found,
             None => return place,
         };

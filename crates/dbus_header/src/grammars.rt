@@ -11,37 +11,22 @@ use std::alloc::Global;
 /// No longer text is kept. A path alone may be longer (D-Bus Specification, "Valid Names").
 const LONGEST_KEPT: usize = 255;
 
-/// Tells whether texts are in the grammars of header fields.
-pub(crate) trait Grammars {
-    /// Whether a text is in the grammar of the field with this code.
-    fn is_text_of(&mut self, code: u8, text: &[u8]) -> bool
-        requires { code ≢ 8 }
-        ensures { result ≡ is_value_text code text.now };
+/// So many texts are read before the first is kept, so that a stream that is little used keeps none.
+const OFTEN: u8 = 64;
 
-    /// The signature that a text is.
-    fn signature<'a>(&mut self, text: &'a [u8]) -> Option<Signature<'a>>
-        ensures { option_map (λ s. s.bytes.now) result ≡ (if is_none (signature_fault text.now) then Some text.now else None) };
-}
-
-/// No text is known, so that each is read.
-#[derive(Clone, Copy, Drop)]
-pub(crate) struct NoneKnown;
-
-impl Grammars for NoneKnown {
-    fn is_text_of(&mut self, code: u8, text: &[u8]) -> bool {
-        match code {
-            PATH => is_path(text),
-            INTERFACE => is_interface(text),
-            MEMBER => is_member(text),
-            ERROR_NAME => is_error_name(text),
-            DESTINATION => is_bus_name(text),
-            SENDER => is_bus_name(text),
-            _ => false,
-        }
-    }
-
-    fn signature<'a>(&mut self, text: &'a [u8]) -> Option<Signature<'a>> {
-        Signature::read(text).ok()
+/// Whether a text is in the grammar of the field with this code.
+fn is_in_grammar(code: u8, text: &[u8]) -> bool
+    requires { code ≢ 8 }
+    ensures { result ≡ is_value_text code text.now }
+{
+    match code {
+        PATH => is_path(text),
+        INTERFACE => is_interface(text),
+        MEMBER => is_member(text),
+        ERROR_NAME => is_error_name(text),
+        DESTINATION => is_bus_name(text),
+        SENDER => is_bus_name(text),
+        _ => false,
     }
 }
 
@@ -82,26 +67,19 @@ impl KnownText {
     }
 }
 
-/// Of each header field that holds a name, a path or a signature the last text that was found in its grammar. Most messages of a stream
-/// have those of an earlier one, so that a text is compared and not read again.
+/// The texts that a stream keeps.
 #[derive(Drop)]
-pub struct KnownTexts {
-    /// By the codes of the fields.
+struct Kept {
+    /// By the codes of their fields. It takes no memory before many were read.
     texts: Vec<KnownText>,
+    /// How many were read before the first was kept, [`OFTEN`] at most.
+    read: u8,
     alloc: Global,
 }
 
-impl KnownTexts {
-    /// No text is known. It takes no memory before the first.
-    pub fn new(alloc: Global) -> KnownTexts {
-        KnownTexts {
-            texts: Vec::new(alloc),
-            alloc,
-        }
-    }
-
-    /// Whether this is the text that is known of the field with this code.
-    fn is_known(&self, code: u8, text: &[u8]) -> bool
+impl Kept {
+    /// Whether this is the text that is kept of the field with this code.
+    fn has(&self, code: u8, text: &[u8]) -> bool
         ensures { result ≡ true → is_sound_of code text.now ≡ true }
     {
         match self.texts.get(code as usize) {
@@ -110,10 +88,14 @@ impl KnownTexts {
         }
     }
 
-    /// Keeps a text that is in the grammar of the field with this code, where memory for it is left.
+    /// Keeps a text that is in the grammar of the field with this code, where many were read and memory for it is left.
     fn keep(&mut self, code: u8, text: &[u8])
         requires { is_sound_of code text.now ≡ true }
     {
+        if self.read < OFTEN {
+            self.read += 1;
+            return;
+        }
         let place = code as usize;
         let alloc = self.alloc;
         if self.texts.len() <= place {
@@ -125,23 +107,72 @@ impl KnownTexts {
     }
 }
 
-impl Grammars for KnownTexts {
-    fn is_text_of(&mut self, code: u8, text: &[u8]) -> bool {
+/// Of each header field that holds a name, a path or a signature the last text that was found in its grammar. Most messages of a stream
+/// have those of an earlier one, so that a text is compared and not read again.
+#[derive(Drop)]
+pub struct KnownTexts {
+    kept: Option<Kept>,
+}
+
+impl KnownTexts {
+    /// No text is known yet, those to come are.
+    pub fn new(alloc: Global) -> KnownTexts {
+        KnownTexts {
+            kept: Some(Kept {
+                texts: Vec::new(alloc),
+                read: 0,
+                alloc,
+            }),
+        }
+    }
+
+    /// No text is known, now and later: for a message that is read alone.
+    pub fn none() -> KnownTexts {
+        KnownTexts { kept: None }
+    }
+
+    /// Whether this is the text that is known of the field with this code.
+    fn is_known(&self, code: u8, text: &[u8]) -> bool
+        ensures { result ≡ true → is_sound_of code text.now ≡ true }
+    {
+        match &self.kept {
+            Some(kept) => kept.has(code, text),
+            None => false,
+        }
+    }
+
+    /// A text that is in the grammar of the field with this code is known from now on, where texts are kept.
+    fn keep(&mut self, code: u8, text: &[u8])
+        requires { is_sound_of code text.now ≡ true }
+    {
+        if let Some(kept) = &mut self.kept {
+            kept.keep(code, text);
+        }
+    }
+
+    /// Whether a text is in the grammar of the field with this code.
+    pub(crate) fn is_text_of(&mut self, code: u8, text: &[u8]) -> bool
+        requires { code ≢ 8 }
+        ensures { result ≡ is_value_text code text.now }
+    {
         if self.is_known(code, text) {
             return true;
         }
-        let is_text = NoneKnown.is_text_of(code, text);
+        let is_text = is_in_grammar(code, text);
         if is_text {
             self.keep(code, text);
         }
         is_text
     }
 
-    fn signature<'a>(&mut self, text: &'a [u8]) -> Option<Signature<'a>> {
+    /// The signature that a text is.
+    pub(crate) fn signature<'a>(&mut self, text: &'a [u8]) -> Option<Signature<'a>>
+        ensures { option_map (λ s. s.bytes.now) result ≡ (if is_none (signature_fault text.now) then Some text.now else None) }
+    {
         if self.is_known(SIGNATURE, text) {
             return Some(Signature { bytes: text });
         }
-        let signature = NoneKnown.signature(text);
+        let signature = Signature::read(text).ok();
         if signature.is_some() {
             self.keep(SIGNATURE, text);
         }

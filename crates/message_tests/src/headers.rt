@@ -114,13 +114,18 @@ fn told_message(alloc: Global, read: Result<Message<'_>, Malformed>) -> Result<S
     }
 }
 
+/// So often a message is read until its texts are known.
+const TIMES: u32 = 70;
+
 /// The texts of a row's message as it is before the changes.
 fn known_before(alloc: Global, row: &str) -> Result<KnownTexts, AllocError> {
     let (name, _) = row.split_once(' ').unwrap_or((row, ""));
     let bytes = changed(alloc, name)?;
     let mut known = KnownTexts::new(alloc);
     if is_whole(&bytes) {
-        let _is_valid = decode_knowing(&bytes, &mut known).is_ok();
+        for _ in 0..TIMES {
+            let _is_valid = decode_knowing(&bytes, &mut known).is_ok();
+        }
     }
     Ok(known)
 }

@@ -9,7 +9,7 @@ mod inputs;
 ghost use Rattle.std.specs.Prelude.{◌≡◌, ◌<◌, ◌≤◌, None, IsTrue, length};
 ghost use Rattle.dbus_header.specs.Malformed.{head_fault, whole_len};
 
-use dbus_header::{KnownTexts, Malformed, Message, decode, decode_knowing, length};
+use dbus_header::{KnownTexts, decode_knowing, length};
 use dbus_types::Signature;
 use dbus_values::{Order, value_end};
 use inputs::{byte_arrays, calls, dictionaries};
@@ -60,28 +60,17 @@ fn is_whole(bytes: &[u8]) -> bool
     }
 }
 
-/// Reads a message, where the texts of those before it are known or not.
-fn read_one<'a>(bytes: &'a [u8], known: &mut Option<KnownTexts>) -> Result<Message<'a>, Malformed>
-    requires long { 16 ≤ length bytes.now }
-    requires whole { head_fault bytes.now ≡ None → length bytes.now ≡ whole_len bytes.now }
-{
-    match known {
-        Some(known) => decode_knowing(bytes, known),
-        None => decode(bytes),
-    }
-}
-
 /// Reads two messages in turn, whose serials tell which comes next.
-fn read(first: &[u8], second: &[u8], calls: u32, known: &mut Option<KnownTexts>) -> bool {
+fn read(first: &[u8], second: &[u8], calls: u32, known: &mut KnownTexts) -> bool {
     if !is_whole(first) || !is_whole(second) {
         return false;
     }
     let mut serial = 0;
     for _ in 0..calls {
         let message = if serial == 7 {
-            read_one(second, known)
+            decode_knowing(second, known)
         } else {
-            read_one(first, known)
+            decode_knowing(first, known)
         };
         match message {
             Ok(message) => serial = message.serial,
@@ -116,7 +105,7 @@ fn read_time(
     first: &[u8],
     second: &[u8],
     calls: u32,
-    known: &mut Option<KnownTexts>,
+    known: &mut KnownTexts,
 ) -> io::Result<Duration> {
     let mut shortest = Duration::MAX;
     for _ in 0..MEASURES {
@@ -173,16 +162,16 @@ fn run(
         print_line(rt, "dictionary", time, DICTIONARY_CALLS, &dictionaries)?;
         let time = walk_time(rt, array, &arrays, BYTE_ARRAY_CALLS)?;
         print_line(rt, "byte_array", time, BYTE_ARRAY_CALLS, &arrays)?;
-        let time = read_time(rt, first, second, DECODE_CALLS, &mut None)?;
+        let time = read_time(rt, first, second, DECODE_CALLS, &mut KnownTexts::none())?;
         print_line(rt, "decode", time, DECODE_CALLS, &messages)?;
-        let mut known = Some(KnownTexts::new(rt.alloc()));
+        let mut known = KnownTexts::new(rt.alloc());
         let time = read_time(rt, first, second, DECODE_CALLS, &mut known)?;
         print_line(rt, "decode_knowing", time, DECODE_CALLS, &messages)?;
     }
     Ok(
         walk(entries, &dictionaries, 2)
             && walk(array, &arrays, 2)
-            && read(first, second, 2, &mut None),
+            && read(first, second, 2, &mut KnownTexts::none()),
     )
 }
 

@@ -4,7 +4,7 @@ use Rattle.dbus_header.proofs.HeaderFields.{Reached}
 use Rattle.dbus_header.proofs.fields.read_fields.Given as goal
 
 abbrev pub invariant-loop-found : goal.invariant-loop-found
-invariant-loop-found g l = Reached l.order l.bytes (fields_seen l.fields) l.place
+invariant-loop-found l = Reached l.order l.bytes (fields_seen l.fields) l.place
 
 abbrev pub decreases-loop-found : goal.decreases-loop-found
-decreases-loop-found g l = length l.bytes - l.place
+decreases-loop-found l = length l.bytes - l.place
