@@ -90,9 +90,10 @@ fn put_opening(out: &mut BytesMut) -> Result<(), AllocError>
     put_record(out, BUS_BYTES, &OWNED)
 }
 
-/// Writes what was made so far, where that is much.
+/// Writes what was made so far, where that is much. Less than a piece is left.
 fn write_much<S: Sink>(out: &mut BytesMut, sink: &mut S) -> Result<(), SinkFault>
     ensures ok { OnOk result (Moved (S.told sink.old) (S.told sink.new) out.old.items out.new.items) }
+    ensures short { OnOk result (length out.new.items < PIECE_LEN) }
     ensures part { OnErr result (Part (S.told sink.old) (S.told sink.new) out.old.items) }
     ensures cause { OnErr result (Rose (S.faults sink.old) (S.faults sink.new)) }
     ensures count { S.faults sink.old ≤ S.faults sink.new }
