@@ -9,9 +9,9 @@ use Rattle.proxy_main.specs.declared.Stop.TheVariants as stop
 use Rattle.proxy_main.specs.Words.{Command}
 use Rattle.proxy_main.specs.Answers.{Answer, replayed, explaining, answer_to, IsSettled, Agrees, HasCode, HasOut, IsWork, GivesOutTheSame}
 use Rattle.proxy_main.specs.Lines.{refusal_line, file_line, memory_line}
-use Rattle.proxy_main.specs.Loads.{StopsBy, CausedBy, Keeps, KeepsLog, IsDone, IsWritten, IsFront, IsLogFront}
+use Rattle.proxy_main.specs.Loads.{StopsBy, CausedBy, Keeps, KeepsLog, IsDone, IsWritten, IsFront, IsLogInLines}
 use Rattle.proxy_main.specs.Endings.{Ends, Refuses, NoFile, OutFails, LogFails, NoMemory, Said, Whole, Cut, StopTold}
-use Rattle.proxy_main.proofs.Logs.{front_none}
+use Rattle.proxy_main.proofs.Logs.{lines_none}
 
 -- ---- an answer that agrees with another
 
@@ -69,7 +69,7 @@ said_first a b c old between new line le same said = subst (λ told. Said (Rose 
 -- ---- how a run that stopped ended
 
 no_memory : (told : List ℕ → Option (List ℕ)) (command : Option Command) (rf ro : Type 0) (out new_out err between new_err : Option (List ℕ)) (a b c code : ℕ) → a ≤ b → code ≡ 8 → new_out ≡ out →
-    IsLogFront told command err between → Said (Rose b c) between new_err memory_line → Ends told command rf ro (Rose a c) out new_out err new_err code
+    IsLogInLines told command err between → Said (Rose b c) between new_err memory_line → Ends told command rf ro (Rose a c) out new_out err new_err code
 no_memory told command rf ro out new_out err between new_err a b c code le is kept log said =
     NoMemory is kept (record { between = between; log = log; said = said_over a b c between new_err memory_line le said })
 
@@ -80,11 +80,11 @@ pub ends_stop : (told : List ℕ → Option (List ℕ)) (command : Option Comman
 ends_stop told command rf ro out new_out err between new_err a b c code (stop.Refused r) le more by cause keeps log (inl t) =
     Refuses r t.0 by.0 by.1 keeps (said_first a b c err between new_err (refusal_line r) le log t.1)
 ends_stop told command rf ro out new_out err between new_err a b c code (stop.Refused r) le more by cause keeps log (inr t) =
-    no_memory told command rf ro out new_out err between new_err a b c code le t.0 keeps (front_none told command err between log) t.1
+    no_memory told command rf ro out new_out err between new_err a b c code le t.0 keeps (lines_none told command err between log) t.1
 ends_stop told command rf ro out new_out err between new_err a b c code (stop.File path) le more by cause keeps log (inl t) =
     NoFile path.now t.0 cause by keeps (said_first a b c err between new_err (file_line path.now) le log t.1)
 ends_stop told command rf ro out new_out err between new_err a b c code (stop.File path) le more by cause keeps log (inr t) =
-    no_memory told command rf ro out new_out err between new_err a b c code le t.0 keeps (front_none told command err between log) t.1
+    no_memory told command rf ro out new_out err between new_err a b c code le t.0 keeps (lines_none told command err between log) t.1
 ends_stop told command rf ro out new_out err between new_err a b c code stop.Output le more by cause keeps log t =
     OutFails t.0 cause by keeps (log.0, log.1, t.1 ∙ log.2)
 ends_stop told command rf ro out new_out err between new_err a b c code stop.Log le more by cause keeps log t =

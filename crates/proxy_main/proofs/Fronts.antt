@@ -7,7 +7,7 @@ use Rattle.proxy_main.specs.Answers.{answer_to}
 use Rattle.proxy_main.specs.Lines.{refusal_line, file_line, memory_line}
 use Rattle.proxy_main.specs.Loads.{IsEnd, IsFront, IsLogFront, IsLogged}
 use Rattle.proxy_main.specs.Endings.{Ends, Done, Refuses, NoFile, OutFails, LogFails, NoMemory, Said, Whole, Cut, LineOf, NoLine, OfRefusal, OfFile, OfMemory, ErrFront}
-use Rattle.proxy_main.proofs.Logs.{front_none}
+use Rattle.proxy_main.proofs.Logs.{front_none, lines_front}
 
 pub out_front : (told : List ℕ → Option (List ℕ)) (command : Option Command) (f o e : Type 0) (out new_out err new_err : Option (List ℕ)) (code : ℕ) →
     Ends told command f o e out new_out err new_err code → (new_out ≡ out) ⊎ IsFront (answer_to told command) out new_out
@@ -45,4 +45,4 @@ err_front told command f o e out new_out err new_err code (NoFile path is rose n
 err_front told command f o e out new_out err new_err code (OutFails is rose work front log) = log_alone told command err new_err code (NoLine (inr (inl is)) refl) (whole_front told command err new_err log)
 err_front told command f o e out new_out err new_err code (LogFails is rose asked work kept log) = log_alone told command err new_err code (NoLine (inr (inl is)) refl) log
 err_front told command f o e out new_out err new_err code (NoMemory is kept said) =
-    record { between = said.between; log = said.log; line = memory_line; is_line = OfMemory is refl; front = said_front e said.between new_err memory_line said.said }
+    record { between = said.between; log = lines_front told command err said.between said.log; line = memory_line; is_line = OfMemory is refl; front = said_front e said.between new_err memory_line said.said }

@@ -1,18 +1,19 @@
 -- What a run's log may be.
-use Rattle.std.proofs.Common.{◌≡◌, ℕ, true, false, List, [], Option, None, Some, Result, Ok, Err, IfSome, IfErr, OnOk, refl, ap, sym, ◌∙◌}
+use Rattle.std.proofs.Common.{◌≡◌, ◌⊎◌, inl, inr, ℕ, true, false, List, [], Option, None, Some, Result, Ok, Err, IfSome, IfErr, OnOk, refl, ap, sym, ◌∙◌}
 use Rattle.std.proofs.lemmas.Bool.{true≢false, cond-false}
 use Rattle.link_traits.specs.Told.{added, Part}
-use Rattle.link_traits.proofs.Parts.{added-none, part_none}
+use Rattle.link_traits.proofs.Parts.{added-none, part_none, part_so_far}
 use Rattle.policy_args.specs.Words.{PolicyOptions}
 use Rattle.recording.specs.Recording.{Recording}
 use Rattle.replay.specs.Output.{log_of_recording}
+use Rattle.replay.specs.Logging.{WholeLines}
 use Rattle.replay.specs.Explained.{explained}
 use Rattle.proxy_main.specs.declared.Refusal.{Refusal}
 use Rattle.proxy_main.specs.Words.{Command, Replay, Explain, Twin, Sample, Help, Version}
 use Rattle.proxy_main.specs.Answers.{Answer, then_go, then_read, replayed, explaining, answer_to, Agrees, log_of, checked_policy, checked_recording, asks_for_log, may_ask_for_log, may_log, IsLog}
 use Rattle.proxy_main.specs.declared.Stop.{Stop}
 use Rattle.proxy_main.specs.declared.Stop.TheVariants as stop
-use Rattle.proxy_main.specs.Loads.{CausedBy, KeepsLog, IsLogged, IsLogFront}
+use Rattle.proxy_main.specs.Loads.{CausedBy, KeepsLog, IsLogged, IsLogFront, IsLogInLines}
 
 -- options that ask for no log give none
 not_asked : (o : PolicyOptions) (r : Recording) → o.log ≡ false → log_of_recording o r ≡ []
@@ -66,13 +67,26 @@ pub front_none : (told : List ℕ → Option (List ℕ)) (command : Option Comma
 front_none told command err new_err same =
     (log_of (answer_to told command), record { settled = λ settled. refl; unasked = unasked told command }, part_none _ _ _ same)
 
+-- .. and it has no line that is cut
+pub lines_none : (told : List ℕ → Option (List ℕ)) (command : Option Command) (err new_err : Option (List ℕ)) → new_err ≡ err → IsLogInLines told command err new_err
+lines_none told command err new_err same =
+    (log_of (answer_to told command), record { settled = λ settled. refl; unasked = unasked told command }, inl same)
+
+-- whole lines are a front of the log
+lines_part : (err new_err : Option (List ℕ)) (log : List ℕ) → (new_err ≡ err) ⊎ WholeLines err new_err log → Part err new_err log
+lines_part err new_err log (inl same) = part_none err new_err log same
+lines_part err new_err log (inr lines) = part_so_far err new_err log _ _ lines.is lines.split
+
+pub lines_front : (told : List ℕ → Option (List ℕ)) (command : Option Command) (err new_err : Option (List ℕ)) → IsLogInLines told command err new_err → IsLogFront told command err new_err
+lines_front told command err new_err lines = (lines.0, lines.1, lines_part err new_err lines.0 lines.2)
+
 -- a run that stops before its work leaves err as it is
 pub log_early : (told : List ℕ → Option (List ℕ)) (command : Option Command) (files : Type 0) (err new_err : Option (List ℕ)) (s : Stop) → CausedBy files ⊥ ⊥ s → new_err ≡ err → KeepsLog told command err new_err s
 log_early told command files err new_err (stop.Refused refusal) cause same = same
 log_early told command files err new_err (stop.File path) cause same = same
 log_early told command files err new_err stop.Output cause same = absurd cause
 log_early told command files err new_err stop.Log cause same = absurd cause
-log_early told command files err new_err stop.Memory cause same = front_none told command err new_err same
+log_early told command files err new_err stop.Memory cause same = lines_none told command err new_err same
 
 -- ---- a run that may have no log
 
@@ -85,7 +99,7 @@ none_kept told command files out err new_err (stop.Refused refusal) is cause sam
 none_kept told command files out err new_err (stop.File path) is cause same = same
 none_kept told command files out err new_err stop.Output is cause same = none_logged told command err new_err is same
 none_kept told command files out err new_err stop.Log is cause same = absurd cause
-none_kept told command files out err new_err stop.Memory is cause same = front_none told command err new_err same
+none_kept told command files out err new_err stop.Memory is cause same = lines_none told command err new_err same
 
 pub quiet_done : {A : Type 0} (result : Result A Stop) (told : List ℕ → Option (List ℕ)) (command : Option Command) (err : Option (List ℕ)) → may_log told command ≡ false →
     OnOk result (IsLogged told command err err)
@@ -118,6 +132,10 @@ logged_of told p r o recording err new_err agrees is got = (log_of_recording o r
 pub log_front_of : (told : List ℕ → Option (List ℕ)) (p r : List ℕ) (o : PolicyOptions) (recording : Recording) (err new_err : Option (List ℕ)) → Agrees (answer_to told (Some (Replay p r))) (replayed o recording) →
     IfSome (told p) (λ bytes. checked_policy bytes ≡ Ok o) → Part err new_err (log_of_recording o recording) → IsLogFront told (Some (Replay p r)) err new_err
 log_front_of told p r o recording err new_err agrees is got = (log_of_recording o recording, log_played told p r o recording agrees is, got)
+
+pub log_lines_of : (told : List ℕ → Option (List ℕ)) (p r : List ℕ) (o : PolicyOptions) (recording : Recording) (err new_err : Option (List ℕ)) → Agrees (answer_to told (Some (Replay p r))) (replayed o recording) →
+    IfSome (told p) (λ bytes. checked_policy bytes ≡ Ok o) → WholeLines err new_err (log_of_recording o recording) → IsLogInLines told (Some (Replay p r)) err new_err
+log_lines_of told p r o recording err new_err agrees is lines = (log_of_recording o recording, log_played told p r o recording agrees is, inr lines)
 
 asked_where_told : (policy : Option (List ℕ)) (o : PolicyOptions) → IfSome policy (λ bytes. checked_policy bytes ≡ Ok o) → o.log ≡ true → may_ask_for_log policy ≡ true
 asked_where_told None o is asked = refl

@@ -20,17 +20,17 @@ use Rattle.proxy_main.specs.declared.Stop.TheVariants as stop
 use Rattle.proxy_main.specs.Words.{Command}
 use Rattle.proxy_main.specs.Answers.{Untold, Refused, answer_to, IsSettled, Agrees, without, IsWork, refusal_code, may_log}
 use Rattle.proxy_main.specs.Lines.{refusal_line, file_line, memory_line}
-use Rattle.proxy_main.specs.Loads.{IsOfWords, IsEnd, IsDone, IsFront, IsLogged, IsLogFront}
+use Rattle.proxy_main.specs.Loads.{IsOfWords, IsEnd, IsDone, IsFront, IsLogged, IsLogFront, IsLogInLines}
 
 -- a sink got a line, or a front of it where its count of faults rose
 pub data Said (rose : Type 0) (old new : Option (List ℕ)) (line : List ℕ) : Type 0 where
   Whole : new ≡ added line old → Said rose old new line
   Cut : rose → Part old new line → Said rose old new line
 
--- err got a front of the log, and then a line
+-- err got whole lines of the log, and then a line
 pub record SaidAfterLog (told : List ℕ → Option (List ℕ)) (command : Option Command) (rose : Type 0) (err new_err : Option (List ℕ)) (line : List ℕ) : Type 0 where
   pub between : Option (List ℕ)
-  pub log : IsLogFront told command err between
+  pub log : IsLogInLines told command err between
   pub said : Said rose between new_err line
 
 -- how a run of these words ended, by what is told of the files, the counts of faults that rose, and what out and err tell

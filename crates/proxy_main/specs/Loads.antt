@@ -8,6 +8,7 @@ use Rattle.proxy_main.specs.declared.Stop.TheVariants.{Refused as Refuses, File,
 use Rattle.proxy_main.specs.Words.{Command, Replay, Explain, Twin, Sample, Help, Version}
 use Rattle.policy_args.specs.Words.{PolicyOptions}
 use Rattle.recording.specs.Recording.{Recording as RecordingValue}
+use Rattle.replay.specs.Logging.{WholeLines}
 use Rattle.proxy_main.specs.Answers.{Answer, Untold, Refused, then_load, answer_to, Agrees, without, HasCode, HasOut, IsWork, GivesOutTheSame, IsSettled, may_log, IsLog}
 
 -- ---- one file
@@ -128,10 +129,15 @@ IsLogged told command err new_err = (log : List ℕ) × IsLog told command log �
 abbrev pub IsLogFront : (List ℕ → Option (List ℕ)) → Option Command → Option (List ℕ) → Option (List ℕ) → Type 0
 IsLogFront told command err new_err = (log : List ℕ) × IsLog told command log × Part err new_err log
 
--- what err got before a run stopped: nothing before the work, and all of the log where out failed
+-- whole lines of the log were written, from the first on, or none
+abbrev pub IsLogInLines : (List ℕ → Option (List ℕ)) → Option Command → Option (List ℕ) → Option (List ℕ) → Type 0
+IsLogInLines told command err new_err = (log : List ℕ) × IsLog told command log × ((new_err ≡ err) ⊎ WholeLines err new_err log)
+
+-- what err got before a run stopped: nothing before the work, all of the log where out failed, and whole lines of it where memory ran
+-- out
 abbrev pub KeepsLog : (List ℕ → Option (List ℕ)) → Option Command → Option (List ℕ) → Option (List ℕ) → Stop → Type 0
 KeepsLog told command err new_err (Refuses refusal) = new_err ≡ err
 KeepsLog told command err new_err (File path) = new_err ≡ err
 KeepsLog told command err new_err Output = IsLogged told command err new_err
 KeepsLog told command err new_err Log = IsLogFront told command err new_err
-KeepsLog told command err new_err Memory = IsLogFront told command err new_err
+KeepsLog told command err new_err Memory = IsLogInLines told command err new_err

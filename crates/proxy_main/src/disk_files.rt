@@ -1,10 +1,12 @@
 //! Files on a disk.
-ghost use Rattle.std.specs.Prelude.{◌≡◌, ◌≤◌, [], IfOk, length};
+ghost use Rattle.std.specs.Prelude.{◌≡◌, ◌≢◌, ◌≤◌, ◌<◌, ◌+◌, ◌++◌, ◌∷◌, [], Ok, IfOk, IfErr, IfSome, OnOk, OnErr, IsErrOf, None, length};
+ghost use Rattle.std.specs.IoError.{error_kind};
+ghost use Rattle.link_traits.specs.Told.{Given, Rose};
+ghost use Rattle.proxy_main.specs.Faults.{reads_failed};
 
 use link_traits::{FileFault, Files, ReadPaths};
-use std::alloc::Global;
 use std::fs::File;
-use std::io::Read;
+use std::io::{self, ErrorKind, Read};
 
 /// The files of the system by their paths. What they hold is not told, since others may write to
 /// them at any time.
@@ -41,52 +43,67 @@ impl<'a> Files for DiskFiles<'a> {
 
     ghost reads = { λ m. m.reads.paths };
 
-    fn read(&mut self, path: &str, limit: usize, into: &mut Vec<u8>) -> Result<(), FileFault> {
+    fn read(&mut self, path: &str, limit: usize, into: &mut Vec<u8>) -> Result<(), FileFault>
+        ensures given { OnOk result (Given limit None into.old.items into.new.items) }
+        ensures cause { IsErrOf result FileFault.Failed → Rose self.old.faults self.new.faults }
+        ensures err { OnErr result (into.new.items ≡ into.old.items) }
+        ensures count { self.old.faults ≤ self.new.faults }
+        ensures faults { self.new.faults ≡ reads_failed result self.old.faults }
+        ensures reads { self.new.reads.paths ≡ self.old.reads.paths ++ path.now ∷ [] }
+    {
         self.reads.add(path);
-        match read_path(self.rt, path, limit) {
-            Ok(bytes) => match into.extend_from_slice(&bytes) {
-                Ok(()) => Ok(()),
-                Err(_) => Err(FileFault::Memory),
-            },
-            Err(FileFault::Failed) => {
-                self.faults = self.faults.saturating_add(1);
-                Err(FileFault::Failed)
-            }
-            Err(fault) => Err(fault),
+        let result = read_opened(File::open(self.rt, path), limit, into);
+        if let Err(FileFault::Failed) = result {
+            self.faults = self.faults.saturating_add(1);
         }
+        result
     }
 }
 
-/// All bytes of the file at a path, at most so many.
-fn read_path(rt: &HostRuntime, path: &str, limit: usize) -> Result<Vec<u8>, FileFault>
-    ensures { IfOk result (λ v. length v.items ≤ limit) }
+/// Puts what a file holds behind what `into` holds, where it could be opened and has at most so many bytes.
+fn read_opened<R: Read + Drop>(
+    opened: io::Result<R>,
+    limit: usize,
+    into: &mut Vec<u8>,
+) -> Result<(), FileFault>
+    ensures given { OnOk result (IfOk opened (λ file. Given limit (R.remaining file) into.old.items into.new.items)) }
+    ensures within { OnOk result (length into.new.items ≤ length into.old.items + limit) }
+    ensures too_long { IsErrOf result FileFault.TooLong → IfOk opened (λ file. IfSome (R.remaining file) (λ bytes. limit < length bytes)) }
+    ensures failed { OnErr opened (IsErrOf result FileFault.Failed) }
+    ensures err { OnErr result (into.new.items ≡ into.old.items) }
 {
-    match File::open(rt, path) {
-        Ok(mut file) => read_limited(rt.alloc(), &mut file, limit),
+    match opened {
+        Ok(file) => read_limited(file, limit, into),
         Err(_) => Err(FileFault::Failed),
     }
 }
 
-/// All bytes up to the file's end, at most so many.
-fn read_limited(alloc: Global, file: &mut File, limit: usize) -> Result<Vec<u8>, FileFault>
-    ensures { IfOk result (λ v. length v.items ≤ limit) }
+/// Puts all bytes up to the file's end behind what `into` holds, where they are at most so many. One byte more is read, to tell that.
+fn read_limited<R: Read + Drop>(file: R, limit: usize, into: &mut Vec<u8>) -> Result<(), FileFault>
+    ensures given { OnOk result (Given limit (R.remaining file) into.old.items into.new.items) }
+    ensures too_long { IsErrOf result FileFault.TooLong → IfSome (R.remaining file) (λ bytes. limit < length bytes) }
+    ensures err { OnErr result (into.new.items ≡ into.old.items) }
 {
-    let mut bytes = Vec::new(alloc);
-    let mut buffer = [0u8; 4096];
-    for _ in 0..u64::MAX {
-        let n = match file.read(&mut buffer) {
-            Ok(n) => n,
-            Err(_) => return Err(FileFault::Failed),
-        };
-        if n == 0 {
-            return Ok(bytes);
-        }
-        if n > limit - bytes.len() {
-            return Err(FileFault::TooLong);
-        }
-        if bytes.extend_from_slice(&buffer[..n]).is_err() {
-            return Err(FileFault::Memory);
-        }
+    let before = into.len();
+    let read = file.take(limit.saturating_add(1) as u64).read_to_end(into);
+    let result = told(read, limit);
+    if result.is_err() {
+        into.truncate(before);
     }
-    Err(FileFault::Failed)
+    result
+}
+
+/// What is told of so many bytes that were read, or of an error.
+fn told(read: io::Result<usize>, limit: usize) -> Result<(), FileFault>
+    ensures within { IfOk read (λ n. n ≤ limit → result ≡ Ok tt) }
+    ensures too_long { IfOk read (λ n. limit < n → IsErrOf result FileFault.TooLong) }
+    ensures memory { IfErr read (λ e. error_kind e ≡ ErrorKind.OutOfMemory → IsErrOf result FileFault.Memory) }
+    ensures failed { IfErr read (λ e. error_kind e ≢ ErrorKind.OutOfMemory → IsErrOf result FileFault.Failed) }
+{
+    match read {
+        Ok(count) if count <= limit => Ok(()),
+        Ok(_) => Err(FileFault::TooLong),
+        Err(error) if error.kind() == ErrorKind::OutOfMemory => Err(FileFault::Memory),
+        Err(_) => Err(FileFault::Failed),
+    }
 }

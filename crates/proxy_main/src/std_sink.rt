@@ -1,5 +1,7 @@
 //! Standard output and standard error.
-ghost use Rattle.std.specs.Prelude.{◌≡◌};
+ghost use Rattle.std.specs.Prelude.{◌≡◌, ◌≤◌, ◌<◌, IfOk, length};
+ghost use Rattle.std.specs.Io.KnownBytes.{WriteAppends};
+ghost use Rattle.proxy_main.specs.Faults.{writes_failed};
 
 use link_traits::{Sink, SinkFault};
 use std::io::Write;
@@ -27,7 +29,13 @@ impl<W: Write + Drop> Sink for StdSink<W> {
 
     ghost faults = { λ m. m.faults };
 
-    fn write(&mut self, piece: &[u8]) -> Result<usize, SinkFault> {
+    fn write(&mut self, piece: &[u8]) -> Result<usize, SinkFault>
+        ensures within { IfOk result (λ n. n ≤ length piece.now) }
+        ensures progress { IfOk result (λ n. 0 < length piece.now → 0 < n) }
+        ensures count { self.old.faults ≤ self.new.faults }
+        ensures writer { WriteAppends (W.contents self.old.writer) (W.contents self.new.writer) result piece.now }
+        ensures faults { self.new.faults ≡ writes_failed result self.old.faults }
+    {
         if piece.is_empty() {
             return Ok(0);
         }

@@ -6,12 +6,12 @@ use Rattle.proxy_main.specs.declared.words.CommandWords.{CommandWords}
 use Rattle.proxy_main.specs.Words.{reading}
 use Rattle.proxy_main.specs.Read.{command_of}
 use Rattle.proxy_main.specs.FilesRead.{paths_of}
-use Rattle.proxy_main.proofs.Logs.{front_none}
+use Rattle.proxy_main.proofs.Logs.{lines_none}
 use Rattle.proxy_main.proofs.Needed.{needed_until, none_needed}
 use Rattle.proxy_main.proofs.work.work.Goals as goal
 
 pub returns-in-Err-clause-log : goal.returns-in-Err-clause-log
-returns-in-Err-clause-log g c = front_none _ _ _ _ refl
+returns-in-Err-clause-log g c = lines_none _ _ _ _ refl
 
 pub returns-in-Ok-None-clause-needed : goal.returns-in-Ok-None-clause-needed
 returns-in-Ok-None-clause-needed g c =

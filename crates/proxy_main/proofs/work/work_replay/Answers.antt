@@ -6,7 +6,7 @@ use Rattle.proxy_main.specs.Words.{Replay}
 use Rattle.proxy_main.specs.Answers.{answer_to, replayed}
 use Rattle.proxy_main.specs.FilesRead.{needed}
 use Rattle.proxy_main.proofs.Endings.{done_of, front_of, work_of}
-use Rattle.proxy_main.proofs.Logs.{log_early, logged_of, log_front_of, may_log_played}
+use Rattle.proxy_main.proofs.Logs.{log_early, logged_of, log_front_of, log_lines_of, may_log_played}
 use Rattle.proxy_main.proofs.work.work_replay.Goals as goal
 
 pub returns-in-Ok-replay-clause-done : goal.returns-in-Ok-replay-clause-done
@@ -48,8 +48,8 @@ returns-in-Err-Err-clause-log g c =
 
 pub returns-in-Ok-clause-log : goal.returns-in-Ok-clause-log
 returns-in-Ok-clause-log g c =
-    log_front_of (g.F.Files.told c.args.files.now) c.args.policy.now c.args.recording.now (options_seen c.in-Ok.loaded.options) (recording_seen c.in-Ok.loaded.recording) _ _
-    (c.in-Ok.ensures.loaded replayed) c.in-Ok.ensures.options c.replay.ensures.log_part
+    log_lines_of (g.F.Files.told c.args.files.now) c.args.policy.now c.args.recording.now (options_seen c.in-Ok.loaded.options) (recording_seen c.in-Ok.loaded.recording) _ _
+    (c.in-Ok.ensures.loaded replayed) c.in-Ok.ensures.options (c.in-Err-Memory.ensures.whole (ap Err c.in-Err-Memory.field-0-is))
 
 pub returns-clause-log : goal.returns-clause-log
 returns-clause-log g c = log_early (g.F.Files.told c.args.files.now) (Some (Replay c.args.policy.now c.args.recording.now)) _ _ _ c.in-Err.stop c.in-Err.ensures.cause refl

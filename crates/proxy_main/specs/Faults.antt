@@ -1,0 +1,18 @@
+-- How often reads of files, and writes of a standard stream, have failed.
+use Rattle.std.specs.Prelude.{ℕ, ◌+◌, ◌-◌, ◌^◌, min, Ok, Err, Result}
+use Rattle.link_traits.specs.declared.FileFault.{FileFault}
+use Rattle.link_traits.specs.declared.FileFault.TheVariants.{Failed}
+
+-- one more, up to the greatest number that a count has
+abbrev pub one_more : ℕ → ℕ
+one_more faults = min (faults + 1) (2 ^ 64 - 1)
+
+-- behind a read
+abbrev pub reads_failed : {A : Type 0} → Result A FileFault → ℕ → ℕ
+reads_failed (Err Failed) faults = one_more faults
+reads_failed _ faults = faults
+
+-- behind a write
+abbrev pub writes_failed : {A E : Type 0} → Result A E → ℕ → ℕ
+writes_failed (Ok n) faults = faults
+writes_failed (Err fault) faults = one_more faults
