@@ -13,6 +13,7 @@ use crate::table::{Sessions, serve_named};
 use link_traits::{Net, Ready, Sink};
 use policy_args::Block;
 use std::alloc::{AllocError, Global};
+use thiserror::Error;
 
 /// What a turn that goes on answers.
 #[derive(Clone, Copy, Debug, PartialEq, Eq)]
@@ -24,13 +25,16 @@ pub enum Turn {
 }
 
 /// Why a server ends.
-#[derive(Clone, Copy, Debug, PartialEq, Eq)]
+#[derive(Clone, Copy, Debug, PartialEq, Eq, Error)]
 pub enum ServerEnd {
     /// The path of this block, counted from 0, could not be listened at.
+    #[error("the path of block {0} could not be listened at")]
     Listen(u32),
     /// The net could not wait.
+    #[error("the net could not wait")]
     Wait,
     /// Memory was refused.
+    #[error("out of memory")]
     Memory,
 }
 
