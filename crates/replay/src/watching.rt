@@ -1,5 +1,5 @@
 //! A recording of which the visible part is given element by element, as its events are played.
-ghost use Rattle.std.specs.Prelude.{◌≡◌, ◌<◌, ◌+◌, List, [], None, false, IfOk, IfNone, length};
+ghost use Rattle.std.specs.Prelude.{◌≡◌, ◌<◌, ◌+◌, List, [], None, false, true, IfOk, IfNone, OnErr, length};
 ghost use Rattle.policy_args.specs.Policy.{Policy as PolicyValue};
 ghost use Rattle.policy_view.specs.declared.visible.Visible.{Visible as Element};
 ghost use Rattle.proxy_core.specs.Sessions.{is_memory as ended_for_memory};
@@ -97,7 +97,8 @@ impl Watched {
 
 /// No element, unless the session ended for want of memory.
 fn none_unless_memory(ended: Option<End>) -> Result<Option<Visible>, AllocError>
-    ensures { IfOk result (λ next. (next ≡ None) × (ended_for_memory ended ≡ false)) }
+    ensures ok { IfOk result (λ next. (next ≡ None) × (ended_for_memory ended ≡ false)) }
+    ensures err { OnErr result (ended_for_memory ended ≡ true) }
 {
     if is_memory(ended) {
         return Err(AllocError);
