@@ -259,6 +259,7 @@ pub fn shut_done<N: Net>(net: &mut N, session: &Session, state: LinkState, link:
 /// States the wishes of a link that isn't shut.
 pub fn state_wishes<N: Net>(net: &mut N, session: &Session, state: LinkState, link: Link)
     ensures told { Adds (N.view net.old) (N.view net.new) [] }
+    ensures still { state.shut ≡ true → N.view net.new ≡ N.view net.old }
     ensures own { state.shut ≡ false → (N.view net.new).wishes link ≡ option_map (λ (_ : Wishes). wishes_of link.side session.now) ((N.view net.old).wishes link) }
     ensures wishes { KeepsOthers link (N.view net.old) (N.view net.new) }
 {
