@@ -1,7 +1,7 @@
 //! Output and logs that can't be written, and the files and the standard output of the system.
 use crate::runs::{Ended, file, replay, run_with_room};
 use link_traits::{FileFault, Files, Sink};
-use proxy_main::{DiskFiles, StdSink};
+use proxy_main::{DiskFiles, StdSink, SystemDisk};
 use std::alloc::{AllocError, Global};
 use std::fs;
 use std::test::Fail;
@@ -62,7 +62,7 @@ fn a_log_with_room_stands_beside_the_output(rt: HostRuntime) -> Result<(), Fail>
 fn disk_files_are_read_within_a_limit(rt: HostRuntime) -> Result<(), Fail> {
     let path = "disk_files_are_read_within_a_limit";
     fs::write(&rt, path, b"--filter")?;
-    let mut files = DiskFiles::new(&rt);
+    let mut files = DiskFiles::new(SystemDisk::new(&rt));
     let mut into = Vec::new(rt.alloc());
     for (path, limit, expected) in [
         (path, 8, Ok(())),

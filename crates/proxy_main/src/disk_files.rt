@@ -1,58 +1,48 @@
 //! Files on a disk.
-ghost use Rattle.std.specs.Prelude.{◌≡◌, ◌≢◌, ◌≤◌, ◌<◌, ◌+◌, ◌++◌, ◌∷◌, [], Ok, IfOk, IfErr, IfSome, OnOk, OnErr, IsErrOf, None, length};
+ghost use Rattle.std.specs.Prelude.{◌≡◌, ◌≢◌, ◌≤◌, ◌<◌, ◌+◌, ◌++◌, ◌∷◌, ℕ, List, [], Ok, IfOk, IfErr, IfSome, OnOk, OnErr, IsErrOf, length};
 ghost use Rattle.std.specs.IoError.{error_kind};
 ghost use Rattle.link_traits.specs.Told.{Given, Rose};
 ghost use Rattle.proxy_main.specs.Faults.{reads_failed};
 
-use link_traits::{FileFault, Files, ReadPaths};
-use std::fs::File;
+use crate::disk::Disk;
+use link_traits::{FileFault, Files};
 use std::io::{self, ErrorKind, Read};
 
-/// The files of the system by their paths. What they hold is not told, since others may write to
-/// them at any time.
-///
-/// That the paths in `reads` are those that were read is trusted, and rests on the first two lines of `read`: it opens the path that
-/// it adds, and nothing else here opens a file.
+/// The files of a disk, by their paths. They hold what the disk tells.
 #[derive(Drop)]
-pub struct DiskFiles<'a> {
-    rt: &'a HostRuntime,
+pub struct DiskFiles<D: Disk + Drop> {
+    disk: D,
     faults: u64,
-    reads: ReadPaths,
 }
 
-impl<'a> DiskFiles<'a> {
-    /// The files of the system that the runtime stands for, before any has failed.
-    pub fn new(rt: &'a HostRuntime) -> DiskFiles<'a>
+impl<D: Disk + Drop> DiskFiles<D> {
+    /// The files of a disk, before any read of one has failed.
+    pub fn new(disk: D) -> DiskFiles<D>
+        ensures disk { result.disk ≡ disk }
         ensures faults { result.faults ≡ 0 }
-        ensures reads { result.reads.paths ≡ [] }
     {
-        DiskFiles {
-            rt,
-            faults: 0,
-            reads: ReadPaths::new(),
-        }
+        DiskFiles { disk, faults: 0 }
     }
 }
 
-impl<'a> Files for DiskFiles<'a> {
-    ghost use Rattle.std.specs.Prelude.{None};
+impl<D: Disk + Drop> Files for DiskFiles<D> {
+    ghost told = { λ files. D.held files.disk };
 
-    ghost told = { λ _ _. None };
+    ghost faults = { λ files. files.faults };
 
-    ghost faults = { λ m. m.faults };
-
-    ghost reads = { λ m. m.reads.paths };
+    ghost reads = { λ files. D.opened files.disk };
 
     fn read(&mut self, path: &str, limit: usize, into: &mut Vec<u8>) -> Result<(), FileFault>
-        ensures given { OnOk result (Given limit None into.old.items into.new.items) }
+        ensures given { OnOk result (Given limit (D.held self.old.disk path.now) into.old.items into.new.items) }
+        ensures too_long { IsErrOf result FileFault.TooLong → IfSome (D.held self.old.disk path.now) (λ bytes. limit < length bytes) }
         ensures cause { IsErrOf result FileFault.Failed → Rose self.old.faults self.new.faults }
         ensures err { OnErr result (into.new.items ≡ into.old.items) }
         ensures count { self.old.faults ≤ self.new.faults }
+        ensures kept { (p : List ℕ) → D.held self.new.disk p ≡ D.held self.old.disk p }
+        ensures path { D.opened self.new.disk ≡ D.opened self.old.disk ++ path.now ∷ [] }
         ensures faults { self.new.faults ≡ reads_failed result self.old.faults }
-        ensures reads { self.new.reads.paths ≡ self.old.reads.paths ++ path.now ∷ [] }
     {
-        self.reads.add(path);
-        let result = read_opened(File::open(self.rt, path), limit, into);
+        let result = read_opened(self.disk.open(path), limit, into);
         if let Err(FileFault::Failed) = result {
             self.faults = self.faults.saturating_add(1);
         }

@@ -12,6 +12,7 @@
 //! A run ends with a status, and with a line on the standard error where the status says that something is wrong.
 #![tactic(auto)]
 
+mod disk;
 mod disk_files;
 mod files;
 mod lines;
@@ -26,6 +27,7 @@ mod work;
 
 ghost use Rattle.std.specs.Prelude.{◌≤◌};
 
+pub use disk::{Disk, SystemDisk};
 pub use disk_files::DiskFiles;
 use policy_args::BadWord;
 pub use program::run;

@@ -3,7 +3,7 @@
 //! It gives the words, the disk's files, the Unix sockets and the standard streams to `proxy_main::run`, and ends with the status that this answers.
 #![tactic(auto)]
 
-use proxy_main::{DiskFiles, StdSink, run};
+use proxy_main::{DiskFiles, StdSink, SystemDisk, run};
 use proxy_net::MioNet;
 use std::alloc::AllocError;
 use std::env;
@@ -37,7 +37,7 @@ fn main(rt: HostRuntime) -> ExitCode {
         Ok(net) => net,
         Err(_) => return ExitCode::from(NET),
     };
-    let mut files = DiskFiles::new(&rt);
+    let mut files = DiskFiles::new(SystemDisk::new(&rt));
     let mut out = StdSink::new(rt.stdout());
     let mut err = StdSink::new(rt.stderr());
     let status = run(
