@@ -185,110 +185,96 @@ fn is_answer(
     is_message_of(alloc, answer.as_slice(), expected)
 }
 
-#[test]
-fn answers_in_place_in_little_order(rt: HostRuntime) -> Result<(), Fail> {
-    for (reply_serial, serial, what, expected) in [
-        (
-            0x0102_0304,
-            0x0506_0708,
-            Instead::AccessDenied,
+/// The answer in place that the test makes of each kind, in little order.
+fn in_little_order(what: Instead) -> &'static str {
+    match what {
+        Instead::AccessDenied => {
             "6c030101 1c000000 08070605 5f000000 \
              04017300 27000000 [org.freedesktop.DBus.Error.AccessDenied] 00 \
              05017500 04030201 \
              07017300 14000000 [org.freedesktop.DBus] 00 000000 \
              08016700 017300 00 \
-             17000000 [access denied by policy] 00",
-        ),
-        (
-            1,
-            4_294_967_295,
-            Instead::NameHasNoOwner,
+             17000000 [access denied by policy] 00"
+        }
+        Instead::NameHasNoOwner => {
             "6c030101 16000000 ffffffff 67000000 \
              04017300 29000000 [org.freedesktop.DBus.Error.NameHasNoOwner] 00 000000000000 \
              05017500 01000000 \
              07017300 14000000 [org.freedesktop.DBus] 00 000000 \
              08016700 017300 00 \
-             11000000 [name has no owner] 00",
-        ),
-        (
-            10,
-            101,
-            Instead::ServiceUnknown,
+             11000000 [name has no owner] 00"
+        }
+        Instead::ServiceUnknown => {
             "6c030101 14000000 65000000 67000000 \
              04017300 29000000 [org.freedesktop.DBus.Error.ServiceUnknown] 00 000000000000 \
              05017500 0a000000 \
              07017300 14000000 [org.freedesktop.DBus] 00 000000 \
              08016700 017300 00 \
-             0f000000 [service unknown] 00",
-        ),
-        (
-            3,
-            70,
-            Instead::False,
+             0f000000 [service unknown] 00"
+        }
+        Instead::False => {
             "6c020101 04000000 46000000 2f000000 \
              05017500 03000000 \
              07017300 14000000 [org.freedesktop.DBus] 00 000000 \
              08016700 016200 00 \
-             00000000",
-        ),
-    ] {
-        let serials = (reply_serial, serial);
-        let is_expected = is_answer(rt.alloc(), Order::Little, serials, what, expected)?;
-        assert!(rt; is_expected, "{what:?}");
+             00000000"
+        }
     }
-    Ok(())
 }
 
-#[test]
-fn answers_in_place_in_big_order(rt: HostRuntime) -> Result<(), Fail> {
-    for (reply_serial, serial, what, expected) in [
-        (
-            0x0102_0304,
-            0x0506_0708,
-            Instead::AccessDenied,
+/// The same in big order.
+fn in_big_order(what: Instead) -> &'static str {
+    match what {
+        Instead::AccessDenied => {
             "42030101 0000001c 05060708 0000005f \
              04017300 00000027 [org.freedesktop.DBus.Error.AccessDenied] 00 \
              05017500 01020304 \
              07017300 00000014 [org.freedesktop.DBus] 00 000000 \
              08016700 017300 00 \
-             00000017 [access denied by policy] 00",
-        ),
-        (
-            1,
-            4_294_967_295,
-            Instead::NameHasNoOwner,
+             00000017 [access denied by policy] 00"
+        }
+        Instead::NameHasNoOwner => {
             "42030101 00000016 ffffffff 00000067 \
              04017300 00000029 [org.freedesktop.DBus.Error.NameHasNoOwner] 00 000000000000 \
              05017500 00000001 \
              07017300 00000014 [org.freedesktop.DBus] 00 000000 \
              08016700 017300 00 \
-             00000011 [name has no owner] 00",
-        ),
-        (
-            10,
-            101,
-            Instead::ServiceUnknown,
+             00000011 [name has no owner] 00"
+        }
+        Instead::ServiceUnknown => {
             "42030101 00000014 00000065 00000067 \
              04017300 00000029 [org.freedesktop.DBus.Error.ServiceUnknown] 00 000000000000 \
              05017500 0000000a \
              07017300 00000014 [org.freedesktop.DBus] 00 000000 \
              08016700 017300 00 \
-             0000000f [service unknown] 00",
-        ),
-        (
-            3,
-            70,
-            Instead::False,
+             0000000f [service unknown] 00"
+        }
+        Instead::False => {
             "42020101 00000004 00000046 0000002f \
              05017500 00000003 \
              07017300 00000014 [org.freedesktop.DBus] 00 000000 \
              08016700 016200 00 \
-             00000000",
-        ),
+             00000000"
+        }
+    }
+}
+
+#[test]
+fn answers_in_place_are_spelled_in_either_order(rt: HostRuntime) -> Result<(), Fail> {
+    for (reply_serial, serial, what) in [
+        (0x0102_0304, 0x0506_0708, Instead::AccessDenied),
+        (1, 4_294_967_295, Instead::NameHasNoOwner),
+        (10, 101, Instead::ServiceUnknown),
+        (3, 70, Instead::False),
     ] {
-        let serials = (reply_serial, serial);
-        let is_expected = is_answer(rt.alloc(), Order::Big, serials, what, expected)?;
-        assert!(rt; is_expected, "{what:?}");
+        for (order, expected) in [
+            (Order::Little, in_little_order(what)),
+            (Order::Big, in_big_order(what)),
+        ] {
+            let serials = (reply_serial, serial);
+            let is_expected = is_answer(rt.alloc(), order, serials, what, expected)?;
+            assert!(rt; is_expected, "{what:?} {order:?}");
+        }
     }
     Ok(())
 }
