@@ -66,7 +66,18 @@ NEGOTIATE_UNIX_FDS%0D%0A => NEGOTIATE_UNIX_FDS%0D%0A
 DATA NEGOTIATE_UNIX_FD%0D%0A => DATA NEGOTIATE_UNIX_FD%0D%0A
 negotiate_unix_fd%0D%0A => negotiate_unix_fd%0D%0A
 AUTH EXTERNAL%0D%0A => AUTH EXTERNAL%0D%0A
+BEGIN%0D%0A => BEGIN%0D%0A
+BEGIN now%0D%0A => BEGIN%0D%0A
+BEGIN %0D%0A => BEGIN%0D%0A
+BEGIN BEGIN%0D%0A => BEGIN%0D%0A
+BEGINS now%0D%0A => BEGINS now%0D%0A
+begin now%0D%0A => begin now%0D%0A
+ BEGIN%0D%0A =>  BEGIN%0D%0A
+DATA BEGIN%0D%0A => DATA BEGIN%0D%0A
 ";
+
+/// How many bytes follow the word of the longest line that is tried.
+const LONG_ARGUMENT: usize = 16_000;
 
 /// What was given of a stream: its lines, the answer behind them, and the bytes that are left.
 type Told = (Vec<Bytes>, NextLine, Vec<u8>);
@@ -284,6 +295,18 @@ fn told_last(alloc: Global, given: &Told) -> Result<String, AllocError> {
 fn told_sent(alloc: Global, line: &str) -> Result<String, AllocError> {
     let line = Bytes::copy_from_slice(alloc, &plain(alloc, line)?)?;
     text_of(alloc, for_bus(alloc, &line)?.as_slice())
+}
+
+#[test]
+fn what_follows_begin_in_its_line_is_not_sent(rt: HostRuntime) -> Result<(), Fail> {
+    let mut line = Vec::from_slice(rt.alloc(), b"BEGIN ")?;
+    for _ in 0..LONG_ARGUMENT {
+        line.push(b'x')?;
+    }
+    line.extend_from_slice(b"\r\n")?;
+    let line = Bytes::from_vec(line)?;
+    assert_eq!(rt; for_bus(rt.alloc(), &line)?.as_slice(), b"BEGIN\r\n".as_slice());
+    Ok(())
 }
 
 #[test]

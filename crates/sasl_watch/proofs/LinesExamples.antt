@@ -22,6 +22,10 @@ agreed_lines = refl
 refused : map for_bus (client_lines (0 ∷ line (codes "NEGOTIATE_UNIX_FD"))) ≡ (0 ∷ []) ∷ line (codes "NO_UNIX_FD") ∷ []
 refused = refl
 
+-- what follows BEGIN in its line isn't sent on
+begun_alone : map for_bus (line (codes "BEGIN now") ∷ line (codes "BEGIN ") ∷ line (codes "BEGINS") ∷ []) ≡ line (codes "BEGIN") ∷ line (codes "BEGIN") ∷ line (codes "BEGINS") ∷ []
+begun_alone = refl
+
 not_begun : has_begun (0 ∷ line (codes "DATA BEGIN")) ≡ false
 not_begun = refl
 

@@ -42,12 +42,18 @@ pub(crate) fn agrees(line: &[u8]) -> bool
     has_word(line, b"AGREE_UNIX_FD")
 }
 
-/// What the bus is sent for a line of the client: the line itself, which is shared, or `NO_UNIX_FD` where it asks to
-/// pass file descriptors. No bus knows that command, and answers it with ERROR (D-Bus Specification, "Authentication
-/// Protocol", "NEGOTIATE_UNIX_FD Command"). An error says that memory ran out.
+/// What the bus is sent for a line of the client. An error says that memory ran out.
+///
+/// A line whose word is `BEGIN` is sent as exactly `BEGIN`, since a bus may refuse one that goes on and read the messages
+/// that follow as lines (D-Bus Specification, "Authentication Protocol", "BEGIN Command": it has no arguments). One that
+/// asks to pass file descriptors is sent as `NO_UNIX_FD`, a command that no bus knows and that each answers with ERROR
+/// ("NEGOTIATE_UNIX_FD Command"). Any other line is sent as it came, and is shared.
 pub fn for_bus(alloc: Global, line: &Bytes) -> Result<Bytes, AllocError>
     ensures { IfOk result (λ bytes. bytes ≡ line_for_bus line.now) }
 {
+    if is_begin(line.as_slice()) {
+        return Bytes::copy_from_slice(alloc, b"BEGIN\r\n");
+    }
     if has_word(line.as_slice(), b"NEGOTIATE_UNIX_FD") {
         return Bytes::copy_from_slice(alloc, b"NO_UNIX_FD\r\n");
     }
