@@ -5,7 +5,7 @@ use Rattle.std.proofs.lemmas.Bool.{and_parts, lt-ltb, eqb-true, ne_eqb}
 use Rattle.dbus_types.specs.Signature.{Complete, uint32}
 use Rattle.dbus_values.specs.Values.{Value, a_number, a_string, a_path, a_signature, padding}
 use Rattle.dbus_values.specs.Reading.{when}
-use Rattle.dbus_header.specs.Message.{Field, field_in, has_field, text_in, number_in, is_field_of, text_passes, number_passes, may_follow}
+use Rattle.dbus_header.specs.Message.{Field, field_in, has_field, text_in, number_in, has_unknown, is_field_of, text_passes, number_passes, may_follow}
 use Rattle.dbus_header.specs.Contents.{Parts}
 use Rattle.dbus_header.specs.HeaderFields.{spelled_in, found_in}
 use Rattle.dbus_header.specs.HeaderReading.{Part, unread, Found, unless, found_with, with_part}
@@ -129,6 +129,7 @@ module _ (before : List Field) (follow : all_follow before ≡ true) (place : �
   of_nine a b c d e f g h i = record {
     parts = record { path = text_in a; interface = text_in b; member = text_in c; error_name = text_in d; reply_serial = number_in e; destination = text_in f; sender = text_in g };
     reply_place = kept;
+    unknown = true;
     signature = spelled_in h;
     descriptors = number_in i;
   }
@@ -139,8 +140,9 @@ module _ (before : List Field) (follow : all_follow before ≡ true) (place : �
       let at : ℕ → Option Value = λ k. field_in k (field c v ∷ before) in
       let kept_so : next_place place (field c v) kept ≡ kept = ap (λ (b : Bool). cond b (Some (place + padding 8 place + 4)) kept) (ne_eqb c 5 (λ e. absurd (omega (arith, e, high)))) in
       let big : nat_lt 9 c ≡ true = lt-ltb 9 c high in
-      let same : found_in (field c v ∷ before) (next_place place (field c v) kept) ≡ found_in before kept =
+      let same : found_in (field c v ∷ before) (next_place place (field c v) kept) ≡ record (found_in before kept) { unknown = true } =
       ap (λ (p : Option ℕ). found_in (field c v ∷ before) p) kept_so
+      ∙ ap (λ (b : Bool). record (found_in (field c v ∷ before) kept) { unknown = b || has_unknown before }) big
       ∙ ap (λ (x : Option Value). of_nine x (at 2) (at 3) (at 4) (at 5) (at 6) (at 7) (at 8) (at 9)) (n 1 (omega arith))
       ∙ ap (λ (x : Option Value). of_nine (field_in 1 before) x (at 3) (at 4) (at 5) (at 6) (at 7) (at 8) (at 9)) (n 2 (omega arith))
       ∙ ap (λ (x : Option Value). of_nine (field_in 1 before) (field_in 2 before) x (at 4) (at 5) (at 6) (at 7) (at 8) (at 9)) (n 3 (omega arith))

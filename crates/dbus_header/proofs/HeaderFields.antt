@@ -11,7 +11,7 @@ use Rattle.dbus_values.specs.Reading.{At, ◌>>=◌, when, and_then_all}
 use Rattle.dbus_values.specs.declared.Order.{Order}
 use Rattle.dbus_values.proofs.ValueRead.{bind_case, when_is}
 use Rattle.dbus_values.proofs.ValueAgain.{spelled_pos}
-use Rattle.dbus_header.specs.Message.{Field, field_value, field_in, has_field, text_in, number_in, is_field_of, may_follow, number_place}
+use Rattle.dbus_header.specs.Message.{Field, field_value, field_in, has_field, has_unknown, is_unknown, text_in, number_in, is_field_of, may_follow, number_place}
 use Rattle.dbus_header.specs.Malformed.{field_at, valid_field_at, fields_at}
 use Rattle.dbus_header.specs.HeaderReading.{Part, Found, nothing_found, part_at, with_part}
 use Rattle.dbus_header.specs.HeaderFields.{at_place, spelled_in, found_in, found_of, fields_in, FieldsRead}
@@ -63,10 +63,29 @@ found_unwound c known (f ∷ before) rest follow =
 field_unwound : (c : ℕ) → nat_lt 9 c ≡ false → (before : List Field) → all_follow before ≡ true → field_in c (unwind before []) ≡ field_in c before
 field_unwound c known before follow = found_unwound c known before [] follow ∙ or_none (field_in c before)
 
-abbrev of_nine : Option ℕ → Option Value → Option Value → Option Value → Option Value → Option Value → Option Value → Option Value → Option Value → Option Value → Found
-of_nine place a b c d e f g h i = record {
+-- whether a code is unknown doesn't depend on the order
+unknown_of : (before rest : List Field) → has_unknown (unwind before rest) ≡ (has_unknown before || has_unknown rest)
+unknown_of [] rest = refl
+unknown_of (f ∷ before) rest = unknown_of before (f ∷ rest) ∙ by (has_unknown before) (is_unknown f)
+  where
+    by : (b c : Bool) → (b || (c || has_unknown rest)) ≡ ((c || b) || has_unknown rest)
+    by true true = refl
+    by true false = refl
+    by false true = refl
+    by false false = refl
+
+unknown_unwound : (before : List Field) → has_unknown before ≡ has_unknown (unwind before [])
+unknown_unwound before = sym (unknown_of before [] ∙ by (has_unknown before))
+  where
+    by : (b : Bool) → (b || false) ≡ b
+    by true = refl
+    by false = refl
+
+abbrev of_nine : Option ℕ → Bool → Option Value → Option Value → Option Value → Option Value → Option Value → Option Value → Option Value → Option Value → Option Value → Found
+of_nine place unknown a b c d e f g h i = record {
   parts = record { path = text_in a; interface = text_in b; member = text_in c; error_name = text_in d; reply_serial = number_in e; destination = text_in f; sender = text_in g };
   reply_place = place;
+  unknown = unknown;
   signature = spelled_in h;
   descriptors = number_in i;
 }
@@ -76,15 +95,16 @@ unwound before place follow =
     let n : (c : ℕ) → nat_lt 9 c ≡ false → field_in c before ≡ field_in c (unwind before []) = λ c known. sym (field_unwound c known before follow) in
     let old : ℕ → Option Value = λ c. field_in c before in
     let new : ℕ → Option Value = λ c. field_in c (unwind before []) in
-    ap (λ (x : Option Value). of_nine place x (old 2) (old 3) (old 4) (old 5) (old 6) (old 7) (old 8) (old 9)) (n 1 refl)
-    ∙ ap (λ (x : Option Value). of_nine place (new 1) x (old 3) (old 4) (old 5) (old 6) (old 7) (old 8) (old 9)) (n 2 refl)
-    ∙ ap (λ (x : Option Value). of_nine place (new 1) (new 2) x (old 4) (old 5) (old 6) (old 7) (old 8) (old 9)) (n 3 refl)
-    ∙ ap (λ (x : Option Value). of_nine place (new 1) (new 2) (new 3) x (old 5) (old 6) (old 7) (old 8) (old 9)) (n 4 refl)
-    ∙ ap (λ (x : Option Value). of_nine place (new 1) (new 2) (new 3) (new 4) x (old 6) (old 7) (old 8) (old 9)) (n 5 refl)
-    ∙ ap (λ (x : Option Value). of_nine place (new 1) (new 2) (new 3) (new 4) (new 5) x (old 7) (old 8) (old 9)) (n 6 refl)
-    ∙ ap (λ (x : Option Value). of_nine place (new 1) (new 2) (new 3) (new 4) (new 5) (new 6) x (old 8) (old 9)) (n 7 refl)
-    ∙ ap (λ (x : Option Value). of_nine place (new 1) (new 2) (new 3) (new 4) (new 5) (new 6) (new 7) x (old 9)) (n 8 refl)
-    ∙ ap (λ (x : Option Value). of_nine place (new 1) (new 2) (new 3) (new 4) (new 5) (new 6) (new 7) (new 8) x) (n 9 refl)
+    ap (λ (x : Option Value). of_nine place (has_unknown before) x (old 2) (old 3) (old 4) (old 5) (old 6) (old 7) (old 8) (old 9)) (n 1 refl)
+    ∙ ap (λ (x : Option Value). of_nine place (has_unknown before) (new 1) x (old 3) (old 4) (old 5) (old 6) (old 7) (old 8) (old 9)) (n 2 refl)
+    ∙ ap (λ (x : Option Value). of_nine place (has_unknown before) (new 1) (new 2) x (old 4) (old 5) (old 6) (old 7) (old 8) (old 9)) (n 3 refl)
+    ∙ ap (λ (x : Option Value). of_nine place (has_unknown before) (new 1) (new 2) (new 3) x (old 5) (old 6) (old 7) (old 8) (old 9)) (n 4 refl)
+    ∙ ap (λ (x : Option Value). of_nine place (has_unknown before) (new 1) (new 2) (new 3) (new 4) x (old 6) (old 7) (old 8) (old 9)) (n 5 refl)
+    ∙ ap (λ (x : Option Value). of_nine place (has_unknown before) (new 1) (new 2) (new 3) (new 4) (new 5) x (old 7) (old 8) (old 9)) (n 6 refl)
+    ∙ ap (λ (x : Option Value). of_nine place (has_unknown before) (new 1) (new 2) (new 3) (new 4) (new 5) (new 6) x (old 8) (old 9)) (n 7 refl)
+    ∙ ap (λ (x : Option Value). of_nine place (has_unknown before) (new 1) (new 2) (new 3) (new 4) (new 5) (new 6) (new 7) x (old 9)) (n 8 refl)
+    ∙ ap (λ (x : Option Value). of_nine place (has_unknown before) (new 1) (new 2) (new 3) (new 4) (new 5) (new 6) (new 7) (new 8) x) (n 9 refl)
+    ∙ ap (λ (b : Bool). of_nine place b (new 1) (new 2) (new 3) (new 4) (new 5) (new 6) (new 7) (new 8) (new 9)) (unknown_unwound before)
 
 -- ---- how far the fields were read
 

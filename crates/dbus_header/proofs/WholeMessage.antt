@@ -362,6 +362,7 @@ contents t found = record {
   serial = serial_in t;
   parts = found.parts;
   reply_place = found.reply_place;
+  unknown_field = found.unknown;
   signature = stated_in found;
   body = drop (body_start t) t;
 }
@@ -386,11 +387,11 @@ contents_are t found w h =
     spelled_types_of m = signature m
 
     made : Order → ℕ → ℕ → ℕ → Found → List ℕ → List ℕ → Option Contents
-    made o kind flags serial found signature body = Some (record { order = o; kind = kind; flags = flags; serial = serial; parts = found.parts; reply_place = found.reply_place; signature = signature; body = body })
+    made o kind flags serial found signature body = Some (record { order = o; kind = kind; flags = flags; serial = serial; parts = found.parts; reply_place = found.reply_place; unknown_field = found.unknown; signature = signature; body = body })
 
 -- the contents as they were read
 pub contents_as : (t : List ℕ) (found : Found) (o : Order) (serial : ℕ) (signature body : List ℕ) → IsWhole t → HasParts t found → o ≡ order_in t → serial ≡ serial_in t → signature ≡ stated_in found → body ≡ drop (body_start t) t →
-    option_map contents_of (message_of t) ≡ Some (record { order = o; kind = get_or t 1 0; flags = get_or t 2 0; serial = serial; parts = found.parts; reply_place = found.reply_place; signature = signature; body = body })
+    option_map contents_of (message_of t) ≡ Some (record { order = o; kind = get_or t 1 0; flags = get_or t 2 0; serial = serial; parts = found.parts; reply_place = found.reply_place; unknown_field = found.unknown; signature = signature; body = body })
 contents_as t found o serial signature body w h order number signed rest =
     contents_are t found w h
     ∙ ap (λ (p : Order). made p (serial_in t) (stated_in found) (drop (body_start t) t)) (sym order)
@@ -399,4 +400,4 @@ contents_as t found o serial signature body w h order number signed rest =
     ∙ ap (λ (b : List ℕ). made o serial signature b) (sym rest)
   where
     made : Order → ℕ → List ℕ → List ℕ → Option Contents
-    made p k s b = Some (record { order = p; kind = get_or t 1 0; flags = get_or t 2 0; serial = k; parts = found.parts; reply_place = found.reply_place; signature = s; body = b })
+    made p k s b = Some (record { order = p; kind = get_or t 1 0; flags = get_or t 2 0; serial = k; parts = found.parts; reply_place = found.reply_place; unknown_field = found.unknown; signature = s; body = b })

@@ -1,9 +1,9 @@
 -- What is read of a message, part by part.
-use Rattle.std.specs.Prelude.{◌≡◌, ◌≤◌, ℕ, ◌+◌, List, length, Option, Some}
+use Rattle.std.specs.Prelude.{◌≡◌, ◌≤◌, ℕ, ◌+◌, Bool, List, length, Option, Some}
 use Rattle.dbus_names.specs.Names.{is_empty}
 use Rattle.dbus_values.specs.Reading.{◌>>=◌, when}
 use Rattle.dbus_values.specs.declared.Order.{Order}
-use Rattle.dbus_header.specs.Message.{Message, path, interface, member, error_name, reply_serial, destination, sender, signature, reply_place, spell, spelled_fields, spelled_list, body_place, with_serial, with_reply_serial, with_number}
+use Rattle.dbus_header.specs.Message.{Message, path, interface, member, error_name, reply_serial, destination, sender, signature, reply_place, has_unknown_field, spell, spelled_fields, spelled_list, body_place, with_serial, with_reply_serial, with_number}
 use Rattle.dbus_header.specs.Malformed.{front}
 
 -- the valid message that the bytes are, all of them
@@ -20,7 +20,7 @@ pub record Parts : Type 0 where
   pub destination : Option (List ℕ)
   pub sender : Option (List ℕ)
 
--- what is read of a message: its signature as it is spelled, and its body's bytes
+-- what is read of a message: whether it has a field of an unknown code, its signature as it is spelled, and its body's bytes
 pub record Contents : Type 0 where
   pub order : Order
   pub kind : ℕ
@@ -28,6 +28,7 @@ pub record Contents : Type 0 where
   pub serial : ℕ
   pub parts : Parts
   pub reply_place : Option ℕ
+  pub unknown_field : Bool
   pub signature : List ℕ
   pub body : List ℕ
 
@@ -53,6 +54,7 @@ contents_of m = record {
   serial = m.serial;
   parts = parts_of m;
   reply_place = reply_place m;
+  unknown_field = has_unknown_field m;
   signature = signature m;
   body = body_bytes m;
 }

@@ -4,7 +4,7 @@ use Rattle.dbus_types.specs.Signature.{spelled_types}
 use Rattle.dbus_values.specs.Values.{Value}
 use Rattle.dbus_values.specs.Reading.{At}
 use Rattle.dbus_values.specs.declared.Order.{Order}
-use Rattle.dbus_header.specs.Message.{Field, field_in, text_in, number_in, types_in, number_place}
+use Rattle.dbus_header.specs.Message.{Field, field_in, text_in, number_in, types_in, has_unknown, number_place}
 use Rattle.dbus_header.specs.Malformed.{fields_at}
 use Rattle.dbus_header.specs.Contents.{Parts}
 use Rattle.dbus_header.specs.HeaderReading.{Found}
@@ -29,7 +29,7 @@ parts_in fields = record {
 
 -- what is found in the fields, REPLY_SERIAL's number standing at a place
 abbrev pub found_in : List Field → Option ℕ → Found
-found_in fields place = record { parts = parts_in fields; reply_place = place; signature = spelled_in (field_in 8 fields); descriptors = number_in (field_in 9 fields) }
+found_in fields place = record { parts = parts_in fields; reply_place = place; unknown = has_unknown fields; signature = spelled_in (field_in 8 fields); descriptors = number_in (field_in 9 fields) }
 
 abbrev pub found_of : Order → List Field → Found
 found_of order fields = found_in fields (number_place order 16 fields)

@@ -103,15 +103,16 @@ part_at order bytes place =
 abbrev pub no_parts : Parts
 no_parts = record { path = None; interface = None; member = None; error_name = None; reply_serial = None; destination = None; sender = None }
 
--- what was read so far, and the place of REPLY_SERIAL's number
+-- what was read so far, the place of REPLY_SERIAL's number, and whether a field had an unknown code
 pub record Found : Type 0 where
   pub parts : Parts
   pub reply_place : Option ℕ
+  pub unknown : Bool
   pub signature : Option (List ℕ)
   pub descriptors : Option ℕ
 
 abbrev pub nothing_found : Found
-nothing_found = record { parts = no_parts; reply_place = None; signature = None; descriptors = None }
+nothing_found = record { parts = no_parts; reply_place = None; unknown = false; signature = None; descriptors = None }
 
 abbrev pub unless : {A : Type 0} → Bool → A → Option A
 unless test x = if test then None else Some x
@@ -141,7 +142,7 @@ abbrev pub with_part : Found → ℕ → Part → Option Found
 with_part found place (some_text code t) = found_with found (with_text found.parts code t)
 with_part found place (some_number code n) = with_number_part found place code n
 with_part found place (some_signature s) = unless (is_some found.signature) (record found { signature = Some s })
-with_part found place unread = Some found
+with_part found place unread = Some (record found { unknown = true })
 
 -- ---- the message
 

@@ -1,7 +1,7 @@
 -- Messages: their parts, their spelling, which are valid, and what is wrong with bytes that spell none.
 use Rattle.std.specs.Prelude.{◌≡◌, ◌<◌, ◌≤◌, unwrap_or, take, drop, ℕ, ◌+◌, ◌^◌, Bool, true, false, not, ◌&&◌, ◌||◌, ◌==◌, nat_lt, List, [], ◌∷◌, ◌++◌, length, map, Option, Some, None, IsTrue, if◌then◌else◌, is_some}
 use Rattle.std.specs.Int.{w32}
-use Rattle.std.specs.List.{list_all}
+use Rattle.std.specs.List.{list_all, list_any}
 use Rattle.dbus_names.specs.Names.{is_interface, is_error_name, is_member, is_bus_name}
 use Rattle.dbus_types.specs.Signature.{uint32, byte, string, Complete, basic, spelled_types}
 use Rattle.dbus_values.specs.Values.{Value, a_number, a_string, a_path, a_signature, a_variant, an_array, a_struct, no_values, value, values_of, type_of, padding, zeros, number_bytes, spelled, is_value, is_within}
@@ -64,6 +64,16 @@ destination m = text_in (field_in 6 m.fields)
 
 abbrev pub sender : Message → Option (List ℕ)
 sender m = text_in (field_in 7 m.fields)
+
+-- a field whose code the specification doesn't name, so that what it means isn't known
+abbrev pub is_unknown : Field → Bool
+is_unknown f = nat_lt 9 f.code
+
+abbrev pub has_unknown : List Field → Bool
+has_unknown fields = list_any is_unknown fields
+
+abbrev pub has_unknown_field : Message → Bool
+has_unknown_field m = has_unknown m.fields
 
 -- the types that the SIGNATURE field states; none where it is absent
 abbrev pub stated : List Field → List Complete

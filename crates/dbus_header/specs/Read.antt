@@ -19,6 +19,7 @@ message_seen x = record {
     sender = text_seen x.sender;
   };
   reply_place = x.reply_serial_place;
+  unknown_field = x.has_unknown_field;
   signature = x.signature.bytes.now;
   body = x.body.now;
 }

@@ -41,7 +41,7 @@ parts_seen f = record {
 }
 
 abbrev pub fields_seen : Fields → Found
-fields_seen f = record { parts = parts_seen f; reply_place = f.reply_serial_place; signature = signature_seen f.signature; descriptors = f.descriptors }
+fields_seen f = record { parts = parts_seen f; reply_place = f.reply_serial_place; unknown = f.has_unknown; signature = signature_seen f.signature; descriptors = f.descriptors }
 
 abbrev pub name_seen : Option BusName → Option (List ℕ)
 name_seen name = option_map (λ n. n.text.now) name

@@ -203,6 +203,7 @@ pub fn decode_knowing<'a>(bytes: &'a [u8], known: &mut KnownTexts) -> Result<Mes
         error_name: fields.error_name,
         reply_serial: fields.reply_serial,
         reply_serial_place: fields.reply_serial_place,
+        has_unknown_field: fields.has_unknown,
         destination: fields.destination,
         sender: fields.sender,
         signature: stated(&fields),

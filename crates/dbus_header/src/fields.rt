@@ -40,7 +40,7 @@ enum HeaderField<'a> {
     Number(u8, u32),
     /// SIGNATURE.
     Signed(Signature<'a>),
-    /// One with an unknown code, which is passed on unread.
+    /// One with an unknown code, whose value isn't read.
     Unread,
 }
 
@@ -54,6 +54,8 @@ pub(crate) struct Fields<'a> {
     pub(crate) reply_serial: Option<u32>,
     /// Where REPLY_SERIAL's number stands in the message.
     pub(crate) reply_serial_place: Option<usize>,
+    /// Whether one with an unknown code stands.
+    pub(crate) has_unknown: bool,
     pub(crate) destination: Option<&'a str>,
     pub(crate) sender: Option<&'a str>,
     pub(crate) signature: Option<Signature<'a>>,
@@ -272,6 +274,7 @@ impl<'a> Fields<'a> {
             error_name: None,
             reply_serial: None,
             reply_serial_place: None,
+            has_unknown: false,
             destination: None,
             sender: None,
             signature: None,
@@ -283,6 +286,7 @@ impl<'a> Fields<'a> {
     fn put_text(&mut self, code: u8, text: &'a str) -> bool
         ensures parts { (if result then Some (parts_seen self.new) else None) ≡ with_text (parts_seen self.old) code text.now }
         ensures place { self.new.reply_serial_place ≡ self.old.reply_serial_place }
+        ensures unknown { self.new.has_unknown ≡ self.old.has_unknown }
         ensures signature { self.new.signature ≡ self.old.signature }
         ensures descriptors { self.new.descriptors ≡ self.old.descriptors }
     {
@@ -334,7 +338,10 @@ impl<'a> Fields<'a> {
                 self.signature = Some(signature);
                 true
             }
-            HeaderField::Unread => true,
+            HeaderField::Unread => {
+                self.has_unknown = true;
+                true
+            }
         }
     }
 }

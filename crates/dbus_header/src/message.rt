@@ -23,6 +23,8 @@ pub struct Message<'a> {
     pub reply_serial: Option<u32>,
     /// The place of REPLY_SERIAL's number in the bytes, where that field stands.
     pub reply_serial_place: Option<usize>,
+    /// Whether a header field has a code that the specification doesn't name, above 9.
+    pub has_unknown_field: bool,
     pub destination: Option<&'a str>,
     pub sender: Option<&'a str>,
     /// The types of the body's values, which are none where SIGNATURE is absent.
@@ -37,6 +39,7 @@ pub struct Message<'a> {
       serial = serial;
       parts = record { path = text_seen path; interface = text_seen interface; member = text_seen member; error_name = text_seen error_name; reply_serial = reply_serial; destination = text_seen destination; sender = text_seen sender };
       reply_place = reply_serial_place;
+      unknown_field = has_unknown_field;
       signature = signature.bytes.now;
       body = body.now;
     }) },
