@@ -9,7 +9,7 @@ use Rattle.std.proofs.lemmas.List.{map-append}
 use Rattle.indexmap.specs.IndexSet.{insert_key}
 use Rattle.policy_args.specs.declared.WordKind.TheVariants.{TooMany}
 use Rattle.policy_args.specs.declared.entry.Entry.{Entry}
-use Rattle.policy_args.specs.Policy.{Policy, policy_of, entry_word, is_given, with_entry}
+use Rattle.policy_args.specs.Policy.{Policy, policy_with, entry_word, is_given, with_entry}
 use Rattle.policy_args.specs.Steps.{with_one_more}
 
 list_any-map : {A B : Type 0} (test : B → Bool) (f : A → B) (xs : List A) → list_any test (map f xs) ≡ list_any (λ x. test (f x)) xs
@@ -28,16 +28,19 @@ past n lt = grind (arith, nat_tests)
 
 -- the entries with one more are the policy's, unless they are too many
 by-entries : (policy : Policy) (e : Entry) (entries : List Entry) → with_entry policy.entries e ≡ entries →
-    with_one_more policy e ≡ (if nat_lt 65535 (length entries) then Err TooMany else Ok (policy_of entries))
-by-entries policy e entries is = ap (λ es. if nat_lt 65535 (length es) then Err TooMany else Ok (policy_of es)) is
+    with_one_more policy e ≡ (if nat_lt 65535 (length entries) then Err TooMany else Ok (record policy { entries = entries }))
+by-entries policy e entries is = ap (λ es. if nat_lt 65535 (length es) then Err TooMany else Ok (record policy { entries = es })) is
 
 by-test : (policy : Policy) (test : Bool) (is : nat_lt 65535 (length policy.entries) ≡ test) →
     (if nat_lt 65535 (length policy.entries) then Err TooMany else Ok policy) ≡ (if test then Err TooMany else Ok policy)
 by-test policy test is = ap (λ b. if b then Err TooMany else Ok policy) is
 
 -- the keys are the entries' words
-module _ {Z : Type 0} (keys : List (String Z)) (entries : List Entry) (policy : Policy) (e : Entry) (word : List ℕ)
-    (words : map (λ k. string_bytes k) keys ≡ map entry_word entries) (is : policy_of entries ≡ policy) (named : entry_word e ≡ word) where
+module _ {Z : Type 0} {sloppy known_fields : Bool} (keys : List (String Z)) (entries : List Entry) (policy : Policy) (e : Entry) (word : List ℕ)
+    (words : map (λ k. string_bytes k) keys ≡ map entry_word entries) (is : policy_with entries sloppy known_fields ≡ policy) (named : entry_word e ≡ word) where
+  abbrev held : List Entry → Policy
+  held es = policy_with es sloppy known_fields
+
   given-is : is_given entries e ≡ list_any (λ k. bytes_eq word (string_bytes k)) keys
   given-is =
       sym (list_any-map (λ other. bytes_eq other (entry_word e)) entry_word entries)
@@ -55,20 +58,20 @@ module _ {Z : Type 0} (keys : List (String Z)) (entries : List Entry) (policy : 
   pub adds-nothing : list_any (λ k. bytes_eq word (string_bytes k)) keys ≡ true → length entries ≤ 65535 → with_one_more policy e ≡ Ok policy
   adds-nothing given le =
       subst (λ p. with_one_more p e ≡ Ok p) is
-      (by-entries (policy_of entries) e entries (grown true given) ∙ by-test (policy_of entries) false (within (length entries) le))
+      (by-entries (held entries) e entries (grown true given) ∙ by-test (held entries) false (within (length entries) le))
 
   pub adds-too-many : list_any (λ k. bytes_eq word (string_bytes k)) keys ≡ false → length entries ≡ 65535 → with_one_more policy e ≡ Err TooMany
   adds-too-many absent full =
       let many : 65535 < length (entries ++ e ∷ []) = omega (arith, one_longer) in
-      ap (λ p. with_one_more p e) (sym is) ∙ by-entries (policy_of entries) e (entries ++ e ∷ []) (grown false absent)
-      ∙ by-test (policy_of (entries ++ e ∷ [])) true (past (length (entries ++ e ∷ [])) many)
+      ap (λ p. with_one_more p e) (sym is) ∙ by-entries (held entries) e (entries ++ e ∷ []) (grown false absent)
+      ∙ by-test (held (entries ++ e ∷ [])) true (past (length (entries ++ e ∷ [])) many)
 
-  pub adds-one : (new : List Entry) → list_any (λ k. bytes_eq word (string_bytes k)) keys ≡ false → length entries < 65535 → new ≡ entries ++ e ∷ [] → with_one_more policy e ≡ Ok (policy_of new)
+  pub adds-one : (new : List Entry) → list_any (λ k. bytes_eq word (string_bytes k)) keys ≡ false → length entries < 65535 → new ≡ entries ++ e ∷ [] → with_one_more policy e ≡ Ok (policy_with new sloppy known_fields)
   adds-one new absent room pushed =
       let few : length (entries ++ e ∷ []) ≤ 65535 = omega (arith, one_longer) in
-      ap (λ p. with_one_more p e) (sym is) ∙ by-entries (policy_of entries) e (entries ++ e ∷ []) (grown false absent)
-      ∙ by-test (policy_of (entries ++ e ∷ [])) false (within (length (entries ++ e ∷ [])) few)
-      ∙ ap (λ es. Ok (policy_of es)) (sym pushed)
+      ap (λ p. with_one_more p e) (sym is) ∙ by-entries (held entries) e (entries ++ e ∷ []) (grown false absent)
+      ∙ by-test (held (entries ++ e ∷ [])) false (within (length (entries ++ e ∷ [])) few)
+      ∙ ap (λ es. Ok (held es)) (sym pushed)
 
   -- and then the keys are still the entries' words
   pub words-added : (new-keys : List (String Z)) (new : List Entry) (k : String Z) → list_any (λ k. bytes_eq word (string_bytes k)) keys ≡ false → string_bytes k ≡ word →

@@ -9,7 +9,7 @@ use Rattle.policy_args.specs.declared.WordKind.TheVariants.{BadAddress, BadName,
 use Rattle.policy_args.specs.declared.entry.Entry.{Entry}
 use Rattle.policy_args.specs.declared.entry.Grant.TheVariants.{See as to_see, Talk as to_talk, Own as to_own, Call as to_call, Broadcast as to_broadcast}
 use Rattle.policy_args.specs.Addresses.{bus_path}
-use Rattle.policy_args.specs.Policy.{policy_of}
+use Rattle.policy_args.specs.Policy.{policy_of, policy_with}
 use Rattle.policy_args.specs.ProxyLine.{line_of, sessions_of}
 use Rattle.policy_args.specs.Words.{entry_of, options_of, words_in}
 
@@ -62,6 +62,15 @@ log_alone = refl
 log_of_filter : options_of (codes "--log" ∷ codes "--filter" ∷ codes "--log" ∷ []) ≡ Ok (record { filter = true; log = true; policy = policy_of [] })
 unfolding options_of
 log_of_filter = refl
+
+-- once or more means the same, and neither is an entry
+truth_values : options_of (codes "--sloppy-names" ∷ codes "--talk=org.a.T" ∷ codes "--sloppy-names" ∷ codes "--known-fields" ∷ []) ≡ Ok (record { filter = false; log = false; policy = policy_with (talk_T ∷ []) true true })
+unfolding options_of talk_T
+truth_values = refl
+
+sloppy_alone : options_of (codes "--sloppy-names" ∷ []) ≡ Ok (record { filter = false; log = false; policy = policy_with [] true false })
+unfolding options_of
+sloppy_alone = refl
 
 given_again : options_of (codes "--talk=org.a.T" ∷ codes "--filter" ∷ codes "--see=org.a.*" ∷ codes "--talk=org.a.T" ∷ []) ≡ Ok (record { filter = true; log = false; policy = policy_of (talk_T ∷ see_a ∷ []) })
 unfolding options_of talk_T see_a

@@ -86,13 +86,20 @@ patterns_of entries = patterns_with [] entries
 
 -- ---- policies
 
--- What contracts see of a policy. A truth value beside the entries is a further field here and a further line of policy_of.
+-- What contracts see of a policy.
 pub record Policy : Type 0 where
   pub entries : List Entry
+  -- owner changes of all unique names are shown; this changes no level
+  pub sloppy : Bool
+  -- a message of the client with a header field of an unknown code is refused
+  pub known_fields : Bool
+
+abbrev pub policy_with : List Entry → Bool → Bool → Policy
+policy_with entries sloppy known_fields = record { entries = entries; sloppy = sloppy; known_fields = known_fields }
 
 -- the policy that has these entries, and is nothing else
 abbrev pub policy_of : List Entry → Policy
-policy_of entries = record { entries = entries }
+policy_of entries = policy_with entries false false
 
 -- the greatest level that the entries which cover the name give
 abbrev pub granted : List Entry → List ℕ → Level

@@ -15,7 +15,7 @@ use Rattle.policy_args.specs.declared.WordKind.TheVariants.{UnknownOption, BadNa
 abbrev pub with_one_more : Policy → Entry → Result Policy WordKind
 with_one_more policy e =
     let entries = with_entry policy.entries e in
-    if nat_lt 65535 (length entries) then Err TooMany else Ok (record { entries = entries })
+    if nat_lt 65535 (length entries) then Err TooMany else Ok (record policy { entries = entries })
 
 -- what stands before the first '=', or all
 abbrev pub name_before : List ℕ → List ℕ

@@ -45,6 +45,14 @@ impl Options {
             self.log = true;
             return Ok(());
         }
+        if word == "--sloppy-names" {
+            self.policy.set_sloppy();
+            return Ok(());
+        }
+        if word == "--known-fields" {
+            self.policy.set_known_fields();
+            return Ok(());
+        }
         match read_entry(alloc, word) {
             Ok(entry) => self.policy.add(alloc, word, entry),
             Err(refusal) => Err(refusal),
@@ -54,8 +62,9 @@ impl Options {
 
 /// The options that the words give, or the first bad word (xdg-dbus-proxy(1), "Options").
 ///
-/// `--filter` asks for the filter, and `--log` for a line of the log for each message. Each other word gives an entry: `--see=NAME`, `--talk=NAME` and
-/// `--own=NAME` a level, `--call=NAME=RULE` and `--broadcast=NAME=RULE` the level `See` and what a
+/// `--filter` asks for the filter, and `--log` for a line of the log for each message. With `--sloppy-names` owner changes of
+/// all unique names are shown, and with `--known-fields` messages of the client with a header field of an unknown code are
+/// refused. Each other word gives an entry: `--see=NAME`, `--talk=NAME` and `--own=NAME` a level, `--call=NAME=RULE` and `--broadcast=NAME=RULE` the level `See` and what a
 /// rule matches. NAME is a well-known bus name or `N.*`, and before a RULE it ends at the first `=`;
 /// any other is a `BadName`, and then a missing or wrong RULE is a `BadRule`. A word that is none of
 /// these is an `UnknownOption`. A word that is given again adds nothing, and the word that would

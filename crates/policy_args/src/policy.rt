@@ -34,6 +34,8 @@ pub struct Policy {
     entries: Vec<Entry>,
     patterns: Patterns,
     levels: LevelIndex,
+    sloppy: bool,
+    known_fields: bool,
 }
 
 impl Model for Policy {
@@ -43,11 +45,11 @@ impl Model for Policy {
     ghost use Rattle.name_patterns.specs.Patterns.{is_pattern};
     ghost use Rattle.policy_args.specs.Distinct.{AreOf};
     ghost use Rattle.policy_args.specs.LevelIndex.{IsIndexOf};
-    ghost use Rattle.policy_args.specs.Policy.{Policy as PolicyValue, entry_word, policy_of};
+    ghost use Rattle.policy_args.specs.Policy.{Policy as PolicyValue, entry_word, policy_with};
 
     ghost Value = { PolicyValue };
 
-    ghost view = { λ p. policy_of p.entries.items };
+    ghost view = { λ p. policy_with p.entries.items p.sloppy p.known_fields };
 
     ghost invariant = { λ p. (map (λ k. string_bytes k) p.words.keys ≡ map entry_word p.entries.items) × (length p.entries.items ≤ 65535) × (AreOf p.entries.items p.patterns) × (list_all (λ e. is_pattern e.pattern) p.entries.items ≡ true) × (IsIndexOf p.entries.items p.levels) };
 }
@@ -62,7 +64,38 @@ impl Policy {
             entries: Vec::new(alloc),
             patterns: Patterns::new(alloc),
             levels: LevelIndex::new(alloc),
+            sloppy: false,
+            known_fields: false,
         }
+    }
+
+    /// Whether owner changes of all unique names are shown (xdg-dbus-proxy(1), "--sloppy-names").
+    pub fn sloppy(&self) -> bool
+        ensures { result ≡ self.now.sloppy }
+    {
+        self.sloppy
+    }
+
+    /// Whether a message of the client that has a header field with a code above 9 is refused. The D-Bus Specification
+    /// ("Message Format", "Header Fields") names no such field, and a bus may pass it on to others unread.
+    pub fn known_fields(&self) -> bool
+        ensures { result ≡ self.now.known_fields }
+    {
+        self.known_fields
+    }
+
+    // Shows owner changes of all unique names from now on.
+    pub(crate) fn set_sloppy(&mut self)
+        ensures { self.new ≡ record self.old { sloppy = true } }
+    {
+        self.sloppy = true;
+    }
+
+    // Refuses header fields of unknown codes from now on.
+    pub(crate) fn set_known_fields(&mut self)
+        ensures { self.new ≡ record self.old { known_fields = true } }
+    {
+        self.known_fields = true;
     }
 
     /// How many entries the policy has, at most 65,535.

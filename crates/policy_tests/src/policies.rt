@@ -55,7 +55,12 @@ const OPTIONS: &str = "\
 --Filter => UnknownOption 0
 --log= => UnknownOption 0
 --log=x => UnknownOption 0
---sloppy-names => UnknownOption 0
+--sloppy-names => false false 0
+--sloppy-names= => UnknownOption 0
+--sloppy-names=x => UnknownOption 0
+--sloppy => UnknownOption 0
+--known-fields --talk=org.a.T --known-fields => false false 1
+--known-fields=x => UnknownOption 0
 --property=org.a.P=org.a.I.P => UnknownOption 0
 --sessions=1 => UnknownOption 0
 --talk => UnknownOption 0
@@ -66,6 +71,14 @@ org.a.T => UnknownOption 0
 --talk=org.a.T --talk=org => BadName 1
 --filter --see=org.a.S --call=org.a.C => BadRule 2
 --filter --talk=org.a.T --colour --talk=org => UnknownOption 2
+";
+
+/// The words of a proxy line, and the truth values of each block's policy.
+const TRUTH_VALUES: &str = "\
+unix:path=/a /p => false false;
+unix:path=/a /p --sloppy-names unix:path=/b /q --known-fields => true false;false true;
+unix:path=/a /p --filter unix:path=/b /q --sloppy-names --sloppy-names --known-fields => false false;true true;
+unix:path=/a /p --known-fields --talk=org.a.T unix:path=/b /q => false true;false false;
 ";
 
 /// A name and the words of a policy file, and the name's level.
@@ -206,6 +219,22 @@ fn told_refusal(alloc: Global, refusal: LineRefusal) -> Result<String, AllocErro
 fn told_options(alloc: Global, row: &str) -> Result<String, AllocError> {
     let words = split(alloc, row)?;
     told_read(alloc, read_options(alloc, &words))
+}
+
+/// Of each block, whether owner changes of unique names are shown, and whether known header fields alone pass.
+fn told_truth_values(alloc: Global, row: &str) -> Result<String, AllocError> {
+    let words = split(alloc, row)?;
+    let line = match read_line(alloc, &words) {
+        Ok(line) => line,
+        Err(refusal) => return told_refusal(alloc, refusal),
+    };
+    let mut told = String::new(alloc);
+    for block in &line.blocks {
+        let policy = &block.options.policy;
+        let text = format!(in alloc; "{} {};", policy.sloppy(), policy.known_fields())?;
+        told.push_str(&text)?;
+    }
+    Ok(told)
 }
 
 fn told_read(alloc: Global, read: Result<Options, LineRefusal>) -> Result<String, AllocError> {
@@ -350,6 +379,12 @@ fn words_give_options_or_the_first_bad_word(rt: HostRuntime) -> Result<(), Fail>
 #[test]
 fn words_give_a_line_or_the_first_bad_word(rt: HostRuntime) -> Result<(), Fail> {
     assert_eq!(rt; wrong_row(rt.alloc(), LINES, &told_line)?, None);
+    Ok(())
+}
+
+#[test]
+fn a_truth_value_is_of_its_own_block(rt: HostRuntime) -> Result<(), Fail> {
+    assert_eq!(rt; wrong_row(rt.alloc(), TRUTH_VALUES, &told_truth_values)?, None);
     Ok(())
 }
 
