@@ -4,7 +4,7 @@ use Rattle.std.specs.Prelude.{All, find}
 use Rattle.std.proofs.lemmas.List.Elements.{All-append, All-cons}
 use Rattle.dbus_names.specs.Texts.{Text}
 use Rattle.dbus_header.specs.Message.{Message, spell, first_text, three_texts, text_list, reply_serial, sender, member}
-use Rattle.dbus_header.specs.Kinds.{expects_reply}
+use Rattle.dbus_header.specs.Kinds.{Kind, Call, Return, Error, Signal, Other, expects_reply, kind_of}
 use Rattle.dbus_header.specs.declared.Instead.{Instead}
 use Rattle.dbus_header.specs.declared.Instead.TheVariants.{AccessDenied, NameHasNoOwner, False}
 use Rattle.policy_args.specs.Levels.{applies_to, entries, numbers_where}
@@ -17,10 +17,10 @@ use Rattle.policy_view.specs.Knowledge.{Knowledge, knowledge}
 use Rattle.policy_view.specs.Notes.{Note, decision_on, numbered, with_note_of}
 use Rattle.policy_view.specs.Past.{Item, Line, Msg, Raw, Ended, judged, past}
 use Rattle.policy_view.specs.Sent.{Past, Told, answered}
-use Rattle.policy_view.specs.Shown.{BusRole, NoRole, Unexpected, MatchAnswer, OwnerAnswer, NamesAnswer, PingAnswer, NameList, HelloAnswer, OtherAnswer, CallIn, OwnerChange, SignalIn, BroadcastIn, bus_role, may_broadcast, on_names, on_owner_change, showing, showing_at, shown}
-use Rattle.policy_view.specs.Verdicts.{ClientRole, OfUnknownType, Reply, Broadcast, SignalTo, StandardBusCall, OtherBusCall, BusCall, CallTo, Demand, Free, OnText, Unlisted, TextDemand, NoEavesdrop, SeenOwner, SeenName, Startable, Ownable, client_role, demand_of, entry_passes, first_or_0, on_argument, on_bus_call, on_call, on_ruled_call, on_seen_call, on_signal, on_start, on_text, refused, rules_calls, text_or_empty, verdict, verdict_at}
+use Rattle.policy_view.specs.Shown.{BusRole, NoRole, Unexpected, MatchAnswer, OwnerAnswer, NamesAnswer, PingAnswer, NameList, HelloAnswer, OtherAnswer, CallIn, OwnerChange, SignalIn, BroadcastIn, bus_role, may_broadcast, on_names, on_owner_change, sees_change, showing, showing_at, shown}
+use Rattle.policy_view.specs.Verdicts.{ClientRole, OfUnknownType, Reply, Broadcast, SignalTo, StandardBusCall, OtherBusCall, BusCall, CallTo, Demand, Free, OnText, Unlisted, TextDemand, NoEavesdrop, SeenOwner, SeenName, Startable, Ownable, client_role, demand_of, entry_passes, first_or_0, has_refused_field, on_argument, on_bus_call, on_call, on_ruled_call, on_seen_call, on_signal, on_start, on_text, on_unknown_field, refused, rules_calls, text_or_empty, verdict, verdict_at}
 use Rattle.policy_view.specs.declared.Reason.{Reason}
-use Rattle.policy_view.specs.declared.Reason.TheVariants.{NotVisible, OnlySee, NoRule, BusMember, BusInterface, ArgNotVisible, ArgNotTalk, ArgNotOwn, Eavesdrop, NotOutstanding, BadArgument, SenderNotTalk, NameHidden}
+use Rattle.policy_view.specs.declared.Reason.TheVariants.{NotVisible, OnlySee, NoRule, BusMember, BusInterface, ArgNotVisible, ArgNotTalk, ArgNotOwn, Eavesdrop, NotOutstanding, BadArgument, SenderNotTalk, NameHidden, UnknownField}
 use Rattle.policy_view.specs.declared.Showing.{Showing}
 use Rattle.policy_view.specs.declared.Showing.TheVariants.{Whole, Hide}
 use Rattle.policy_view.specs.declared.Side.{Side}
@@ -136,7 +136,17 @@ entries_within policy facts name = numbers_within (applies_to facts name) 1 (len
 
 judged_within : (policy : Policy) (told : Told) (m : Message) → IsWithin (length policy.entries) (judged policy told m)
 unfolding judged verdict knowledge
-judged_within policy told m = role_within (length policy.entries) policy (knowledge policy told) m (client_role m) (entries_within policy told.facts)
+judged_within policy told m =
+    either_within (length policy.entries) (has_refused_field policy m) (on_unknown_field (kind_of m) m) (verdict_at policy (knowledge policy told) m (client_role m))
+    (field_within (kind_of m))
+    (role_within (length policy.entries) policy (knowledge policy told) m (client_role m) (entries_within policy told.facts))
+  where
+    field_within : (k : Kind) → IsWithin (length policy.entries) (on_unknown_field k m)
+    field_within Call = none_within (length policy.entries) m AccessDenied UnknownField refl
+    field_within Return = omega arith
+    field_within Error = omega arith
+    field_within Signal = omega arith
+    field_within Other = omega arith
 
 -- ---- what the client is shown rests on no entry
 
@@ -151,9 +161,9 @@ names_on_none : (serial : ℕ) (names : Option (List Text)) → RestsOnNone (on_
 names_on_none serial None = refl
 names_on_none serial (Some names) = refl
 
-owner_change_on_none : (known : Knowledge) (texts : Option (Text × Text × Text)) → RestsOnNone (on_owner_change known texts)
-owner_change_on_none known None = refl
-owner_change_on_none known (Some texts) = either_on_none (at_least See (known.level texts.0)) Whole (Hide NameHidden) refl refl
+owner_change_on_none : (sloppy : Bool) (known : Knowledge) (texts : Option (Text × Text × Text)) → RestsOnNone (on_owner_change sloppy known texts)
+owner_change_on_none sloppy known None = refl
+owner_change_on_none sloppy known (Some texts) = either_on_none (sees_change sloppy known texts.0) Whole (Hide NameHidden) refl refl
 
 showing_on_none : (policy : Policy) (known : Knowledge) (m : Message) (role : BusRole) → RestsOnNone (showing_at policy known m role)
 showing_on_none policy known m NoRole = refl
@@ -166,7 +176,7 @@ showing_on_none policy known m (NameList serial) = names_on_none serial (text_li
 showing_on_none policy known m (HelloAnswer serial) = refl
 showing_on_none policy known m (OtherAnswer serial) = refl
 showing_on_none policy known m CallIn = refl
-showing_on_none policy known m OwnerChange = owner_change_on_none known (three_texts m)
+showing_on_none policy known m OwnerChange = owner_change_on_none policy.sloppy known (three_texts m)
 showing_on_none policy known m SignalIn = refl
 showing_on_none policy known m BroadcastIn = either_on_none (may_broadcast policy known m (sender m)) Whole (Hide SenderNotTalk) refl refl
 

@@ -50,6 +50,7 @@ fn name_of_reason(reason: Reason) -> &'static str
         Reason::NameHidden => "NameHidden",
         Reason::NotExpected => "NotExpected",
         Reason::OwnAnswer => "OwnAnswer",
+        Reason::UnknownField => "UnknownField",
     }
 }
 

@@ -110,7 +110,7 @@ const DECISIONS: [(Decision, &str); 13] = [
 ];
 
 /// Reasons, and how the line of each ends.
-const REASONS: [(Reason, &str); 18] = [
+const REASONS: [(Reason, &str); 19] = [
     (Reason::NotVisible, "NotVisible 0\n"),
     (Reason::OnlySee(0), "OnlySee 0\n"),
     (Reason::OnlySee(12), "OnlySee 12\n"),
@@ -129,6 +129,7 @@ const REASONS: [(Reason, &str); 18] = [
     (Reason::NameHidden, "NameHidden 0\n"),
     (Reason::NotExpected, "NotExpected 0\n"),
     (Reason::OwnAnswer, "OwnAnswer 0\n"),
+    (Reason::UnknownField, "UnknownField 0\n"),
 ];
 
 /// The longest line that tells no text.

@@ -1,5 +1,5 @@
 //! Verdicts on messages of a client, by what they are.
-use crate::known::{Known, everything, nothing};
+use crate::known::{Known, everything, everything_under, nothing};
 use crate::messages::message;
 use crate::whole::is_whole;
 use dbus_header::decode;
@@ -176,6 +176,37 @@ call path=/ member=A to=org.a.No => Ping(ServiceUnknown, NotVisible)
 call path=/ interface=org.freedesktop.DBus.Peer member=Ping to=org.a.No => Ping(ServiceUnknown, NotVisible)
 ";
 
+/// Messages, and the verdict if only known header fields may pass. A field named `unknown` or `greatest` is none.
+const KNOWN_FIELDS: &str = "\
+call path=/ member=A to=org.a.Talk => Pass
+call path=/ member=A to=org.a.Talk unknown=/x => Ping(AccessDenied, UnknownField)
+call unknown=/x path=/ member=A to=org.a.Talk => Ping(AccessDenied, UnknownField)
+call path=/ member=A to=org.a.Talk greatest=x => Ping(AccessDenied, UnknownField)
+call path=/ member=A to=org.a.Talk unknown=/x unknown=/x => Ping(AccessDenied, UnknownField)
+no_reply path=/ member=A to=org.a.Talk unknown=/x => Drop(UnknownField)
+no_start path=/ member=A to=org.a.Talk unknown=/x => Ping(AccessDenied, UnknownField)
+call path=/ member=A to=org.a.See unknown=/x => Ping(AccessDenied, UnknownField)
+call path=/ member=A to=org.a.No unknown=/x => Ping(AccessDenied, UnknownField)
+call path=/ member=Hello unknown=/x => Ping(AccessDenied, UnknownField)
+call path=/ interface=org.freedesktop.DBus.Peer member=Ping unknown=/x => Ping(AccessDenied, UnknownField)
+signal path=/ interface=org.a.I member=S => Pass
+signal path=/ interface=org.a.I member=S unknown=/x => Drop(UnknownField)
+signal path=/ interface=org.a.I member=S to=org.a.Talk unknown=/x => Drop(UnknownField)
+return to=:1.2 reply=5 => Pass
+return to=:1.2 reply=5 unknown=/x => Drop(UnknownField)
+error error=org.a.E to=:1.2 reply=5 unknown=/x => Drop(UnknownField)
+type_9 unknown=/x => Drop(UnknownField)
+type_9 => Drop(UnknownType)
+";
+
+/// The same if any header fields may pass.
+const ANY_FIELDS: &str = "\
+call path=/ member=A to=org.a.Talk unknown=/x => Pass
+signal path=/ interface=org.a.I member=S unknown=/x => Pass
+return to=:1.2 reply=5 greatest=x => Pass
+type_9 unknown=/x => Drop(UnknownType)
+";
+
 /// The verdict on the message that a row tells, where it is valid.
 fn verdict_on(alloc: Global, known: &Known, row: &str) -> Result<Option<Verdict>, AllocError> {
     let bytes = message(alloc, row)?;
@@ -214,6 +245,10 @@ fn told_rule(alloc: Global, row: &str) -> Result<String, AllocError> {
 
 fn told_other(alloc: Global, row: &str) -> Result<String, AllocError> {
     told(alloc, &everything(alloc)?, row)
+}
+
+fn told_with_known_fields(alloc: Global, row: &str) -> Result<String, AllocError> {
+    told(alloc, &everything_under(alloc, "--known-fields")?, row)
 }
 
 /// The verdicts on a call of the bus with each of these bodies.
@@ -299,5 +334,12 @@ fn members_of_the_bus_that_take_a_text_are_given_one(rt: HostRuntime) -> Result<
 #[test]
 fn messages_are_judged_by_what_they_are(rt: HostRuntime) -> Result<(), Fail> {
     assert_eq!(rt; wrong_row(rt.alloc(), OTHERS, &told_other)?, None);
+    Ok(())
+}
+
+#[test]
+fn header_fields_of_unknown_codes_are_refused_if_the_policy_says_so(rt: HostRuntime) -> Result<(), Fail> {
+    assert_eq!(rt; wrong_row(rt.alloc(), KNOWN_FIELDS, &told_with_known_fields)?, None);
+    assert_eq!(rt; wrong_row(rt.alloc(), ANY_FIELDS, &told_other)?, None);
     Ok(())
 }

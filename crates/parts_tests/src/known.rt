@@ -54,7 +54,13 @@ pub fn nothing(alloc: Global, words: &str) -> Result<Known, AllocError> {
 
 /// That policy, with all that is known.
 pub fn everything(alloc: Global) -> Result<Known, AllocError> {
-    let options = options(alloc, WORDS)?;
+    everything_under(alloc, "")
+}
+
+/// The same with further words of the policy.
+pub fn everything_under(alloc: Global, words: &str) -> Result<Known, AllocError> {
+    let words = format!(in alloc; "{WORDS} {words}")?;
+    let options = options(alloc, &words)?;
     let tracker = tracker(alloc, &options.policy)?;
     Ok(Known {
         options,

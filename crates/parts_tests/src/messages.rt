@@ -49,6 +49,8 @@ fn add_field(fields: &mut Vec<u8>, key: &str, value: &str) -> Result<(), AllocEr
         "to" => add_text(fields, [6, 1, b's', 0], value),
         "from" => add_text(fields, [7, 1, b's', 0], value),
         "signature" => add_signature(fields, value),
+        "unknown" => add_text(fields, [10, 1, b'o', 0], value),
+        "greatest" => add_text(fields, [255, 1, b's', 0], value),
         _ => Ok(()),
     }
 }

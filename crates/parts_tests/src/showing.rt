@@ -1,5 +1,5 @@
 //! What a client is shown of messages of the bus, by what they are.
-use crate::known::{Known, everything};
+use crate::known::{Known, everything, everything_under};
 use crate::messages::message;
 use crate::whole::is_whole;
 use dbus_header::decode;
@@ -59,6 +59,21 @@ signal path=/p interface=org.a.I member=S => Hide(SenderNotTalk)
 signal path=/p interface=org.a.I member=S reply=1 => Hide(SenderNotTalk)
 ";
 
+/// Owner changes, and what is shown if those of all unique names are.
+const SLOPPY: &str = "\
+signal path=/ interface=org.freedesktop.DBus member=NameOwnerChanged from=org.freedesktop.DBus signature=sss text=:1.31 text= text=:1.31 => Whole
+signal path=/ interface=org.freedesktop.DBus member=NameOwnerChanged from=org.freedesktop.DBus signature=sss text=:1.31 text=:1.31 text= => Whole
+signal path=/ interface=org.freedesktop.DBus member=NameOwnerChanged from=org.freedesktop.DBus to=:1.6 signature=sss text=:1.31 text= text=:1.31 => Whole
+signal path=/ interface=org.freedesktop.DBus member=NameOwnerChanged from=org.freedesktop.DBus signature=sss text=org.a.No text= text=:1.31 => Hide(NameHidden)
+signal path=/ interface=org.freedesktop.DBus member=NameOwnerChanged from=org.freedesktop.DBus signature=sss text=org.a.See text= text=:1.31 => Whole
+signal path=/ interface=org.freedesktop.DBus member=NameOwnerChanged from=org.freedesktop.DBus signature=sss text=no-name text= text=:1.31 => Hide(NameHidden)
+signal path=/ interface=org.freedesktop.DBus member=NameOwnerChanged from=org.freedesktop.DBus signature=sss text=: text= text=:1.31 => Hide(NameHidden)
+signal path=/ interface=org.freedesktop.DBus member=NameOwnerChanged from=org.freedesktop.DBus signature=ss text=:1.31 text= => Hide(BadArgument)
+signal path=/ interface=org.freedesktop.DBus member=NameOwnerChanged from=org.freedesktop.DBus signature=s text=:1.31 => Hide(BadArgument)
+signal path=/ interface=org.freedesktop.DBus member=NameOwnerChanged from=:1.9 signature=sss text=:1.31 text= text=:1.31 => Hide(SenderNotTalk)
+signal path=/ interface=org.a.I member=S from=:1.9 => Hide(SenderNotTalk)
+";
+
 /// What is shown of the message that a row tells, where it is valid.
 fn shown(alloc: Global, known: &Known, row: &str) -> Result<Option<Showing>, AllocError> {
     let bytes = message(alloc, row)?;
@@ -81,6 +96,19 @@ fn told_showing(alloc: Global, row: &str) -> Result<String, AllocError> {
         Some(showing) => format!(in alloc; "{showing:?}"),
         None => String::from_str(alloc, "malformed"),
     }
+}
+
+fn told_sloppy(alloc: Global, row: &str) -> Result<String, AllocError> {
+    match shown(alloc, &everything_under(alloc, "--sloppy-names")?, row)? {
+        Some(showing) => format!(in alloc; "{showing:?}"),
+        None => String::from_str(alloc, "malformed"),
+    }
+}
+
+#[test]
+fn owner_changes_of_unique_names_are_shown_if_the_policy_says_so(rt: HostRuntime) -> Result<(), Fail> {
+    assert_eq!(rt; wrong_row(rt.alloc(), SLOPPY, &told_sloppy)?, None);
+    Ok(())
 }
 
 #[test]

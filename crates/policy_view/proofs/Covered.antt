@@ -1,5 +1,5 @@
 -- A name that an entry covers is seen, so a hidden owner change tells nothing.
-use Rattle.std.proofs.Common.{◌≡◌, Bool, true, false, ◌&&◌, if◌then◌else◌, List, [], ◌++◌, Option, Some, None, refl, ◌∙◌, ◌⊎◌, inl, inr}
+use Rattle.std.proofs.Common.{◌≡◌, Bool, true, false, ◌&&◌, ◌||◌, if◌then◌else◌, List, [], ◌++◌, Option, Some, None, refl, ◌∙◌, ◌⊎◌, inl, inr}
 use Rattle.std.specs.List.{list_any}
 use Rattle.dbus_names.specs.Names.{is_bus, is_unique, is_well_known}
 use Rattle.dbus_names.specs.Texts.{Text}
@@ -43,18 +43,19 @@ covered_seen policy facts name h = by (is_well_known name) h
     by false h = absurd cc
 
 -- an owner change is shown whole, or it tells nothing
-pub change_cases : (policy : Policy) (told : Told) (texts : Option (Text × Text × Text)) → (on_owner_change (knowledge policy told) texts ≡ Whole)
-    ⊎ ((reason : Reason) × (on_owner_change (knowledge policy told) texts ≡ Hide reason) × (owners_of policy texts ≡ []))
+pub change_cases : (policy : Policy) (told : Told) (texts : Option (Text × Text × Text)) → (on_owner_change policy.sloppy (knowledge policy told) texts ≡ Whole)
+    ⊎ ((reason : Reason) × (on_owner_change policy.sloppy (knowledge policy told) texts ≡ Hide reason) × (owners_of policy texts ≡ []))
 unfolding knowledge
 change_cases policy told None = inr (BadArgument, refl, refl)
-change_cases policy told (Some texts) = by (at_least See (level_of policy told.facts texts.0)) refl
+change_cases policy told (Some texts) = by (at_least See (level_of policy told.facts texts.0)) (policy.sloppy && is_unique texts.0) refl
   where
     nothing : (b : Bool) → is_covered policy texts.0 ≡ b → at_least See (level_of policy told.facts texts.0) ≡ false
         → (if b then fact_of (Owned texts.0) (if_unique (Some texts.1)) ++ fact_of (Owned texts.0) (if_unique (Some texts.2)) else []) ≡ []
     nothing true e h = absurd (let s : at_least See (level_of policy told.facts texts.0) ≡ true = covered_seen policy told.facts texts.0 e in cc)
     nothing false e h = refl
 
-    by : (b : Bool) → at_least See (level_of policy told.facts texts.0) ≡ b → ((if b then Whole else Hide NameHidden) ≡ Whole)
-        ⊎ ((reason : Reason) × ((if b then Whole else Hide NameHidden) ≡ Hide reason) × (owners_of policy (Some texts) ≡ []))
-    by true e = inl refl
-    by false e = inr (NameHidden, refl, nothing (is_covered policy texts.0) refl e)
+    by : (b shown : Bool) → at_least See (level_of policy told.facts texts.0) ≡ b → ((if b || shown then Whole else Hide NameHidden) ≡ Whole)
+        ⊎ ((reason : Reason) × ((if b || shown then Whole else Hide NameHidden) ≡ Hide reason) × (owners_of policy (Some texts) ≡ []))
+    by true shown e = inl refl
+    by false true e = inl refl
+    by false false e = inr (NameHidden, refl, nothing (is_covered policy texts.0) refl e)

@@ -18,7 +18,7 @@ use Rattle.policy_view.specs.Notes.{message_in}
 use Rattle.policy_view.specs.Own.{ping}
 use Rattle.policy_view.specs.Past.{Item, Line, Msg, Raw, Ended, History, past, role}
 use Rattle.policy_view.specs.Sent.{Past}
-use Rattle.policy_view.specs.Shown.{BusRole, NoRole, Unexpected, MatchAnswer, OwnerAnswer, NamesAnswer, PingAnswer, NameList, HelloAnswer, OtherAnswer, CallIn, OwnerChange, SignalIn, BroadcastIn, cut, may_broadcast, on_names, on_owner_change, showing, showing_at, shown}
+use Rattle.policy_view.specs.Shown.{BusRole, NoRole, Unexpected, MatchAnswer, OwnerAnswer, NamesAnswer, PingAnswer, NameList, HelloAnswer, OtherAnswer, CallIn, OwnerChange, SignalIn, BroadcastIn, cut, may_broadcast, on_names, on_owner_change, sees_change, showing, showing_at, shown}
 use Rattle.policy_view.specs.Visible.{Visible, FromClient, ShownWhole, ShownCut, Closed, part, visible_as, visible_of}
 use Rattle.policy_view.specs.declared.Showing.TheVariants.{Whole, Hide}
 use Rattle.policy_view.specs.declared.Reason.TheVariants.{NameHidden, SenderNotTalk}
@@ -59,9 +59,9 @@ again_in policy known level m valid OwnerChange = by (three_texts m)
     seen true = whole_again m valid
     seen false = refl
 
-    by : (texts : Option (Text × Text × Text)) → Again (visible_as policy level m OwnerChange (on_owner_change known texts))
+    by : (texts : Option (Text × Text × Text)) → Again (visible_as policy level m OwnerChange (on_owner_change policy.sloppy known texts))
     by None = refl
-    by (Some texts) = seen (at_least See (known.level texts.0))
+    by (Some texts) = seen (sees_change policy.sloppy known texts.0)
 again_in policy known level m valid SignalIn = whole_again m valid
 again_in policy known level m valid BroadcastIn = by (may_broadcast policy known m (sender m))
   where

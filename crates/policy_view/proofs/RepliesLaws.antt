@@ -9,12 +9,14 @@ use Rattle.dbus_header.specs.Message.{Message}
 use Rattle.policy_args.specs.Policy.{Policy}
 use Rattle.policy_view.specs.Knowledge.{knowledge}
 use Rattle.policy_view.specs.Sent.{Exchange, Told, is_same, nothing_before, owed, same_text}
-use Rattle.policy_view.specs.Verdicts.{ClientRole, OfUnknownType, Reply, Broadcast, SignalTo, StandardBusCall, OtherBusCall, BusCall, CallTo, client_role, reply_to, verdict, verdict_at}
+use Rattle.policy_view.specs.Verdicts.{ClientRole, OfUnknownType, Reply, Broadcast, SignalTo, StandardBusCall, OtherBusCall, BusCall, CallTo, client_role, has_refused_field, on_unknown_field, reply_to, verdict, verdict_at}
 use Rattle.policy_view.specs.Past.{Line, Msg, Raw, Ended, History, after, called_at, judged, past, replied_on, role}
 use Rattle.policy_view.specs.declared.Side.TheVariants.{Client, Bus}
 use Rattle.policy_view.specs.declared.Verdict.{Verdict}
 use Rattle.policy_view.specs.declared.Verdict.TheVariants.{Pass, Ping, Drop}
-use Rattle.policy_view.specs.declared.Reason.TheVariants.{NotOutstanding}
+use Rattle.policy_view.specs.declared.Reason.TheVariants.{NotOutstanding, UnknownField}
+use Rattle.dbus_header.specs.declared.Instead.TheVariants.{AccessDenied}
+use Rattle.dbus_header.specs.Kinds.{Kind, Call, Return, Error, Signal, Other, expects_reply, kind_of}
 
 abbrev pub times : Exchange → List Exchange → ℕ
 times e exchanges = count_by (is_same e) exchanges
@@ -39,8 +41,23 @@ same_exchange e x h = by e.peer refl x.peer refl (and_parts (same_text e.peer x.
 -- a reply that passes was owed
 was_owed : (policy : Policy) (told : Told) (m : Message) → client_role m ≡ Reply → judged policy told m ≡ Pass → nat_lt 0 (owed told (reply_to m)) ≡ true
 unfolding judged verdict knowledge
-was_owed policy told m r v = by (nat_lt 0 (owed told (reply_to m))) refl (ap (verdict_at policy (knowledge policy told) m) (sym r) ∙ v)
+was_owed policy told m r v = by (nat_lt 0 (owed told (reply_to m))) refl (ap (verdict_at policy (knowledge policy told) m) (sym r) ∙ known_alone (has_refused_field policy m) v)
   where
+    dropped : (k : Kind) → on_unknown_field k m ≡ Pass → ⊥
+    dropped Call e = by_flags (expects_reply m) e
+      where
+        by_flags : (b : Bool) → cond b (Ping AccessDenied UnknownField) (Drop UnknownField) ≡ Pass → ⊥
+        by_flags true e = cc
+        by_flags false e = cc
+    dropped Return e = cc
+    dropped Error e = cc
+    dropped Signal e = cc
+    dropped Other e = cc
+
+    known_alone : (b : Bool) → cond b (on_unknown_field (kind_of m) m) (verdict_at policy (knowledge policy told) m (client_role m)) ≡ Pass → verdict_at policy (knowledge policy told) m (client_role m) ≡ Pass
+    known_alone true e = absurd (dropped (kind_of m) e)
+    known_alone false e = e
+
     by : (b : Bool) → nat_lt 0 (owed told (reply_to m)) ≡ b → cond (nat_lt 0 (owed told (reply_to m))) Pass (Drop NotOutstanding) ≡ Pass → nat_lt 0 (owed told (reply_to m)) ≡ true
     by true is e = is
     by false is e = absurd (let no : Drop NotOutstanding ≡ Pass = sym (ap (λ (b : Bool). cond b Pass (Drop NotOutstanding)) is) ∙ e in cc)

@@ -5,7 +5,7 @@ use Rattle.policy_view.specs.Texts.{has_text, matches}
 use Rattle.dbus_names.specs.Texts.{Text}
 use Rattle.dbus_header.specs.Message.{Message, path, interface, member, destination, sender, reply_serial, three_texts, text_list, with_reply_serial, with_names}
 use Rattle.policy_args.specs.Policy.{Policy, at_least}
-use Rattle.dbus_names.specs.Names.{bus_name}
+use Rattle.dbus_names.specs.Names.{bus_name, is_unique}
 use Rattle.policy_args.specs.declared.entry.Grant.{Grant}
 use Rattle.policy_args.specs.declared.entry.Grant.TheVariants.{See as to_see, Talk as to_talk, Own as to_own, Call as to_call, Broadcast as to_broadcast}
 use Rattle.policy_args.specs.Levels.{level_of}
@@ -87,9 +87,13 @@ abbrev pub on_names : ℕ → Option (List Text) → Showing
 on_names serial None = Hide BadArgument
 on_names serial (Some names) = Cut serial
 
-abbrev pub on_owner_change : Knowledge → Option (Text × Text × Text) → Showing
-on_owner_change known None = Hide BadArgument
-on_owner_change known (Some texts) = if at_least See (known.level texts.0) then Whole else Hide NameHidden
+-- the client sees the name, or it is a unique name and owner changes of all these are shown
+abbrev pub sees_change : Bool → Knowledge → Text → Bool
+sees_change sloppy known name = at_least See (known.level name) || (sloppy && is_unique name)
+
+abbrev pub on_owner_change : Bool → Knowledge → Option (Text × Text × Text) → Showing
+on_owner_change sloppy known None = Hide BadArgument
+on_owner_change sloppy known (Some texts) = if sees_change sloppy known texts.0 then Whole else Hide NameHidden
 
 -- a row for each role
 abbrev pub showing_at : Policy → Knowledge → Message → BusRole → Showing
@@ -103,7 +107,7 @@ showing_at policy known m (NameList serial) = on_names serial (text_list m)
 showing_at policy known m (HelloAnswer serial) = Reply serial
 showing_at policy known m (OtherAnswer serial) = Reply serial
 showing_at policy known m CallIn = Whole
-showing_at policy known m OwnerChange = on_owner_change known (three_texts m)
+showing_at policy known m OwnerChange = on_owner_change policy.sloppy known (three_texts m)
 showing_at policy known m SignalIn = Whole
 showing_at policy known m BroadcastIn = if may_broadcast policy known m (sender m) then Whole else Hide SenderNotTalk
 

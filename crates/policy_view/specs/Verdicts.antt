@@ -1,10 +1,10 @@
 -- The verdict on a client's message: the role that the message has by itself, and a row for each role.
-use Rattle.std.specs.Prelude.{ℕ, nat_lt, Bool, true, false, ◌||◌, List, [], ◌∷◌, if◌then◌else◌, Option, Some, None, codes, find}
+use Rattle.std.specs.Prelude.{ℕ, nat_lt, Bool, true, false, ◌&&◌, ◌||◌, List, [], ◌∷◌, if◌then◌else◌, Option, Some, None, codes, find}
 use Rattle.std.specs.Str.{bytes_eq}
 use Rattle.std.specs.List.{list_any}
 use Rattle.policy_view.specs.Texts.{is_one_of, stands_in, matches}
 use Rattle.dbus_names.specs.Texts.{Text}
-use Rattle.dbus_header.specs.Message.{Message, path, interface, member, destination, reply_serial, first_text}
+use Rattle.dbus_header.specs.Message.{Message, path, interface, member, destination, reply_serial, first_text, has_unknown_field}
 use Rattle.policy_args.specs.declared.entry.Grant.{Grant}
 use Rattle.policy_args.specs.declared.entry.Grant.TheVariants.{See as to_see, Talk as to_talk, Own as to_own, Call as to_call, Broadcast as to_broadcast}
 use Rattle.policy_args.specs.declared.entry.Entry.{Entry}
@@ -18,7 +18,7 @@ use Rattle.policy_args.specs.declared.Level.TheVariants.{None as Hidden, See, Ta
 use Rattle.dbus_header.specs.declared.Instead.{Instead}
 use Rattle.dbus_header.specs.declared.Instead.TheVariants.{AccessDenied, NameHasNoOwner, ServiceUnknown, False}
 use Rattle.policy_view.specs.declared.Reason.{Reason}
-use Rattle.policy_view.specs.declared.Reason.TheVariants.{NotVisible, OnlySee, NoRule, BusMember, BusInterface, ArgNotVisible, ArgNotTalk, ArgNotOwn, Eavesdrop, NotOutstanding, UnknownType, BadArgument}
+use Rattle.policy_view.specs.declared.Reason.TheVariants.{NotVisible, OnlySee, NoRule, BusMember, BusInterface, ArgNotVisible, ArgNotTalk, ArgNotOwn, Eavesdrop, NotOutstanding, UnknownType, BadArgument, UnknownField}
 use Rattle.policy_view.specs.declared.Verdict.{Verdict}
 use Rattle.policy_view.specs.declared.Verdict.TheVariants.{Pass, Ping, Drop}
 
@@ -204,5 +204,17 @@ verdict_at policy known m OtherBusCall = refused m AccessDenied BusInterface
 verdict_at policy known m BusCall = on_bus_call known m (demand_of (text_or_empty (member m)))
 verdict_at policy known m (CallTo name) = on_call policy m name (known.entries name) (known.level name)
 
+-- A field of an unknown code may mean something to a bus or to those that it passes the message on to, and isn't looked at here.
+-- A policy may let known fields alone pass, whatever the message's role: such a call is then refused.
+abbrev pub on_unknown_field : Kind → Message → Verdict
+on_unknown_field Call m = refused m AccessDenied UnknownField
+on_unknown_field Return m = Drop UnknownField
+on_unknown_field Error m = Drop UnknownField
+on_unknown_field Signal m = Drop UnknownField
+on_unknown_field Other m = Drop UnknownField
+
+abbrev pub has_refused_field : Policy → Message → Bool
+has_refused_field policy m = policy.known_fields && has_unknown_field m
+
 unfoldable pub verdict : Policy → Knowledge → Message → Verdict
-verdict policy known m = verdict_at policy known m (client_role m)
+verdict policy known m = if has_refused_field policy m then on_unknown_field (kind_of m) m else verdict_at policy known m (client_role m)

@@ -79,6 +79,8 @@ pub enum Reason {
     NotExpected,
     /// The answer to a call of the proxy's own.
     OwnAnswer,
+    /// A header field's code is none that the D-Bus Specification names.
+    UnknownField,
 }
 
 /// The verdict on a client's message.

@@ -1,5 +1,5 @@
 -- The verdict by what is read of a message is the definition's.
-use Rattle.std.proofs.Common.{◌≡◌, ℕ, Bool, true, false, cond, List, [], ◌∷◌, Option, Some, None, refl, ap, sym, ◌∙◌}
+use Rattle.std.proofs.Common.{◌≡◌, ℕ, Bool, true, false, cond, List, [], ◌∷◌, Option, Some, None, refl, ap, ap₂, sym, ◌∙◌}
 use Rattle.std.specs.Prelude.{◌==◌, find, option_and_then, option_map}
 use Rattle.std.specs.List.{list_any}
 use Rattle.dbus_header.specs.Contents.{Contents, contents_of, message_of}
@@ -13,10 +13,12 @@ use Rattle.policy_args.specs.declared.Level.TheVariants.{None as Hidden, See, Ta
 use Rattle.policy_view.specs.Knowledge.{Knowledge, knowledge}
 use Rattle.policy_view.specs.Past.{judged}
 use Rattle.policy_view.specs.Sent.{Past}
-use Rattle.policy_view.specs.Verdicts.{ClientRole, OfUnknownType, Reply, Broadcast, SignalTo, StandardBusCall, OtherBusCall, BusCall, CallTo, Demand, Free, OnText, Unlisted, TextDemand, NoEavesdrop, SeenOwner, SeenName, Startable, Ownable, client_role, client_role_at, demand_of, entry_passes, on_argument, on_bus_call, on_call, on_ruled_call, on_seen_call, on_start, on_text, role_of_call, role_of_signal, rules_calls, text_or_empty, verdict, verdict_at}
+use Rattle.policy_view.specs.Verdicts.{ClientRole, OfUnknownType, Reply, Broadcast, SignalTo, StandardBusCall, OtherBusCall, BusCall, CallTo, Demand, Free, OnText, Unlisted, TextDemand, NoEavesdrop, SeenOwner, SeenName, Startable, Ownable, client_role, client_role_at, demand_of, entry_passes, has_refused_field, on_argument, on_bus_call, on_call, on_ruled_call, on_seen_call, on_start, on_text, on_unknown_field, role_of_call, role_of_signal, rules_calls, text_or_empty, verdict, verdict_at}
 use Rattle.policy_view.specs.declared.Verdict.{Verdict}
-use Rattle.policy_view.specs.declared.Verdict.TheVariants.{Pass}
-use Rattle.verdicts.specs.Judging.{allows, argument_by, bus_call_by, call_by, first_in, first_text_in, seen_call_by, start_by, text_by, unruled_by, verdict_by}
+use Rattle.policy_view.specs.declared.Verdict.TheVariants.{Pass, Drop}
+use Rattle.policy_view.specs.declared.Reason.TheVariants.{UnknownField}
+use Rattle.dbus_header.specs.declared.Instead.TheVariants.{AccessDenied}
+use Rattle.verdicts.specs.Judging.{allows, argument_by, bus_call_by, call_by, first_in, first_text_in, refused_by, role_by, seen_call_by, start_by, text_by, unknown_field_by, unruled_by, verdict_by}
 use Rattle.verdicts.specs.Roles.{client_role_of}
 
 -- ---- the role
@@ -73,28 +75,45 @@ call-row policy m name numbers See = seen-row policy m numbers
 call-row policy m name numbers Talk = refl
 call-row policy m name numbers Own = refl
 
-pub verdict-row : (policy : Policy) (known : Knowledge) (m : Message) (role : ClientRole) → verdict_by policy known (contents_of m) (first_text m) role ≡ verdict_at policy known m role
-verdict-row policy known m OfUnknownType = refl
-verdict-row policy known m Reply = refl
-verdict-row policy known m Broadcast = refl
-verdict-row policy known m (SignalTo name) = refl
-verdict-row policy known m StandardBusCall = refl
-verdict-row policy known m OtherBusCall = refl
-verdict-row policy known m BusCall = bus-row known m (demand_of (text_or_empty (member m)))
-verdict-row policy known m (CallTo name) = call-row policy m name (known.entries name) (known.level name)
+pub role-row : (policy : Policy) (known : Knowledge) (m : Message) (role : ClientRole) → role_by policy known (contents_of m) (first_text m) role ≡ verdict_at policy known m role
+role-row policy known m OfUnknownType = refl
+role-row policy known m Reply = refl
+role-row policy known m Broadcast = refl
+role-row policy known m (SignalTo name) = refl
+role-row policy known m StandardBusCall = refl
+role-row policy known m OtherBusCall = refl
+role-row policy known m BusCall = bus-row known m (demand_of (text_or_empty (member m)))
+role-row policy known m (CallTo name) = call-row policy m name (known.entries name) (known.level name)
+
+field-row : (m : Message) → unknown_field_by (contents_of m) ≡ on_unknown_field (kind_of m) m
+unfolding kind_of
+field-row m = by (m.kind == 1) (m.kind == 2) (m.kind == 3) (m.kind == 4)
+  where
+    by : (a b c d : Bool) →
+        cond a (refused_by m.flags AccessDenied UnknownField) (Drop UnknownField)
+        ≡ on_unknown_field (cond a Call (cond b Return (cond c Error (cond d Signal Other)))) m
+    by true b c d = refl
+    by false true c d = refl
+    by false false true d = refl
+    by false false false true = refl
+    by false false false false = refl
+
+verdict-row : (policy : Policy) (known : Knowledge) (m : Message) → verdict_by policy known (contents_of m) (first_text m) (client_role_of (contents_of m)) ≡ verdict policy known m
+unfolding verdict
+verdict-row policy known m =
+    ap₂ (cond (has_refused_field policy m)) (field-row m)
+    (role-row policy known m (client_role_of (contents_of m)) ∙ ap (verdict_at policy known m) (client-role-of m))
 
 -- ---- a message that was read
 
 pub is-verdict : (policy : Policy) (known : Knowledge) (bytes : List ℕ) (q : Contents) (role : ClientRole) (given : Verdict) → option_map contents_of (message_of bytes) ≡ Some q →
     role ≡ client_role_of q → given ≡ verdict_by policy known q (first_text_in bytes) role → (m : Message) → message_of bytes ≡ Some m → given ≡ verdict policy known m
-unfolding verdict
 is-verdict policy known bytes q role given read role_is is m at =
     is
     ∙ ap (verdict_by policy known q (first_text_in bytes)) role_is
     ∙ ap (λ (c : Contents). verdict_by policy known c (first_text_in bytes) (client_role_of c)) (sym (same-contents bytes q m at read))
     ∙ ap (λ o. verdict_by policy known (contents_of m) (option_and_then first_text o) (client_role_of (contents_of m))) at
-    ∙ verdict-row policy known m (client_role_of (contents_of m))
-    ∙ ap (verdict_at policy known m) (client-role-of m)
+    ∙ verdict-row policy known m
 
 -- where what is kept is what a past told
 pub is-judged : (policy : Policy) (known : Knowledge) (before : Past) (m : Message) (given : Verdict) → known ≡ knowledge policy before.told → given ≡ verdict policy known m → given ≡ judged policy before.told m

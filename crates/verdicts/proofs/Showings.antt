@@ -45,9 +45,9 @@ names-row : (serial : ℕ) (names : Option (List Text)) → names_by serial (is_
 names-row serial None = refl
 names-row serial (Some names) = refl
 
-owner-row : (known : Knowledge) (texts : Option (Text × Text × Text)) → owner_change_by known.level (option_map (λ t. t.0) texts) ≡ on_owner_change known texts
-owner-row known None = refl
-owner-row known (Some texts) = refl
+owner-row : (sloppy : Bool) (known : Knowledge) (texts : Option (Text × Text × Text)) → owner_change_by sloppy known.level (option_map (λ t. t.0) texts) ≡ on_owner_change sloppy known texts
+owner-row sloppy known None = refl
+owner-row sloppy known (Some texts) = refl
 
 same-rules : (m : Message) (grant : Grant) → announces (contents_of m) grant ≡ broadcast_matches m grant
 same-rules m to_see = refl
@@ -74,7 +74,7 @@ showing-row policy known m bytes at (HelloAnswer serial) = refl
 showing-row policy known m bytes at (OtherAnswer serial) = refl
 showing-row policy known m bytes at CallIn = refl
 showing-row policy known m bytes at OwnerChange =
-    ap (λ (o : Option Message). owner_change_by known.level (option_map (λ t. t.0) (option_and_then three_texts o))) at ∙ owner-row known (three_texts m)
+    ap (λ (o : Option Message). owner_change_by policy.sloppy known.level (option_map (λ t. t.0) (option_and_then three_texts o))) at ∙ owner-row policy.sloppy known (three_texts m)
 showing-row policy known m bytes at SignalIn = refl
 showing-row policy known m bytes at BroadcastIn = ap (λ (b : Bool). cond b Whole (Hide SenderNotTalk)) (broadcast-row policy known m (sender m))
 

@@ -1,5 +1,5 @@
 -- The verdict on a client's message, by what is read of it: the definition's rows.
-use Rattle.std.specs.Prelude.{ℕ, nat_lt, Bool, ◌||◌, List, [], ◌∷◌, if◌then◌else◌, Option, Some, None, codes, find, option_and_then}
+use Rattle.std.specs.Prelude.{ℕ, nat_lt, ◌==◌, Bool, ◌&&◌, ◌||◌, List, [], ◌∷◌, if◌then◌else◌, Option, Some, None, codes, find, option_and_then}
 use Rattle.std.specs.List.{list_any}
 use Rattle.dbus_header.specs.Contents.{Contents, message_of}
 use Rattle.dbus_header.specs.Kinds.{expects_reply_by, forbids_auto_start_by}
@@ -17,7 +17,7 @@ use Rattle.policy_view.specs.Sent.{Exchange}
 use Rattle.policy_view.specs.Texts.{stands_in}
 use Rattle.policy_view.specs.Verdicts.{ClientRole, OfUnknownType, Reply, Broadcast, SignalTo, StandardBusCall, OtherBusCall, BusCall, CallTo, Demand, Free, OnText, Unlisted, TextDemand, NoEavesdrop, SeenOwner, SeenName, Startable, Ownable, call_rule_matches, demand_of, entry_passes, number_or_0, on_signal, rules_calls, text_or_empty}
 use Rattle.policy_view.specs.declared.Reason.{Reason}
-use Rattle.policy_view.specs.declared.Reason.TheVariants.{NotVisible, OnlySee, NoRule, BusMember, BusInterface, ArgNotVisible, ArgNotTalk, ArgNotOwn, Eavesdrop, NotOutstanding, UnknownType, BadArgument}
+use Rattle.policy_view.specs.declared.Reason.TheVariants.{NotVisible, OnlySee, NoRule, BusMember, BusInterface, ArgNotVisible, ArgNotTalk, ArgNotOwn, Eavesdrop, NotOutstanding, UnknownType, BadArgument, UnknownField}
 use Rattle.policy_view.specs.declared.Verdict.{Verdict}
 use Rattle.policy_view.specs.declared.Verdict.TheVariants.{Pass, Ping, Drop}
 
@@ -99,12 +99,21 @@ reply_of x = record { peer = x.parts.destination; number = number_or_0 x.parts.r
 abbrev pub reply_by : Bool → Verdict
 reply_by is_owed = if is_owed then Pass else Drop NotOutstanding
 
+abbrev pub role_by : Policy → Knowledge → Contents → Option Text → ClientRole → Verdict
+role_by policy known x first OfUnknownType = Drop UnknownType
+role_by policy known x first Reply = reply_by (nat_lt 0 (known.owed (reply_of x)))
+role_by policy known x first Broadcast = Pass
+role_by policy known x first (SignalTo name) = on_signal (known.entries name) (known.level name)
+role_by policy known x first StandardBusCall = Pass
+role_by policy known x first OtherBusCall = refused_by x.flags AccessDenied BusInterface
+role_by policy known x first BusCall = bus_call_by known.level x.flags first (demand_of (text_or_empty x.parts.member))
+role_by policy known x first (CallTo name) = call_by policy x name (known.entries name) (known.level name)
+
+-- ---- fields of unknown codes
+
+-- a message with such a field, where known ones alone pass
+abbrev pub unknown_field_by : Contents → Verdict
+unknown_field_by x = if x.kind == 1 then refused_by x.flags AccessDenied UnknownField else Drop UnknownField
+
 abbrev pub verdict_by : Policy → Knowledge → Contents → Option Text → ClientRole → Verdict
-verdict_by policy known x first OfUnknownType = Drop UnknownType
-verdict_by policy known x first Reply = reply_by (nat_lt 0 (known.owed (reply_of x)))
-verdict_by policy known x first Broadcast = Pass
-verdict_by policy known x first (SignalTo name) = on_signal (known.entries name) (known.level name)
-verdict_by policy known x first StandardBusCall = Pass
-verdict_by policy known x first OtherBusCall = refused_by x.flags AccessDenied BusInterface
-verdict_by policy known x first BusCall = bus_call_by known.level x.flags first (demand_of (text_or_empty x.parts.member))
-verdict_by policy known x first (CallTo name) = call_by policy x name (known.entries name) (known.level name)
+verdict_by policy known x first role = if policy.known_fields && x.unknown_field then unknown_field_by x else role_by policy known x first role

@@ -1,8 +1,9 @@
 -- What the client is shown of a bus message, by what is read of it: the definition's rows.
-use Rattle.std.specs.Prelude.{ℕ, Bool, false, ◌||◌, List, if◌then◌else◌, Option, Some, None, is_some, option_and_then, option_map}
+use Rattle.std.specs.Prelude.{ℕ, Bool, false, ◌&&◌, ◌||◌, List, if◌then◌else◌, Option, Some, None, is_some, option_and_then, option_map}
 use Rattle.std.specs.List.{list_any}
 use Rattle.dbus_header.specs.Contents.{Contents, message_of}
 use Rattle.dbus_header.specs.Message.{text_list, three_texts}
+use Rattle.dbus_names.specs.Names.{is_unique}
 use Rattle.dbus_names.specs.Texts.{Text}
 use Rattle.policy_args.specs.Policy.{Policy, at_least}
 use Rattle.policy_args.specs.declared.Level.{Level}
@@ -40,9 +41,13 @@ may_announce policy level entries x (Some name) =
 abbrev pub names_by : ℕ → Bool → Showing
 names_by serial is_list = if is_list then Cut serial else Hide BadArgument
 
-abbrev pub owner_change_by : (Text → Level) → Option Text → Showing
-owner_change_by level None = Hide BadArgument
-owner_change_by level (Some name) = if at_least See (level name) then Whole else Hide NameHidden
+-- the client sees the name, or it is a unique name and owner changes of all these are shown
+abbrev pub sees_change_by : Bool → (Text → Level) → Text → Bool
+sees_change_by sloppy level name = at_least See (level name) || (sloppy && is_unique name)
+
+abbrev pub owner_change_by : Bool → (Text → Level) → Option Text → Showing
+owner_change_by sloppy level None = Hide BadArgument
+owner_change_by sloppy level (Some name) = if sees_change_by sloppy level name then Whole else Hide NameHidden
 
 abbrev pub broadcast_by : Policy → (Text → Level) → (Text → List ℕ) → Contents → Showing
 broadcast_by policy level entries x = if may_announce policy level entries x x.parts.sender then Whole else Hide SenderNotTalk
@@ -58,6 +63,6 @@ showing_by policy level entries x bytes (NameList serial) = names_by serial (has
 showing_by policy level entries x bytes (HelloAnswer serial) = Reply serial
 showing_by policy level entries x bytes (OtherAnswer serial) = Reply serial
 showing_by policy level entries x bytes CallIn = Whole
-showing_by policy level entries x bytes OwnerChange = owner_change_by level (changed_name_in bytes)
+showing_by policy level entries x bytes OwnerChange = owner_change_by policy.sloppy level (changed_name_in bytes)
 showing_by policy level entries x bytes SignalIn = Whole
 showing_by policy level entries x bytes BroadcastIn = broadcast_by policy level entries x

@@ -4,7 +4,7 @@ ghost use Rattle.dbus_header.specs.Read.{message_seen};
 ghost use Rattle.dbus_header.specs.Seen.{text_seen};
 ghost use Rattle.policy_view.specs.Verdicts.{first_or_0, on_signal};
 ghost use Rattle.unique_names.specs.Taught.{kept_level, kept_numbers};
-ghost use Rattle.verdicts.specs.Judging.{call_by, first_text_in, hidden_call_by, refused_by, reply_by, reply_of, verdict_by};
+ghost use Rattle.verdicts.specs.Judging.{call_by, first_text_in, hidden_call_by, refused_by, reply_by, reply_of, role_by, unknown_field_by, verdict_by};
 ghost use Rattle.verdicts.specs.Kept.{kept, owed_by, owed_to};
 ghost use Rattle.verdicts.specs.Seen.{client_role_seen};
 
@@ -18,8 +18,8 @@ use policy_view::{Reason, Verdict};
 use reply_ledger::Ledger;
 use unique_names::{Entries, LookedUp, Tracker};
 
-/// The verdict on a message of this role.
-pub(crate) fn judge_as(
+/// The verdict on a message whose role is this one if its fields let it have it.
+pub(crate) fn judge_message(
     policy: &Policy,
     tracker: &Tracker,
     ledger: &Ledger,
@@ -27,6 +27,33 @@ pub(crate) fn judge_as(
     role: ClientRole<'_>,
 ) -> Verdict
     ensures { result ≡ verdict_by policy.now (kept policy.now tracker.now ledger.now.owed) (message_seen message.now) (first_text_in message.now.bytes.now) (client_role_seen role.entry) }
+{
+    if policy.known_fields() && message.has_unknown_field {
+        return refuse_field(message);
+    }
+    judge_as(policy, tracker, ledger, message, role)
+}
+
+// Refuses a message that has a header field of an unknown code.
+fn refuse_field(message: &Message<'_>) -> Verdict
+    ensures { result ≡ unknown_field_by (message_seen message.now) }
+{
+    if message.is_method_call() {
+        refused(message, Instead::AccessDenied, Reason::UnknownField)
+    } else {
+        Verdict::Drop(Reason::UnknownField)
+    }
+}
+
+// The verdict on a message of this role.
+fn judge_as(
+    policy: &Policy,
+    tracker: &Tracker,
+    ledger: &Ledger,
+    message: &Message<'_>,
+    role: ClientRole<'_>,
+) -> Verdict
+    ensures { result ≡ role_by policy.now (kept policy.now tracker.now ledger.now.owed) (message_seen message.now) (first_text_in message.now.bytes.now) (client_role_seen role.entry) }
 {
     match role {
         ClientRole::OfUnknownType => Verdict::Drop(Reason::UnknownType),

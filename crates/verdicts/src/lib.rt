@@ -37,6 +37,9 @@ use unique_names::Tracker;
 /// bus's own, or by none, it is judged by its member and the level of its first text; by any other it is refused. Another
 /// call passes to a name that may be talked to, and to one that is only seen where a Call rule of its entries matches.
 ///
+/// Under a policy that lets known header fields alone pass, a call that has another is refused, and any other message that
+/// has one is dropped, whatever they are.
+///
 /// What is refused is dropped where its flag NO_REPLY_EXPECTED is set (D-Bus Specification, "Message Format"); else a ping
 /// goes to the bus in its place, whose answer brings the error to the client. Entries are numbered from 1.
 pub fn judge(policy: &Policy, tracker: &Tracker, ledger: &Ledger, message: &Message<'_>) -> Verdict
@@ -47,7 +50,7 @@ pub fn judge(policy: &Policy, tracker: &Tracker, ledger: &Ledger, message: &Mess
     ensures exact { (before : Past) (m : MessageTree) → StandFor policy.now tracker.now ledger.now before → message_of message.now.bytes.now ≡ Some m → result ≡ judged policy.now before.told m }
 {
     policy.covers_no_unique_name();
-    calls::judge_as(policy, tracker, ledger, message, client_role(message))
+    calls::judge_message(policy, tracker, ledger, message, client_role(message))
 }
 
 /// What the client is shown of a bus message: the message as it is or as an answer, an answer in its place, or nothing.

@@ -5,12 +5,12 @@ ghost use Rattle.dbus_header.specs.Seen.{name_seen, text_seen};
 ghost use Rattle.unique_names.specs.Taught.{kept_level, kept_numbers};
 ghost use Rattle.verdicts.specs.Kept.{kept};
 ghost use Rattle.verdicts.specs.Seen.{bus_role_seen};
-ghost use Rattle.verdicts.specs.Showing.{broadcast_by, changed_name_in, has_list_in, may_announce as may_be_announced, names_by, owner_change_by, showing_by};
+ghost use Rattle.verdicts.specs.Showing.{broadcast_by, changed_name_in, has_list_in, may_announce as may_be_announced, names_by, owner_change_by, sees_change_by, showing_by};
 
 use crate::entries::is_announced;
 use crate::roles::BusRole;
 use dbus_header::Message;
-use dbus_names::BusName;
+use dbus_names::{BusName, is_unique};
 use policy_args::{Level, Policy};
 use policy_view::{Reason, Showing};
 use unique_names::Tracker;
@@ -65,20 +65,29 @@ fn has_list(message: &Message<'_>) -> bool
     message.text_list().is_some()
 }
 
-// The owner of a name changed, which the client learns where it sees the name.
+// The owner of a name changed, which the client learns if it sees the change.
 fn show_owner_change(policy: &Policy, tracker: &Tracker, message: &Message<'_>) -> Showing
-    ensures { result ≡ owner_change_by (kept_level policy.now tracker.now) (changed_name_in message.now.bytes.now) }
+    ensures { result ≡ owner_change_by policy.now.sloppy (kept_level policy.now tracker.now) (changed_name_in message.now.bytes.now) }
 {
     match changed_name(message) {
         None => Showing::Hide(Reason::BadArgument),
         Some(name) => {
-            if tracker.level(policy, name).is_at_least(Level::See) {
+            if sees_change(policy, tracker, name) {
                 Showing::Whole
             } else {
                 Showing::Hide(Reason::NameHidden)
             }
         }
     }
+}
+
+// Whether the client sees that a name's owner changed: it sees the name, or the policy shows such changes of all unique
+// names (xdg-dbus-proxy(1), "--sloppy-names").
+fn sees_change(policy: &Policy, tracker: &Tracker, name: &str) -> bool
+    ensures { result ≡ sees_change_by policy.now.sloppy (kept_level policy.now tracker.now) name.now }
+{
+    tracker.level(policy, name).is_at_least(Level::See)
+        || policy.sloppy() && is_unique(name.as_bytes())
 }
 
 // The first of the three texts that the body is: the name, its old owner and its new one.
