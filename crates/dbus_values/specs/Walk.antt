@@ -55,13 +55,17 @@ read_signature at = do
 abbrev pub walk_signature : At → Option At
 walk_signature at = read_signature at >>= λ x. Some x.1
 
+-- a number whose bits may be any, by its type's code
+abbrev pub walk_number_by : ℕ → At → Option At
+walk_number_by c at = if number_width c == 0 then None else walk_number (number_width c) at
+
 abbrev pub walk_basic : Order → ℕ → At → Option At
 walk_basic order c at =
     if c == 115 then walk_text order at
     else (if c == 111 then walk_path order at
     else (if c == 103 then walk_signature at
     else (if c == 98 then walk_boolean order at
-    else (if number_width c == 0 then None else walk_number (number_width c) at))))
+    else walk_number_by c at)))
 
 -- ---- containers
 

@@ -1,6 +1,6 @@
 //! Values of basic types.
 ghost use Rattle.std.specs.Prelude.{◌≡◌, ◌⊎◌, ◌<◌, ◌+◌, ◌^◌, Some, None, IfSome, option_map, length};
-ghost use Rattle.std.specs.Prelude.{nat_lt, is_none};
+ghost use Rattle.std.specs.Prelude.{[], ◌∷◌, nat_lt, is_none};
 ghost use Rattle.std.specs.List.{list_all};
 ghost use Rattle.std.specs.Str.{is_utf8 as is_utf8_text};
 ghost use Rattle.dbus_types.specs.Signature.{signature_fault};
@@ -8,7 +8,7 @@ ghost use Rattle.dbus_names.specs.Names.{is_ascii_text_byte};
 ghost use Rattle.dbus_values.specs.Values.{is_text as is_text_value};
 ghost use Rattle.dbus_values.specs.Reading.{ended_by_nul, text_at};
 ghost use Rattle.dbus_values.specs.Counted.{counted_at};
-ghost use Rattle.dbus_values.specs.Walk.{number_width as width_by_code, walk_number, walk_boolean, walk_text, walk_path, walk_signature, walk_basic, read_signature};
+ghost use Rattle.dbus_values.specs.Walk.{number_width as width_by_code, walk_number, walk_boolean, walk_text, walk_path, walk_signature, walk_basic, read_signature, walk_number_by};
 ghost use Rattle.dbus_values.specs.Seen.{place_seen, bytes_seen};
 ghost use Rattle.dbus_values.specs.Alignments.{IsAlignment};
 
@@ -66,7 +66,7 @@ fn is_utf8(text: &[u8]) -> bool
 }
 
 /// Whether the bytes are UTF-8 without NUL, as a string has to be. ASCII is looked at once.
-#[inline]
+#[inline(never)]
 pub(crate) fn is_text(text: &[u8]) -> bool
     requires { length text.now < 2 ^ 32 }
     ensures { result ≡ is_text_value text.now }
@@ -74,17 +74,43 @@ pub(crate) fn is_text(text: &[u8]) -> bool
     is_ascii_text(text) || has_no_nul(text) && is_utf8(text)
 }
 
-/// Whether the bytes are a valid signature.
-#[inline]
-fn is_signature(types: &[u8]) -> bool
+/// Whether the byte alone is a valid signature: the code of a basic type or of a variant.
+#[inline(always)]
+fn is_type_code(code: u8) -> bool
+    ensures { result ≡ is_none (signature_fault (code ∷ [])) }
+{
+    match code {
+        b'y' | b'b' | b'n' | b'q' | b'i' | b'u' | b'x' | b't' | b'd' | b'h' => true,
+        b's' | b'o' | b'g' | b'v' => true,
+        _ => false,
+    }
+}
+
+#[inline(never)]
+fn is_signature_of_many(types: &[u8]) -> bool
     ensures { result ≡ is_none (signature_fault types.now) }
 {
     Signature::read(types).is_ok()
 }
 
+/// Whether the bytes are a valid signature. Most variants have a signature of one byte, and a message can have millions of
+/// them.
+#[inline(always)]
+fn is_signature(types: &[u8]) -> bool
+    ensures { result ≡ is_none (signature_fault types.now) }
+{
+    match types {
+        [] => true,
+        [code] => is_type_code(*code),
+        _ => is_signature_of_many(types),
+    }
+}
+
+// These methods are inlined, and call only tests out of line. So a loop over small values keeps its cursor in registers: a
+// call that returns a cursor passes it in memory, which took half of the time.
 impl<'a> Cursor<'a> {
     /// So many bytes that a NUL ends, and the cursor behind the NUL.
-    #[inline]
+    #[inline(always)]
     fn ended_by_nul(self, len: usize) -> Option<(&'a [u8], Cursor<'a>)>
         ensures { option_map bytes_seen result ≡ ended_by_nul len (place_seen self.entry) }
     {
@@ -98,7 +124,7 @@ impl<'a> Cursor<'a> {
     }
 
     /// The bytes of a string or a path: a length, the bytes, a NUL.
-    #[inline]
+    #[inline(always)]
     pub(crate) fn counted(self, order: Order) -> Option<(&'a [u8], Cursor<'a>)>
         ensures bytes { option_map bytes_seen result ≡ counted_at order (place_seen self.entry) }
         ensures short { IfSome result (λ x. length x.0.now < 2 ^ 32) }
@@ -108,7 +134,7 @@ impl<'a> Cursor<'a> {
         text.ended_by_nul(len as usize)
     }
 
-    #[inline]
+    #[inline(always)]
     fn text(self, order: Order) -> Option<Cursor<'a>>
         ensures { option_map place_seen result ≡ walk_text order (place_seen self.entry) }
     {
@@ -117,7 +143,7 @@ impl<'a> Cursor<'a> {
     }
 
     // A path's grammar lets ASCII alone pass.
-    #[inline]
+    #[inline(always)]
     fn path(self, order: Order) -> Option<Cursor<'a>>
         ensures { option_map place_seen result ≡ walk_path order (place_seen self.entry) }
     {
@@ -126,7 +152,7 @@ impl<'a> Cursor<'a> {
     }
 
     /// A signature: a length byte, the types, a NUL.
-    #[inline]
+    #[inline(always)]
     pub(crate) fn signature(self) -> Option<(&'a [u8], Cursor<'a>)>
         ensures { option_map bytes_seen result ≡ read_signature (place_seen self.entry) }
     {
@@ -139,7 +165,22 @@ impl<'a> Cursor<'a> {
         }
     }
 
-    #[inline]
+    /// The code of a variant's type and the cursor after the signature, if the type is a number whose bits may be any.
+    #[inline(always)]
+    pub(crate) fn number_signature(self) -> Option<(u8, Cursor<'a>)>
+        ensures read { IfSome result (λ x. read_signature (place_seen self.entry) ≡ Some (x.0 ∷ [], place_seen x.1)) }
+        ensures number { IfSome result (λ x. 0 < width_by_code x.0) }
+    {
+        match self.bytes {
+            [1, code, 0, ..] if number_width(*code) > 0 => {
+                let (_, value) = self.take(3)?;
+                Some((*code, value))
+            }
+            _ => None,
+        }
+    }
+
+    #[inline(always)]
     fn boolean(self, order: Order) -> Option<Cursor<'a>>
         ensures { option_map place_seen result ≡ walk_boolean order (place_seen self.entry) }
     {
@@ -147,7 +188,7 @@ impl<'a> Cursor<'a> {
         if number < 2 { Some(behind) } else { None }
     }
 
-    #[inline]
+    #[inline(always)]
     fn fixed(self, width: usize) -> Option<Cursor<'a>>
         requires { IsAlignment width }
         ensures { option_map place_seen result ≡ walk_number width (place_seen self.entry) }
@@ -156,8 +197,22 @@ impl<'a> Cursor<'a> {
         Some(behind)
     }
 
+    /// The cursor behind a number whose bits may be any, by its type's code.
+    #[inline(always)]
+    pub(crate) fn number_by_code(self, code: u8) -> Option<Cursor<'a>>
+        ensures { option_map place_seen result ≡ walk_number_by code (place_seen self.entry) }
+    {
+        match code {
+            b'y' => self.fixed(1),
+            b'n' | b'q' => self.fixed(2),
+            b'i' | b'u' | b'h' => self.fixed(4),
+            b'x' | b't' | b'd' => self.fixed(8),
+            _ => None,
+        }
+    }
+
     /// The cursor behind a value of a basic type, by the type's code.
-    #[inline]
+    #[inline(always)]
     pub(crate) fn basic(self, order: Order, code: u8) -> Option<Cursor<'a>>
         ensures { option_map place_seen result ≡ walk_basic order code (place_seen self.entry) }
     {
@@ -169,11 +224,7 @@ impl<'a> Cursor<'a> {
                 None => None,
             },
             b'b' => self.boolean(order),
-            b'y' => self.fixed(1),
-            b'n' | b'q' => self.fixed(2),
-            b'i' | b'u' | b'h' => self.fixed(4),
-            b'x' | b't' | b'd' => self.fixed(8),
-            _ => None,
+            _ => self.number_by_code(code),
         }
     }
 }

@@ -1,5 +1,5 @@
 //! Values of any type, passed over by the codes of their types.
-ghost use Rattle.std.specs.Prelude.{◌≡◌, ◌⊎◌, ◌≤◌, ◌<◌, suc, Some, None, option_map, length, drop};
+ghost use Rattle.std.specs.Prelude.{◌≡◌, ◌⊎◌, ◌≤◌, ◌<◌, suc, Some, None, IfSome, option_map, length, drop};
 ghost use Rattle.dbus_values.specs.Walk.{alignment_by, front_code as code_in_front, walk_within, walk_by, walk_array, walk_struct, walk_members, walk_variant, walk_element, walk_entry, walk_to_end, elements_fill, numbers_fill};
 ghost use Rattle.dbus_values.specs.Seen.{place_seen, bytes_seen};
 ghost use Rattle.dbus_values.specs.Alignments.{IsAlignment};
@@ -16,7 +16,7 @@ const ARRAY_LIMIT: u32 = 67_108_864;
 type Passed<'a> = Option<(&'a [u8], Cursor<'a>)>;
 
 /// The code of the type in front.
-#[inline]
+#[inline(always)]
 pub(crate) fn front_code(types: &[u8]) -> u8
     ensures { result ≡ code_in_front types.now }
 {
@@ -27,7 +27,7 @@ pub(crate) fn front_code(types: &[u8]) -> u8
 }
 
 /// What follows the code in front.
-#[inline]
+#[inline(always)]
 fn behind_code(types: &[u8]) -> &[u8]
     ensures { result.now ≡ drop 1 types.now }
 {
@@ -51,7 +51,28 @@ fn alignment(code: u8) -> usize
     }
 }
 
+/// Passes over a value of a basic type, or over a variant that holds a number. It gives nothing for any other value, and for
+/// one that isn't valid. It is inlined and calls only tests, so that a loop keeps its cursor in registers.
+#[inline(always)]
+fn walk_at_once<'a>(order: Order, containers: usize, types: &'a [u8], at: Cursor<'a>) -> Passed<'a>
+    ensures { IfSome result (λ x. walk_within containers order types.now (place_seen at.entry) ≡ Some (bytes_seen x)) }
+{
+    let code = front_code(types);
+    let others = behind_code(types);
+    if code != b'v' && containers > 0 {
+        let behind = at.basic(order, code)?;
+        Some((others, behind))
+    } else if code == b'v' && containers > 1 {
+        let (code, value) = at.number_signature()?;
+        let behind = value.number_by_code(code)?;
+        Some((others, behind))
+    } else {
+        None
+    }
+}
+
 /// Passes over a value of the type in front, round whose innermost value lie fewer than so many containers.
+#[inline(always)]
 #[cycle(walk)]
 pub(crate) fn walk<'a>(
     order: Order,
@@ -61,6 +82,20 @@ pub(crate) fn walk<'a>(
 ) -> Passed<'a>
     ensures { option_map bytes_seen result ≡ walk_within containers order types.now (place_seen at.entry) }
 {
+    if let Some((others, behind)) = walk_at_once(order, containers, types, at) {
+        return Some((others, behind));
+    }
+    // The result is taken apart, so that only this call passes one in memory.
+    let (others, behind) = walk_any(order, containers, types, at)?;
+    Some((others, behind))
+}
+
+/// The same, for a value that likely is a container.
+#[inline]
+#[cycle(walk)]
+fn walk_any<'a>(order: Order, containers: usize, types: &'a [u8], at: Cursor<'a>) -> Passed<'a>
+    ensures { option_map bytes_seen result ≡ walk_within containers order types.now (place_seen at.entry) }
+{
     if containers == 0 {
         return None;
     }
@@ -68,6 +103,7 @@ pub(crate) fn walk<'a>(
 }
 
 /// The same, where so many containers may lie round a value that is within this one.
+#[inline(never)]
 #[cycle(walk)]
 fn walk_within_one<'a>(
     order: Order,
@@ -138,18 +174,22 @@ fn elements_to_end(order: Order, containers: usize, types: &[u8], first: Cursor<
 }
 
 /// Passes over an element: a dict entry, or a value.
-#[inline]
+#[inline(always)]
 #[cycle(walk)]
 fn element<'a>(order: Order, containers: usize, types: &'a [u8], at: Cursor<'a>) -> Passed<'a>
     ensures { option_map bytes_seen result ≡ walk_element (walk_within containers order) types.now (place_seen at.entry) }
 {
     match types {
-        [b'{', entry @ ..] => dict_entry(order, containers, entry, at),
+        [b'{', entry @ ..] => {
+            let (others, behind) = dict_entry(order, containers, entry, at)?;
+            Some((others, behind))
+        }
         _ => walk(order, containers, types, at),
     }
 }
 
 /// Passes over a dict entry, its types standing behind the brace.
+#[inline(never)]
 #[cycle(walk)]
 fn dict_entry<'a>(order: Order, containers: usize, types: &'a [u8], at: Cursor<'a>) -> Passed<'a>
     ensures { option_map bytes_seen result ≡ walk_entry (walk_within containers order) types.now (place_seen at.entry) }
@@ -160,15 +200,21 @@ fn dict_entry<'a>(order: Order, containers: usize, types: &'a [u8], at: Cursor<'
 }
 
 /// Passes over a struct, its members' types standing behind the bracket.
+#[inline(always)]
 #[cycle(walk)]
 fn structure<'a>(order: Order, containers: usize, types: &'a [u8], at: Cursor<'a>) -> Passed<'a>
     ensures { option_map bytes_seen result ≡ walk_struct (walk_within containers order) types.now (place_seen at.entry) }
 {
-    let (types, next) = walk(order, containers, types, at.align(8)?)?;
-    members(order, containers, types, next)
+    let (types, next) = walk_any(order, containers, types, at.align(8)?)?;
+    if front_code(types) == b')' {
+        Some((behind_code(types), next))
+    } else {
+        members(order, containers, types, next)
+    }
 }
 
 /// Passes over members up to the closing bracket.
+#[inline(never)]
 #[cycle(walk)]
 fn members<'a>(
     order: Order,
@@ -193,6 +239,7 @@ fn members<'a>(
 }
 
 /// Passes over a variant: the signature of exactly one type, and a value of it.
+#[inline(never)]
 #[cycle(walk)]
 fn variant<'a>(order: Order, containers: usize, at: Cursor<'a>) -> Option<Cursor<'a>>
     ensures { option_map place_seen result ≡ walk_variant (walk_within containers order) (place_seen at.entry) }

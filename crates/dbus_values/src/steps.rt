@@ -54,7 +54,7 @@ fn number(order: Order, bytes: &[u8]) -> u32
 
 impl<'a> Cursor<'a> {
     /// The next so many bytes, and the cursor behind them.
-    #[inline]
+    #[inline(always)]
     pub(crate) fn take(self, len: usize) -> Option<(&'a [u8], Cursor<'a>)>
         ensures { option_map bytes_seen result ≡ some_bytes len (place_seen self.entry) }
     {
@@ -70,7 +70,7 @@ impl<'a> Cursor<'a> {
     }
 
     /// The cursor behind the zeros up to the next multiple of an alignment.
-    #[inline]
+    #[inline(always)]
     pub(crate) fn align(self, alignment: usize) -> Option<Cursor<'a>>
         requires { IsAlignment alignment }
         ensures { option_map place_seen result ≡ aligned alignment (place_seen self.entry) }
@@ -80,7 +80,7 @@ impl<'a> Cursor<'a> {
     }
 
     /// A number of four bytes, aligned already.
-    #[inline]
+    #[inline(always)]
     pub(crate) fn number(self, order: Order) -> Option<(u32, Cursor<'a>)>
         ensures { option_map number_seen result ≡ a_width order w32 (place_seen self.entry) }
     {

@@ -4,11 +4,11 @@ use Rattle.dbus_values.specs.Seen.{place_seen}
 use Rattle.dbus_values.proofs.Walks.{walk_none, walk_down, not_empty, element_passed, member_passed}
 use Rattle.dbus_values.proofs.containers.+walk.Goals as goal
 
-pub walk-returns-then-containers-eq0 : goal.walk-returns-then-containers-eq0
-walk-returns-then-containers-eq0 t c = walk_none c.args.order c.args.containers c.args.types.now (place_seen c.args.at) c.if-containers-eq0.true
+pub walk_any-returns-then-containers-eq0 : goal.walk_any-returns-then-containers-eq0
+walk_any-returns-then-containers-eq0 t c = walk_none c.args.order c.args.containers c.args.types.now (place_seen c.args.at) c.if-containers-eq0.true
 
-pub walk-returns : goal.walk-returns
-walk-returns t c = c.walk_within_one.ensures ∙ sym (walk_down c.args.order c.args.containers c.args.types.now (place_seen c.args.at) c.if-containers-eq0.false)
+pub walk_any-returns : goal.walk_any-returns
+walk_any-returns t c = c.walk_within_one.ensures ∙ sym (walk_down c.args.order c.args.containers c.args.types.now (place_seen c.args.at) c.if-containers-eq0.false)
 
 pub elements_to_end-loop-most-preserved : goal.elements_to_end-loop-most-preserved
 elements_to_end-loop-most-preserved t c =

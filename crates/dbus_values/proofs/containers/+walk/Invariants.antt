@@ -6,31 +6,34 @@ use Rattle.dbus_values.proofs.containers.+walk.Given as goal
 -- Each container takes one from those that may still lie round a value; the calls between two values go down step by step.
 
 abbrev pub decreases-walk : goal.decreases-walk
-decreases-walk l = 7 * l.containers
+decreases-walk l = 8 * l.containers + 1
+
+abbrev pub decreases-walk_any : goal.decreases-walk_any
+decreases-walk_any l = 8 * l.containers
 
 abbrev pub decreases-array : goal.decreases-array
-decreases-array l = 7 * l.containers + 5
+decreases-array l = 8 * l.containers + 6
 
 abbrev pub decreases-fills : goal.decreases-fills
-decreases-fills l = 7 * l.containers + 4
+decreases-fills l = 8 * l.containers + 5
 
 abbrev pub decreases-elements_to_end : goal.decreases-elements_to_end
-decreases-elements_to_end l = 7 * l.containers + 3
+decreases-elements_to_end l = 8 * l.containers + 4
 
 abbrev pub decreases-element : goal.decreases-element
-decreases-element l = 7 * l.containers + 2
+decreases-element l = 8 * l.containers + 3
 
 abbrev pub decreases-dict_entry : goal.decreases-dict_entry
-decreases-dict_entry l = 7 * l.containers + 1
+decreases-dict_entry l = 8 * l.containers + 2
 
 abbrev pub decreases-structure : goal.decreases-structure
-decreases-structure l = 7 * l.containers + 2
+decreases-structure l = 8 * l.containers + 3
 
 abbrev pub decreases-members : goal.decreases-members
-decreases-members l = 7 * l.containers + 1
+decreases-members l = 8 * l.containers + 2
 
 abbrev pub decreases-variant : goal.decreases-variant
-decreases-variant l = 7 * l.containers + 1
+decreases-variant l = 8 * l.containers + 2
 
 abbrev pub invariant-elements_to_end-loop-most : goal.invariant-elements_to_end-loop-most
 invariant-elements_to_end-loop-most l =
@@ -49,4 +52,4 @@ abbrev pub decreases-members-loop-most : goal.decreases-members-loop-most
 decreases-members-loop-most l = l.most
 
 abbrev pub decreases-walk_within_one : goal.decreases-walk_within_one
-decreases-walk_within_one l = 7 * l.containers + 6
+decreases-walk_within_one l = 8 * l.containers + 7
