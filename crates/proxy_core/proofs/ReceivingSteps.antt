@@ -23,7 +23,7 @@ use Rattle.policy_args.specs.declared.fact.Fact.TheVariants.{Met}
 use Rattle.policy_view.specs.Knowledge.{Knowledge}
 use Rattle.policy_view.specs.Past.{called_at, due_at, fact_of, if_unique, learned_at, owners_of}
 use Rattle.policy_view.specs.Sent.{Sent}
-use Rattle.policy_view.specs.Shown.{BusRole, NoRole, Unexpected, MatchAnswer, OwnerAnswer, NamesAnswer, PingAnswer, NameList, HelloAnswer, OtherAnswer, CallIn, OwnerChange, SignalIn, BroadcastIn, bus_role, bus_role_at, is_owner_change, may_broadcast, on_names, on_owner_change, role_of_reply, role_of_signal, seen_as, showing, showing_at}
+use Rattle.policy_view.specs.Shown.{BusRole, NoRole, Unexpected, MatchAnswer, OwnerAnswer, NamesAnswer, PingAnswer, NameList, HelloAnswer, OtherAnswer, CallIn, OwnerChange, SignalIn, BroadcastIn, bus_role, bus_role_at, is_owner_change, may_broadcast, on_names, on_owner_change, role_of_reply, role_of_signal, seen_as, sees_change, showing, showing_at}
 use Rattle.policy_view.specs.declared.End.TheVariants.{Memory}
 use Rattle.policy_view.specs.declared.Reason.{Reason}
 use Rattle.policy_view.specs.declared.Reason.TheVariants.{NameHidden, SenderNotTalk}
@@ -236,9 +236,9 @@ shown_at known policy x OwnerChange h = by (three_texts (tree x))
     seen_or true = tt
     seen_or false = tt
 
-    by : (o : Option (Text × Text × Text)) → ShownBy x (on_owner_change known o)
+    by : (o : Option (Text × Text × Text)) → ShownBy x (on_owner_change policy.sloppy known o)
     by None = tt
-    by (Some texts) = seen_or (at_least See (known.level texts.0))
+    by (Some texts) = seen_or (sees_change policy.sloppy known texts.0)
 shown_at known policy x SignalIn h = tt
 shown_at known policy x BroadcastIn h = by (may_broadcast policy known (tree x) (sender (tree x)))
   where
@@ -312,9 +312,9 @@ shown_told policy known m role view =
     no_cut true reason serial e = cc
     no_cut false reason serial e = cc
 
-    change : (o : Option (Text × Text × Text)) (serial : ℕ) → on_owner_change known o ≡ Cut serial → ⊥
+    change : (o : Option (Text × Text × Text)) (serial : ℕ) → on_owner_change policy.sloppy known o ≡ Cut serial → ⊥
     change None serial e = cc
-    change (Some texts) serial e = no_cut (at_least See (known.level texts.0)) NameHidden serial e
+    change (Some texts) serial e = no_cut (sees_change policy.sloppy known texts.0) NameHidden serial e
 
     same : (role : BusRole) (serial : ℕ) → showing_at policy known m role ≡ Cut serial → kept_level policy (taught policy view.ids (learned_at policy m role)) ≡ kept_level policy view.ids
     same NoRole serial e = refl

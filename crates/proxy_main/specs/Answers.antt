@@ -7,13 +7,12 @@ use Rattle.policy_args.specs.declared.BadWord.{BadWord}
 use Rattle.policy_args.specs.Policy.{Policy}
 use Rattle.policy_args.specs.Words.{PolicyOptions, options_of, words_in, ◌>>=◌}
 use Rattle.recording.specs.Recording.{Recording, recording_of}
-use Rattle.replay.specs.Output.{output_of_recording, log_of_recording, history_of}
+use Rattle.replay.specs.Output.{output_of_recording, log_of_recording}
 use Rattle.replay.specs.Explained.{explained}
 use Rattle.replay.specs.Twins.{compared_under, part_of_recording, Compares}
 use Rattle.replay.specs.declared.comparing.TwinAnswer.{TwinAnswer}
 use Rattle.replay.specs.declared.comparing.TwinAnswer.TheVariants.{Same, Differ}
-use Rattle.sample.specs.Sample.{sample}
-use Rattle.sample.specs.Summary.{sample_options, summary_of}
+use Rattle.sample.specs.Summary.{sample_history, sample_options, summary_of}
 pub use Rattle.line_words.specs.Stops.{without}
 use Rattle.proxy_main.specs.declared.Refusal.{Refusal}
 use Rattle.proxy_main.specs.declared.Refusal.TheVariants.{Usage, LineWord, ArgsTooLong, PolicyWord, PolicyTooLong, Recording as BadFile, NoSuchMessage}
@@ -76,7 +75,7 @@ explained_at number options recording = explaining (explained options recording 
 
 -- the sum of a sample's session
 abbrev pub sampled : ℕ → ℕ → Answer
-sampled n seed = Wrote (summary_of sample_options.policy (history_of sample_options (sample n seed))) []
+sampled n seed = Wrote (summary_of sample_options.policy (sample_history n seed)) []
 
 -- the program's name and version
 abbrev pub version_line : List ℕ

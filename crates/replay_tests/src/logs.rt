@@ -2,7 +2,16 @@
 use crate::cases::assert_cases;
 
 /// Sessions with a log, and without one.
-const LOGS: [&str; 6] = [
+const LOGS: [&str; 7] = [
+    // A header field of an unknown code is refused if the policy says so.
+    "\
+policy --filter --log --known-fields --talk=org.a.T
+client call 10 path=/x interface=org.a.I member=M destination=org.a.T unknown=/y
+client signal 11 path=/x interface=org.a.I member=S unknown=/y
+to_bus ping 1
+log 1 c 1 call serial=10 reply=- from=- dest=org.a.T path=/x iface=org.a.I member=M ping UnknownField 0 AccessDenied
+log 1 c 2 signal serial=11 reply=- from=- dest=- path=/x iface=org.a.I member=S drop UnknownField 0
+",
     // A call that wants no reply is dropped.
     "\
 policy --filter --log

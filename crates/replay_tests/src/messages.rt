@@ -239,6 +239,7 @@ fn add_field(fields: &mut Vec<u8>, name: &str, value: &str) -> Result<(), AllocE
         "reply" => add_reply_serial(fields, value),
         "destination" => add_text(fields, [6, 1, b's', 0], value),
         "sender" => add_text(fields, [7, 1, b's', 0], value),
+        "unknown" => add_text(fields, [10, 1, b'o', 0], value),
         _ => add_text(fields, [0, 1, b's', 0], value),
     }
 }

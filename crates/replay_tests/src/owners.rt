@@ -265,7 +265,31 @@ to_bus bus 4 GetId
 ];
 
 /// Changes of owners that the bus tells of.
-const CHANGES: [&str; 5] = [
+const CHANGES: [&str; 8] = [
+    // Those of all unique names are shown if the policy says so, which changes nothing else.
+    "\
+policy --filter --sloppy-names
+bus owner_change 1 :1.31 :1.31 ''
+bus owner_change 2 org.h.X '' :1.31
+bus owner_change 3 :1.32 '' :1.32
+client call 1 path=/p interface=org.a.I member=M destination=:1.31
+to_bus ping 1
+to_client owner_change 1 :1.31 :1.31 ''
+to_client owner_change 3 :1.32 '' :1.32
+",
+    "\
+policy --filter
+bus owner_change 1 :1.31 :1.31 ''
+bus owner_change 2 org.h.X '' :1.31
+bus owner_change 3 :1.32 '' :1.32
+",
+    "\
+policy --sloppy-names
+bus owner_change 1 :1.31 :1.31 ''
+bus owner_change 2 org.h.X '' :1.31
+to_client owner_change 1 :1.31 :1.31 ''
+to_client owner_change 2 org.h.X '' :1.31
+",
     // A change of a name's owner is shown where the client sees the name, also a unique one that it met.
     "\
 policy --filter --talk=org.a.T

@@ -2,7 +2,7 @@
 use crate::cases::assert_cases;
 
 /// Lines of authentication, and the messages behind them.
-const LINES: [&str; 12] = [
+const LINES: [&str; 13] = [
     "\
 policy --filter --talk=org.a.T
 lines
@@ -128,12 +128,23 @@ to_bus bytes ~AUTH%0D%0A
 to_client bytes DATA%0D%0A
 end %02~%04%06~~~~~~~
 ",
-    // Behind BEGIN the client's bytes are messages.
+    // The bus is sent BEGIN alone, so that it reads messages from there on as the proxy does.
+    "\
+policy --filter
+lines
+client bytes ~AUTH EXTERNAL 30%0D%0ABEGIN x%0D%0A
+client signal 7 path=/p interface=org.a.I member=S
+client call 8 path=/p interface=org.a.I member=A destination=org.h.X
+to_bus bytes ~AUTH EXTERNAL 30%0D%0ABEGIN%0D%0A
+to_bus signal 1 path=/p interface=org.a.I member=S
+to_bus ping 2
+",
+    // After BEGIN the client's bytes are messages.
     "\
 policy --filter
 lines
 client bytes ~BEGIN now%0D%0AAUTH EXTERNAL%0D%0A%0D%0A
-to_bus bytes ~BEGIN now%0D%0A
+to_bus bytes ~BEGIN%0D%0A
 end %01%01%01~~~~~~~~
 ",
 ];

@@ -12,7 +12,18 @@ use std::thread::Threads;
 
 /// Comparisons. Each element counts one: of `--talk=org.a.T` behind a Hello the client's Hello, its answer, and the answer that
 /// the proxy itself asked for.
-const TWINS: [&str; 26] = [
+const TWINS: [&str; 28] = [
+    // Owner changes of unique names make a difference if the policy shows them.
+    "\
+policy --filter --sloppy-names
+one bus owner_change 1 :1.31 :1.31 ''
+says differ 1
+",
+    "\
+policy --filter
+one bus owner_change 1 :1.31 :1.31 ''
+says same
+",
     // What is hidden makes no difference, however much it is.
     "\
 policy --filter --talk=org.a.T

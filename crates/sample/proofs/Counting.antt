@@ -11,13 +11,14 @@ use Rattle.policy_view.specs.declared.Decision.{Decision}
 use Rattle.policy_view.specs.declared.Mode.{Mode}
 use Rattle.proxy_core.specs.Sessions.{Holds, SessionView, StandsFor, Taken, is_memory}
 use Rattle.recording.specs.Recording.{Event, Bytes}
-use Rattle.replay.specs.Output.{event_of, events_of, history_of, mode_of}
+use Rattle.replay.specs.Explained.{with_log}
+use Rattle.replay.specs.Output.{event_of, events_of, mode_of}
 use Rattle.replay.proofs.Events.{events-last}
 use Rattle.recording.specs.declared.Side.TheVariants.{Client}
 use Rattle.sample.specs.Made.{asked_events}
 use Rattle.sample.specs.Playing.{Counted, Played, with_decision}
 use Rattle.sample.specs.Sample.{draws, opening, sample}
-use Rattle.sample.specs.Summary.{counts_in, counts_of, is_hidden, is_instead, is_passed, is_pinged, is_shown, sample_options}
+use Rattle.sample.specs.Summary.{counts_in, counts_of, is_hidden, is_instead, is_passed, is_pinged, is_shown, sample_history, sample_options}
 use Rattle.sample.specs.declared.counts.Counts.{Counts}
 use Rattle.sample.specs.declared.draws.Made.{Made}
 use Rattle.sample.specs.declared.playing.Play.{Play}
@@ -143,7 +144,7 @@ pub all_came : (so_far whole : List Event) (left i x client_serial bus_serial : 
 all_came so_far whole left i x client_serial bus_serial none split =
     sym (append-nil so_far) ∙ ap (λ n. so_far ++ draws n i x client_serial bus_serial) (sym none) ∙ split
 
-sample_mode : (n seed : ℕ) → MODE ≡ mode_of sample_options (sample n seed)
+sample_mode : (n seed : ℕ) → MODE ≡ mode_of (with_log sample_options) (sample n seed)
 unfolding sample
 sample_mode n seed = refl
 
@@ -158,7 +159,7 @@ all_counted policy play h t mode no_notes no_bus no_client holds =
     ap (λ ns. counts_of ns t.bus_side t.client_side) noted ∙ ap₂ (counts_of (notes policy h)) for_bus for_client
 
 pub at_end : (n seed : ℕ) (play : Play) → Played sample_options.policy (sample n seed).events play → is_memory play.session.ended ≡ false →
-    play.counts ≡ counts_in sample_options.policy (history_of sample_options (sample n seed))
+    play.counts ≡ counts_in sample_options.policy (sample_history n seed)
 at_end n seed play played running =
     let policy = sample_options.policy in
     let h = history policy play.session.mode (events_of (sample n seed).events) in

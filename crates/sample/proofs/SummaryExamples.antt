@@ -23,16 +23,15 @@ use Rattle.policy_view.specs.Sent.{is_hello, asks_names, nothing_before, owed, c
 use Rattle.policy_view.specs.Shown.{is_owner_change, bus_role, showing, shown, seen}
 use Rattle.policy_view.specs.Verdicts.{client_role, demand_of, verdict}
 use Rattle.recording.specs.Recording.{spelled_recording}
-use Rattle.replay.specs.Output.{history_of}
 use Rattle.sample.specs.Sample.{sample}
-use Rattle.sample.specs.Summary.{sample_options, summary_of}
+use Rattle.sample.specs.Summary.{sample_history, sample_options, summary_of}
 
 sample_bytes : length (spelled_recording (sample 0 1)) ≡ 405
 unfolding spell sample spelled_recording
 sample_bytes = refl
 
 abbrev summary : ℕ → ℕ → Text
-summary n seed = summary_of sample_options.policy (history_of sample_options (sample n seed))
+summary n seed = summary_of sample_options.policy (sample_history n seed)
 
 -- without a draw, and with draws of the kinds 2, 2 and 1
 summaries :

@@ -8,7 +8,7 @@ use Rattle.policy_args.specs.declared.BadWord.{BadWord}
 use Rattle.sample.specs.Summary.{line_of, sample_options}
 use Rattle.sample.specs.declared.counts.Counts.{Counts}
 
-options_are : options_of (codes "--filter" ∷ codes "--log" ∷ codes "--talk=org.sample.A" ∷ []) ≡ Ok sample_options
+options_are : options_of (codes "--filter" ∷ codes "--talk=org.sample.A" ∷ []) ≡ Ok sample_options
 unfolding options_of
 options_are = refl
 
@@ -16,11 +16,11 @@ same_ok : (a b : PolicyOptions) (one two : Result PolicyOptions BadWord) → one
 same_ok a b one two p q e = cc
 
 -- what is read of these words is the options
-pub options_read : (words : List Text) (filter log talk : Text) (options : PolicyOptions) → words ≡ filter ∷ log ∷ talk ∷ [] → filter ≡ codes "--filter" → log ≡ codes "--log" →
+pub options_read : (words : List Text) (filter talk : Text) (options : PolicyOptions) → words ≡ filter ∷ talk ∷ [] → filter ≡ codes "--filter" →
     talk ≡ codes "--talk=org.sample.A" → options_of words ≡ Ok options → options ≡ sample_options
-options_read words filter log talk options are is_filter is_log is_talk read =
-    let words_are : words ≡ codes "--filter" ∷ codes "--log" ∷ codes "--talk=org.sample.A" ∷ [] =
-    are ∙ ap (λ w. w ∷ log ∷ talk ∷ []) is_filter ∙ ap (λ w. codes "--filter" ∷ w ∷ talk ∷ []) is_log ∙ ap (λ w. codes "--filter" ∷ codes "--log" ∷ w ∷ []) is_talk in
+options_read words filter talk options are is_filter is_talk read =
+    let words_are : words ≡ codes "--filter" ∷ codes "--talk=org.sample.A" ∷ [] =
+    are ∙ ap (λ w. w ∷ talk ∷ []) is_filter ∙ ap (λ w. codes "--filter" ∷ w ∷ []) is_talk in
     same_ok options sample_options _ _ read options_are (ap options_of words_are)
 
 -- the names of the counts and the counts, as they are pushed and as they are joined

@@ -13,17 +13,24 @@ use Rattle.policy_view.specs.declared.Decision.{Decision}
 use Rattle.policy_view.specs.declared.Decision.TheVariants.{Judged, Shown}
 use Rattle.policy_view.specs.declared.Verdict.TheVariants.{Pass, Ping}
 use Rattle.policy_view.specs.declared.Showing.TheVariants.{Whole, Reply, Instead, Hide}
+use Rattle.replay.specs.Explained.{with_log}
+use Rattle.replay.specs.Output.{history_of}
+use Rattle.sample.specs.Sample.{sample}
 use Rattle.sample.specs.declared.counts.Counts.{Counts}
 
 -- ---- the policy
 
--- those of the words --filter, --log and --talk=org.sample.A
+-- those of the words --filter and --talk=org.sample.A
 abbrev pub sample_options : PolicyOptions
 sample_options = record {
   filter = true;
-  log = true;
+  log = false;
   policy = policy_of (record { pattern = record { name = codes "org.sample.A"; exact = true }; grant = to_talk } ∷ []);
 }
+
+-- the history of a sample under its options, in which each message is noted
+abbrev pub sample_history : ℕ → ℕ → History
+sample_history n seed = history_of (with_log sample_options) (sample n seed)
 
 -- ---- what becomes of a message; a list of names that is cut is none of these
 

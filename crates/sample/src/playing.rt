@@ -5,11 +5,10 @@ ghost use Rattle.policy_args.specs.Seen.{options_seen};
 ghost use Rattle.proxy_core.specs.Sessions.{is_memory as ended_for_memory};
 ghost use Rattle.recording.specs.Recording.{Event, Bytes};
 ghost use Rattle.recording.specs.declared.Side.TheVariants.{Client, Bus};
-ghost use Rattle.replay.specs.Output.{history_of};
 ghost use Rattle.sample.specs.Made.{asked_events, made_events};
 ghost use Rattle.sample.specs.Playing.{Counted, Played};
 ghost use Rattle.sample.specs.Sample.{opening, sample as sample_of};
-ghost use Rattle.sample.specs.Summary.{counts_in, sample_options as options_of_sample};
+ghost use Rattle.sample.specs.Summary.{counts_in, sample_history, sample_options as options_of_sample};
 
 use crate::counts::{Counts, plus};
 use crate::draws::{Draws, Made};
@@ -40,7 +39,6 @@ fn sample_options(alloc: Global) -> Result<Options, AllocError>
 {
     let words = vec![in alloc;
         String::from_str(alloc, "--filter")?,
-        String::from_str(alloc, "--log")?,
         String::from_str(alloc, "--talk=org.sample.A")?,
     ]?;
     match read_options(alloc, &words) {
@@ -159,7 +157,7 @@ impl Play {
     /// What was counted, unless the session ended for want of memory.
     fn counted(&self) -> Result<Counts, AllocError>
         ensures { (n seed : ℕ) → Played options_of_sample.policy (sample_of n seed).events self.now →
-            IfOk result (λ counts. counts ≡ counts_in options_of_sample.policy (history_of options_of_sample (sample_of n seed))) }
+            IfOk result (λ counts. counts ≡ counts_in options_of_sample.policy (sample_history n seed)) }
     {
         if is_memory(self.session.ended()) {
             return Err(AllocError);
@@ -171,7 +169,7 @@ impl Play {
 /// Plays a sample under its policy, and counts what becomes of its messages.
 pub(crate) fn count_sample(alloc: Global, n: u32, seed: u64) -> Result<Counts, AllocError>
     requires { n ≤ MOST_DRAWS }
-    ensures { IfOk result (λ counts. counts ≡ counts_in options_of_sample.policy (history_of options_of_sample (sample_of n seed))) }
+    ensures { IfOk result (λ counts. counts ≡ counts_in options_of_sample.policy (sample_history n seed)) }
 {
     let options = sample_options(alloc)?;
     let mut play = Play::new(alloc, &options.policy)?;

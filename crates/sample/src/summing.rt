@@ -1,9 +1,7 @@
 //! The summary of a sample.
 ghost use Rattle.std.specs.Prelude.{◌≡◌, ◌≤◌, IfOk, OnOk, IsErrOf, string_bytes};
 ghost use Rattle.link_traits.specs.Told.{added, Part, Rose};
-ghost use Rattle.replay.specs.Output.{history_of};
-ghost use Rattle.sample.specs.Sample.{sample as sample_of};
-ghost use Rattle.sample.specs.Summary.{sample_options, summary_of};
+ghost use Rattle.sample.specs.Summary.{sample_history, sample_options, summary_of};
 
 use crate::generator::MOST_DRAWS;
 use crate::playing::count_sample;
@@ -15,7 +13,7 @@ use std::alloc::{AllocError, Global};
 #[tactic(auto, unfolding(crate::specs::Summary::summary_of))]
 fn summary_line(alloc: Global, n: u32, seed: u64) -> Result<String, AllocError>
     requires { n ≤ MOST_DRAWS }
-    ensures { IfOk result (λ line. string_bytes line ≡ summary_of sample_options.policy (history_of sample_options (sample_of n seed))) }
+    ensures { IfOk result (λ line. string_bytes line ≡ summary_of sample_options.policy (sample_history n seed)) }
 {
     let counts = count_sample(alloc, n, seed)?;
     counts.line(alloc)
@@ -29,8 +27,8 @@ pub fn summary<O: Sink>(alloc: Global, n: u32, seed: u64, out: &mut O) -> Result
     requires { n ≤ MOST_DRAWS }
 
     // out gets the line: all of it, or a front where out fails, or nothing where memory is refused.
-    ensures ok { OnOk result (O.told out.new ≡ added (summary_of sample_options.policy (history_of sample_options (sample_of n seed))) (O.told out.old)) }
-    ensures part { Part (O.told out.old) (O.told out.new) (summary_of sample_options.policy (history_of sample_options (sample_of n seed))) }
+    ensures ok { OnOk result (O.told out.new ≡ added (summary_of sample_options.policy (sample_history n seed)) (O.told out.old)) }
+    ensures part { Part (O.told out.old) (O.told out.new) (summary_of sample_options.policy (sample_history n seed)) }
     ensures memory { IsErrOf result SampleFault.Memory → O.told out.new ≡ O.told out.old }
 
     // out is named only where it failed.
