@@ -305,7 +305,10 @@ fn what_follows_begin_in_its_line_is_not_sent(rt: HostRuntime) -> Result<(), Fai
     }
     line.extend_from_slice(b"\r\n")?;
     let line = Bytes::from_vec(line)?;
-    assert_eq!(rt; for_bus(rt.alloc(), &line)?.as_slice(), b"BEGIN\r\n".as_slice());
+    assert_eq!(rt;
+        for_bus(rt.alloc(), &line)?.as_slice(),
+        b"BEGIN\r\n".as_slice()
+    );
     Ok(())
 }
 

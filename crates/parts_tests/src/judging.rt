@@ -338,8 +338,13 @@ fn messages_are_judged_by_what_they_are(rt: HostRuntime) -> Result<(), Fail> {
 }
 
 #[test]
-fn header_fields_of_unknown_codes_are_refused_if_the_policy_says_so(rt: HostRuntime) -> Result<(), Fail> {
-    assert_eq!(rt; wrong_row(rt.alloc(), KNOWN_FIELDS, &told_with_known_fields)?, None);
+fn header_fields_of_unknown_codes_are_refused_if_the_policy_says_so(
+    rt: HostRuntime,
+) -> Result<(), Fail> {
+    assert_eq!(rt;
+        wrong_row(rt.alloc(), KNOWN_FIELDS, &told_with_known_fields)?,
+        None
+    );
     assert_eq!(rt; wrong_row(rt.alloc(), ANY_FIELDS, &told_other)?, None);
     Ok(())
 }

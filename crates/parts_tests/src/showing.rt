@@ -106,7 +106,9 @@ fn told_sloppy(alloc: Global, row: &str) -> Result<String, AllocError> {
 }
 
 #[test]
-fn owner_changes_of_unique_names_are_shown_if_the_policy_says_so(rt: HostRuntime) -> Result<(), Fail> {
+fn owner_changes_of_unique_names_are_shown_if_the_policy_says_so(
+    rt: HostRuntime,
+) -> Result<(), Fail> {
     assert_eq!(rt; wrong_row(rt.alloc(), SLOPPY, &told_sloppy)?, None);
     Ok(())
 }

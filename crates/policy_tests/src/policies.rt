@@ -384,7 +384,10 @@ fn words_give_a_line_or_the_first_bad_word(rt: HostRuntime) -> Result<(), Fail> 
 
 #[test]
 fn a_truth_value_is_of_its_own_block(rt: HostRuntime) -> Result<(), Fail> {
-    assert_eq!(rt; wrong_row(rt.alloc(), TRUTH_VALUES, &told_truth_values)?, None);
+    assert_eq!(rt;
+        wrong_row(rt.alloc(), TRUTH_VALUES, &told_truth_values)?,
+        None
+    );
     Ok(())
 }
 

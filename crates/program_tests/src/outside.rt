@@ -1,7 +1,8 @@
 //! Output and logs that can't be written, and the files and the standard output of the system.
 use crate::runs::{Ended, file, replay, run_with_room};
 use link_traits::{FileFault, Files, Sink};
-use proxy_main::{DiskFiles, StdSink, SystemDisk};
+use process_streams::StdSink;
+use proxy_main::{DiskFiles, SystemDisk};
 use std::alloc::{AllocError, Global};
 use std::fs;
 use std::test::Fail;
@@ -78,7 +79,7 @@ fn disk_files_are_read_within_a_limit(rt: HostRuntime) -> Result<(), Fail> {
 
 #[test]
 fn standard_output_takes_what_is_written(rt: HostRuntime) {
-    let mut out = StdSink::new(rt.stdout());
+    let mut out = StdSink::new(rt.stdout(), &rt);
     for (bytes, expected) in [("", Ok(0)), ("\n", Ok(1))] {
         assert_eq!(rt; out.write(bytes.as_bytes()), expected);
     }

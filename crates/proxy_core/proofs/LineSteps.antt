@@ -118,7 +118,7 @@ did_light policy old mid new target goes (inr cut) mode mode_is watches watches_
     by : {b s l m o b' s' l' m' o' l'' m'' w : ℕ} → b ≤ b' → s ≤ s' → l ≤ l'' → m ≤ m'' → l' ≡ l'' → m' ≡ m'' → o ≡ o' → b' + s' + 19 * (l' + m') + o' ≤ w → b + s + 19 * (l + m) + o ≤ w + 19 * 0
     by b s l m l' m' o w = omega arith
 
--- ---- a line goes to the bus in no more bytes than it has
+-- ---- how long what the bus is sent for a line is
 
 take_short : (n : ℕ) (xs : List ℕ) → length (take n xs) ≤ length xs
 take_short zero xs = omega arith
@@ -128,15 +128,27 @@ take_short (suc n) (x ∷ xs) = let h = take_short n xs in omega (arith, h)
 while_short : (test : ℕ → Bool) (xs : List ℕ) → length (take_while test xs) ≤ length xs
 while_short test xs = take_short (prefix_len test xs) xs
 
-pub for_bus_short : (l : List ℕ) → length (for_bus l) ≤ length l
-for_bus_short l = by (bytes_eq (word l) (codes "NEGOTIATE_UNIX_FD")) refl
+-- what the bus is sent for a line has at most nineteen times its bytes
+pub for_bus_within : (l : List ℕ) → length (for_bus l) ≤ 19 * length l
+for_bus_within l = begins (bytes_eq (word l) (codes "BEGIN")) refl
   where
-    by : (b : Bool) → bytes_eq (word l) (codes "NEGOTIATE_UNIX_FD") ≡ b → length (cond b (codes "NO_UNIX_FD" ++ lines.crlf) l) ≤ length l
-    by true e =
+    short : length (word l) ≤ length l
+    short = while_short (λ c. not (c == 32 || c == 13)) l
+
+    asks : (b : Bool) → bytes_eq (word l) (codes "NEGOTIATE_UNIX_FD") ≡ b → length (cond b (codes "NO_UNIX_FD" ++ lines.crlf) l) ≤ 19 * length l
+    asks true e =
         let same : length (word l) ≡ 17 = ap length (bytes_eq-true (word l) (codes "NEGOTIATE_UNIX_FD") e) in
-        let short : length (word l) ≤ length l = while_short (λ c. not (c == 32 || c == 13)) l in
-        omega (arith, same, short)
-    by false e = omega arith
+        let part = short in
+        omega (arith, same, part)
+    asks false e = omega arith
+
+    begins : (b : Bool) → bytes_eq (word l) (codes "BEGIN") ≡ b
+        → length (cond b (codes "BEGIN" ++ lines.crlf) (cond (bytes_eq (word l) (codes "NEGOTIATE_UNIX_FD")) (codes "NO_UNIX_FD" ++ lines.crlf) l)) ≤ 19 * length l
+    begins true e =
+        let same : length (word l) ≡ 5 = ap length (bytes_eq-true (word l) (codes "BEGIN") e) in
+        let part = short in
+        omega (arith, same, part)
+    begins false e = asks (bytes_eq (word l) (codes "NEGOTIATE_UNIX_FD")) refl
 
 -- ---- how much waits behind a line
 
@@ -148,11 +160,11 @@ module _ (policy : Policy) where
       let c : length target.client.left ≡ length s.left = ap length client in
       let b : length target.bus.left ≡ length view.bus.left = ap length bus in
       let less : weight policy target ≤ weight policy view =
-      by (length view.bus_side) (ap length out ∙ length-append view.bus_side (for_bus l)) (for_bus_short l) (ap length shown) (ap length parts ∙ length-append l s.left) c b (ap (own_to_come policy) greeted) in
+      by (length view.bus_side) (length l) (ap length out ∙ length-append view.bus_side (for_bus l)) (for_bus_within l) (ap length shown) (ap length parts ∙ length-append l s.left) c b (ap (own_to_come policy) greeted) in
       subst (λ (v : SessionView). IsLight policy 0 v new) same (did_light policy view (record view { client = s }) new target goes did refl mode refl watches c b greeted less)
     where
-      by : {b n k s l m o s' l' r m' o' : ℕ} (b' : ℕ) → b ≡ b' + n → n ≤ k → s ≡ s' → l' ≡ k + r → l ≡ r → m ≡ m' → o ≡ o' → b + s + 19 * (l + m) + o ≤ b' + s' + 19 * (l' + m') + o'
-      by b' b n s l l' m o = omega arith
+      by : {b n s l m o s' l' r m' o' : ℕ} (b' k : ℕ) → b ≡ b' + n → n ≤ 19 * k → s ≡ s' → l' ≡ k + r → l ≡ r → m ≡ m' → o ≡ o' → b + s + 19 * (l + m) + o ≤ b' + s' + 19 * (l' + m') + o'
+      by b' k b n s l l' m o = omega arith
 
   pub bus_light : (view old new target : SessionView) (s : StreamView) (l : List ℕ) (goes : Bool) → view ≡ old → view.bus.left ≡ l ++ s.left
       → Did target (record view { bus = s }) new goes → target.mode ≡ view.mode → target.watches ≡ view.watches → target.bus.left ≡ s.left → target.client.left ≡ view.client.left

@@ -1,5 +1,5 @@
--- How often reads of files, and writes of a standard stream, have failed.
-use Rattle.std.specs.Prelude.{ℕ, ◌+◌, ◌-◌, ◌^◌, min, Ok, Err, Result}
+-- How often reads of files have failed.
+use Rattle.std.specs.Prelude.{ℕ, ◌+◌, ◌-◌, ◌^◌, min, Err, Result}
 use Rattle.link_traits.specs.declared.FileFault.{FileFault}
 use Rattle.link_traits.specs.declared.FileFault.TheVariants.{Failed}
 
@@ -11,8 +11,3 @@ one_more faults = min (faults + 1) (2 ^ 64 - 1)
 abbrev pub reads_failed : {A : Type 0} → Result A FileFault → ℕ → ℕ
 reads_failed (Err Failed) faults = one_more faults
 reads_failed _ faults = faults
-
--- behind a write
-abbrev pub writes_failed : {A E : Type 0} → Result A E → ℕ → ℕ
-writes_failed (Ok n) faults = faults
-writes_failed (Err fault) faults = one_more faults

@@ -12,6 +12,7 @@
 -- none of a tool's.
 use Rattle.std.specs.Prelude.{ℕ, ◌-◌, ◌^◌, ◌||◌, nat_le, Bool, false, List, [], ◌∷◌, Option, Some, None, option_map, codes, bytes_eq, if◌then◌else◌}
 use Rattle.policy_args.specs.ProxyLine.{number_of}
+pub use Rattle.process_streams.specs.Faults.{is_tool_name}
 use Rattle.tool_words.specs.Tools.{taken, replay_places, explain_places, twin_places, sample_places}
 
 pub data Command : Type 0 where
@@ -90,10 +91,6 @@ named_by tool words =
 abbrev pub reading : List (List ℕ) → Option Command
 reading [] = None
 reading (tool ∷ words) = named_by tool (tool ∷ words)
-
--- a tool that is built
-abbrev pub is_tool_name : List ℕ → Bool
-is_tool_name word = bytes_eq word (codes "replay") || bytes_eq word (codes "explain") || bytes_eq word (codes "twin") || bytes_eq word (codes "sample")
 
 abbrev pub asks_alone : List (List ℕ) → Bool
 asks_alone (word ∷ []) = bytes_eq word (codes "--help") || bytes_eq word (codes "--version")

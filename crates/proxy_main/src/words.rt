@@ -2,9 +2,10 @@
 ghost use Rattle.std.specs.Prelude.{◌≡◌, ◌≤◌, [], ◌∷◌, map, option_map, string_bytes, codes, IfOk, IfSome};
 ghost use Rattle.policy_args.specs.ProxyLine.{has_leading_zero as begins_with_zero};
 ghost use Rattle.tool_words.specs.Tools.{taken, replay_places, explain_places, twin_places, sample_places};
-ghost use Rattle.proxy_main.specs.Words.{is_tool_name as is_name, asks_alone as asks_for_text, names_tool, reading, named_by, alone_of, text_of, replay_of, explain_of, twin_of, sample_of, number_within};
+ghost use Rattle.proxy_main.specs.Words.{asks_alone as asks_for_text, names_tool, reading, named_by, alone_of, text_of, replay_of, explain_of, twin_of, sample_of, number_within};
 ghost use Rattle.proxy_main.specs.Read.{command_of, HasFewDraws, worth_within};
 
+use process_streams::is_tool_name;
 use sample::MOST_DRAWS;
 use std::alloc::{AllocError, Global};
 use tool_words::{
@@ -51,13 +52,6 @@ pub fn is_tool(words: &[String]) -> bool
         [word, ..] => is_tool_name(word) || asks_alone(words),
         [] => false,
     }
-}
-
-/// Whether a word is a tool's name.
-fn is_tool_name(word: &str) -> bool
-    ensures { result ≡ is_name word.now }
-{
-    word == "replay" || word == "explain" || word == "twin" || word == "sample"
 }
 
 /// Whether the only word asks for a text.

@@ -1,45 +1,40 @@
 //! A filtering D-Bus proxy: its program.
 //!
-//! It gives the words, the disk's files, the Unix sockets and the standard streams to `proxy_main::run`, and ends with the status that this answers.
+//! It fills closed standard streams, and gives the words, the disk's files and the standard streams to `proxy_main::start_process`, which
+//! runs a tool. A proxy line is served by `proxy_main::run` over Unix sockets. The program ends with the status that these answer.
 #![tactic(auto)]
 
-use proxy_main::{DiskFiles, StdSink, SystemDisk, run};
+use process_streams::{ProcessArguments, ProcessFault, StdSink, SystemDescriptors, fill_closed};
+use proxy_main::{DiskFiles, Start, SystemDisk, fault_status, run, start_process};
 use proxy_net::MioNet;
-use std::alloc::AllocError;
-use std::env;
 use std::process::ExitCode;
 
-/// The status where memory is refused before the words are there.
-const MEMORY: u8 = 8;
-
-/// The status where the system gives no net to listen and wait with.
-const NET: u8 = 5;
-
-/// The words after the program's name.
-fn words(rt: &HostRuntime) -> Result<Vec<String>, AllocError> {
-    let mut words = Vec::new(rt.alloc());
-    let args = match env::args(rt) {
-        Ok(args) => args,
-        Err(_) => return Err(AllocError),
-    };
-    for word in args.skip(1) {
-        words.push(word)?;
-    }
-    Ok(words)
-}
-
 fn main(rt: HostRuntime) -> ExitCode {
-    let words = match words(&rt) {
-        Ok(words) => words,
-        Err(_) => return ExitCode::from(MEMORY),
+    let mut out = StdSink::new(rt.stdout(), &rt);
+    let mut err = StdSink::new(rt.stderr(), &rt);
+
+    // The descriptors in place of closed streams stay open to the end.
+    let mut descriptors = SystemDescriptors::new(&rt);
+    let held = match fill_closed(rt.alloc(), &mut descriptors) {
+        Ok(held) => held,
+        Err(fault) => return ExitCode::from(fault_status(rt.alloc(), fault, &mut err).code),
     };
+
+    let mut files = DiskFiles::new(SystemDisk::new(&rt));
+    let arguments = ProcessArguments::new(&rt);
+    let started = start_process(&rt, rt.alloc(), &arguments, &mut files, &mut out, &mut err);
+    let words = match started {
+        Start::Ended(status) => return ExitCode::from(status.code),
+        Start::Line(words) => words,
+    };
+
     let mut net = match MioNet::new(&rt) {
         Ok(net) => net,
-        Err(_) => return ExitCode::from(NET),
+        Err(_) => {
+            let status = fault_status(rt.alloc(), ProcessFault::NoNet, &mut err);
+            return ExitCode::from(status.code);
+        }
     };
-    let mut files = DiskFiles::new(SystemDisk::new(&rt));
-    let mut out = StdSink::new(rt.stdout());
-    let mut err = StdSink::new(rt.stderr());
     let status = run(
         &rt,
         rt.alloc(),
@@ -49,5 +44,7 @@ fn main(rt: HostRuntime) -> ExitCode {
         &mut out,
         &mut err,
     );
+    net.remove_sockets();
+    drop(held);
     ExitCode::from(status.code)
 }

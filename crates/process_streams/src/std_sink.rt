@@ -1,28 +1,38 @@
 //! Standard output and standard error.
 ghost use Rattle.std.specs.Prelude.{◌≡◌, ◌≤◌, ◌<◌, IfOk, length};
 ghost use Rattle.std.specs.Io.KnownBytes.{WriteAppends};
-ghost use Rattle.proxy_main.specs.Faults.{writes_failed};
+ghost use Rattle.process_streams.specs.Writes.{writes_failed};
 
+use crate::retries::write_waiting;
 use link_traits::{Sink, SinkFault};
 use std::io::Write;
+use std::os::fd::{AsRawFd, RawFd};
+use std::time::Clock;
 
-/// A standard stream that bytes are written to. What it took is not told.
+/// A standard stream that bytes are written to. A write waits as long as the stream takes nothing, also if the stream is
+/// non-blocking. The clock is the one that it waits by.
 #[derive(Drop)]
-pub struct StdSink<W: Write + Drop> {
+pub struct StdSink<W: Write + Drop, C: Clock + Drop> {
     writer: W,
+    clock: C,
     faults: u64,
 }
 
-impl<W: Write + Drop> StdSink<W> {
-    /// The stream, before it has failed.
-    pub fn new(writer: W) -> StdSink<W>
-        ensures { result.faults ≡ 0 }
+impl<W: Write + Drop, C: Clock + Drop> StdSink<W, C> {
+    /// The stream, before a write has failed.
+    pub fn new(writer: W, clock: C) -> StdSink<W, C>
+        ensures writer { result.writer ≡ writer }
+        ensures faults { result.faults ≡ 0 }
     {
-        StdSink { writer, faults: 0 }
+        StdSink {
+            writer,
+            clock,
+            faults: 0,
+        }
     }
 }
 
-impl<W: Write + Drop> Sink for StdSink<W> {
+impl<W: Write + Drop, C: Clock + Drop> Sink for StdSink<W, C> {
     ghost use Rattle.std.specs.Prelude.{None};
 
     ghost told = { λ _. None };
@@ -39,7 +49,7 @@ impl<W: Write + Drop> Sink for StdSink<W> {
         if piece.is_empty() {
             return Ok(0);
         }
-        match self.writer.write(piece) {
+        match write_waiting(&mut self.writer, &self.clock, piece) {
             Ok(n) if n > 0 => Ok(n),
             _ => {
                 self.faults = self.faults.saturating_add(1);
@@ -48,3 +58,14 @@ impl<W: Write + Drop> Sink for StdSink<W> {
         }
     }
 }
+
+impl<W: Write + AsRawFd + Drop, C: Clock + Drop> AsRawFd for StdSink<W, C> {
+    ghost raw_fd = { λ sink. W.raw_fd sink.writer };
+
+    fn as_raw_fd(&self) -> RawFd {
+        self.writer.as_raw_fd()
+    }
+}
+
+#[cfg(test)]
+mod tests;

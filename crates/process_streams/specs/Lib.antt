@@ -1,0 +1,4 @@
+pub mod Writes
+pub mod Descriptors
+pub mod Words
+pub mod Faults
