@@ -1,7 +1,11 @@
 //! Peers that are gone.
-use crate::sessions::{bus, client, listening, one_client, two_sessions};
-use link_traits::{Count, Got, Net, Ready, Took};
+use crate::sessions::{accept, bus, client, listening, one_client, two_sessions};
+use libc::net::{SHUT_RD, SHUT_WR, shutdown};
+use link_traits::{Count, Got, Link, Net, Ready, Took};
+use proxy_net::MioNet;
 use std::io::Write;
+use std::os::fd::AsRawFd;
+use std::os::unix::net::UnixStream;
 use std::test::Fail;
 
 /// What a client wrote before it closed is read to its end, also where a write to it came first.
@@ -117,5 +121,62 @@ fn read_unwished(rt: HostRuntime) -> Result<(), Fail> {
     }
     assert!(rt; named);
     assert_eq!(rt; net.write(link, b"x"), Took::Failed);
+    Ok(())
+}
+
+/// Has a client shut its reading, and a write to it be refused. The read that this may make ready answers that it would wait.
+fn reading_shut(net: &mut MioNet<'_>, client_end: &UnixStream, link: Link) -> bool {
+    let mut buffer = [0u8; 8];
+    shutdown(client_end.as_raw_fd(), SHUT_RD) == 0
+        && net.write(link, b"x") == Took::NotReady
+        && net.read(link, &mut buffer) == Got::NotReady
+        && net.write(link, b"x") == Took::NotReady
+}
+
+/// A client that shuts its reading and stays isn't read again after each write that is refused, but once it writes.
+#[test]
+fn reading_shut_stays(rt: HostRuntime) -> Result<(), Fail> {
+    let mut net = listening(&rt, "reading_shut_stays")?;
+    let mut client_end = one_client(&rt, &mut net, "reading_shut_stays")?;
+    let link = client(1);
+    net.want(link, true, true);
+    assert!(rt; reading_shut(&mut net, &client_end, link));
+    let _second_end = UnixStream::connect(&rt, "reading_shut_stays")?;
+    accept(&mut net, 2)?;
+    let _third_end = UnixStream::connect(&rt, "reading_shut_stays")?;
+    assert_eq!(rt; net.write(link, b"x"), Took::NotReady);
+    accept(&mut net, 3)?;
+    client_end.write_all(b"more")?;
+    assert_eq!(rt; net.wait(), Ready::Link(link));
+    let mut buffer = [0u8; 8];
+    assert_eq!(rt; net.read(link, &mut buffer), Got::Bytes(4));
+    assert_eq!(rt; net.read(link, &mut buffer), Got::NotReady);
+    Ok(())
+}
+
+/// A client that shuts its reading, and closes or shuts its writing later, is read to its end, and its writes fail then.
+#[test]
+fn reading_shut_ends(rt: HostRuntime) -> Result<(), Fail> {
+    let mut net = listening(&rt, "reading_shut_ends")?;
+    let first_end = one_client(&rt, &mut net, "reading_shut_ends")?;
+    let mut second_end = UnixStream::connect(&rt, "reading_shut_ends")?;
+    accept(&mut net, 2)?;
+    net.want(client(1), true, true);
+    assert!(rt; reading_shut(&mut net, &first_end, client(1)));
+    drop(first_end);
+    assert_eq!(rt; net.wait(), Ready::Link(client(1)));
+    let mut buffer = [0u8; 8];
+    assert_eq!(rt; net.read(client(1), &mut buffer), Got::Finished);
+    assert_eq!(rt; net.write(client(1), b"x"), Took::Failed);
+    net.want(client(1), false, false);
+    net.want(client(2), true, true);
+    assert!(rt; reading_shut(&mut net, &second_end, client(2)));
+    second_end.write_all(b"last")?;
+    assert!(rt; shutdown(second_end.as_raw_fd(), SHUT_WR) == 0);
+    assert_eq!(rt; net.wait(), Ready::Link(client(2)));
+    assert_eq!(rt; net.read(client(2), &mut buffer), Got::Bytes(4));
+    assert_eq!(rt; net.wait(), Ready::Link(client(2)));
+    assert_eq!(rt; net.read(client(2), &mut buffer), Got::Finished);
+    assert_eq!(rt; net.write(client(2), b"x"), Took::Failed);
     Ok(())
 }

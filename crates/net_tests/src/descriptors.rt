@@ -2,9 +2,9 @@
 use crate::sessions::{accept, client, listening, must, one_client};
 use link_traits::{Accepted, Count, Net, NetFault, Ready};
 use std::fs::{self, File};
-use std::io::Write;
 use std::os::unix::net::UnixStream;
 use std::test::Fail;
+use std::time::{Duration, Instant};
 
 /// How many descriptors are taken at most.
 const MOST: u32 = 200_000;
@@ -21,12 +21,12 @@ fn all_descriptors(rt: &HostRuntime) -> Result<Option<Vec<File>>, Fail> {
     Ok(None)
 }
 
-/// A listener whose accept fails isn't named again until a link is shut, and then it is. Neither a listen nor a connect that
-/// fails leaves a thing behind.
+/// A listener whose accept fails is named again at once when a link is shut. Neither a listen nor a connect that fails leaves a
+/// thing behind.
 #[test]
 fn none_left(rt: HostRuntime) -> Result<(), Fail> {
     let mut net = listening(&rt, "none_left")?;
-    let mut client_end = one_client(&rt, &mut net, "none_left")?;
+    let _client_end = one_client(&rt, &mut net, "none_left")?;
     let _second = UnixStream::connect(&rt, "none_left")?;
     must(net.wait() == Ready::Listener(0), "the listener is named")?;
     let Some(held) = all_descriptors(&rt)? else {
@@ -39,13 +39,31 @@ fn none_left(rt: HostRuntime) -> Result<(), Fail> {
     assert_eq!(rt; net.connect(1, "none_left"), Err(NetFault::Failed));
     drop(held);
     assert!(rt; fs::read(&rt, "none_left_other").is_err());
-    client_end.write_all(b"hi")?;
-    net.want(client(1), true, false);
-    for _ in 0..40 {
-        assert_eq!(rt; net.wait(), Ready::Link(client(1)));
-    }
     net.shut(client(1));
     accept(&mut net, 2)?;
     assert_eq!(rt; net.listen("none_left_other"), Ok(1));
+    Ok(())
+}
+
+/// With no link open, a client that no descriptor was left for is accepted once there is one again, though nobody else comes. Until
+/// then the listener is named after a delay that doubles, and nothing is lost.
+#[test]
+fn freed_again(rt: HostRuntime) -> Result<(), Fail> {
+    let mut net = listening(&rt, "freed_again")?;
+    let _client_end = UnixStream::connect(&rt, "freed_again")?;
+    let Some(held) = all_descriptors(&rt)? else {
+        return Ok(());
+    };
+    let start = Instant::now(&rt)?;
+    for tries in 1..=8u64 {
+        assert_eq!(rt; net.wait(), Ready::Listener(0));
+        assert_eq!(rt; net.accept(0), Accepted::Failed);
+        assert_eq!(rt; net.count(Count::Listener(0)), tries);
+    }
+    // 1, 2, 4, 8, 16, 32 and 32 milliseconds went by.
+    let waited = Instant::now(&rt)?.saturating_duration_since(start);
+    assert!(rt; waited >= Duration::from_millis(95));
+    drop(held);
+    accept(&mut net, 1)?;
     Ok(())
 }

@@ -3,6 +3,7 @@ use crate::sessions::{bus, listening, one_client};
 use link_traits::{Count, Got, Net, NetFault, Took};
 use proxy_net::MioNet;
 use std::fs;
+use std::os::unix::net::UnixListener;
 use std::test::Fail;
 
 /// What stands at a path is left as it is, and an empty path names nothing.
@@ -41,5 +42,39 @@ fn no_bus(rt: HostRuntime) -> Result<(), Fail> {
     assert_eq!(rt; net.connect(1, "none"), Ok(()));
     assert_eq!(rt; net.write(link, b"x"), Took::Bytes(1));
     assert_eq!(rt; net.count(Count::Link(link)), 4);
+    Ok(())
+}
+
+/// The sockets that a net bound are removed, and nothing else: not a file that was there before, and not one that another put in
+/// a socket's place.
+#[test]
+fn sockets_removed(rt: HostRuntime) -> Result<(), Fail> {
+    let mut net = listening(&rt, "removed_first")?;
+    fs::write(&rt, "removed_not", b"kept")?;
+    assert_eq!(rt; net.listen("removed_not"), Err(NetFault::Failed));
+    assert_eq!(rt; net.listen("removed_second"), Ok(1));
+    assert_eq!(rt; net.listen("removed_third"), Ok(2));
+    assert_eq!(rt; net.listen("removed_fourth"), Ok(3));
+    fs::remove_file(&rt, "removed_second")?;
+    fs::write(&rt, "removed_second", b"other")?;
+    fs::remove_file(&rt, "removed_fourth")?;
+    let _other = UnixListener::bind(&rt, "removed_fourth")?;
+    net.remove_sockets();
+    assert!(rt; fs::symlink_metadata(&rt, "removed_first").is_err());
+    assert!(rt; fs::symlink_metadata(&rt, "removed_third").is_err());
+    assert_eq!(rt;
+        fs::read(&rt, "removed_second")?.as_slice(),
+        b"other".as_slice()
+    );
+    assert_eq!(rt;
+        fs::read(&rt, "removed_not")?.as_slice(),
+        b"kept".as_slice()
+    );
+    assert!(rt; fs::symlink_metadata(&rt, "removed_fourth").is_ok());
+    net.remove_sockets();
+    assert_eq!(rt; net.listen("removed_third"), Ok(4));
+    assert!(rt; fs::symlink_metadata(&rt, "removed_third").is_ok());
+    net.remove_sockets();
+    assert!(rt; fs::symlink_metadata(&rt, "removed_third").is_err());
     Ok(())
 }

@@ -1,6 +1,8 @@
 pub mod Going
 pub mod Dues
+pub mod Lefts
 pub mod Notes
+pub mod Reading
 pub mod Tokens
 pub mod Room
 pub mod Written

@@ -29,7 +29,7 @@ still_queued old new was is true put kept same before = ap (λ (b : Bool). not n
 still_queued old new was is false put kept same before = ap (λ (b : Bool). not b || is) (same refl) ∙ or_kept (not old.queued) was is kept before
 
 -- what is so at each place stays so, where it stays so at the one that is written
-at_each : (P : ℕ → Option ListenerSocket → Type 0) (listeners : List ListenerSocket) (place : ℕ) (old new : ListenerSocket) → slice_get listeners place ≡ Some old
+pub at_each : (P : ℕ → Option ListenerSocket → Type 0) (listeners : List ListenerSocket) (place : ℕ) (old new : ListenerSocket) → slice_get listeners place ≡ Some old
     → (P place (Some old) → P place (Some new)) → (other : ℕ) → P other (slice_get listeners other) → P other (slice_get (slice_set listeners place new) other)
 at_each P [] place old new found kept other p = absurd (let no : None ≡ Some old = found in cc)
 at_each P (listener ∷ listeners) zero old new found kept zero p = kept (subst (λ (o : Option ListenerSocket). P zero o) found p)

@@ -24,6 +24,10 @@ tells_read event = (is_error event || is_readable event) || is_read_closed event
 abbrev pub tells_write : Event → Bool
 tells_write event = (is_error event || is_writable event) || is_write_closed event
 
+-- an event says that a read of the link of a number wouldn't wait
+abbrev pub reports_read : ℕ → Event → Bool
+reports_read number event = nat_eq (number_in event) number && tells_read event
+
 -- both are of buses, or neither is
 abbrev pub same_side : Bool → Bool → Bool
 same_side one other = if one then other else not other

@@ -1,5 +1,5 @@
 -- What a set of sockets shows, and how that goes on from call to call. It tells no journal.
-use Rattle.std.specs.Prelude.{ℕ, ◌≡◌, ◌≤◌, ◌<◌, ◌+◌, ◌-◌, ◌^◌, nat_eq, nat_lt, ◌||◌, not, if◌then◌else◌, false, true, Bool, List, Option, Some, None, slice_get, unwrap_or}
+use Rattle.std.specs.Prelude.{ℕ, ◌≡◌, ◌≤◌, ◌<◌, ◌+◌, ◌-◌, ◌^◌, nat_eq, nat_lt, ◌||◌, not, if◌then◌else◌, false, true, Bool, List, Option, Some, None, slice_get, unwrap_or, is_some}
 use Rattle.std.specs.Option.{option_map}
 use Rattle.std.specs.List.{list_any}
 use Rattle.std.specs.Ordering.{nat_cmp}
@@ -25,9 +25,12 @@ use Rattle.std.specs.VecDeque.{deque_len, deque_capacity}
 use Rattle.proxy_net.specs.Naming.{other_of, is_link_placed, is_listener_placed, is_link_unmarked, is_listener_unmarked, is_link_closed, is_to_fail}
 use Rattle.mio.specs.declared.event.event.Event.{Event}
 use Rattle.proxy_net.specs.Connecting.{is_pending, due_of}
+use Rattle.proxy_net.specs.Delays.{is_accept_due, is_accept_early, accept_left, is_put_off, IsWithin}
+use Rattle.std.specs.String.{string_bytes}
 use Rattle.proxy_net.specs.Registering.{is_own_link, is_own_listener, listeners_from}
 use Rattle.proxy_net.specs.Noting.{is_link_noted, is_listener_noted, is_listener_named, is_link_named, number_in, is_bus_number, tells_read, tells_write, same_side}
 use Rattle.proxy_net.specs.declared.link_sockets.LinkSocket.{LinkSocket}
+use Rattle.proxy_net.specs.declared.bound_files.BoundFile.{BoundFile}
 use Rattle.proxy_net.specs.declared.listeners.ListenerSocket.{ListenerSocket}
 use Rattle.proxy_net.specs.declared.sockets.SocketSet.{SocketSet}
 
@@ -155,9 +158,79 @@ given_up_at sockets number = option_map (λ (s : LinkSocket). s.given_up) (tree.
 abbrev pub is_peer_closed_at : SocketSet → ℕ → Bool
 is_peer_closed_at sockets number = unwrap_or (option_map (λ (s : LinkSocket). s.peer_closed) (tree.get nat_cmp sockets.links number)) false
 
+-- the link of a number is to be read, since something of it may be there
+abbrev pub is_readable_at : SocketSet → ℕ → Bool
+is_readable_at sockets number = unwrap_or (option_map (λ (s : LinkSocket). s.readable) (tree.get nat_cmp sockets.links number)) false
+
+-- no link became readable
+pub record StaysUnread (old new : SocketSet) : Type 0 where
+  pub each : (number : ℕ) → is_readable_at new number ≡ true → is_readable_at old number ≡ true
+
+-- no peer that was known to have closed is forgotten
+pub record StaysClosed (old new : SocketSet) : Type 0 where
+  pub each : (number : ℕ) → is_peer_closed_at old number ≡ true → is_peer_closed_at new number ≡ true
+
+-- the link of a number isn't connected yet
+abbrev pub is_pending_at : SocketSet → ℕ → Bool
+is_pending_at sockets number = unwrap_or (option_map (λ (s : LinkSocket). is_pending s.connection) (tree.get nat_cmp sockets.links number)) false
+
+-- Each link that is readable was so before, or is one of those that are reported, or wasn't connected
+-- yet. Each that isn't connected yet wasn't so before, and no close is forgotten.
+pub record IsReadIf (reported : ℕ → Bool) (old new : SocketSet) : Type 0 where
+  pub each : (number : ℕ) → is_readable_at new number ≡ true → (is_readable_at old number || (reported number || is_pending_at old number)) ≡ true
+  pub pending : (number : ℕ) → is_pending_at new number ≡ true → is_pending_at old number ≡ true
+  pub closed : (number : ℕ) → is_peer_closed_at old number ≡ true → is_peer_closed_at new number ≡ true
+
+-- each link is readable as before, and its peer is known to have closed as before
+pub record KeepsReports (old new : SocketSet) : Type 0 where
+  pub readable : (number : ℕ) → is_readable_at new number ≡ is_readable_at old number
+  pub closed : (number : ℕ) → is_peer_closed_at new number ≡ is_peer_closed_at old number
+
 -- the listener at a place is stalled
 abbrev pub is_stalled_at : SocketSet → ℕ → Bool
 is_stalled_at sockets place = unwrap_or (option_map (λ (s : ListenerSocket). s.stalled) (slice_get sockets.listeners.items place)) false
+
+-- the listener at a place is stalled and was put off, or there is no such listener
+abbrev pub is_put_off_at : SocketSet → ℕ → Bool
+is_put_off_at sockets place = unwrap_or (option_map is_put_off (slice_get sockets.listeners.items place)) true
+
+-- how many milliseconds the listener at a place was put off last
+abbrev pub delay_at : SocketSet → ℕ → ℕ
+delay_at sockets place = unwrap_or (option_map (λ (s : ListenerSocket). s.delay) (slice_get sockets.listeners.items place)) 0
+
+-- the listener at a place is stalled, and it is time to try it again
+abbrev pub is_accept_due_at : SocketSet → Option Instant → ℕ → Bool
+is_accept_due_at sockets now place = unwrap_or (option_map (is_accept_due now) (slice_get sockets.listeners.items place)) false
+
+-- the listener at a place is stalled, and it isn't time yet to try it again
+abbrev pub is_accept_early_at : SocketSet → Option Instant → ℕ → Bool
+is_accept_early_at sockets now place = unwrap_or (option_map (is_accept_early now) (slice_get sockets.listeners.items place)) false
+
+abbrev pub left_in : Option Instant → Option ListenerSocket → Option ℕ
+left_in now None = None
+left_in now (Some socket) = accept_left now socket
+
+-- how many nanoseconds are left until the listener at a place is tried again, where it is stalled
+abbrev pub accept_left_at : SocketSet → Option Instant → ℕ → Option ℕ
+accept_left_at sockets now place = left_in now (slice_get sockets.listeners.items place)
+
+-- The shortest of the times that are left until the listeners at the first so many places are tried
+-- again. It is none where none of them is stalled.
+pub record IsFirstLeft (sockets : SocketSet) (now : Option Instant) (count : ℕ) (first : Option ℕ) : Type 0 where
+  pub by : (place left : ℕ) → place < count → accept_left_at sockets now place ≡ Some left → IsWithin left first
+  pub one : (nanos : ℕ) → first ≡ Some nanos → (place : ℕ) × (accept_left_at sockets now place ≡ Some nanos)
+
+abbrev pub path_in : Option ListenerSocket → Option (List ℕ)
+path_in None = None
+path_in (Some socket) = option_map (λ (f : BoundFile). string_bytes f.path) socket.file
+
+-- the path at which the bind of the listener at a place made a file that isn't removed yet
+abbrev pub path_at : SocketSet → ℕ → Option (List ℕ)
+path_at sockets place = path_in (slice_get sockets.listeners.items place)
+
+-- the listener at a place has a file
+abbrev pub has_file_at : SocketSet → ℕ → Bool
+has_file_at sockets place = unwrap_or (option_map (λ (s : ListenerSocket). is_some s.file) (slice_get sockets.listeners.items place)) false
 
 -- nothing more passes between the link of a number and its peer, or there is no such link
 abbrev pub is_closed_at : SocketSet → ℕ → Bool

@@ -3,6 +3,8 @@
 //! A `MioNet` is driven by the calls of `link_traits::Net`.
 #![tactic(auto)]
 
+mod bound_files;
+mod delays;
 mod link_sockets;
 mod listeners;
 pub mod net;

@@ -8,8 +8,8 @@ ghost use Rattle.proxy_net.specs.Registering.{is_registered_by, is_connected_by}
 ghost use Rattle.proxy_net.specs.Noting.{is_link_noted};
 ghost use Rattle.proxy_net.specs.Connecting.{IsLater, is_pending, is_given_up as is_failed, due_of};
 ghost use Rattle.std.specs.Time.{instant_nanos};
-ghost use Rattle.std.specs.Duration.{as_nanos};
 
+use crate::delays::{FIRST_DELAY, LONGEST_DELAY, later};
 use crate::registered::Registered;
 use crate::streams::{StreamRead, StreamWrite};
 use link_traits::{Got, Wishes};
@@ -17,12 +17,6 @@ use mio::net::UnixStream;
 use mio::{Interest, Registry};
 use std::io::ErrorKind;
 use std::time::{Duration, Instant};
-
-/// The milliseconds before the first try to connect again. They double from try to try.
-const FIRST_DELAY: u64 = 1;
-
-/// The most milliseconds between two tries to connect.
-const LONGEST_DELAY: u64 = 32;
 
 /// The seconds in which a connect is tried again.
 const TRIED_FOR: u64 = 5;
@@ -96,8 +90,9 @@ pub enum LinkWrite {
 /// A link that was made and isn't shut.
 ///
 /// The system reports each change once. So a link is kept as readable until a read answers that it would wait, and as writable
-/// until a write does. It is registered for reading alone; for writing too from a write that would have waited until there is
-/// room again.
+/// until a write does. It is readable again once the system reports something new of it, and once more if a write finds for the
+/// first time that its peer closed. It is registered for reading alone; for writing too from a write that would have waited until
+/// there is room again.
 ///
 /// A write to a peer that closed isn't ready until what the peer wrote before was read to its end.
 #[derive(Drop)]
@@ -190,16 +185,6 @@ fn connection_of(registry: &Registry, token: u64, stream: UnixStream) -> Connect
     }
 }
 
-/// The time after so long, or the same time where the clock ends.
-fn later(now: Instant, duration: Duration) -> Instant
-    ensures { IsLater now (as_nanos duration) result }
-{
-    match now.checked_add(duration) {
-        Some(time) => time,
-        None => now,
-    }
-}
-
 /// Whether a connect that was refused so is to be tried again.
 pub fn is_put_off(kind: ErrorKind) -> bool
     ensures { IsTrue result ↔ ((kind ≡ ErrorKind.WouldBlock) ⊎ (kind ≡ ErrorKind.Interrupted)) }
@@ -243,6 +228,7 @@ impl LinkSocket {
         ensures finished { result ≡ Got.Finished → (self.new.end_read ≡ true) × (self.new.given_up ≡ self.old.peer_closed) }
         ensures goes_on { result ≢ Got.Finished → (self.new.end_read ≡ self.old.end_read) × (self.new.given_up ≡ self.old.given_up) }
         ensures readable { result ≢ Got.NotReady → self.new.readable ≡ self.old.readable }
+        ensures waits { result ≡ Got.NotReady → self.new.readable ≡ false }
         ensures rest { (self.new.writable ≡ self.old.writable) × (self.new.peer_closed ≡ self.old.peer_closed) }
         ensures queued { self.new.queued ≡ self.old.queued }
         ensures token { (token : ℕ) → is_registered_by token self.old.connection ≡ true → is_registered_by token self.new.connection ≡ true }
@@ -260,7 +246,6 @@ impl LinkSocket {
                 self.readable = false;
                 Got::NotReady
             }
-            StreamRead::Again => Got::NotReady,
             StreamRead::Fault => {
                 self.faults = raised(self.faults);
                 Got::Failed
@@ -291,7 +276,7 @@ impl LinkSocket {
         ensures closed { result ≡ LinkWrite.PeerClosed → Rose self.old.faults self.new.faults }
         ensures pending { is_pending self.old.connection ≡ true → result ≡ LinkWrite.NotReady }
         ensures never { is_failed self.old.connection ≡ true → result ≡ LinkWrite.Failed }
-        ensures peer { result ≡ LinkWrite.PeerClosed → (self.new.peer_closed ≡ true) × (self.new.readable ≡ true) }
+        ensures peer { result ≡ LinkWrite.PeerClosed → (self.new.peer_closed ≡ true) × (self.new.readable ≡ (self.old.readable || not self.old.peer_closed)) }
         ensures goes_on { result ≢ LinkWrite.PeerClosed → (self.new.peer_closed ≡ self.old.peer_closed) × (self.new.readable ≡ self.old.readable) }
         ensures room { (n : ℕ) → result ≡ LinkWrite.Bytes n → self.new.writable ≡ self.old.writable }
         ensures given_up { result ≢ LinkWrite.PeerClosed → self.new.given_up ≡ self.old.given_up }
@@ -331,15 +316,17 @@ impl LinkSocket {
         }
     }
 
-    /// Notes that a write was refused since the peer closed. What it wrote before is there to be read, and then the end.
+    /// Notes that a write was refused since the peer closed. What it wrote before is there to be read, and then the end, so the
+    /// first such write has the link read once more. A later one doesn't: a peer that only shut its reading may send nothing for
+    /// ever, and what it does next is reported.
     fn note_closed(&mut self)
         ensures rose { Rose self.old.faults self.new.faults }
         ensures faults { self.old.faults ≤ self.new.faults }
-        ensures closed { self.new ≡ record self.old { faults = self.new.faults; peer_closed = true; readable = true; writable = false; given_up = self.old.end_read } }
+        ensures closed { self.new ≡ record self.old { faults = self.new.faults; peer_closed = true; readable = self.old.readable || not self.old.peer_closed; writable = false; given_up = self.old.end_read } }
     {
         self.faults = raised(self.faults);
+        self.readable = self.readable || !self.peer_closed;
         self.peer_closed = true;
-        self.readable = true;
         self.writable = false;
         self.given_up = self.end_read;
     }
@@ -478,6 +465,7 @@ impl LinkSocket {
         ensures done { result ≡ Attempt.Done → is_pending self.new.connection ≡ false }
         ensures pending { result ≢ Attempt.Done → is_pending self.new.connection ≡ true }
         ensures queued { self.new.queued ≡ self.old.queued }
+        ensures closed { self.new.peer_closed ≡ self.old.peer_closed }
         ensures faults { self.old.faults ≤ self.new.faults }
         ensures wishes { self.new.wishes ≡ self.old.wishes }
     {

@@ -1,26 +1,40 @@
 //! The sockets that listen.
-ghost use Rattle.std.specs.Prelude.{◌≡◌, ◌≢◌, ◌≤◌, ◌&&◌, ◌||◌, not, Some, true, false};
+ghost use Rattle.std.specs.Prelude.{◌≡◌, ◌≢◌, ◌≤◌, ◌*◌, ◌&&◌, ◌||◌, not, Some, None, true, false};
+ghost use Rattle.proxy_net.specs.Connecting.{IsLater};
+ghost use Rattle.proxy_net.specs.Delays.{next_delay, is_accept_due, is_accept_early, accept_left, nanos_of};
+ghost use Rattle.mio.specs.declared.net.uds.stream.UnixStream.{UnixStream};
 ghost use Rattle.proxy_net.specs.Naming.{is_awaited, is_listener_placed};
+ghost use Rattle.proxy_net.specs.Noting.{is_listener_noted};
 
+use crate::bound_files::BoundFile;
+use crate::delays::{BLIND_DELAY, delay_after, delay_until, is_time, later};
 use crate::registered::Registered;
 use mio::net::{UnixListener, UnixStream};
 use std::io::ErrorKind;
+use std::time::{Duration, Instant};
 
 /// A socket that listens.
 ///
-/// One whose accept failed is stalled: mostly no descriptor is left. It isn't named again until a link is shut or another client
-/// comes, since to name it on would spin. Nor is one that was named and of which nothing was accepted, until something is accepted
-/// or another client comes.
+/// One whose accept failed is stalled: mostly no descriptor is left. It isn't named again until a link is shut, another client
+/// comes, or its delay is over, since to name it on would spin. The delay doubles while accepts fail.
+///
+/// One that was named and of which nothing was accepted isn't named again until something is accepted or another client comes.
 #[derive(Drop)]
 pub struct ListenerSocket {
     /// How often it failed.
     pub faults: u64,
     listener: Registered<UnixListener>,
+    // What its bind made, until that is removed.
+    file: Option<BoundFile>,
     ready: bool,
     stalled: bool,
     queued: bool,
     // It was named, and nothing was accepted since.
     unheeded: bool,
+    // The milliseconds that it was put off last. They are 0 once a client was accepted.
+    delay: u64,
+    // When it is tried again, if it is stalled. It isn't known if the clock couldn't be read.
+    due: Option<Instant>,
 }
 
 /// What came of an accept.
@@ -33,9 +47,16 @@ pub enum Arrival {
 }
 
 impl ListenerSocket {
+    ghost use Rattle.std.specs.declared.time.Instant.{Instant};
+
     /// A listener that nobody came to.
-    pub fn new(faults: u64, listener: Registered<UnixListener>) -> ListenerSocket
+    pub fn new(
+        faults: u64,
+        listener: Registered<UnixListener>,
+        file: Option<BoundFile>,
+    ) -> ListenerSocket
         ensures listener { result.listener ≡ listener }
+        ensures file { result.file ≡ file }
         ensures faults { result.faults ≡ faults }
         ensures quiet { (result.ready ≡ false) × (result.queued ≡ false) }
         ensures awaited { (result.stalled ≡ false) × (result.unheeded ≡ false) }
@@ -43,10 +64,13 @@ impl ListenerSocket {
         ListenerSocket {
             faults,
             listener,
+            file,
             ready: false,
             stalled: false,
             queued: false,
             unheeded: false,
+            delay: 0,
+            due: None,
         }
     }
 
@@ -59,6 +83,9 @@ impl ListenerSocket {
         ensures uncounted { self.new.faults ≡ self.old.faults }
         ensures ready { result.0 ≢ Arrival.NotReady → self.new.ready ≡ self.old.ready }
         ensures stalled { self.new.stalled ≡ self.old.stalled }
+        ensures file { self.new.file ≡ self.old.file }
+        ensures served { (stream : UnixStream) → result.0 ≡ Arrival.Client stream → self.new.delay ≡ 0 }
+        ensures delay { result.0 ≡ Arrival.Failed → self.new.delay ≡ self.old.delay }
     {
         let arrival = self.take_client();
         (arrival, self.take_place())
@@ -67,11 +94,16 @@ impl ListenerSocket {
     fn take_client(&mut self) -> Arrival
         ensures heeded { self.new.unheeded ≡ false }
         ensures ready { result ≢ Arrival.NotReady → self.new.ready ≡ self.old.ready }
-        ensures rest { self.new ≡ record self.old { ready = self.new.ready; unheeded = false } }
+        ensures served { (stream : UnixStream) → result ≡ Arrival.Client stream → self.new.delay ≡ 0 }
+        ensures delay { result ≡ Arrival.Failed → self.new.delay ≡ self.old.delay }
+        ensures rest { self.new ≡ record self.old { ready = self.new.ready; unheeded = false; delay = self.new.delay } }
     {
         self.unheeded = false;
         match self.listener.accept() {
-            Ok(stream) => Arrival::Client(stream),
+            Ok(stream) => {
+                self.delay = 0;
+                Arrival::Client(stream)
+            }
             Err(error) => self.refuse(error.kind()),
         }
     }
@@ -94,11 +126,71 @@ impl ListenerSocket {
         }
     }
 
-    /// Isn't named until it is noted or revived.
-    pub fn stall(&mut self)
-        ensures { self.new ≡ record self.old { stalled = true } }
+    /// Isn't named until it is noted or revived, or its delay is over.
+    pub fn stall(&mut self, now: Option<Instant>)
+        ensures stalled { self.new ≡ record self.old { stalled = true; delay = next_delay self.old.delay; due = self.new.due } }
+        ensures due { (clock : Instant) → now ≡ Some clock → (time : Instant) × (self.new.due ≡ Some time) × IsLater clock (self.new.delay * 1_000_000) time }
+        ensures blind { now ≡ None → self.new.due ≡ None }
     {
         self.stalled = true;
+        self.delay = delay_after(self.delay);
+        self.due = match now {
+            Some(now) => Some(later(now, Duration::from_millis(self.delay))),
+            None => None,
+        };
+    }
+
+    /// Whether it is stalled.
+    pub fn is_stalled(&self) -> bool
+        ensures { result ≡ self.now.stalled }
+    {
+        self.stalled
+    }
+
+    /// How long it is until it is tried again, if it is stalled.
+    pub fn delay_left(&self, now: Option<Instant>) -> Option<Duration>
+        ensures { nanos_of result ≡ accept_left now self.now }
+    {
+        if !self.stalled {
+            return None;
+        }
+        match self.due {
+            Some(due) => Some(delay_until(due, now)),
+            None => Some(Duration::from_millis(BLIND_DELAY)),
+        }
+    }
+
+    /// Is named again, if it is stalled and its delay is over. Answers whether it is to be queued.
+    pub fn retry(&mut self, now: Option<Instant>) -> bool
+        ensures queued { result ≡ (is_accept_due now self.old && not self.old.queued) }
+        ensures other { is_accept_due now self.old ≡ false → self.new ≡ self.old }
+        ensures due { is_accept_due now self.old ≡ true → self.new ≡ record self.old { ready = true; stalled = false; unheeded = false; queued = true } }
+        ensures rest { self.new ≡ record self.old { ready = self.new.ready; stalled = self.new.stalled; unheeded = self.new.unheeded; queued = self.new.queued } }
+        ensures placed { is_listener_placed (Some self.old) ≡ true → is_listener_placed (Some self.new) ≡ true }
+        ensures noted { is_listener_noted (Some self.old) ≡ true → is_listener_noted (Some self.new) ≡ true }
+        ensures done { is_accept_due now self.new ≡ false }
+        ensures early { is_accept_early now self.old ≡ true → is_accept_early now self.new ≡ true }
+        ensures stays { result ≡ false → self.new.queued ≡ self.old.queued }
+    {
+        if !self.is_accept_due(now) {
+            return false;
+        }
+        self.note()
+    }
+
+    fn is_accept_due(&self, now: Option<Instant>) -> bool
+        ensures { result ≡ is_accept_due now self.now }
+    {
+        self.stalled && is_time(self.due, now)
+    }
+
+    /// Removes the file that its bind made, unless something else is at the path by now.
+    pub fn remove_file(&mut self, rt: &HostRuntime)
+        ensures { self.new ≡ record self.old { file = None } }
+    {
+        if let Some(file) = self.file.take() {
+            file.remove(rt);
+        }
     }
 
     /// Is named again, where it was stalled. Answers whether it is to be queued.

@@ -13,8 +13,10 @@ const EVENTS: usize = 256;
 /// A net over Unix sockets. What its links carry is not told.
 ///
 /// It names a link only for a wish that is true. A thing that is ready goes on being named, in turn with the others, until it
-/// answered that it would wait. A listener of which nothing is accepted when it is named isn't named again until something is
-/// accepted of it or another client comes.
+/// answered that it would wait. A link that answered so to a read isn't named for reading again until the system reports
+/// something new of it, but for once when a write finds that its peer closed. A listener of which nothing is accepted when it is
+/// named isn't named again until something is accepted of it or another client comes. One whose accept failed is named again
+/// after 1 millisecond, and after twice as long each time that the accept fails again, up to 32 milliseconds.
 ///
 /// Nothing that a client wrote before it closed is lost: a write to it isn't ready until what it wrote was read to its end, and
 /// then fails. Each such write counts as one that would have waited and as a fault of its link. Where the link isn't wished to be
@@ -31,7 +33,9 @@ pub struct MioNet<'a> {
 }
 
 impl<'a> MioNet<'a> {
-    ghost use Rattle.proxy_net.specs.Sockets.{shown, GoesOn, IsUnused, IsWished};
+    ghost use Rattle.std.specs.Prelude.{ℕ, vec_len, false};
+    ghost use Rattle.link_traits.specs.Views.{KeepsWishes};
+    ghost use Rattle.proxy_net.specs.Sockets.{shown, GoesOn, IsUnused, IsWished, StaysClosed, has_file_at};
 
     /// A net without listeners and links.
     pub fn new(rt: &'a HostRuntime) -> io::Result<MioNet<'a>>
@@ -51,9 +55,22 @@ impl<'a> MioNet<'a> {
         self.sockets.count(count)
     }
 
+    /// Removes the files that its listens made, unless something else is at their paths by now. Call it once nothing more is to
+    /// be accepted: a client that connects later finds no socket.
+    pub fn remove_sockets(&mut self)
+        // No listener has a file any more, and nothing else changes.
+        ensures removed { (listener : ℕ) → has_file_at self.new.sockets listener ≡ false }
+        ensures listeners { vec_len self.new.sockets.listeners ≡ vec_len self.old.sockets.listeners }
+        ensures goes { GoesOn self.old.sockets self.new.sockets }
+        ensures wishes { KeepsWishes (shown self.old.sockets) (shown self.new.sockets) }
+    {
+        self.sockets.remove_files(self.rt);
+    }
+
     /// Waits until something is to be named. `None` where the system fails.
     fn next(&mut self) -> Option<Ready>
         ensures wished { IfSome result (IsWished self.old.sockets self.new.sockets) }
+        ensures closed { StaysClosed self.old.sockets self.new.sockets }
         ensures goes { GoesOn self.old.sockets self.new.sockets }
     {
         for _ in 0..u64::MAX {
@@ -79,6 +96,8 @@ impl<'a> Net for MioNet<'a> {
     ghost use Rattle.link_traits.specs.declared.links.Wishes.{Wishes};
     ghost use Rattle.std.specs.Option.{option_map};
     ghost use Rattle.proxy_net.specs.Naming.{other_of};
+    ghost use Rattle.std.specs.Prelude.{List};
+    ghost use Rattle.proxy_net.specs.Sockets.{path_at, is_put_off_at, delay_at, is_readable_at, StaysUnread, StaysClosed, KeepsReports};
     ghost use Rattle.proxy_net.specs.Sockets.{shown, is_pending_in, is_closed_at, is_peer_closed_at, is_stalled_at, IsJudgedAt, IsWished};
 
     ghost view = { λ net. shown net.sockets };
@@ -91,6 +110,12 @@ impl<'a> Net for MioNet<'a> {
         ensures err { OnErr result (vec_len self.new.sockets.listeners ≡ vec_len self.old.sockets.listeners) }
         ensures path { OnOk result (path.now ≢ []) }
 
+        // A file that is removed for the listener later is removed at this path.
+        ensures file { (own : List ℕ) → path_at self.new.sockets (vec_len self.old.sockets.listeners) ≡ Some own → own ≡ path.now }
+
+        // It makes no link readable.
+        ensures unread { StaysUnread self.old.sockets self.new.sockets }
+
         // What the trait says.
         ensures told { Adds (shown self.old.sockets) (shown self.new.sockets) (listen_entry path.now result ∷ []) }
         ensures numbered { IfOk result (λ listener. (before : Journal) → (shown self.old.sockets).journal ≡ Some before → listener ≡ listens before) }
@@ -102,8 +127,12 @@ impl<'a> Net for MioNet<'a> {
 
     /// It is never quiet.
     fn wait(&mut self) -> Ready
-        // It names a link only for a wish that is true, and a listener only for a client that came and wasn't named before.
+        // It names a link only for a wish that is true, for reading only while it is readable, and a listener only for a client
+        // that came and wasn't named before.
         ensures wished { result ≢ Ready.Failed → IsWished self.old.sockets self.new.sockets result }
+
+        // It forgets no close.
+        ensures closed { StaysClosed self.old.sockets self.new.sockets }
 
         // What the trait says.
         ensures told { Adds (shown self.old.sockets) (shown self.new.sockets) (ready result ∷ []) }
@@ -120,13 +149,21 @@ impl<'a> Net for MioNet<'a> {
         }
     }
 
-    /// Where it fails or is refused memory, the listener isn't named again until a link is shut or another client comes.
+    /// If it fails or is refused memory, the listener isn't named again until a link is shut, another client comes, or its delay
+    /// is over.
     fn accept(&mut self, listener: u32) -> Accepted
         // Sessions are numbered from 1 in the order of their accepts.
         ensures order { (session : ℕ) → result ≡ Accepted.New session → (session ≡ self.old.sockets.sessions + 1) × (self.new.sockets.sessions ≡ session) }
 
+        // A listener whose accept failed is put off by a delay, which begins anew once a client was accepted.
+        ensures put_off { (result ≡ Accepted.Failed) ⊎ (result ≡ Accepted.Memory) → is_put_off_at self.new.sockets listener ≡ true }
+        ensures served { (session : ℕ) → result ≡ Accepted.New session → delay_at self.new.sockets listener ≡ 0 }
+
         // Nobody comes to a listener that wasn't made.
         ensures missing { vec_len self.old.sockets.listeners ≤ listener → (result ≡ Accepted.Failed) ⊎ (result ≡ Accepted.Memory) }
+
+        // It makes no link readable.
+        ensures unread { StaysUnread self.old.sockets self.new.sockets }
 
         // What the trait says.
         ensures told { Adds (shown self.old.sockets) (shown self.new.sockets) (accept_entry listener result ∷ []) }
@@ -136,7 +173,7 @@ impl<'a> Net for MioNet<'a> {
         ensures new_wishes { (session : ℕ) → result ≡ Accepted.New session → (shown self.new.sockets).wishes (client_link session) ≡ Some no_wishes }
         ensures wishes { AfterAccept result (shown self.old.sockets) (shown self.new.sockets) }
     {
-        self.sockets.accept(listener)
+        self.sockets.accept(self.rt, listener)
     }
 
     /// It is refused where the session has a link to its bus, and where the path is empty.
@@ -144,6 +181,9 @@ impl<'a> Net for MioNet<'a> {
         ensures path { OnOk result (path.now ≢ []) }
         ensures fresh { OnOk result ((shown self.old.sockets).wishes (bus_link session) ≡ None) }
         ensures err { OnErr result (KeepsWishes (shown self.old.sockets) (shown self.new.sockets)) }
+
+        // It makes no link readable.
+        ensures unread { StaysUnread self.old.sockets self.new.sockets }
 
         // What the trait says.
         ensures told { Adds (shown self.old.sockets) (shown self.new.sockets) (connect_entry session path.now result ∷ []) }
@@ -157,6 +197,9 @@ impl<'a> Net for MioNet<'a> {
     fn want(&mut self, link: Link, read: bool, write: bool)
         // Whether the writes of a link whose peer closed fail is judged by the new wishes.
         ensures judged { is_peer_closed_at self.new.sockets (number_of link) ≡ true → IsJudgedAt self.new.sockets (number_of link) }
+
+        // Wishes make no link readable.
+        ensures reports { KeepsReports self.old.sockets self.new.sockets }
 
         // What the trait says.
         ensures told { Adds (shown self.old.sockets) (shown self.new.sockets) [] }
@@ -173,6 +216,11 @@ impl<'a> Net for MioNet<'a> {
         // An end that was told is known from then on.
         ensures finished { result ≡ Got.Finished → is_closed_at self.new.sockets (number_of link) ≡ true }
 
+        // A link that answers that it would wait isn't readable any more. A read makes no link readable, and forgets no close.
+        ensures waits { result ≡ Got.NotReady → is_readable_at self.new.sockets (number_of link) ≡ false }
+        ensures unread { StaysUnread self.old.sockets self.new.sockets }
+        ensures closed { StaysClosed self.old.sockets self.new.sockets }
+
         // What the trait says.
         ensures told { Adds (shown self.old.sockets) (shown self.new.sockets) (read_entry link into.new result ∷ []) }
         ensures within { (n : ℕ) → result ≡ Got.Bytes n → n ≤ length into.new }
@@ -187,6 +235,10 @@ impl<'a> Net for MioNet<'a> {
     fn write(&mut self, link: Link, piece: &[u8]) -> Took
         ensures missing { (shown self.old.sockets).wishes link ≡ None → result ≡ Took.Failed }
         ensures pending { is_pending_in self.old.sockets link ≡ true → result ≡ Took.NotReady }
+
+        // Only the write that finds for the first time that the peer closed makes a link readable. A write forgets no close.
+        ensures unread { is_peer_closed_at self.new.sockets (number_of link) ≡ is_peer_closed_at self.old.sockets (number_of link) → StaysUnread self.old.sockets self.new.sockets }
+        ensures closed { StaysClosed self.old.sockets self.new.sockets }
 
         // What the trait says.
         ensures told { Adds (shown self.old.sockets) (shown self.new.sockets) (write_entry link piece.now result ∷ []) }
@@ -203,6 +255,9 @@ impl<'a> Net for MioNet<'a> {
         // Whether the writes of its session's other link fail is judged without it, and no listener stays stalled.
         ensures judged { IsJudgedAt self.new.sockets (other_of (number_of link)) }
         ensures revived { (listener : ℕ) → is_stalled_at self.new.sockets listener ≡ false }
+
+        // It makes no link readable.
+        ensures unread { StaysUnread self.old.sockets self.new.sockets }
 
         // What the trait says.
         ensures told { Adds (shown self.old.sockets) (shown self.new.sockets) (shut link ∷ []) }

@@ -68,7 +68,7 @@ fn other_number(number: u64) -> u64
 }
 
 impl SocketSet {
-    ghost use Rattle.proxy_net.specs.Sockets.{is_peer_closed_at, is_closed_at, given_up_at, is_to_fail_at, shown, count_in, wishes_in, RoseIn, Grows, GoesOn, KeepsOthersIn, IsUnused, IsConsistent, HasRoomFor, has_place};
+    ghost use Rattle.proxy_net.specs.Sockets.{is_peer_closed_at, is_closed_at, given_up_at, is_to_fail_at, KeepsReports, StaysUnread, StaysClosed, shown, count_in, wishes_in, RoseIn, Grows, GoesOn, KeepsOthersIn, IsUnused, IsConsistent, HasRoomFor, has_place};
     ghost use Rattle.link_traits.specs.declared.links.Wishes.{Wishes};
 
     /// No sockets.
@@ -93,6 +93,8 @@ impl SocketSet {
     /// Raises a count, unless it is at its greatest number.
     pub fn raise(&mut self, count: Count)
         ensures rose { RoseIn count self.old self.new }
+        ensures unread { StaysUnread self.old self.new }
+        ensures closed { StaysClosed self.old self.new }
         ensures goes { GoesOn self.old self.new }
     {
         match count {
@@ -105,6 +107,8 @@ impl SocketSet {
 
     fn raise_listener(&mut self, listener: u32)
         ensures rose { RoseIn (Count.Listener listener) self.old self.new }
+        ensures unread { StaysUnread self.old self.new }
+        ensures closed { StaysClosed self.old self.new }
         ensures goes { GoesOn self.old self.new }
     {
         match self.listeners.get_mut(listener as usize) {
@@ -115,6 +119,8 @@ impl SocketSet {
 
     fn raise_link(&mut self, link: Link)
         ensures rose { RoseIn (Count.Link link) self.old self.new }
+        ensures unread { StaysUnread self.old self.new }
+        ensures closed { StaysClosed self.old self.new }
         ensures goes { GoesOn self.old self.new }
     {
         match self.links.get_mut(&number_of(link)) {
@@ -159,8 +165,10 @@ impl SocketSet {
         requires token { is_registered_by (link_number link) connection ≡ true }
         ensures sessions { self.new.sessions ≡ self.old.sessions }
         ensures pending { self.new.pending ≡ self.old.pending }
+        ensures listeners { self.new.listeners ≡ self.old.listeners }
         ensures own { OnOk result (wishes_in self.new link ≡ Some no_wishes) }
         ensures others { KeepsOthersIn link self.old self.new }
+        ensures unread { StaysUnread self.old self.new }
         ensures grows { Grows self.old self.new }
         ensures err { OnErr result (GoesOn self.old self.new) }
     {
@@ -175,6 +183,7 @@ impl SocketSet {
     fn remove_link(&mut self, link: Link)
         ensures gone { wishes_in self.new link ≡ None }
         ensures others { KeepsOthersIn link self.old self.new }
+        ensures unread { StaysUnread self.old self.new }
         ensures grows { Grows self.old self.new }
     {
         if let Some(socket) = self.links.remove(&number_of(link)) {
@@ -188,6 +197,7 @@ impl SocketSet {
         ensures sessions { self.new.sessions ≡ self.old.sessions }
         ensures own { wishes_in self.new link ≡ option_map (λ (_ : Wishes). wishes) (wishes_in self.old link) }
         ensures others { KeepsOthersIn link self.old self.new }
+        ensures reports { KeepsReports self.old self.new }
         ensures grows { Grows self.old self.new }
     {
         let number = number_of(link);
@@ -217,6 +227,7 @@ impl SocketSet {
     fn judge(&mut self, number: u64)
         ensures judged { unwrap_or (given_up_at self.new number) true ≡ is_to_fail_at self.old number }
         ensures same { (other : ℕ) → is_to_fail_at self.new other ≡ is_to_fail_at self.old other }
+        ensures reports { KeepsReports self.old self.new }
         ensures goes { GoesOn self.old self.new }
     {
         let is_other_closed = self.is_closed(other_number(number));
@@ -227,6 +238,7 @@ impl SocketSet {
         ensures judged { given_up_at self.new number ≡ option_map (is_to_fail is_other_closed) (tree.get nat_cmp self.old.links number) }
         ensures closed { (other : ℕ) → is_closed_at self.new other ≡ is_closed_at self.old other }
         ensures to_fail { (other : ℕ) (closed : Bool) → option_map (is_to_fail closed) (tree.get nat_cmp self.new.links other) ≡ option_map (is_to_fail closed) (tree.get nat_cmp self.old.links other) }
+        ensures reports { KeepsReports self.old self.new }
         ensures goes { GoesOn self.old self.new }
     {
         if let Some(socket) = self.links.get_mut(&number) {
@@ -263,6 +275,7 @@ impl SocketSet {
         ensures room { OnOk result (HasRoomFor 1 self.new) }
         ensures pending { self.new.pending ≡ self.old.pending }
         ensures number { vec_len self.new.listeners ≡ vec_len self.old.listeners }
+        ensures unread { StaysUnread self.old self.new }
         ensures goes { GoesOn self.old self.new }
     {
         let most = self.links.len().saturating_add(self.listeners.len());

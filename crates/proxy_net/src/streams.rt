@@ -1,5 +1,5 @@
 //! What the streams of the system answer, by what a link does about it.
-ghost use Rattle.std.specs.Prelude.{◌≡◌, ◌≢◌, ◌≤◌, ◌<◌, ℕ, Ok, IfErr, length, true};
+ghost use Rattle.std.specs.Prelude.{◌≡◌, ◌≢◌, ◌≤◌, ◌<◌, ℕ, Ok, Some, IfErr, length, true};
 ghost use Rattle.std.specs.IoError.{error_kind};
 ghost use Rattle.proxy_net.specs.Streams.{IsRefusedRead, IsRefusedWrite};
 
@@ -16,8 +16,6 @@ pub enum StreamRead {
     End,
     /// No bytes are there yet.
     Nothing,
-    /// It is to be tried again.
-    Again,
     /// The system refused it.
     Fault,
 }
@@ -37,38 +35,43 @@ pub enum StreamWrite {
     Fault,
 }
 
-/// Reads once.
+/// Reads once. A read that a signal interrupts is made again at once, since nothing is reported after it.
 pub fn read_stream(stream: &mut UnixStream, into: &mut [u8]) -> StreamRead
     ensures within { (n : ℕ) → result ≡ StreamRead.Bytes n → n ≤ length into.new }
     ensures progress { (n : ℕ) → result ≡ StreamRead.Bytes n → 0 < length into.new → 0 < n }
 {
     let has_room = !into.is_empty();
-    read_of(stream.read(into), has_room)
+    for _ in 0..u64::MAX {
+        if let Some(read) = read_of(stream.read(into), has_room) {
+            return read;
+        }
+    }
+    StreamRead::Fault
 }
 
-/// What the answer of a read means. Nothing is read into room for something at the end alone.
-fn read_of(answer: io::Result<usize>, has_room: bool) -> StreamRead
-    ensures bytes { (n : ℕ) → answer ≡ Ok n → (has_room ≡ true → 0 < n) → result ≡ StreamRead.Bytes n }
-    ensures end { answer ≡ Ok 0 → has_room ≡ true → result ≡ StreamRead.End }
+/// What the answer of a read means. Nothing is read into room for something at the end alone. `None` if a signal interrupted it.
+fn read_of(answer: io::Result<usize>, has_room: bool) -> Option<StreamRead>
+    ensures bytes { (n : ℕ) → answer ≡ Ok n → (has_room ≡ true → 0 < n) → result ≡ Some (StreamRead.Bytes n) }
+    ensures end { answer ≡ Ok 0 → has_room ≡ true → result ≡ Some StreamRead.End }
     ensures refused { IfErr answer (λ error. IsRefusedRead (error_kind error) result) }
-    ensures only { (n : ℕ) → result ≡ StreamRead.Bytes n → (answer ≡ Ok n) × (has_room ≡ true → 0 < n) }
+    ensures only { (n : ℕ) → result ≡ Some (StreamRead.Bytes n) → (answer ≡ Ok n) × (has_room ≡ true → 0 < n) }
 {
     match answer {
-        Ok(0) if has_room => StreamRead::End,
-        Ok(n) => StreamRead::Bytes(n),
+        Ok(0) if has_room => Some(StreamRead::End),
+        Ok(n) => Some(StreamRead::Bytes(n)),
         Err(error) => refused_read(error.kind()),
     }
 }
 
-fn refused_read(kind: ErrorKind) -> StreamRead
-    ensures none { (n : ℕ) → result ≡ StreamRead.Bytes n → ⊥ }
+fn refused_read(kind: ErrorKind) -> Option<StreamRead>
+    ensures none { (n : ℕ) → result ≡ Some (StreamRead.Bytes n) → ⊥ }
     ensures refused { IsRefusedRead kind result }
 {
     match kind {
-        ErrorKind::WouldBlock => StreamRead::Nothing,
-        ErrorKind::Interrupted => StreamRead::Again,
-        ErrorKind::ConnectionReset => StreamRead::End,
-        _ => StreamRead::Fault,
+        ErrorKind::WouldBlock => Some(StreamRead::Nothing),
+        ErrorKind::Interrupted => None,
+        ErrorKind::ConnectionReset => Some(StreamRead::End),
+        _ => Some(StreamRead::Fault),
     }
 }
 

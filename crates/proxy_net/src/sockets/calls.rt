@@ -10,7 +10,7 @@ use link_traits::tables::number_of;
 use link_traits::{Count, Got, Link, Took, Wishes};
 
 impl SocketSet {
-    ghost use Rattle.proxy_net.specs.Sockets.{is_stalled_at, is_peer_closed_at, IsJudgedAt, wishes_in, is_pending_in, given_up_at, is_closed_at, is_to_fail_at, RoseIn, Grows, GoesOn, KeepsOthersIn};
+    ghost use Rattle.proxy_net.specs.Sockets.{is_stalled_at, is_peer_closed_at, is_readable_at, StaysUnread, StaysClosed, KeepsReports, IsJudgedAt, wishes_in, is_pending_in, given_up_at, is_closed_at, is_to_fail_at, RoseIn, Grows, GoesOn, KeepsOthersIn};
     ghost use Rattle.link_traits.specs.declared.links.Wishes.{Wishes};
 
     /// Replaces the wishes of a link.
@@ -18,6 +18,7 @@ impl SocketSet {
         ensures judged { is_peer_closed_at self.new (link_number link) ≡ true → IsJudgedAt self.new (link_number link) }
         ensures own { wishes_in self.new link ≡ option_map (λ (_ : Wishes). wishes) (wishes_in self.old link) }
         ensures others { KeepsOthersIn link self.old self.new }
+        ensures reports { KeepsReports self.old self.new }
         ensures grows { Grows self.old self.new }
     {
         if self.set_wishes(link, wishes) {
@@ -34,6 +35,9 @@ impl SocketSet {
         ensures failed { result ≡ Got.Failed → RoseIn (Count.Link link) self.old self.new }
         ensures not_ready { result ≡ Got.NotReady → RoseIn Count.Waits self.old self.new }
         ensures finished { result ≡ Got.Finished → is_closed_at self.new (link_number link) ≡ true }
+        ensures waits { result ≡ Got.NotReady → is_readable_at self.new (link_number link) ≡ false }
+        ensures unread { StaysUnread self.old self.new }
+        ensures closed { StaysClosed self.old self.new }
         ensures goes { GoesOn self.old self.new }
     {
         let got = self.read_link(link, into);
@@ -51,7 +55,10 @@ impl SocketSet {
         ensures pending { is_pending_in self.old link ≡ true → result ≡ Got.NotReady }
         ensures failed { result ≡ Got.Failed → RoseIn (Count.Link link) self.old self.new }
         ensures finished { result ≡ Got.Finished → is_closed_at self.new (link_number link) ≡ true }
-        ensures waits { self.new.waits ≡ self.old.waits }
+        ensures waits { result ≡ Got.NotReady → is_readable_at self.new (link_number link) ≡ false }
+        ensures unread { StaysUnread self.old self.new }
+        ensures closed { StaysClosed self.old self.new }
+        ensures uncounted { self.new.waits ≡ self.old.waits }
         ensures goes { GoesOn self.old self.new }
     {
         let number = number_of(link);
@@ -77,6 +84,8 @@ impl SocketSet {
         ensures pending { is_pending_in self.old link ≡ true → result ≡ Took.NotReady }
         ensures failed { result ≡ Took.Failed → RoseIn (Count.Link link) self.old self.new }
         ensures not_ready { result ≡ Took.NotReady → RoseIn Count.Waits self.old self.new }
+        ensures unread { is_peer_closed_at self.new (link_number link) ≡ is_peer_closed_at self.old (link_number link) → StaysUnread self.old self.new }
+        ensures closed { StaysClosed self.old self.new }
         ensures goes { GoesOn self.old self.new }
     {
         match self.write_link(link, piece) {
@@ -98,6 +107,8 @@ impl SocketSet {
         ensures pending { is_pending_in self.old link ≡ true → result ≡ LinkWrite.NotReady }
         ensures failed { result ≡ LinkWrite.Failed → RoseIn (Count.Link link) self.old self.new }
         ensures closed { result ≡ LinkWrite.PeerClosed → RoseIn (Count.Link link) self.old self.new }
+        ensures unread { is_peer_closed_at self.new (link_number link) ≡ is_peer_closed_at self.old (link_number link) → StaysUnread self.old self.new }
+        ensures peers { StaysClosed self.old self.new }
         ensures waits { self.new.waits ≡ self.old.waits }
         ensures goes { GoesOn self.old self.new }
     {
@@ -122,13 +133,14 @@ impl SocketSet {
         ensures failed { result ≡ Took.Failed → is_to_fail_at self.old number ≡ true }
         ensures waits { result ≡ Took.NotReady → is_to_fail_at self.old number ≡ false }
         ensures not_ready { result ≡ Took.NotReady → RoseIn Count.Waits self.old self.new }
+        ensures reports { KeepsReports self.old self.new }
         ensures goes { GoesOn self.old self.new }
     {
         self.judge_both(number);
         if self.is_given_up(number) {
             return Took::Failed;
         }
-        self.raise(Count::Waits);
+        self.waits = raised(self.waits);
         Took::NotReady
     }
 
@@ -144,6 +156,7 @@ impl SocketSet {
 
     fn judge_both(&mut self, number: u64)
         ensures judged { unwrap_or (given_up_at self.new number) true ≡ is_to_fail_at self.old number }
+        ensures reports { KeepsReports self.old self.new }
         ensures goes { GoesOn self.old self.new }
     {
         self.judge(other_number(number));
@@ -156,6 +169,7 @@ impl SocketSet {
         ensures revived { (listener : ℕ) → is_stalled_at self.new listener ≡ false }
         ensures gone { wishes_in self.new link ≡ None }
         ensures others { KeepsOthersIn link self.old self.new }
+        ensures unread { StaysUnread self.old self.new }
         ensures grows { Grows self.old self.new }
     {
         self.remove_link(link);
@@ -166,6 +180,7 @@ impl SocketSet {
     fn settle(&mut self, number: u64)
         ensures judged { IsJudgedAt self.new (other_of number) }
         ensures revived { (listener : ℕ) → is_stalled_at self.new listener ≡ false }
+        ensures unread { StaysUnread self.old self.new }
         ensures goes { GoesOn self.old self.new }
     {
         self.judge(other_number(number));

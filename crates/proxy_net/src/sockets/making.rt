@@ -1,10 +1,15 @@
 //! How listeners and links are made.
-ghost use Rattle.std.specs.Prelude.{◌≡◌, ◌≢◌, ◌≤◌, ◌<◌, ◌+◌, ◌++◌, ◌∷◌, ◌⊎◌, ℕ, [], Err, None, Some, IsErrOf, IsSome, IfOk, OnErr, OnOk, vec_len};
+ghost use Rattle.std.specs.Prelude.{◌≡◌, ◌≢◌, ◌≤◌, ◌<◌, ◌+◌, ◌++◌, ◌∷◌, ◌⊎◌, ◌^◌, ℕ, List, [], Err, None, Some, true, false, IsErrOf, IsSome, IfOk, OnErr, OnOk, vec_len};
 ghost use Rattle.std.specs.VecDeque.{deque_len, deque_capacity};
+ghost use Rattle.std.specs.Option.{option_map};
+ghost use Rattle.std.specs.String.{string_bytes};
+ghost use Rattle.mio.specs.declared.net.uds.stream.UnixStream.{UnixStream};
+ghost use Rattle.proxy_net.specs.Delays.{next_delay};
 ghost use Rattle.link_traits.specs.Answers.{no_wishes, client_link, bus_link};
 ghost use Rattle.link_traits.specs.Numbers.{number_of as link_number};
 
 use super::{LISTENERS, SocketSet};
+use crate::bound_files::{BoundFile, FileIdentity, remove_made};
 use crate::link_sockets::{Connection, Retry, is_put_off, raised};
 use crate::listeners::{Arrival, ListenerSocket};
 use crate::registered::Registered;
@@ -12,11 +17,10 @@ use link_traits::tables::number_of;
 use link_traits::{Accepted, Count, Link, NetFault, Side};
 use mio::net::{UnixListener, UnixStream};
 use std::alloc::AllocError;
-use std::fs;
 use std::time::Instant;
 
 impl SocketSet {
-    ghost use Rattle.proxy_net.specs.Sockets.{HasRoomFor, wishes_in, RoseIn, Grows, GoesOn, KeepsOthersIn, KeepsWishesIn, AfterAcceptIn};
+    ghost use Rattle.proxy_net.specs.Sockets.{HasRoomFor, RoseIn, GoesOn, StaysUnread, path_at};
 
     /// Listens at a path. An empty one is refused, since the system would take a name of its own for it.
     pub fn listen(&mut self, rt: &HostRuntime, path: &str) -> Result<u32, NetFault>
@@ -24,7 +28,9 @@ impl SocketSet {
         ensures made { OnOk result (vec_len self.new.listeners ≡ vec_len self.old.listeners + 1) }
         ensures path { OnOk result (path.now ≢ []) }
         ensures err { OnErr result (vec_len self.new.listeners ≡ vec_len self.old.listeners) }
+        ensures file { (own : List ℕ) → path_at self.new (vec_len self.old.listeners) ≡ Some own → own ≡ path.now }
         ensures failed { IsErrOf result NetFault.Failed → RoseIn Count.Own self.old self.new }
+        ensures unread { StaysUnread self.old self.new }
         ensures goes { GoesOn self.old self.new }
     {
         match self.make_listener(rt, path) {
@@ -42,36 +48,56 @@ impl SocketSet {
         ensures made { OnOk result (vec_len self.new.listeners ≡ vec_len self.old.listeners + 1) }
         ensures path { OnOk result (path.now ≢ []) }
         ensures err { OnErr result (vec_len self.new.listeners ≡ vec_len self.old.listeners) }
+        ensures file { (own : List ℕ) → path_at self.new (vec_len self.old.listeners) ≡ Some own → own ≡ path.now }
+        ensures unread { StaysUnread self.old self.new }
         ensures goes { GoesOn self.old self.new }
     {
         let Ok(listener) = u32::try_from(self.listeners.len()) else {
             return Err(NetFault::Failed);
         };
+        let Ok(own_path) = String::from_str(rt.alloc(), path) else {
+            return Err(NetFault::Memory);
+        };
         if self.reserve_listener().is_err() {
             return Err(NetFault::Memory);
         }
-        match bound(rt, path) {
-            Some(socket) => cleaned_up(rt, path, self.add_listener(listener, socket)),
-            None => Err(NetFault::Failed),
-        }
+        let Some(socket) = bound(rt, path) else {
+            return Err(NetFault::Failed);
+        };
+        let identity = FileIdentity::at(rt, path);
+        let file = bound_file(own_path, identity);
+        cleaned_up(
+            rt,
+            path,
+            identity,
+            self.add_listener(listener, socket, file),
+        )
     }
 
     /// Takes the room for one more listener.
     fn reserve_listener(&mut self) -> Result<(), AllocError>
         ensures room { OnOk result (HasRoomFor 1 self.new) }
         ensures number { vec_len self.new.listeners ≡ vec_len self.old.listeners }
+        ensures unread { StaysUnread self.old self.new }
         ensures goes { GoesOn self.old self.new }
     {
         self.listeners.reserve(1)?;
         self.reserve()
     }
 
-    fn add_listener(&mut self, listener: u32, socket: UnixListener) -> Result<u32, NetFault>
+    fn add_listener(
+        &mut self,
+        listener: u32,
+        socket: UnixListener,
+        file: Option<BoundFile>,
+    ) -> Result<u32, NetFault>
         requires room { HasRoomFor 1 self.old }
         requires next { listener ≡ vec_len self.old.listeners }
         ensures numbered { IfOk result (λ number. number ≡ listener) }
         ensures made { OnOk result (vec_len self.new.listeners ≡ vec_len self.old.listeners + 1) }
         ensures err { OnErr result (vec_len self.new.listeners ≡ vec_len self.old.listeners) }
+        ensures file { OnOk result (path_at self.new listener ≡ option_map (λ (f : BoundFile). string_bytes f.path) file) }
+        ensures unread { StaysUnread self.old self.new }
         ensures goes { GoesOn self.old self.new }
     {
         let number = LISTENERS + u64::from(listener);
@@ -80,7 +106,7 @@ impl SocketSet {
         };
         match self
             .listeners
-            .push(ListenerSocket::new(self.absent, socket))
+            .push(ListenerSocket::new(self.absent, socket, file))
         {
             Ok(()) => Ok(listener),
             Err(_) => Err(NetFault::Memory),
@@ -98,40 +124,87 @@ fn bound(rt: &HostRuntime, path: &str) -> Option<UnixListener>
     UnixListener::bind(rt, path).ok()
 }
 
+/// The file that a bind made at a path, if the system says which it is.
+fn bound_file(path: String, identity: Option<FileIdentity>) -> Option<BoundFile>
+    ensures { (own : BoundFile) → result ≡ Some own → own.path ≡ path }
+{
+    match identity {
+        Some(identity) => Some(BoundFile::new(path, identity)),
+        None => None,
+    }
+}
+
 /// Removes the file that a bind made, where the socket can't listen.
-fn cleaned_up(rt: &HostRuntime, path: &str, answer: Result<u32, NetFault>) -> Result<u32, NetFault>
+fn cleaned_up(
+    rt: &HostRuntime,
+    path: &str,
+    made: Option<FileIdentity>,
+    answer: Result<u32, NetFault>,
+) -> Result<u32, NetFault>
     ensures { result ≡ answer }
 {
-    if answer.is_err() {
-        let _ = fs::remove_file(rt, path);
+    if let Some(made) = made
+        && answer.is_err()
+    {
+        remove_made(rt, path, made);
     }
     answer
 }
 
 impl SocketSet {
-    ghost use Rattle.proxy_net.specs.Sockets.{HasRoomFor, wishes_in, RoseIn, Grows, GoesOn, KeepsOthersIn, KeepsWishesIn, AfterAcceptIn};
+    ghost use Rattle.proxy_net.specs.Sockets.{GoesOn, has_file_at};
+
+    /// Removes the files that the binds of the listeners made, unless something else is at their paths by now.
+    pub fn remove_files(&mut self, rt: &HostRuntime)
+        ensures removed { (place : ℕ) → has_file_at self.new place ≡ false }
+        ensures number { vec_len self.new.listeners ≡ vec_len self.old.listeners }
+        ensures goes { GoesOn self.old self.new }
+    {
+        for place in 0..self.listeners.len() {
+            self.remove_file(rt, place);
+        }
+    }
+
+    fn remove_file(&mut self, rt: &HostRuntime, place: usize)
+        requires { place < 2 ^ 63 }
+        ensures removed { has_file_at self.new place ≡ false }
+        ensures others { (other : ℕ) → has_file_at self.old other ≡ false → has_file_at self.new other ≡ false }
+        ensures number { vec_len self.new.listeners ≡ vec_len self.old.listeners }
+        ensures goes { GoesOn self.old self.new }
+    {
+        if let Some(socket) = self.listeners.get_mut(place) {
+            socket.remove_file(rt);
+        }
+    }
+}
+
+impl SocketSet {
+    ghost use Rattle.proxy_net.specs.Sockets.{HasRoomFor, wishes_in, RoseIn, Grows, GoesOn, AfterAcceptIn, StaysUnread, is_put_off_at, delay_at};
 
     /// Takes a client that waits at a listener.
-    pub fn accept(&mut self, listener: u32) -> Accepted
+    pub fn accept(&mut self, rt: &HostRuntime, listener: u32) -> Accepted
         ensures numbered { (session : ℕ) → result ≡ Accepted.New session → (session ≡ self.old.sessions + 1) × (self.new.sessions ≡ session) }
         ensures missing { vec_len self.old.listeners ≤ listener → (result ≡ Accepted.Failed) ⊎ (result ≡ Accepted.Memory) }
         ensures failed { result ≡ Accepted.Failed → RoseIn (Count.Listener listener) self.old self.new }
         ensures not_ready { result ≡ Accepted.NotReady → RoseIn Count.Waits self.old self.new }
         ensures new_wishes { (session : ℕ) → result ≡ Accepted.New session → wishes_in self.new (client_link session) ≡ Some no_wishes }
         ensures wishes { AfterAcceptIn result self.old self.new }
+        ensures put_off { (result ≡ Accepted.Failed) ⊎ (result ≡ Accepted.Memory) → is_put_off_at self.new listener ≡ true }
+        ensures served { (session : ℕ) → result ≡ Accepted.New session → delay_at self.new listener ≡ 0 }
+        ensures unread { StaysUnread self.old self.new }
         ensures grows { Grows self.old self.new }
     {
         if self.reserve().is_err() {
-            self.stall(listener);
+            self.stall(rt, listener);
             return Accepted::Memory;
         }
         let Some(session) = self.sessions.checked_add(1) else {
-            return self.fail_accept(listener);
+            return self.fail_accept(rt, listener);
         };
         match self.take_client(listener) {
-            Arrival::Client(stream) => self.make_session(listener, session, stream),
+            Arrival::Client(stream) => self.make_session(rt, listener, session, stream),
             Arrival::NotReady => Accepted::NotReady,
-            Arrival::Failed => self.fail_accept(listener),
+            Arrival::Failed => self.fail_accept(rt, listener),
         }
     }
 
@@ -139,6 +212,8 @@ impl SocketSet {
         ensures room { HasRoomFor 1 self.old → HasRoomFor 1 self.new }
         ensures not_ready { result ≡ Arrival.NotReady → RoseIn Count.Waits self.old self.new }
         ensures missing { vec_len self.old.listeners ≤ listener → result ≡ Arrival.Failed }
+        ensures served { (stream : UnixStream) → result ≡ Arrival.Client stream → delay_at self.new listener ≡ 0 }
+        ensures unread { StaysUnread self.old self.new }
         ensures goes { GoesOn self.old self.new }
     {
         let arrival = self.accept_at(listener);
@@ -153,6 +228,8 @@ impl SocketSet {
         ensures room { HasRoomFor 1 self.old → HasRoomFor 1 self.new }
         ensures missing { vec_len self.old.listeners ≤ listener → result ≡ Arrival.Failed }
         ensures waits { self.new.waits ≡ self.old.waits }
+        ensures served { (stream : UnixStream) → result ≡ Arrival.Client stream → delay_at self.new listener ≡ 0 }
+        ensures unread { StaysUnread self.old self.new }
         ensures goes { GoesOn self.old self.new }
     {
         match self.listeners.get_mut(listener as usize) {
@@ -166,38 +243,55 @@ impl SocketSet {
     }
 
     /// Counts an accept that failed, and stalls its listener.
-    fn fail_accept(&mut self, listener: u32) -> Accepted
+    fn fail_accept(&mut self, rt: &HostRuntime, listener: u32) -> Accepted
         ensures failed { result ≡ Accepted.Failed }
         ensures rose { RoseIn (Count.Listener listener) self.old self.new }
+        ensures put_off { is_put_off_at self.new listener ≡ true }
+        ensures delay { listener < vec_len self.old.listeners → delay_at self.new listener ≡ next_delay (delay_at self.old listener) }
+        ensures unread { StaysUnread self.old self.new }
         ensures goes { GoesOn self.old self.new }
     {
+        let now = Instant::now(rt).ok();
         match self.listeners.get_mut(listener as usize) {
             Some(socket) => {
                 socket.faults = raised(socket.faults);
-                socket.stall();
+                socket.stall(now);
             }
             None => self.absent = raised(self.absent),
         }
         Accepted::Failed
     }
 
-    /// Has a listener not be named until a link is shut or another client comes.
-    fn stall(&mut self, listener: u32)
-        ensures { GoesOn self.old self.new }
+    /// Has a listener not be named until a link is shut, another client comes, or its delay is over.
+    fn stall(&mut self, rt: &HostRuntime, listener: u32)
+        ensures put_off { is_put_off_at self.new listener ≡ true }
+        ensures delay { listener < vec_len self.old.listeners → delay_at self.new listener ≡ next_delay (delay_at self.old listener) }
+        ensures unread { StaysUnread self.old self.new }
+        ensures goes { GoesOn self.old self.new }
     {
+        let now = Instant::now(rt).ok();
         if let Some(socket) = self.listeners.get_mut(listener as usize) {
-            socket.stall();
+            socket.stall(now);
         }
     }
 
     /// Makes a session of a client.
-    fn make_session(&mut self, listener: u32, session: u32, stream: UnixStream) -> Accepted
+    fn make_session(
+        &mut self,
+        rt: &HostRuntime,
+        listener: u32,
+        session: u32,
+        stream: UnixStream,
+    ) -> Accepted
         requires { HasRoomFor 1 self.old }
         ensures numbered { (other : ℕ) → result ≡ Accepted.New other → (other ≡ session) × (self.new.sessions ≡ session) }
         ensures failed { result ≡ Accepted.Failed → RoseIn (Count.Listener listener) self.old self.new }
         ensures ready { result ≢ Accepted.NotReady }
         ensures new_wishes { (other : ℕ) → result ≡ Accepted.New other → wishes_in self.new (client_link other) ≡ Some no_wishes }
         ensures wishes { AfterAcceptIn result self.old self.new }
+        ensures put_off { (result ≡ Accepted.Failed) ⊎ (result ≡ Accepted.Memory) → is_put_off_at self.new listener ≡ true }
+        ensures listeners { (other : ℕ) → result ≡ Accepted.New other → self.new.listeners ≡ self.old.listeners }
+        ensures unread { StaysUnread self.old self.new }
         ensures grows { Grows self.old self.new }
     {
         let link = Link {
@@ -205,7 +299,7 @@ impl SocketSet {
             side: Side::Client,
         };
         let Some(stream) = Registered::new(self.poll.registry(), number_of(link), stream) else {
-            return self.fail_accept(listener);
+            return self.fail_accept(rt, listener);
         };
         match self.add_link(link, Connection::Open(stream)) {
             Ok(()) => {
@@ -213,7 +307,7 @@ impl SocketSet {
                 Accepted::New(session)
             }
             Err(_) => {
-                self.stall(listener);
+                self.stall(rt, listener);
                 Accepted::Memory
             }
         }
@@ -221,7 +315,7 @@ impl SocketSet {
 }
 
 impl SocketSet {
-    ghost use Rattle.proxy_net.specs.Sockets.{HasRoomFor, wishes_in, RoseIn, Grows, GoesOn, KeepsOthersIn, KeepsWishesIn, AfterAcceptIn};
+    ghost use Rattle.proxy_net.specs.Sockets.{HasRoomFor, wishes_in, RoseIn, Grows, GoesOn, KeepsOthersIn, KeepsWishesIn, StaysUnread};
 
     /// Connects a session to the bus at a path. An empty one is refused, since the system would take a name of its own for it,
     /// and so is a session that has a link to its bus. Where the bus has no room for one more, it is tried again later.
@@ -232,6 +326,7 @@ impl SocketSet {
         ensures failed { IsErrOf result NetFault.Failed → RoseIn (Count.Link (bus_link session)) self.old self.new }
         ensures own { OnOk result (wishes_in self.new (bus_link session) ≡ Some no_wishes) }
         ensures others { KeepsOthersIn (bus_link session) self.old self.new }
+        ensures unread { StaysUnread self.old self.new }
         ensures grows { Grows self.old self.new }
     {
         let link = Link {
@@ -254,6 +349,7 @@ impl SocketSet {
         ensures err { OnErr result (GoesOn self.old self.new) }
         ensures own { OnOk result (wishes_in self.new link ≡ Some no_wishes) }
         ensures others { KeepsOthersIn link self.old self.new }
+        ensures unread { StaysUnread self.old self.new }
         ensures grows { Grows self.old self.new }
     {
         let number = number_of(link);
@@ -278,6 +374,7 @@ impl SocketSet {
     fn reserve_pending(&mut self) -> Result<(), AllocError>
         ensures room { OnOk result (HasRoomFor 1 self.new) }
         ensures pending { OnOk result (deque_len self.new.pending < deque_capacity self.new.pending) }
+        ensures unread { StaysUnread self.old self.new }
         ensures goes { GoesOn self.old self.new }
     {
         self.pending.reserve(1)?;
@@ -290,6 +387,7 @@ impl SocketSet {
         ensures err { OnErr result (GoesOn self.old self.new) }
         ensures own { OnOk result (wishes_in self.new link ≡ Some no_wishes) }
         ensures others { KeepsOthersIn link self.old self.new }
+        ensures unread { StaysUnread self.old self.new }
         ensures grows { Grows self.old self.new }
     {
         let Some(stream) = Registered::new(self.poll.registry(), number_of(link), stream) else {
@@ -309,6 +407,7 @@ impl SocketSet {
         ensures err { OnErr result (GoesOn self.old self.new) }
         ensures own { OnOk result (wishes_in self.new link ≡ Some no_wishes) }
         ensures others { KeepsOthersIn link self.old self.new }
+        ensures unread { StaysUnread self.old self.new }
         ensures grows { Grows self.old self.new }
     {
         let Ok(now) = Instant::now(rt) else {

@@ -9,10 +9,12 @@ ghost use Rattle.std.specs.Ordering.{nat_cmp};
 ghost use Rattle.std.specs.BTreeMap as tree;
 ghost use Rattle.mio.specs.Events.{items, capacity as events_capacity};
 ghost use Rattle.link_traits.specs.Numbers.{number_of as link_number};
-ghost use Rattle.proxy_net.specs.Noting.{is_link_noted, is_listener_noted, tells_read, tells_write};
+ghost use Rattle.proxy_net.specs.Delays.{IsWithin, nanos_of};
+ghost use Rattle.proxy_net.specs.Noting.{is_link_noted, is_listener_noted, reports_read, tells_read, tells_write};
 ghost use Rattle.proxy_net.specs.Naming.{is_link_unmarked, is_listener_unmarked};
 
 use super::{LISTENERS, SocketSet};
+use crate::delays::{BLIND_DELAY, delay_until};
 use crate::link_sockets::{Attempt, raised};
 use link_traits::{Link, Ready, Side};
 use mio::Events;
@@ -22,9 +24,6 @@ use std::time::{Duration, Instant};
 
 /// How many times something is named before the system is asked for more.
 const NAMED_BETWEEN_ASKS: u32 = 16;
-
-/// How many milliseconds the system is waited for where the clock can't be read.
-const BLIND_DELAY: u64 = 32;
 
 /// The link of a number.
 fn link_of(number: u64) -> Link
@@ -64,7 +63,7 @@ fn is_write_told(event: &Event) -> bool
 }
 
 impl SocketSet {
-    ghost use Rattle.proxy_net.specs.Sockets.{is_stalled_at, GoesOn, IsWished, is_noted, is_event_noted, is_side_noted, KeepsNotes};
+    ghost use Rattle.proxy_net.specs.Sockets.{is_stalled_at, GoesOn, IsReadIf, KeepsReports, IsWished, is_noted, is_event_noted, is_side_noted, KeepsNotes};
 
     /// Asks the system what became ready, and waits for it where nothing is to be named yet.
     pub fn ask(&mut self, rt: &HostRuntime, events: &mut Events) -> io::Result<()>
@@ -72,6 +71,7 @@ impl SocketSet {
         ensures err { OnErr result (items events.new ≡ []) }
         ensures count { length (items events.new) ≤ events_capacity events.old }
         ensures capacity { events_capacity events.new ≡ events_capacity events.old }
+        ensures reports { KeepsReports self.old self.new }
         ensures goes { GoesOn self.old self.new }
     {
         let timeout = self.timeout(rt);
@@ -82,6 +82,7 @@ impl SocketSet {
     /// Notes what the system reported, of clients before what it reported of buses.
     pub fn note_all(&mut self, rt: &HostRuntime, events: &Events)
         ensures noted { list_all (is_event_noted self.new) (items events.now) ≡ true }
+        ensures reported { IsReadIf (λ number. list_any (reports_read number) (items events.now)) self.old self.new }
         ensures kept { KeepsNotes self.old self.new }
         ensures goes { GoesOn self.old self.new }
     {
@@ -93,6 +94,7 @@ impl SocketSet {
     /// Notes what the system reported of buses, or of all else.
     fn note_side(&mut self, events: &Events, of_buses: bool)
         ensures noted { list_all (is_side_noted of_buses self.new) (items events.now) ≡ true }
+        ensures reported { IsReadIf (λ number. list_any (reports_read number) (items events.now)) self.old self.new }
         ensures kept { KeepsNotes self.old self.new }
         ensures goes { GoesOn self.old self.new }
     {
@@ -105,6 +107,7 @@ impl SocketSet {
 
     fn note_event(&mut self, event: &Event)
         ensures noted { is_event_noted self.new event.now ≡ true }
+        ensures reported { IsReadIf (λ number. reports_read number event.now) self.old self.new }
         ensures kept { KeepsNotes self.old self.new }
         ensures goes { GoesOn self.old self.new }
     {
@@ -115,6 +118,7 @@ impl SocketSet {
     /// Notes that a listener has a client, or what a link is ready for.
     fn note(&mut self, number: u64, readable: bool, writable: bool)
         ensures noted { is_noted self.new number readable writable ≡ true }
+        ensures reported { IsReadIf (λ other. nat_eq number other && readable) self.old self.new }
         ensures kept { KeepsNotes self.old self.new }
         ensures goes { GoesOn self.old self.new }
     {
@@ -127,6 +131,7 @@ impl SocketSet {
 
     fn note_link(&mut self, number: u64, readable: bool, writable: bool)
         ensures noted { is_link_noted readable writable (tree.get nat_cmp self.new.links number) ≡ true }
+        ensures reported { IsReadIf (λ other. nat_eq number other && readable) self.old self.new }
         ensures kept { KeepsNotes self.old self.new }
         ensures goes { GoesOn self.old self.new }
     {
@@ -140,6 +145,7 @@ impl SocketSet {
     fn note_listener(&mut self, number: u64)
         requires { LISTENERS ≤ number }
         ensures noted { is_listener_noted (slice_get self.new.listeners.items (number - LISTENERS)) ≡ true }
+        ensures links { self.new.links ≡ self.old.links }
         ensures kept { KeepsNotes self.old self.new }
         ensures goes { GoesOn self.old self.new }
     {
@@ -172,6 +178,7 @@ impl SocketSet {
         ensures counted { IfSome result (λ _. self.new.named ≡ self.old.named + 1) }
         ensures uncounted { IfNone result (self.new.named ≡ self.old.named) }
         ensures wished { IfSome result (IsWished self.old self.new) }
+        ensures reports { KeepsReports self.old self.new }
         ensures goes { GoesOn self.old self.new }
     {
         if self.named >= NAMED_BETWEEN_ASKS {
@@ -193,6 +200,7 @@ impl SocketSet {
         ensures counted { IfSome result (λ _. self.new.named ≡ min (self.old.named + 1) (2 ^ 32 - 1)) }
         ensures uncounted { IfNone result (self.new.named ≡ self.old.named) }
         ensures wished { IfSome result (IsWished self.old self.new) }
+        ensures reports { KeepsReports self.old self.new }
         ensures goes { GoesOn self.old self.new }
     {
         let Some(&number) = self.ready.front() else {
@@ -214,6 +222,7 @@ impl SocketSet {
         ensures counted { IfSome result (λ _. self.new.named ≡ min (self.old.named + 1) (2 ^ 32 - 1)) }
         ensures uncounted { IfNone result (self.new.named ≡ self.old.named) }
         ensures wished { IfSome result (IsWished self.old self.new) }
+        ensures reports { KeepsReports self.old self.new }
         ensures goes { GoesOn self.old self.new }
     {
         let Some(socket) = self.links.get_mut(&number) else {
@@ -239,6 +248,7 @@ impl SocketSet {
         ensures counted { IfSome result (λ _. self.new.named ≡ min (self.old.named + 1) (2 ^ 32 - 1)) }
         ensures uncounted { IfNone result (self.new.named ≡ self.old.named) }
         ensures wished { IfSome result (IsWished self.old self.new) }
+        ensures reports { KeepsReports self.old self.new }
         ensures goes { GoesOn self.old self.new }
     {
         let place = number - LISTENERS;
@@ -261,20 +271,85 @@ impl SocketSet {
 }
 
 impl SocketSet {
-    ghost use Rattle.proxy_net.specs.Sockets.{GoesOn, KeepsNotes, due_at, IsFirstDue};
+    ghost use Rattle.proxy_net.specs.Sockets.{GoesOn, IsReadIf, KeepsNotes, due_at, IsFirstDue, IsFirstLeft, accept_left_at, is_stalled_at, is_accept_due_at, is_accept_early_at};
     ghost use Rattle.std.specs.declared.time.Duration.{Duration};
 
-    /// How long the system is waited for: not at all where something is to be named, and else until the next try to connect.
+    /// How long the system is waited for: not at all where something is to be named, and else until the next try to connect or
+    /// to accept.
     fn timeout(&self, rt: &HostRuntime) -> Option<Duration>
         ensures busy { self.now.ready.items ≢ [] → option_map (λ (d : Duration). as_nanos d) result ≡ Some 0 }
         ensures idle { result ≡ None → self.now.ready.items ≡ [] }
         ensures waits { result ≡ None → IsFirstDue self.now self.now.pending.items None }
+        ensures none_stalled { result ≡ None → (place : ℕ) → is_stalled_at self.now place ≡ false }
     {
         if !self.ready.is_empty() {
             return Some(Duration::ZERO);
         }
-        let due = self.next_due()?;
-        Some(delay_until(due, Instant::now(rt).ok()))
+        let due = self.next_due();
+        if due.is_none() && !self.has_stalled() {
+            return None;
+        }
+        Some(self.delay(due, Instant::now(rt).ok()))
+    }
+
+    /// How long it is until the connect that is due then, or the first accept that failed, is tried again.
+    fn delay(&self, due: Option<Instant>, now: Option<Instant>) -> Duration
+        ensures connect { (time clock : Instant) → due ≡ Some time → now ≡ Some clock → as_nanos result ≤ instant_nanos time - instant_nanos clock }
+        ensures accept { (place left : ℕ) → accept_left_at self.now now place ≡ Some left → as_nanos result ≤ left }
+        ensures one { (as_nanos result ≡ BLIND_DELAY * 1_000_000) ⊎ (((time clock : Instant) → due ≡ Some time → now ≡ Some clock → as_nanos result ≡ instant_nanos time - instant_nanos clock) ⊎ ((place : ℕ) × (accept_left_at self.now now place ≡ Some (as_nanos result)))) }
+    {
+        let until_connect = match due {
+            Some(time) => Some(delay_until(time, now)),
+            None => None,
+        };
+        match shorter(until_connect, self.accept_delay(now)) {
+            Some(delay) => delay,
+            None => Duration::from_millis(BLIND_DELAY),
+        }
+    }
+
+    /// How long it is until the first accept that failed is tried again, if there is one.
+    fn accept_delay(&self, now: Option<Instant>) -> Option<Duration>
+        ensures { IsFirstLeft self.now now (vec_len self.now.listeners) (nanos_of result) }
+    {
+        let mut first = None;
+        for place in 0..self.listeners.len() {
+            first = shorter(first, self.accept_left(place, now));
+        }
+        first
+    }
+
+    /// How long it is until the accept of the listener at a place is tried again, if it failed.
+    fn accept_left(&self, place: usize, now: Option<Instant>) -> Option<Duration>
+        requires { place < 2 ^ 63 }
+        ensures { nanos_of result ≡ accept_left_at self.now now place }
+    {
+        match self.listeners.get(place) {
+            Some(socket) => socket.delay_left(now),
+            None => None,
+        }
+    }
+
+    /// Whether an accept that failed is to be tried again.
+    fn has_stalled(&self) -> bool
+        ensures { result ≡ false → (place : ℕ) → is_stalled_at self.now place ≡ false }
+    {
+        for place in 0..self.listeners.len() {
+            if self.is_stalled(place) {
+                return true;
+            }
+        }
+        false
+    }
+
+    fn is_stalled(&self, place: usize) -> bool
+        requires { place < 2 ^ 63 }
+        ensures { result ≡ is_stalled_at self.now place }
+    {
+        match self.listeners.get(place) {
+            Some(socket) => socket.is_stalled(),
+            None => false,
+        }
     }
 
     /// When the next try to connect a link is due, where there is one.
@@ -300,15 +375,55 @@ impl SocketSet {
         next
     }
 
-    /// Tries again to connect the links that aren't connected yet.
+    /// Tries again what the system refused for a time, as far as it is time to.
     fn retry_all(&mut self, rt: &HostRuntime)
+        ensures reported { IsReadIf (λ _. false) self.old self.new }
         ensures kept { KeepsNotes self.old self.new }
         ensures goes { GoesOn self.old self.new }
     {
-        if self.pending.is_empty() {
+        if self.pending.is_empty() && !self.has_stalled() {
             return;
         }
         let now = Instant::now(rt).ok();
+        self.retry_accepts(now);
+        self.retry_connects(rt, now);
+    }
+
+    /// Names the stalled listeners again whose delay is over.
+    fn retry_accepts(&mut self, now: Option<Instant>)
+        ensures retried { (place : ℕ) → is_accept_due_at self.new now place ≡ false }
+        ensures early { (place : ℕ) → is_accept_early_at self.old now place ≡ true → is_accept_early_at self.new now place ≡ true }
+        ensures links { self.new.links ≡ self.old.links }
+        ensures kept { KeepsNotes self.old self.new }
+        ensures goes { GoesOn self.old self.new }
+    {
+        for place in 0..self.listeners.len() {
+            self.retry_accept(place, now);
+        }
+    }
+
+    fn retry_accept(&mut self, place: usize, now: Option<Instant>)
+        requires { place < 2 ^ 63 }
+        ensures retried { is_accept_due_at self.new now place ≡ false }
+        ensures others { (other : ℕ) → is_accept_due_at self.old now other ≡ false → is_accept_due_at self.new now other ≡ false }
+        ensures early { (other : ℕ) → is_accept_early_at self.old now other ≡ true → is_accept_early_at self.new now other ≡ true }
+        ensures number { vec_len self.new.listeners ≡ vec_len self.old.listeners }
+        ensures links { self.new.links ≡ self.old.links }
+        ensures kept { KeepsNotes self.old self.new }
+        ensures goes { GoesOn self.old self.new }
+    {
+        if let Some(socket) = self.listeners.get_mut(place) {
+            let is_new = socket.retry(now);
+            self.queue(LISTENERS + place as u64, is_new);
+        }
+    }
+
+    /// Tries again to connect the links that aren't connected yet.
+    fn retry_connects(&mut self, rt: &HostRuntime, now: Option<Instant>)
+        ensures reported { IsReadIf (λ _. false) self.old self.new }
+        ensures kept { KeepsNotes self.old self.new }
+        ensures goes { GoesOn self.old self.new }
+    {
         for _ in 0..self.pending.len() {
             self.retry_first(rt, now);
         }
@@ -316,6 +431,7 @@ impl SocketSet {
 
     /// Tries the first of these again. It goes to their end, unless nothing is to be tried any more.
     fn retry_first(&mut self, rt: &HostRuntime, now: Option<Instant>)
+        ensures reported { IsReadIf (λ _. false) self.old self.new }
         ensures kept { KeepsNotes self.old self.new }
         ensures goes { GoesOn self.old self.new }
     {
@@ -337,6 +453,7 @@ impl SocketSet {
     /// Tries again to connect a link. Where it isn't there any more, nothing is to be tried.
     fn attempt(&mut self, rt: &HostRuntime, number: u64, now: Option<Instant>) -> Attempt
         ensures pending { self.new.pending ≡ self.old.pending }
+        ensures reported { IsReadIf (λ _. false) self.old self.new }
         ensures kept { KeepsNotes self.old self.new }
         ensures goes { GoesOn self.old self.new }
     {
@@ -352,14 +469,16 @@ impl SocketSet {
     }
 }
 
-/// How long it is until a time, or so long as the system is waited for where the clock can't be read.
-fn delay_until(time: Instant, now: Option<Instant>) -> Duration
-    ensures known { (clock : Instant) → now ≡ Some clock → as_nanos result ≡ instant_nanos time - instant_nanos clock }
-    ensures blind { now ≡ None → as_nanos result ≡ BLIND_DELAY * 1_000_000 }
+/// The shorter of two times, of which each may be missing.
+fn shorter(one: Option<Duration>, other: Option<Duration>) -> Option<Duration>
+    ensures one { (nanos : ℕ) → nanos_of one ≡ Some nanos → IsWithin nanos (nanos_of result) }
+    ensures other { (nanos : ℕ) → nanos_of other ≡ Some nanos → IsWithin nanos (nanos_of result) }
+    ensures either { (result ≡ one) ⊎ (result ≡ other) }
 {
-    match now {
-        Some(now) => time.saturating_duration_since(now),
-        None => Duration::from_millis(BLIND_DELAY),
+    match (one, other) {
+        (Some(first), Some(second)) if first < second => one,
+        (_, Some(_)) => other,
+        (_, None) => one,
     }
 }
 

@@ -1,5 +1,5 @@
-use Rattle.proxy_net.specs.Sockets.{GoesOn}
+use Rattle.proxy_net.specs.Sockets.{GoesOn, StaysClosed}
 use Rattle.proxy_net.proofs.net.MioNet.next.Given as goal
 
 abbrev pub invariant-loop : goal.invariant-loop
-invariant-loop l = GoesOn l.fn.self.sockets l.self.sockets
+invariant-loop l = record { goes : GoesOn l.fn.self.sockets l.self.sockets; closed : StaysClosed l.fn.self.sockets l.self.sockets }

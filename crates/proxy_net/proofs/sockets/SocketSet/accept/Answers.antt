@@ -28,7 +28,7 @@ returns-in-Failed-clause-wishes c =
     (keeps_wishes (goes_through before c.fail_accept-in-Failed.ensures.goes))
 
 pub returns-then-is_err-clause-grows : goal.returns-then-is_err-clause-grows
-returns-then-is_err-clause-grows c = goes_grows (goes_through c.reserve.ensures.goes c.stall.ensures)
+returns-then-is_err-clause-grows c = goes_grows (goes_through c.reserve.ensures.goes c.stall.ensures.goes)
 
 pub returns-in_default-clause-grows : goal.returns-in_default-clause-grows
 returns-in_default-clause-grows c = goes_grows (goes_through c.reserve.ensures.goes c.fail_accept.ensures.goes)

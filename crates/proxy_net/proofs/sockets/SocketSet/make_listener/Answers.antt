@@ -1,5 +1,5 @@
 use Rattle.proxy_net.proofs.Going.{goes_through}
 use Rattle.proxy_net.proofs.sockets.SocketSet.make_listener.Goals as goal
 
-pub returns-in-Some-clause-goes : goal.returns-in-Some-clause-goes
-returns-in-Some-clause-goes c = goes_through c.reserve_listener.ensures.goes c.add_listener.ensures.goes
+pub returns-clause-goes : goal.returns-clause-goes
+returns-clause-goes c = goes_through c.reserve_listener.ensures.goes c.add_listener.ensures.goes

@@ -1,6 +1,5 @@
 use Rattle.proxy_net.proofs.Going.{goes_through}
-use Rattle.proxy_net.proofs.Notes.{notes_through}
 use Rattle.proxy_net.proofs.sockets.SocketSet.retry_all.Goals as goal
 
-pub loop-preserved : goal.loop-preserved
-loop-preserved c = (goes_through c.loop.invariant.0 c.retry_first.ensures.goes, notes_through c.loop.invariant.1 c.retry_first.ensures.kept)
+pub returns-clause-goes : goal.returns-clause-goes
+returns-clause-goes c = goes_through c.retry_accepts.ensures.goes c.retry_connects.ensures.goes

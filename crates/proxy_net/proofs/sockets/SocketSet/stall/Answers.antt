@@ -8,5 +8,5 @@ invariant_of-self c =
     let sockets = c.args.self.now in
     record {
       room = listener_fits 0 (deque_len sockets.ready) (deque_capacity sockets.ready) sockets.listeners.items sockets.links.entries sockets.room
-          0 (deque_len sockets.ready) (deque_capacity sockets.ready) _ c.in-Some.socket.now _ c.in-Some.ensures.item.3.0 c.in-Some.ensures.value (grind (arith, c.stall.ensures)) (omega arith);
+          0 (deque_len sockets.ready) (deque_capacity sockets.ready) _ c.in-Some.socket.now _ c.in-Some.ensures.item.3.0 c.in-Some.ensures.value (grind (arith, c.stall.ensures.stalled)) (omega arith);
     }

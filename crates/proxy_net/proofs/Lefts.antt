@@ -1,0 +1,42 @@
+-- The shortest of the times that are left until listeners are tried again, found one listener after the other.
+use Rattle.std.proofs.Common.{ℕ, ◌≡◌, ◌+◌, ◌<◌, ◌⊎◌, zero, suc, inl, inr, nat_lt, List, [], ◌∷◌, length, slice_get, Bool, true, false, Option, Some, None, refl, ap, ◌∙◌, sym, arith}
+use Rattle.std.specs.declared.time.Instant.{Instant}
+use Rattle.std.proofs.lemmas.Bool.Decides.{nat_tests}
+use Rattle.proxy_net.specs.Delays.{IsWithin}
+use Rattle.proxy_net.specs.Sockets.{accept_left_at, left_in, IsFirstLeft}
+use Rattle.proxy_net.specs.declared.listeners.ListenerSocket.{ListenerSocket}
+use Rattle.proxy_net.specs.declared.sockets.SocketSet.{SocketSet}
+
+pub none_left : (sockets : SocketSet) (now : Option Instant) → IsFirstLeft sockets now 0 None
+none_left sockets now = record { by = λ place left below at. absurd (omega (arith, below)); one = λ nanos e. cc }
+
+pub within_through : (first next : Option ℕ) (left : ℕ) → IsWithin left first → ((nanos : ℕ) → first ≡ Some nanos → IsWithin nanos next) → IsWithin left next
+within_through None next left within through = absurd within
+within_through (Some nanos) next left within through = by next (through nanos refl)
+  where
+    by : (o : Option ℕ) → IsWithin nanos o → IsWithin left o
+    by None w = absurd w
+    by (Some n) w = omega (arith, w, within)
+
+-- one listener more
+pub one_more_left : (sockets : SocketSet) (now : Option Instant) (place : ℕ) (first own next : Option ℕ) → IsFirstLeft sockets now place first → own ≡ accept_left_at sockets now place
+    → ((nanos : ℕ) → first ≡ Some nanos → IsWithin nanos next) → ((nanos : ℕ) → own ≡ Some nanos → IsWithin nanos next) → (next ≡ first) ⊎ (next ≡ own) → IsFirstLeft sockets now (place + 1) next
+one_more_left sockets now place first own next before is not_longer no_longer either = record {
+  by = λ other left below at. chosen other left below at (nat_lt other place) refl;
+  one = λ nanos e. elim either [
+    | inl same ↦ before.one nanos (sym same ∙ e)
+    | inr same ↦ (place, sym is ∙ sym same ∙ e)
+  ];
+}
+  where
+    chosen : (other left : ℕ) → other < place + 1 → accept_left_at sockets now other ≡ Some left → (less : Bool) → nat_lt other place ≡ less → IsWithin left next
+    chosen other left below at true e = within_through first next left (before.by other left (grind (arith, nat_tests, e)) at) not_longer
+    chosen other left below at false e =
+        let same : other ≡ place = grind (arith, nat_tests, e, below) in
+        no_longer left (is ∙ ap (accept_left_at sockets now) (sym same) ∙ at)
+
+-- only at the place of a listener is something left
+pub left_below : (now : Option Instant) (listeners : List ListenerSocket) (place left : ℕ) → left_in now (slice_get listeners place) ≡ Some left → place < length listeners
+left_below now [] place left e = absurd (let no : None ≡ Some left = e in cc)
+left_below now (listener ∷ listeners) zero left e = omega arith
+left_below now (listener ∷ listeners) (suc place) left e = let below = left_below now listeners place left e in omega (arith, below)

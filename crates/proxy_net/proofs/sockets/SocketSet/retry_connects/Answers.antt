@@ -1,0 +1,11 @@
+use Rattle.proxy_net.proofs.Going.{goes_through}
+use Rattle.proxy_net.proofs.Notes.{notes_through}
+use Rattle.proxy_net.proofs.Reading.{read_through}
+use Rattle.proxy_net.proofs.sockets.SocketSet.retry_connects.Goals as goal
+
+pub loop-preserved : goal.loop-preserved
+loop-preserved c = record {
+  goes = goes_through c.loop.invariant.goes c.retry_first.ensures.goes;
+  kept = notes_through c.loop.invariant.kept c.retry_first.ensures.kept;
+  reported = read_through c.loop.invariant.reported c.retry_first.ensures.reported;
+}

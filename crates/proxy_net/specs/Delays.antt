@@ -1,0 +1,50 @@
+-- Accepts that are tried again.
+use Rattle.std.specs.Prelude.{ℕ, ◌≤◌, ◌-◌, ◌*◌, min, nat_eq, nat_le, if◌then◌else◌, Bool, true, not, ◌&&◌, Option, Some, None}
+use Rattle.std.specs.Option.{option_map}
+use Rattle.std.specs.Time.{instant_nanos}
+use Rattle.std.specs.Duration.{as_nanos}
+use Rattle.std.specs.declared.time.Duration.{Duration}
+use Rattle.std.specs.declared.time.Instant.{Instant}
+use Rattle.proxy_net.specs.declared.listeners.ListenerSocket.{ListenerSocket}
+
+-- how many milliseconds a try is put off, after the last one was put off so long: 1, 2, 4, 8, 16, 32, 32 ..
+abbrev pub next_delay : ℕ → ℕ
+next_delay delay = if nat_eq delay 0 then 1 else min (delay * 2) 32
+
+-- it is time for a try that is due then. So it is where its time isn't known, or the clock can't be read.
+abbrev pub is_time : Option Instant → Option Instant → Bool
+is_time None now = true
+is_time (Some due) None = true
+is_time (Some due) (Some now) = nat_le (instant_nanos due) (instant_nanos now)
+
+-- how many nanoseconds are left until then: 32 milliseconds where its time isn't known, or the clock
+-- can't be read
+abbrev pub nanos_until : Option Instant → Option Instant → ℕ
+nanos_until None now = 32000000
+nanos_until (Some due) None = 32000000
+nanos_until (Some due) (Some now) = instant_nanos due - instant_nanos now
+
+-- a listener is stalled, and it is time to try it again
+abbrev pub is_accept_due : Option Instant → ListenerSocket → Bool
+is_accept_due now s = s.stalled && is_time s.due now
+
+-- a listener is stalled, and it isn't time yet to try it again
+abbrev pub is_accept_early : Option Instant → ListenerSocket → Bool
+is_accept_early now s = s.stalled && not (is_time s.due now)
+
+-- how many nanoseconds are left until a listener is tried again, where it is stalled
+abbrev pub accept_left : Option Instant → ListenerSocket → Option ℕ
+accept_left now s = if s.stalled then Some (nanos_until s.due now) else None
+
+-- a listener is stalled, and was put off by one of the delays
+abbrev pub is_put_off : ListenerSocket → Bool
+is_put_off s = s.stalled && (nat_le 1 s.delay && nat_le s.delay 32)
+
+-- a length of time in nanoseconds
+abbrev pub nanos_of : Option Duration → Option ℕ
+nanos_of duration = option_map (λ (d : Duration). as_nanos d) duration
+
+-- a time that is no longer
+abbrev pub IsWithin : ℕ → Option ℕ → Type 0
+IsWithin left None = ⊥
+IsWithin left (Some nanos) = nanos ≤ left
