@@ -25,8 +25,7 @@ pub trait Disk {
 
 /// The disk of the system. What its files hold is not told, since others may write to them at any time.
 ///
-/// That it opens the path that it adds to `opened`, and no other, is trusted, and rests on the two lines of `open`: nothing else in
-/// the program opens a file.
+/// That it opens the path that it adds to `opened`, and no other, is trusted, and rests on the two lines of `open`.
 #[derive(Drop)]
 pub struct SystemDisk<'a> {
     rt: &'a HostRuntime,
