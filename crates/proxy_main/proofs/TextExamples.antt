@@ -1,0 +1,45 @@
+-- The texts that the program writes of itself, in full.
+use Rattle.std.proofs.Common.{ℕ, ◌≡◌, ◌++◌, List, codes, refl}
+use Rattle.proxy_main.specs.declared.texts.TheConstants.{HELP, VERSION}
+
+version_text : VERSION.now ≡ codes "0.1.0"
+version_text = refl
+
+help_text : HELP.now
+    ≡ codes "Usage:\n"
+    ++ codes "  zamtigarn ADDRESS PATH [OPTION]...    listens at PATH, and stands between each client that comes and the bus at ADDRESS\n"
+    ++ codes "  zamtigarn replay POLICY RECORDING     plays a recording under a policy, and writes what each side gets\n"
+    ++ codes "  zamtigarn explain POLICY RECORDING N  tells what was decided on its message of number N, and by which entry\n"
+    ++ codes "  zamtigarn twin POLICY A B             tells whether two recordings are the same to a policy, or where they first differ\n"
+    ++ codes "  zamtigarn sample N SEED               plays a session of N draws from a seed, and sums it up\n"
+    ++ codes "  zamtigarn --help                      writes this text\n"
+    ++ codes "  zamtigarn --version                   writes the version\n"
+    ++ codes "\n"
+    ++ codes "ADDRESS is a D-Bus address with a unix:path. Further blocks of an ADDRESS, a PATH and options may follow.\n"
+    ++ codes "The options of a block, and those in the file POLICY, where each is ended by a NUL:\n"
+    ++ codes "  --filter               the messages are filtered; without it all goes through as it is\n"
+    ++ codes "  --log                  a line for each message that is filtered is written on standard error\n"
+    ++ codes "  --see=NAME             NAME is seen to be there\n"
+    ++ codes "  --talk=NAME            its methods may be called\n"
+    ++ codes "  --own=NAME             it may be owned, too\n"
+    ++ codes "  --call=NAME=RULE       it is seen, and calls that match RULE pass\n"
+    ++ codes "  --broadcast=NAME=RULE  it is seen, and its signals that match RULE are shown\n"
+    ++ codes "  --sloppy-names         owner changes of all unique names are shown\n"
+    ++ codes "  --known-fields         messages of the client with header fields of unknown codes are refused\n"
+    ++ codes "NAME is a well-known bus name, or N.* for N and all names below it. RULE is [METHOD][@PATH].\n"
+    ++ codes "Among the words of blocks alone:\n"
+    ++ codes "  --sessions=N           N clients are served in all, and then the program ends\n"
+    ++ codes "  --args-file=FILE       stands for the words of FILE, each ended by a NUL\n"
+    ++ codes "\n"
+    ++ codes "Status:\n"
+    ++ codes "  0  the output was written, or nothing is left to be served\n"
+    ++ codes "  1  the words are none of these\n"
+    ++ codes "  2  the policy is refused\n"
+    ++ codes "  3  a recording is refused\n"
+    ++ codes "  4  a file could not be read\n"
+    ++ codes "  5  the proxy could not listen, or wait\n"
+    ++ codes "  6  the output or the log of a tool could not be written\n"
+    ++ codes "  7  the two recordings differ to the policy\n"
+    ++ codes "  8  memory was refused\n"
+    ++ codes "  9  the recording has no message of the number N\n"
+help_text = refl
