@@ -22,11 +22,11 @@ use Rattle.policy_args.specs.Policy.{Policy}
 use Rattle.policy_view.specs.declared.End.{End}
 use Rattle.policy_view.specs.declared.End.TheVariants.{ClientMalformed, BusMalformed, ClientEnd, BusEnd, SerialsSpent, Memory, ClientRead, ClientWrite, BusRead, BusWrite, BusConnect, LogFault}
 use Rattle.policy_view.specs.History.{Event, Bytes, Finished as FinishedEvent, Stopped}
-use Rattle.proxy_core.specs.Sessions.{SessionView, Taken, StandsFor, IsFront}
+use Rattle.proxy_core.specs.Sessions.{SessionView, Taken, StandsFor, IsFront, is_memory}
 use Rattle.proxy_core.specs.Messages.{ended_by}
 use Rattle.proxy_loop.specs.Sessions.{events_of, events_by, side_of, read_end, write_end}
-use Rattle.proxy_loop.specs.Kinds.{is_write, is_taken, all_are, some_of, gone_by, last_write, only_newest_stops}
-use Rattle.proxy_loop.specs.Works.{with_taken, with_queue, more_taken, Moves, Stood, StoodFor, Goes, Any, Only, Cause, queue_of, OneWrite, Writes, WritesOn, WroteOut, OneRead, read_room, ShutWhere, KeepsEnd}
+use Rattle.proxy_loop.specs.Kinds.{is_write, is_taken, gave_bytes, all_are, some_of, gone_by, last_write, only_newest_stops}
+use Rattle.proxy_loop.specs.Works.{with_taken, with_queue, more_taken, Moves, Stood, StoodFor, Goes, Any, Only, Cause, queue_of, OneWrite, Writes, WritesOn, WroteOut, FedOnce, read_room, ShutWhere, KeepsEnd}
 use Rattle.proxy_loop.proofs.Ends.{is_plain, event_cause}
 
 pub same_number : (n : ℕ) → nat_eq n n ≡ true
@@ -424,6 +424,49 @@ failed_write_goes link old new result before after piece front adds rose stops =
     (λ policy u s end e. stop_cause link.session old new (write_end link.side) result before after stops (write_cause link before after rose) end e)
     (stopped_mode old new result stops.answer)
 
+-- a stop that tells of no refused memory
+pub ended_keeps : (old new : SessionView) (result : End) → new ≡ ended_by result old → (old.ended ≡ None → is_memory (Some result) ≡ false) → ((end : End) → old.ended ≡ Some end → result ≡ end) → KeepsEnd old new
+ended_keeps old new result answer own last = record {
+  each = λ end e. same_end old new result end answer last e;
+  notes = ap (λ (v : SessionView). v.notes) answer;
+  memory = ap (λ (v : SessionView). is_memory v.ended) answer ∙ by old.ended refl;
+}
+  where
+    by : (o : Option End) → old.ended ≡ o → is_memory (Some result) ≡ is_memory old.ended
+    by None e = own e ∙ sym (ap is_memory e)
+    by (Some x) e = ap (λ (y : End). is_memory (Some y)) (last x e) ∙ sym (ap is_memory e)
+
+write_end_plain : (side : Side) → is_memory (Some (write_end side)) ≡ false
+write_end_plain Client = refl
+write_end_plain Bus = refl
+
+read_end_plain : (side : Side) → is_memory (Some (read_end side)) ≡ false
+read_end_plain Client = refl
+read_end_plain Bus = refl
+
+pub stop_write_keeps : (side : Side) (old new : SessionView) (result : End) → Stops old new (write_end side) result → KeepsEnd old new
+stop_write_keeps side old new result stops =
+    ended_keeps old new result stops.answer (λ e. ap (λ (x : End). is_memory (Some x)) (stops.first e) ∙ write_end_plain side) stops.last
+
+-- what a queue leaves as it is
+pub queue_keeps : (side : Side) (queue : List ℕ) (old new : SessionView) → new ≡ with_queue side queue old → KeepsEnd old new
+queue_keeps Client queue old new e = record {
+  each = λ end h. ap (λ (v : SessionView). v.ended) e ∙ h;
+  notes = ap (λ (v : SessionView). v.notes) e;
+  memory = ap (λ (v : SessionView). is_memory v.ended) e;
+}
+queue_keeps Bus queue old new e = record {
+  each = λ end h. ap (λ (v : SessionView). v.ended) e ∙ h;
+  notes = ap (λ (v : SessionView). v.notes) e;
+  memory = ap (λ (v : SessionView). is_memory v.ended) e;
+}
+
+pub end_none : (a : SessionView) → KeepsEnd a a
+end_none a = record { each = λ end e. e; notes = refl; memory = refl }
+
+pub end_then : (a b c : SessionView) → KeepsEnd a b → KeepsEnd b c → KeepsEnd a c
+end_then a b c x y = record { each = λ end e. y.each end (x.each end e); notes = y.notes ∙ x.notes; memory = y.memory ∙ x.memory }
+
 pub some_room : (into : List ℕ) → length into ≡ read_room → 0 < length into
 some_room into e = omega (arith, e)
 
@@ -433,22 +476,26 @@ module _ (policy : Policy) (link : Link) (old new : SessionView) (before after :
       gone_by link (read_entry link into answer) ≡ gone → Moves policy link.session old new (read_entry link into answer ∷ []) →
       ((end : End) → old.ended ≡ Some end → new.ended ≡ Some end) →
       (Stood policy old → (end : End) → new.ended ≡ Some end → (old.ended ≡ Some end) ⊎ Cause link.session end before after) → new.mode ≡ old.mode →
-      Goes (Only policy) link.session old new before after (OneRead link gone)
-  read_one answer gone adds progress is moves kept cause mode =
-      goes_one (Only policy) link.session old new before after (OneRead link gone) (read_entry link into answer) adds
-      (record { into = into; answer = answer; room = room; progress = progress; one = refl; gone = is })
+      (gave_bytes (read_entry link into answer) ≡ false → KeepsEnd old new) → Goes (Only policy) link.session old new before after (FedOnce link old new gone)
+  read_one answer gone adds progress is moves kept cause mode unfed =
+      goes_one (Only policy) link.session old new before after (FedOnce link old new gone) (read_entry link into answer) adds
+      (record {
+        once = record { into = into; answer = answer; room = room; progress = progress; one = refl; gone = is };
+        unfed = λ e. unfed (sym (some_one gave_bytes (read_entry link into answer)) ∙ e);
+      })
       (λ p u. subst (λ (x : Policy). Moves x link.session old new (read_entry link into answer ∷ [])) (sym u) moves) kept
       (λ p u s end e. cause (subst (λ (x : Policy). Stood x old) u s) end e) mode
 
   pub failed_read_goes : (result : End) → Adds before after (Failed (ReadCall link) ∷ []) → RoseAt (OfLink link) before after →
       Stops old new (read_end link.side) result →
-      Goes (Only policy) link.session old new before after (OneRead link true)
+      Goes (Only policy) link.session old new before after (FedOnce link old new true)
   failed_read_goes result adds rose stops =
       read_one GotFailed true adds (λ n e. cc) (same_link_self link)
       (moves_event policy link.session old new (Failed (ReadCall link)) (Stopped (read_end link.side)) refl refl (rw (same_number link.session) refl) (stops.stands policy))
       (λ end e. same_end old new result end stops.answer stops.last e)
       (λ s end e. stop_cause link.session old new (read_end link.side) result before after stops (read_cause link before after rose) end e)
       (stopped_mode old new result stops.answer)
+      (λ e. ended_keeps old new result stops.answer (λ none. ap (λ (x : End). is_memory (Some x)) (stops.first none) ∙ read_end_plain link.side) stops.last)
 
   -- an entry that tells an event other than a stop
   plain_goes : (answer : Got) (gone : Bool) (event : Event) → Adds before after (read_entry link into answer ∷ []) → ((n : ℕ) → answer ≡ GotBytes n → (0 < n) × (n ≤ read_room)) →
@@ -456,35 +503,36 @@ module _ (policy : Policy) (link : Link) (old new : SessionView) (before after :
       written_by (client_link link.session) (read_entry link into answer) ≡ [] → events_by link.session (read_entry link into answer) ≡ event ∷ [] → is_plain event ≡ true →
       ((events : List Event) (taken : Taken) → StandsFor policy old events taken → StandsFor policy new (event ∷ events) taken) →
       ((end : End) → old.ended ≡ Some end → new.ended ≡ Some end) → new.mode ≡ old.mode →
-      Goes (Only policy) link.session old new before after (OneRead link gone)
-  plain_goes answer gone event adds progress is bus client one plain step kept mode =
+      (gave_bytes (read_entry link into answer) ≡ false → KeepsEnd old new) → Goes (Only policy) link.session old new before after (FedOnce link old new gone)
+  plain_goes answer gone event adds progress is bus client one plain step kept mode unfed =
       read_one answer gone adds progress is (moves_event policy link.session old new (read_entry link into answer) event bus client one step) kept
-      (λ s end e. event_cause policy link.session old new before after event plain step kept mode s end e) mode
+      (λ s end e. event_cause policy link.session old new before after event plain step kept mode s end e) mode unfed
 
   pub read_goes : (n : ℕ) → Adds before after (Read link (take n into) ∷ []) → 0 < n → n ≤ length into →
       ((events : List Event) (taken : Taken) → StandsFor policy old events taken → StandsFor policy new (Bytes (side_of link.side) (take n into) ∷ events) taken) →
       ((end : End) → old.ended ≡ Some end → new ≡ old) → new.mode ≡ old.mode →
-      Goes (Only policy) link.session old new before after (OneRead link false)
+      Goes (Only policy) link.session old new before after (FedOnce link old new false)
   read_goes n adds some within step last mode =
       plain_goes (GotBytes n) false (Bytes (side_of link.side) (take n into)) adds
       (λ m e. let same : n ≡ m = cc in (subst (λ (k : ℕ). 0 < k) same some, subst (λ (k : ℕ). m ≤ k) room (subst (λ (k : ℕ). k ≤ length into) same within)))
       refl refl refl (rw (same_number link.session) refl) refl step
-      (λ end e. ap (λ (v : SessionView). v.ended) (last end e) ∙ e) mode
+      (λ end e. ap (λ (v : SessionView). v.ended) (last end e) ∙ e) mode (λ e. cc)
 
   pub finished_goes : (result : End) → Adds before after (Finished link ∷ []) →
       ((events : List Event) (taken : Taken) → StandsFor policy old events taken → StandsFor policy new (FinishedEvent (side_of link.side) ∷ events) taken) →
-      new ≡ ended_by result old → ((end : End) → old.ended ≡ Some end → result ≡ end) →
-      Goes (Only policy) link.session old new before after (OneRead link true)
-  finished_goes result adds step answer last =
+      new ≡ ended_by result old → (old.ended ≡ None → is_memory (Some result) ≡ false) → ((end : End) → old.ended ≡ Some end → result ≡ end) →
+      Goes (Only policy) link.session old new before after (FedOnce link old new true)
+  finished_goes result adds step answer own last =
       plain_goes GotFinished true (FinishedEvent (side_of link.side)) adds (λ n e. cc) (same_link_self link) refl refl (rw (same_number link.session) refl) refl step
-      (λ end e. same_end old new result end answer last e) (stopped_mode old new result answer)
+      (λ end e. same_end old new result end answer last e) (stopped_mode old new result answer) (λ e. ended_keeps old new result answer own last)
 
-  pub unread_goes : new ≡ old → Adds before after (NotReady (ReadCall link) ∷ []) → Goes (Only policy) link.session old new before after (OneRead link false)
+  pub unread_goes : new ≡ old → Adds before after (NotReady (ReadCall link) ∷ []) → Goes (Only policy) link.session old new before after (FedOnce link old new false)
   unread_goes same adds =
       read_one GotNotReady false adds (λ n e. cc) refl
       (subst (λ (s : SessionView). Moves policy link.session old s (NotReady (ReadCall link) ∷ [])) (sym same)
       (moves_quiet policy link.session old (NotReady (ReadCall link)) refl refl refl))
       (λ end e. ap (λ (s : SessionView). s.ended) same ∙ e) (λ s end e. inl (sym (ap (λ (s : SessionView). s.ended) same) ∙ e)) (ap (λ (s : SessionView). s.mode) same)
+      (λ e. subst (λ (s : SessionView). KeepsEnd old s) (sym same) (end_none old))
 
 pub wishes_none : (a : NetView) → KeepsWishes a a
 wishes_none a = record { each = λ l. refl }
@@ -504,12 +552,6 @@ pub unshut_goes : (link : Link) (session : SessionView) (net : NetView) (here : 
     Goes Any link.session session session net net (ShutWhere link here)
 unshut_goes link session net here is =
     goes_none Any link.session session net (ShutWhere link here) (record { is = rw is refl })
-
-pub end_none : (a : SessionView) → KeepsEnd a a
-end_none a = record { each = λ end e. e; notes = refl }
-
-pub end_then : (a b c : SessionView) → KeepsEnd a b → KeepsEnd b c → KeepsEnd a c
-end_then a b c x y = record { each = λ end e. y.each end (x.each end e); notes = y.notes ∙ x.notes }
 
 pub goes_under : (under other : Policy → Type 0) (n : ℕ) (old new : SessionView) (before after : NetView) (Shape : Journal → Type 0) →
     ((policy : Policy) → other policy → under policy) → Goes under n old new before after Shape → Goes other n old new before after Shape

@@ -11,14 +11,16 @@ use Rattle.link_traits.specs.declared.links.Side.TheVariants.{Client, Bus}
 use Rattle.link_traits.specs.declared.links.Link.{Link}
 use Rattle.link_traits.specs.declared.links.Call.TheVariants.{Write as WriteCall}
 use Rattle.policy_args.specs.Policy.{Policy}
+use Rattle.policy_view.specs.Notes.{Note}
 use Rattle.policy_view.specs.declared.End.{End}
-use Rattle.proxy_core.specs.Sessions.{SessionView, Taken, StandsFor}
+use Rattle.policy_view.specs.declared.End.TheVariants.{ClientMalformed, BusMalformed, ClientEnd, BusEnd, SerialsSpent, Memory, ClientRead, ClientWrite, BusRead, BusWrite, BusConnect, LogFault}
+use Rattle.proxy_core.specs.Sessions.{SessionView, Taken, StandsFor, is_memory}
 use Rattle.proxy_loop.specs.declared.serving.Running.{Running}
 use Rattle.proxy_loop.specs.Sinks.{SinkView}
-use Rattle.proxy_loop.specs.Kinds.{is_write, is_read, writes_of, all_are, some_of, gone_by, last_write, first_of}
-use Rattle.proxy_loop.specs.Works.{Any, Only, Goes, OneRead, ShutWhere, ShutBoth, link_at, IsDrained}
+use Rattle.proxy_loop.specs.Kinds.{is_write, is_read, writes_of, gave_bytes, all_are, some_of, gone_by, last_write, first_of}
+use Rattle.proxy_loop.specs.Works.{Any, Only, Goes, OneRead, FedOnce, KeepsEnd, ShutWhere, ShutBoth, link_at, IsDrained}
 use Rattle.proxy_loop.specs.Writing.{Written}
-use Rattle.proxy_loop.specs.Logging.{stopped_at, IsLogEnd, LogEnds, Logs}
+use Rattle.proxy_loop.specs.Logging.{stopped_at, IsLogEnd, LineRefused, LogEnds, Logs}
 use Rattle.proxy_loop.specs.Runs.{Sound, WroteBoth, Reads, LogsIf, ReadPart, WrittenUnless, ReadsAndLogs, pick_side}
 use Rattle.proxy_loop.proofs.KindCases.{read_cases, write_cases}
 use Rattle.proxy_loop.proofs.Holding.{same_link_self, goes_then, goes_none, goes_map, all_joined, wrote_append, some_append}
@@ -230,9 +232,9 @@ read_is link into GotFailed = same_link_self link
 read_part : (n : ℕ) (side : Side) (r0 r1 : Running) (gone : Bool) (added : Journal) → OneRead (link_at n side) gone added →
     r0.client.gone ≡ false → r0.bus.gone ≡ false →
     r1.client.gone ≡ pick_side side gone r0.client.gone → r1.bus.gone ≡ pick_side side r0.bus.gone gone →
-    ReadPart n side false r0 r1 added
+    (some_of gave_bytes added ≡ false → is_memory r1.session.ended ≡ is_memory r0.session.ended) → ReadPart n side false r0 r1 added
 unfolding some_of
-read_part n Client r0 r1 gone added o c b client bus =
+read_part n Client r0 r1 gone added o c b client bus unfed =
     let own : some_of (gone_by (client_link n)) added ≡ gone = ap (some_of (gone_by (client_link n))) o.one ∙ ap (λ (x : Bool). x || false) o.gone ∙ or_none gone in
     let other : some_of (gone_by (bus_link n)) added ≡ false =
     ap (some_of (gone_by (bus_link n))) o.one ∙ ap (λ (x : Bool). x || false) (read_gone_other (client_link n) (bus_link n) (client_apart n) (read_entry (client_link n) o.into o.answer) (read_is (client_link n) o.into o.answer)) in
@@ -240,8 +242,9 @@ read_part n Client r0 r1 gone added o c b client bus =
       once = (gone, o);
       client_gone = client ∙ or_was gone r0.client.gone c ∙ ap (λ (x : Bool). x || r0.client.gone) (sym own);
       bus_gone = bus ∙ ap (λ (x : Bool). x || r0.bus.gone) (sym other);
+      unfed = unfed;
     }
-read_part n Bus r0 r1 gone added o c b client bus =
+read_part n Bus r0 r1 gone added o c b client bus unfed =
     let own : some_of (gone_by (bus_link n)) added ≡ gone = ap (some_of (gone_by (bus_link n))) o.one ∙ ap (λ (x : Bool). x || false) o.gone ∙ or_none gone in
     let other : some_of (gone_by (client_link n)) added ≡ false =
     ap (some_of (gone_by (client_link n))) o.one ∙ ap (λ (x : Bool). x || false) (read_gone_other (bus_link n) (client_link n) (bus_apart n) (read_entry (bus_link n) o.into o.answer) (read_is (bus_link n) o.into o.answer)) in
@@ -249,6 +252,7 @@ read_part n Bus r0 r1 gone added o c b client bus =
       once = (gone, o);
       client_gone = client ∙ ap (λ (x : Bool). x || r0.client.gone) (sym other);
       bus_gone = bus ∙ or_was gone r0.bus.gone b ∙ ap (λ (x : Bool). x || r0.bus.gone) (sym own);
+      unfed = unfed;
     }
 
 not_gone : (gone : Bool) (ended : Option End) → (gone ≡ true → is_some ended ≡ true) → ended ≡ None → gone ≡ false
@@ -264,12 +268,13 @@ pub reads_idle : (policy : Policy) (log : Bool) (n : ℕ) (side : Side) (idle : 
 unfolding some_of
 reads_idle policy log n side idle running net sink e = record {
   fed = running.session;
-  goes = goes_none (Only policy) n running.session net (ReadPart n side idle running running) (rw e (record { once = refl; client_gone = refl; bus_gone = refl }));
+  goes = goes_none (Only policy) n running.session net (ReadPart n side idle running running) (rw e (record { once = refl; client_gone = refl; bus_gone = refl; unfed = λ h. refl }));
   taken = [];
   lines = [];
   rest = [];
   stop = None;
   still = λ h. refl;
+  logged = λ end h. cc;
   unread = λ h. refl;
   stands = λ p events was s. subst (λ (t : Taken). StandsFor p running.session events t) (nothing_more was) s;
   is = refl;
@@ -288,22 +293,23 @@ reads_idle policy log n side idle running net sink e = record {
 module _ (policy : Policy) (n : ℕ) (side : Side) (idle : Bool) (r0 r1 r2 : Running) (v0 v1 : NetView) (l0 l1 : SinkView)
     (busy : idle ≡ false) (sound : Sound r0) (runs : r0.session.ended ≡ None) (reads : Reads policy n side r0 r1 v0 v1)
     (client : r2.client.gone ≡ r1.client.gone) (bus : r2.bus.gone ≡ r1.bus.gone) where
-  fed_goes : Goes (Only policy) n r0.session r1.session v0 v1 (ReadPart n side idle r0 r2)
-  fed_goes = goes_map (Only policy) n r0.session r1.session v0 v1 (OneRead (link_at n side) reads.gone) (ReadPart n side idle r0 r2)
-      (λ added o. rw busy (read_part n side r0 r2 reads.gone added o
+  fed_goes : (KeepsEnd r0.session r1.session → is_memory r2.session.ended ≡ is_memory r0.session.ended) → Goes (Only policy) n r0.session r1.session v0 v1 (ReadPart n side idle r0 r2)
+  fed_goes unfed = goes_map (Only policy) n r0.session r1.session v0 v1 (FedOnce (link_at n side) r0.session r1.session reads.gone) (ReadPart n side idle r0 r2)
+      (λ added o. rw busy (read_part n side r0 r2 reads.gone added o.once
       (not_gone r0.client.gone r0.session.ended sound.client runs) (not_gone r0.bus.gone r0.session.ended sound.bus runs)
-      (client ∙ reads.client_gone) (bus ∙ reads.bus_gone)))
+      (client ∙ reads.client_gone) (bus ∙ reads.bus_gone) (λ e. unfed (o.unfed e))))
       reads.goes
 
   pub reads_unlogged : r2.session ≡ r1.session → l1 ≡ l0 → ReadsAndLogs policy false n side idle r0 r2 v0 v1 l0 l1
   reads_unlogged same quiet = record {
     fed = r1.session;
-    goes = fed_goes;
+    goes = fed_goes (λ k. ap (λ (s : SessionView). is_memory s.ended) same ∙ k.memory);
     taken = [];
     lines = [];
     rest = [];
     stop = None;
     still = λ h. refl;
+    logged = λ end h. cc;
     unread = λ h. refl;
     stands = λ p events was s. rw same (subst (λ (t : Taken). StandsFor p r1.session events t) (nothing_more was) s);
     is = refl;
@@ -319,14 +325,15 @@ module _ (policy : Policy) (n : ℕ) (side : Side) (idle : Bool) (r0 r1 r2 : Run
   }
 
   module _ (logs : Logs n r1.session r2.session l0 l1) where
-    stop_view : (end : End) → logs.stop ≡ Some end → IsLogEnd end l0 l1 × (r2.session ≡ stopped_at r1.session.ended end (record r1.session { notes = logs.left }))
+    stop_view : (end : End) → logs.stop ≡ Some end →
+        IsLogEnd (LineRefused n logs.taken logs.got logs.rest) end l0 l1 × (r2.session ≡ stopped_at r1.session.ended end (record r1.session { notes = logs.left }))
     stop_view end e = by logs.stop e logs.ends
       where
-        by : (stop : Option End) → stop ≡ Some end → LogEnds stop r1.session r2.session logs.left logs.rest l0 l1 →
-            IsLogEnd end l0 l1 × (r2.session ≡ stopped_at r1.session.ended end (record r1.session { notes = logs.left }))
+        by : (stop : Option End) → stop ≡ Some end → LogEnds n stop r1.session r2.session logs.taken logs.left logs.got logs.rest l0 l1 →
+            IsLogEnd (LineRefused n logs.taken logs.got logs.rest) end l0 l1 × (r2.session ≡ stopped_at r1.session.ended end (record r1.session { notes = logs.left }))
         by None h w = cc
         by (Some x) h w = let same : x ≡ end = cc in
-            subst (λ (y : End). IsLogEnd y l0 l1 × (r2.session ≡ stopped_at r1.session.ended y (record r1.session { notes = logs.left }))) same w
+            subst (λ (y : End). IsLogEnd (LineRefused n logs.taken logs.got logs.rest) y l0 l1 × (r2.session ≡ stopped_at r1.session.ended y (record r1.session { notes = logs.left }))) same w
 
     is_stopped : (end : End) → logs.stop ≡ Some end → is_some r2.session.ended ≡ true
     is_stopped end e = ap (λ (s : SessionView). is_some s.ended) (stop_view end e).1 ∙ by r1.session.ended refl
@@ -338,27 +345,29 @@ module _ (policy : Policy) (n : ℕ) (side : Side) (idle : Bool) (r0 r1 r2 : Run
     whole_view : logs.stop ≡ None → (logs.rest ≡ []) × (r2.session ≡ record r1.session { notes = [] })
     whole_view e = by logs.stop e logs.ends
       where
-        by : (stop : Option End) → stop ≡ None → LogEnds stop r1.session r2.session logs.left logs.rest l0 l1 → (logs.rest ≡ []) × (r2.session ≡ record r1.session { notes = [] })
+        by : (stop : Option End) → stop ≡ None → LogEnds n stop r1.session r2.session logs.taken logs.left logs.got logs.rest l0 l1 → (logs.rest ≡ []) × (r2.session ≡ record r1.session { notes = [] })
         by None h w = (w.1, w.2)
         by (Some x) h w = cc
 
-    written_all : WrittenUnless logs.stop n logs.got logs.rest l0 l1
+    written_all : WrittenUnless logs.stop n logs.taken logs.got logs.rest l0 l1
     written_all = by logs.stop refl
       where
-        by : (stop : Option End) → logs.stop ≡ stop → WrittenUnless stop n logs.got logs.rest l0 l1
+        by : (stop : Option End) → logs.stop ≡ stop → WrittenUnless stop n logs.taken logs.got logs.rest l0 l1
         by None e = (whole_view e).0
-        by (Some end) e = logs.why end e
+        by (Some end) e = (stop_view end e).0
 
     ends_stay : (stop : Option End) → logs.stop ≡ stop → (end : End) → r1.session.ended ≡ Some end → r2.session.ended ≡ Some end
     ends_stay None e end h = ap (λ (s : SessionView). s.ended) (whole_view e).1 ∙ h
     ends_stay (Some own) e end h = ap (λ (s : SessionView). s.ended) (stop_view own e).1 ∙ ap (λ (o : Option End). (stopped_at o own (record r1.session { notes = logs.left })).ended) h ∙ h
 
-    causes : (stop : Option End) → logs.stop ≡ stop → (end : End) → r2.session.ended ≡ Some end → (r1.session.ended ≡ Some end) ⊎ IsLogEnd end l0 l1
+    causes : (stop : Option End) → logs.stop ≡ stop → (end : End) → r2.session.ended ≡ Some end →
+        (r1.session.ended ≡ Some end) ⊎ IsLogEnd (LineRefused n logs.taken logs.got logs.rest) end l0 l1
     causes None e end h = inl (ap (λ (s : SessionView). s.ended) (sym (whole_view e).1) ∙ h)
     causes (Some own) e end h = by r1.session.ended refl (ap (λ (s : SessionView). s.ended) (sym (stop_view own e).1) ∙ h)
       where
-        by : (o : Option End) → r1.session.ended ≡ o → (stopped_at o own (record r1.session { notes = logs.left })).ended ≡ Some end → (r1.session.ended ≡ Some end) ⊎ IsLogEnd end l0 l1
-        by None k t = let same : own ≡ end = cc in inr (subst (λ (y : End). IsLogEnd y l0 l1) same (stop_view own e).0)
+        by : (o : Option End) → r1.session.ended ≡ o → (stopped_at o own (record r1.session { notes = logs.left })).ended ≡ Some end →
+            (r1.session.ended ≡ Some end) ⊎ IsLogEnd (LineRefused n logs.taken logs.got logs.rest) end l0 l1
+        by None k t = let same : own ≡ end = cc in inr (subst (λ (y : End). IsLogEnd (LineRefused n logs.taken logs.got logs.rest) y l0 l1) same (stop_view own e).0)
         by (Some x) k t = inl t
 
     mode_all : (stop : Option End) → logs.stop ≡ stop → r2.session.mode ≡ r1.session.mode
@@ -376,15 +385,46 @@ module _ (policy : Policy) (n : ℕ) (side : Side) (idle : Bool) (r0 r1 r2 : Run
         by None e = ap (λ (s : SessionView). s.notes) (whole_view e).1
         by (Some own) e = let t : is_some r2.session.ended ≡ true = is_stopped own e in let f : is_some r2.session.ended ≡ false = ap (λ (o : Option End). is_some o) h in cc
 
-    pub reads_logged : ReadsAndLogs policy true n side idle r0 r2 v0 v1 l0 l1
-    reads_logged = record {
+    -- where no note was made no line was refused memory
+    no_note_taken : r1.session.notes ≡ [] → LineRefused n logs.taken logs.got logs.rest → ⊥
+    no_note_taken none l = let e : [] ≡ (l.earlier ++ l.note ∷ []) ++ logs.left = sym none ∙ logs.split ∙ ap (λ (ns : List Note). ns ++ logs.left) l.last in some_note l.earlier l.note e
+      where
+        some_note : (earlier : List Note) (note : Note) → [] ≡ (earlier ++ note ∷ []) ++ logs.left → ⊥
+        some_note [] note e = absurd cc
+        some_note (first ∷ earlier) note e = absurd cc
+
+    log_memory : (P : Type 0) (end : End) → (P → ⊥) → IsLogEnd P end l0 l1 → is_memory (Some end) ≡ false
+    log_memory P Memory h w = absurd (h w)
+    log_memory P LogFault h w = refl
+    log_memory P (ClientMalformed fault) h w = refl
+    log_memory P (BusMalformed fault) h w = refl
+    log_memory P ClientEnd h w = refl
+    log_memory P BusEnd h w = refl
+    log_memory P SerialsSpent h w = refl
+    log_memory P ClientRead h w = refl
+    log_memory P ClientWrite h w = refl
+    log_memory P BusRead h w = refl
+    log_memory P BusWrite h w = refl
+    log_memory P BusConnect h w = refl
+
+    log_unfed : r1.session.notes ≡ [] → (stop : Option End) → logs.stop ≡ stop → is_memory r2.session.ended ≡ is_memory r1.session.ended
+    log_unfed none None e = ap (λ (s : SessionView). is_memory s.ended) (whole_view e).1
+    log_unfed none (Some end) e = ap (λ (s : SessionView). is_memory s.ended) (stop_view end e).1 ∙ by r1.session.ended refl
+      where
+        by : (o : Option End) → r1.session.ended ≡ o → is_memory (stopped_at o end (record r1.session { notes = logs.left })).ended ≡ is_memory r1.session.ended
+        by None h = log_memory (LineRefused n logs.taken logs.got logs.rest) end (no_note_taken none) (stop_view end e).0 ∙ sym (ap is_memory h)
+        by (Some x) h = refl
+
+    pub reads_logged : r0.session.mode.notes ≡ true → ReadsAndLogs policy true n side idle r0 r2 v0 v1 l0 l1
+    reads_logged notes = record {
       fed = r1.session;
-      goes = fed_goes;
+      goes = fed_goes (λ k. log_unfed (k.notes ∙ sound.notes notes runs) logs.stop refl ∙ k.memory);
       taken = logs.taken;
       lines = logs.got;
       rest = logs.rest;
       stop = logs.stop;
       still = λ h. let f : idle ≡ false = busy in cc;
+      logged = λ end h. refl;
       unread = λ h. let f : idle ≡ false = busy in cc;
       stands = logs.stands;
       is = logs.lines;
@@ -399,9 +439,9 @@ module _ (policy : Policy) (n : ℕ) (side : Side) (idle : Bool) (r0 r1 r2 : Run
       unlogged = λ h. cc;
     }
 
-  pub reads_if : (log : Bool) → LogsIf log n r1.session r2.session l0 l1 → ReadsAndLogs policy log n side idle r0 r2 v0 v1 l0 l1
-  reads_if true logs = reads_logged logs
-  reads_if false logs = reads_unlogged logs.0 logs.1
+  pub reads_if : (log : Bool) → r0.session.mode.notes ≡ log → LogsIf log n r1.session r2.session l0 l1 → ReadsAndLogs policy log n side idle r0 r2 v0 v1 l0 l1
+  reads_if true notes logs = reads_logged logs notes
+  reads_if false notes logs = reads_unlogged logs.0 logs.1
 
 pub runs_on : (ended : Option End) (full : Bool) → is_some ended || full ≡ false → ended ≡ None
 runs_on None full e = refl

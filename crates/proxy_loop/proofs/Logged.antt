@@ -1,5 +1,5 @@
 -- Lines that are logged, one after the other.
-use Rattle.std.proofs.Common.{ℕ, ◌≡◌, ◌⊎◌, inl, inr, ◌≤◌, Bool, true, false, List, [], ◌∷◌, ◌++◌, Option, Some, None, Result, Ok, Err, OnOk, OnErr, refl, ap, ◌∙◌, sym, subst, append-nil, append_assoc, arith, take, drop, is_err}
+use Rattle.std.proofs.Common.{ℕ, ◌≡◌, ◌≤◌, Bool, true, false, List, [], ◌∷◌, ◌++◌, Option, Some, None, Result, Ok, Err, OnOk, OnErr, refl, ap, ◌∙◌, sym, subst, append-nil, append_assoc, arith, take, drop, is_err}
 use Rattle.std.proofs.lemmas.List.{append_cancel_right, take-append-drop}
 use Rattle.std.proofs.lemmas.Grind.{flat_map-append}
 use Rattle.explain_log.specs.Lines.{log_line, log}
@@ -13,7 +13,7 @@ use Rattle.policy_view.specs.declared.End.TheVariants.{ClientMalformed, BusMalfo
 use Rattle.proxy_core.specs.Sessions.{SessionView, Taken, StandsFor}
 use Rattle.proxy_core.specs.Messages.{ended_by}
 use Rattle.proxy_loop.specs.Sinks.{SinkView, Appends}
-use Rattle.proxy_loop.specs.Logging.{IsLogEnd, stopped_at, JoinedStops, JoinedWritten, JoinedDone, LogsSoFar, Logs}
+use Rattle.proxy_loop.specs.Logging.{IsLogEnd, LineRefused, stopped_at, JoinedStops, JoinedWritten, JoinedDone, LogsSoFar, Logs}
 use Rattle.proxy_loop.proofs.Holding.{Stops, rose_sooner}
 
 pub on_ok : {A E : Type 0} (r : Result A E) (P : Type 0) → is_err r ≡ false → OnOk r P → P
@@ -52,11 +52,10 @@ pub bytes_fail : (bytes : List ℕ) (line : Option (List ℕ)) (old new : Sessio
     → before.faults ≤ after.faults → Stops old new LogFault result → JoinedStops bytes line old new before after
 bytes_fail bytes line old new result before after part rose counts stops = record {
   end = LogFault;
-  cause = rose;
   got = take part.count bytes;
   rest = drop part.count bytes;
   split = sym (take-append-drop part.count bytes);
-  why = inl rose;
+  why = rose;
   appends = part.got;
   counts = counts;
   view = stopped_view old new LogFault result stops;
@@ -78,21 +77,37 @@ bytes_whole bytes left session before after none got counts = record {
 pub bytes_wait : (bytes left : List ℕ) (session : SessionView) (sink : SinkView) → left ≡ bytes → JoinedWritten bytes left session session sink sink
 bytes_wait bytes left session sink same = record { got = []; split = sym same; appends = appends_none sink; counts = omega arith; view = refl }
 
+-- the End of a log, with more known of what is left, and where its sink's count rose later
+pub log_end_map : (P Q : Type 0) (end : End) (before between after : SinkView) → before.faults ≤ between.faults → (P → Q) → IsLogEnd P end between after → IsLogEnd Q end before after
+log_end_map P Q Memory before between after h f w = f w
+log_end_map P Q LogFault before between after h f w = rose_sooner before.faults between.faults after.faults h w
+log_end_map P Q (ClientMalformed fault) before between after h f w = w
+log_end_map P Q (BusMalformed fault) before between after h f w = w
+log_end_map P Q ClientEnd before between after h f w = w
+log_end_map P Q BusEnd before between after h f w = w
+log_end_map P Q SerialsSpent before between after h f w = w
+log_end_map P Q ClientRead before between after h f w = w
+log_end_map P Q ClientWrite before between after h f w = w
+log_end_map P Q BusRead before between after h f w = w
+log_end_map P Q BusWrite before between after h f w = w
+log_end_map P Q BusConnect before between after h f w = w
+
+same_faults : (a : SinkView) → a.faults ≤ a.faults
+same_faults a = omega arith
+
 -- where no line was refused memory the sink failed
-failed : (before after : SinkView) (rest : List ℕ) → Rose before.faults after.faults ⊎ (None ≡ Some rest) → Rose before.faults after.faults
-failed before after rest (inl rose) = rose
-failed before after rest (inr e) = absurd cc
+only_failed : (Q : Type 0) (end : End) (before after : SinkView) (rest : List ℕ) → IsLogEnd (None ≡ Some rest) end before after → IsLogEnd Q end before after
+only_failed Q end before after rest w = log_end_map (None ≡ Some rest) Q end before before after (same_faults before) (λ e. absurd cc) w
 
 -- .. that were written, and behind them a line is refused memory
 pub line_refused : (bytes left line : List ℕ) (old mid new : SessionView) (result : End) (before after : SinkView) (done : Bool) → done ≡ true → (done ≡ true → left ≡ []) → JoinedDone bytes None left old mid before after done
     → Stops mid new Memory result → JoinedStops (bytes ++ line) (Some line) old new before after
 line_refused bytes left line old mid new result before after true e none w stops = record {
   end = Memory;
-  cause = tt;
   got = w.got;
   rest = left ++ line;
   split = ap (λ (l : List ℕ). l ++ line) w.split ∙ append_assoc w.got left line;
-  why = inr (ap (λ (l : List ℕ). Some (l ++ line)) (sym (none refl)));
+  why = ap (λ (l : List ℕ). Some (l ++ line)) (sym (none refl));
   appends = w.appends;
   counts = w.counts;
   view = subst (λ (v : SessionView). new ≡ stopped_at v.ended Memory v) w.view (stopped_view mid new Memory result stops);
@@ -105,11 +120,10 @@ pub line_behind : (bytes left line : List ℕ) (old new : SessionView) (before a
 line_behind bytes left line old new before after true e w = cc
 line_behind bytes left line old new before after false e w = record {
   end = w.end;
-  cause = w.cause;
   got = w.got;
   rest = w.rest ++ line;
   split = ap (λ (l : List ℕ). l ++ line) w.split ∙ append_assoc w.got w.rest line;
-  why = inl (failed before after w.rest w.why);
+  why = only_failed (Some line ≡ Some (w.rest ++ line)) w.end before after w.rest w.why;
   appends = w.appends;
   counts = w.counts;
   view = w.view;
@@ -125,11 +139,10 @@ pub refusable : (bytes : List ℕ) (line : Option (List ℕ)) (left : List ℕ) 
 refusable bytes line left old new before after true w = w
 refusable bytes line left old new before after false w = record {
   end = w.end;
-  cause = w.cause;
   got = w.got;
   rest = w.rest;
   split = w.split;
-  why = inl (failed before after w.rest w.why);
+  why = only_failed (line ≡ Some w.rest) w.end before after w.rest w.why;
   appends = w.appends;
   counts = w.counts;
   view = w.view;
@@ -147,21 +160,6 @@ logs_start n session sink left none = record {
   counts = omega arith;
   stands = λ policy events was s. rw (append-nil was.notes) s;
 }
-
--- a sink's count rose later
-log_end_sooner : (end : End) (before between after : SinkView) → before.faults ≤ between.faults → IsLogEnd end between after → IsLogEnd end before after
-log_end_sooner Memory before between after h r = tt
-log_end_sooner LogFault before between after h r = rose_sooner before.faults between.faults after.faults h r
-log_end_sooner (ClientMalformed fault) before between after h r = r
-log_end_sooner (BusMalformed fault) before between after h r = r
-log_end_sooner ClientEnd before between after h r = r
-log_end_sooner BusEnd before between after h r = r
-log_end_sooner SerialsSpent before between after h r = r
-log_end_sooner ClientRead before between after h r = r
-log_end_sooner ClientWrite before between after h r = r
-log_end_sooner BusRead before between after h r = r
-log_end_sooner BusWrite before between after h r = r
-log_end_sooner BusConnect before between after h r = r
 
 some_same : (xs ys : List ℕ) → Some ys ≡ Some xs → xs ≡ ys
 some_same xs ys e = cc
@@ -199,6 +197,15 @@ module _ (n : ℕ) (old now next new : SessionView) (before between after : Sink
   written_before got others lines line =
       append_cancel_right (so_far.got ++ got) (log n so_far.taken) (log_line n note) (ap (λ (l : List ℕ). (so_far.got ++ got) ++ l) (sym line) ∙ sym lines ∙ log-more n so_far.taken note)
 
+  refused_here : (got others : List ℕ) → joined ++ log_line n note ≡ got ++ others → others ≡ log_line n note → LineRefused n (so_far.taken ++ note ∷ []) (so_far.got ++ got) others
+  refused_here got others e line = record {
+    earlier = so_far.taken;
+    note = note;
+    last = refl;
+    written = written_before got others (lines_as got others e) line;
+    line = line;
+  }
+
   pub one_logged : (done : Bool) → done ≡ true → JoinedDone (joined ++ log_line n note) (Some (log_line n note)) left next new between after done → LogsSoFar n old new before after left
   one_logged true e w = subst (λ (v : SessionView). LogsSoFar n old v before after left) (sym w.view) (record {
     taken = so_far.taken ++ note ∷ [];
@@ -224,13 +231,11 @@ module _ (n : ℕ) (old now next new : SessionView) (before between after : Sink
     appends = appends_then before between after so_far.got w.got so_far.appends w.appends;
     counts = omega (arith, so_far.counts, w.counts);
     stop = Some w.end;
-    ends = (log_end_sooner w.end before between after so_far.counts w.cause, w.view ∙ ap (λ (s : SessionView). stopped_at s.ended w.end s) from_old);
-    why = λ end e. elim w.why [
-      | inl rose ↦ inl (rose_sooner before.faults between.faults after.faults so_far.counts rose)
-      | inr same ↦
-          let line : w.rest ≡ log_line n note = some_same w.rest (log_line n note) same in
-          inr (so_far.taken, note, written_before w.got w.rest (lines_as w.got w.rest w.split) line, line)
-    ];
+    ends = (
+      log_end_map (Some (log_line n note) ≡ Some w.rest) (LineRefused n (so_far.taken ++ note ∷ []) (so_far.got ++ w.got) w.rest) w.end before between after so_far.counts
+          (λ e. refused_here w.got w.rest w.split (some_same w.rest (log_line n note) e)) w.why,
+      w.view ∙ ap (λ (s : SessionView). stopped_at s.ended w.end s) from_old,
+    );
     stands = λ policy events was s. w.stands policy events (record was { notes = was.notes ++ (so_far.taken ++ note ∷ []) }) (next_stands policy events was s);
   }
 
@@ -261,7 +266,6 @@ module _ (n : ℕ) (old now next new : SessionView) (before between after : Sink
     counts = omega (arith, so_far.counts, w.counts);
     stop = None;
     ends = (refl, refl, w.view ∙ ends_from);
-    why = λ end e. cc;
     stands = λ policy events was s. subst (λ (v : SessionView). StandsFor policy v events (record was { notes = was.notes ++ so_far.taken })) (sym w.view) (last_stands policy events was s);
   }
   all_logged false whole w = record {
@@ -274,7 +278,9 @@ module _ (n : ℕ) (old now next new : SessionView) (before between after : Sink
     appends = appends_then before between after so_far.got w.got so_far.appends w.appends;
     counts = omega (arith, so_far.counts, w.counts);
     stop = Some w.end;
-    ends = (log_end_sooner w.end before between after so_far.counts w.cause, w.view ∙ ap (λ (s : SessionView). stopped_at s.ended w.end s) ends_from);
-    why = λ end e. inl (rose_sooner before.faults between.faults after.faults so_far.counts (failed between after w.rest w.why));
+    ends = (
+      log_end_map (None ≡ Some w.rest) (LineRefused n so_far.taken (so_far.got ++ w.got) w.rest) w.end before between after so_far.counts (λ e. absurd cc) w.why,
+      w.view ∙ ap (λ (s : SessionView). stopped_at s.ended w.end s) ends_from,
+    );
     stands = λ policy events was s. w.stands policy events (record was { notes = was.notes ++ so_far.taken }) (last_stands policy events was s);
   }

@@ -143,7 +143,7 @@ held_quiet blocks n running entry journal s h = record {
   listener = s.listener (listener_of n journal) ∙ h.listener;
   mode = h.mode;
   holds = holds_moved h.block.options.policy n running.session running.session (entry ∷ []) journal (moves_quiet h.block.options.policy n running.session entry s.bus s.client s.events) (λ end e. e)
-      (λ e. subst (λ (es : List Event). AllStops (es ++ [])) (sym s.events) refl) h.holds;
+      refl (λ e. subst (λ (es : List Event). AllStops (es ++ [])) (sym s.events) refl) h.holds;
   client_gone = h.client_gone ∙ ap (λ (b : Bool). b || some_of (gone_by (client_link n)) journal) (sym s.client_gone);
   bus_gone = h.bus_gone ∙ ap (λ (b : Bool). b || some_of (gone_by (bus_link n)) journal) (sym s.bus_gone);
   known = let k : n ≤ accepts journal = h.known in omega (arith, k);

@@ -13,12 +13,13 @@ use Rattle.link_traits.specs.declared.links.Link.{Link}
 use Rattle.link_traits.specs.declared.links.Call.TheVariants.{Write as WriteCall}
 use Rattle.policy_args.specs.Policy.{Policy}
 use Rattle.policy_view.specs.declared.End.{End}
-use Rattle.proxy_core.specs.Sessions.{SessionView}
+use Rattle.policy_view.specs.declared.End.TheVariants.{ClientMalformed, BusMalformed, ClientEnd, BusEnd, SerialsSpent, Memory, ClientRead, ClientWrite, BusRead, BusWrite, BusConnect, LogFault}
+use Rattle.proxy_core.specs.Sessions.{SessionView, is_memory}
 use Rattle.proxy_loop.specs.declared.serving.Running.{Running}
 use Rattle.proxy_loop.specs.Sinks.{SinkView}
 use Rattle.proxy_loop.specs.Kinds.{some_of, gone_by, last_write}
 use Rattle.proxy_loop.specs.Works.{Any, Goes, Stood, StoodFor, Cause, ShutBoth, IsDrained, WritesInOrder, link_at, shuts_now, is_full, KeepsEnd}
-use Rattle.proxy_loop.specs.Logging.{IsLogEnd, stop_events}
+use Rattle.proxy_loop.specs.Logging.{IsLogEnd, LineRefused, stop_events}
 use Rattle.proxy_loop.specs.Runs.{Sound, KeepsPlace, KeepsShut, WroteBoth, ReadsAndLogs, ReadPart, IsDone, Served, ServedStands, CauseOf, Serving}
 use Rattle.proxy_loop.proofs.Holding.{moves_then, cause_later, cause_sooner, some_append}
 use Rattle.proxy_loop.proofs.Joining.{last_newer, or_assoc}
@@ -68,6 +69,20 @@ gone_twice : (link : Link) (later sooner : Journal) (g0 g1 g2 : Bool) → g1 ≡
 gone_twice link later sooner g0 g1 g2 x y =
     y ∙ ap (λ (p : Bool). some_of (gone_by link) later || p) x ∙ sym (or_assoc (some_of (gone_by link) later) (some_of (gone_by link) sooner) g0)
     ∙ ap (λ (p : Bool). p || g0) (sym (some_append (gone_by link) later sooner))
+
+log_cause : (P : Type 0) (n : ℕ) (end : End) (before after : NetView) (first last : SinkView) → IsLogEnd P end first last → CauseOf n end before after first last
+log_cause P n Memory before after first last w = inl tt
+log_cause P n LogFault before after first last w = inr (refl, w)
+log_cause P n (ClientMalformed fault) before after first last w = absurd w
+log_cause P n (BusMalformed fault) before after first last w = absurd w
+log_cause P n ClientEnd before after first last w = absurd w
+log_cause P n BusEnd before after first last w = absurd w
+log_cause P n SerialsSpent before after first last w = absurd w
+log_cause P n ClientRead before after first last w = absurd w
+log_cause P n ClientWrite before after first last w = absurd w
+log_cause P n BusRead before after first last w = absurd w
+log_cause P n BusWrite before after first last w = absurd w
+log_cause P n BusConnect before after first last w = absurd w
 
 shut_by_now : (gone shut ended nil : Bool) → (gone ≡ true → ended ≡ true) → gone || shut ≡ true → shut || (ended && (gone || nil)) ≡ true
 shut_by_now gone true ended nil h e = refl
@@ -130,6 +145,7 @@ module _ (policy : Policy) (log : Bool) (n : ℕ) (side : Side) (r0 r1 r2 r3 r4 
     bus_drained = subst (λ (b : Bool). IsDrained (bus_link n) r1.session.bus_side b first) (ap₂ (λ (x y : Bool). x || y) w.bus_gone bus_same) w.bus_drained;
     mid_ended = w.ended;
     once = x.once;
+    unfed = λ e. ap (λ (z : SessionView). is_memory z.ended) same ∙ second_kept.memory ∙ x.unfed e ∙ first_kept.memory;
     second_writes = y.all;
     second_order =
         subst (λ (p : Bool). WritesInOrder n p ((some_of (gone_by (bus_link n)) (reads ++ first) || r0.bus.gone) || r0.bus.shut) second)
@@ -197,9 +213,9 @@ module _ (policy : Policy) (log : Bool) (n : ℕ) (side : Side) (r0 r1 r2 r3 r4 
   cause2 s end (inl e) = cause1 end (a.cause policy tt s end e)
   cause2 s end (inr w) = inr (inl (widen end v1 v2 to1 from2 w))
 
-  cause3 : Stood policy r0.session → (end : End) → (b.fed.ended ≡ Some end) ⊎ IsLogEnd end l0 l1 → (r0.session.ended ≡ Some end) ⊎ CauseOf n end v0 v5 l0 l1
+  cause3 : Stood policy r0.session → (end : End) → (b.fed.ended ≡ Some end) ⊎ IsLogEnd (LineRefused n b.taken b.lines b.rest) end l0 l1 → (r0.session.ended ≡ Some end) ⊎ CauseOf n end v0 v5 l0 l1
   cause3 s end (inl e) = cause2 s end (b.goes.cause policy refl (stood1 s) end e)
-  cause3 s end (inr w) = inr (inr w)
+  cause3 s end (inr w) = inr (log_cause (LineRefused n b.taken b.lines b.rest) n end v0 v5 l0 l1 w)
 
   cause4 : Stood policy r0.session → (end : End) → (r2.session.ended ≡ Some end) ⊎ Cause n end v2 v3 → (r0.session.ended ≡ Some end) ⊎ CauseOf n end v0 v5 l0 l1
   cause4 s end (inl e) = cause3 s end (b.cause end e)
@@ -229,10 +245,10 @@ module _ (policy : Policy) (log : Bool) (n : ℕ) (side : Side) (r0 r1 r2 r3 r4 
               (served_stands policy log n side (is_full side r1.session) r0.session r1.session r3.session r1 r2 v1 v2 l0 l1 b t1.0 (reads ++ first) (shuts ++ second)
               (moves_then policy n r0.session r1.session b.fed first reads (t1.5 policy tt) (t2.5 policy refl))
               (moves_then policy n r2.session r3.session r3.session second shuts (t3.5 policy tt) (t4.5 policy tt))
-              a.end b.goes.end c.end h
+              a.end b.goes.end c.end h all_mode keeps0
               (λ e. both_stop n reads first (unread_stop n (is_some r1.session.ended || is_full side r1.session) (link_at n side) reads
               (idle_by r1.session.ended (is_full side r1.session) (still_some r0.session.ended r1.session.ended a.end e)) t2.4.once) (writes_stop n first t1.4.all))
-              (both_stop n shuts second (shuts_stop n client bus shuts t4.4) (writes_stop n second t3.4.all)) keeps0 all_mode sound0.notes first_kept.notes second_kept.notes)),
+              (both_stop n shuts second (shuts_stop n client bus shuts t4.4) (writes_stop n second t3.4.all)) sound0.notes first_kept.notes second_kept.notes)),
         );
     counts = λ count. let x : v0.counts count ≤ v3.counts count = to3 count in let y : v3.counts count ≤ v5.counts count = from3 count in omega arith;
     log_counts = b.counts;

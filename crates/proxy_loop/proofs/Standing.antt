@@ -9,15 +9,16 @@ use Rattle.link_traits.specs.declared.links.Side.{Side}
 use Rattle.link_traits.specs.declared.links.Link.{Link}
 use Rattle.policy_args.specs.Policy.{Policy}
 use Rattle.policy_view.specs.declared.End.{End}
+use Rattle.policy_view.specs.declared.End.TheVariants.{ClientMalformed, BusMalformed, ClientEnd, BusEnd, SerialsSpent, Memory, ClientRead, ClientWrite, BusRead, BusWrite, BusConnect, LogFault}
 use Rattle.policy_view.specs.declared.Mode.{Mode}
 use Rattle.policy_view.specs.History.{Event, Stopped, history}
 use Rattle.policy_view.specs.Notes.{Note, notes, notes_made}
 use Rattle.proxy_core.specs.Sessions.{SessionView, Taken, StandsFor, IsFront, is_memory}
 use Rattle.proxy_loop.specs.declared.serving.Running.{Running}
 use Rattle.proxy_loop.specs.Sinks.{SinkView}
-use Rattle.proxy_loop.specs.Sessions.{Holds, IsWithStop, events_of, taken_of}
+use Rattle.proxy_loop.specs.Sessions.{Holds, IsWithStop, is_log_end, events_of, taken_of}
 use Rattle.proxy_loop.specs.Works.{Moves, more_taken}
-use Rattle.proxy_loop.specs.Logging.{stop_events, WhyUnwritten}
+use Rattle.proxy_loop.specs.Logging.{stop_events, IsLogEnd, LineRefused}
 use Rattle.proxy_loop.specs.Runs.{WrittenUnless, ReadsAndLogs, WhyCut, AreLines, Logged, ServedStands, log_of}
 use Rattle.proxy_loop.proofs.Holding.{wrote_append, events_append}
 use Rattle.proxy_loop.proofs.Stopping.{AllStops, stops_append, both_stop}
@@ -41,22 +42,54 @@ with_stop_grow true more events told stops s = (
   ap (λ (l : List Event). more ++ l) s.3 ∙ sym (append_assoc more s.0 s.1),
   ap (λ (l : List Event). more ++ l) s.4 ∙ sym (append_assoc more s.0 (Stopped s.2 ∷ s.1)),
   stops_append more s.0 (stops refl) s.5,
+  s.6,
 )
 
 -- a session that goes by some entries stands for the journal with them
 pub holds_moved : (policy : Policy) (n : ℕ) (old new : SessionView) (added was : Journal) → Moves policy n old new added →
-    ((end : End) → old.ended ≡ Some end → new.ended ≡ Some end) → (is_some old.ended ≡ true → AllStops (events_of n added)) → Holds policy n old was → Holds policy n new (added ++ was)
-holds_moved policy n old new added was moves kept stops h = record {
+    ((end : End) → old.ended ≡ Some end → new.ended ≡ Some end) → new.mode ≡ old.mode → (is_some old.ended ≡ true → AllStops (events_of n added)) → Holds policy n old was → Holds policy n new (added ++ was)
+holds_moved policy n old new added was moves kept mode stops h = record {
   put = h.put;
   events = events_of n added ++ h.events;
   notes = h.notes;
   told = subst (λ (l : List Event). IsWithStop h.put (events_of n added ++ h.events) l) (sym (events_append n added was))
       (with_stop_grow h.put (events_of n added) h.events (events_of n was) (λ e. stops (h.over e)) h.told);
   over = λ e. still_some old.ended new.ended kept (h.over e);
+  logs = λ e. ap (λ (m : Mode). m.notes) mode ∙ h.logs e;
   stands = subst (λ (t : Taken). StandsFor policy new (events_of n added ++ h.events) t)
       (ap₂ (λ (x y : List ℕ). record { bus_side = x; client_side = y; notes = h.notes; visible = [] }) (sym (wrote_append (bus_link n) added was)) (sym (wrote_append (client_link n) added was)))
       (moves.each h.events (taken_of n h.notes was) h.stands);
 }
+
+-- an End of the log
+own_end : (P : Type 0) (end : End) (first last : SinkView) → IsLogEnd P end first last → is_log_end end ≡ true
+own_end P Memory first last w = refl
+own_end P LogFault first last w = refl
+own_end P (ClientMalformed fault) first last w = absurd w
+own_end P (BusMalformed fault) first last w = absurd w
+own_end P ClientEnd first last w = absurd w
+own_end P BusEnd first last w = absurd w
+own_end P SerialsSpent first last w = absurd w
+own_end P ClientRead first last w = absurd w
+own_end P ClientWrite first last w = absurd w
+own_end P BusRead first last w = absurd w
+own_end P BusWrite first last w = absurd w
+own_end P BusConnect first last w = absurd w
+
+-- why lines weren't written, by the End
+why_log : (P Q : Type 0) (end : End) (first last : SinkView) → (P → Q) → IsLogEnd P end first last → Rose first.faults last.faults ⊎ Q
+why_log P Q Memory first last f w = inr (f w)
+why_log P Q LogFault first last f w = inl w
+why_log P Q (ClientMalformed fault) first last f w = absurd w
+why_log P Q (BusMalformed fault) first last f w = absurd w
+why_log P Q ClientEnd first last f w = absurd w
+why_log P Q BusEnd first last f w = absurd w
+why_log P Q SerialsSpent first last f w = absurd w
+why_log P Q ClientRead first last f w = absurd w
+why_log P Q ClientWrite first last f w = absurd w
+why_log P Q BusRead first last f w = absurd w
+why_log P Q BusWrite first last f w = absurd w
+why_log P Q BusConnect first last f w = absurd w
 
 not_put : (put : Bool) (ended : Option End) → (put ≡ true → is_some ended ≡ true) → ended ≡ None → put ≡ false
 not_put false ended h e = refl
@@ -107,7 +140,7 @@ module _ (policy : Policy) (logs : Bool) (n : ℕ) (side : Side) (full : Bool) (
     (reads : ReadsAndLogs policy logs n side (is_some s1.ended || full) r1 r2 v1 v2 l0 l1)
     (was early late : Journal) (before : Moves policy n s0 reads.fed early) (after : Moves policy n r2.session s3 late)
     (first_end : (end : End) → s0.ended ≡ Some end → s1.ended ≡ Some end) (read_end : (end : End) → s1.ended ≡ Some end → reads.fed.ended ≡ Some end)
-    (last_end : (end : End) → r2.session.ended ≡ Some end → s3.ended ≡ Some end) (h : Holds policy n s0 was)
+    (last_end : (end : End) → r2.session.ended ≡ Some end → s3.ended ≡ Some end) (h : Holds policy n s0 was) (mode : s3.mode ≡ s0.mode) (keeps_log : s0.mode.notes ≡ logs)
     (early_stops : is_some s0.ended ≡ true → AllStops (events_of n early)) (late_stops : AllStops (events_of n late)) where
   all_end : (end : End) → s0.ended ≡ Some end → s3.ended ≡ Some end
   all_end end e = last_end end (reads.end end (read_end end (first_end end e)))
@@ -130,14 +163,19 @@ module _ (policy : Policy) (logs : Bool) (n : ℕ) (side : Side) (full : Bool) (
       (after.each (stop_events reads.stop ++ (events_of n early ++ h.events)) (record (more_taken n early (taken_of n h.notes was)) { notes = h.notes ++ reads.taken })
       (reads.stands policy (events_of n early ++ h.events) (more_taken n early (taken_of n h.notes was)) (before.each h.events (taken_of n h.notes was) h.stands)))
 
+  stop_is_own : (end : End) → reads.stop ≡ Some end → is_log_end end ≡ true
+  stop_is_own end e = own_end (LineRefused n reads.taken reads.lines reads.rest) end l0 l1 (subst (λ (o : Option End). WrittenUnless o n reads.taken reads.lines reads.rest l0 l1) e reads.written)
+
   holds_by : (stop : Option End) → reads.stop ≡ stop →
       (p : Bool) × IsWithStop p (events_of n late ++ (stop_events stop ++ (events_of n early ++ h.events))) (events_of n ((late ++ early) ++ was)) × (p ≡ true → is_some s3.ended ≡ true)
+      × (p ≡ true → s3.mode.notes ≡ true)
   holds_by None e = (
     h.put,
     subst (λ (l : List Event). IsWithStop h.put (events_of n late ++ (events_of n early ++ h.events)) l) (sym told_now)
         (with_stop_grow h.put (events_of n late) (events_of n early ++ h.events) (events_of n early ++ events_of n was) (λ e. late_stops)
         (with_stop_grow h.put (events_of n early) h.events (events_of n was) (λ e. early_stops (h.over e)) h.told)),
     λ p. still_some s0.ended s3.ended all_end (h.over p),
+    λ p. ap (λ (m : Mode). m.notes) mode ∙ h.logs p,
   )
   holds_by (Some end) e =
       let runs : s1.ended ≡ None = runs_by s1.ended full (not_idle (is_some s1.ended || full) reads.stop end reads.still e) in
@@ -151,8 +189,10 @@ module _ (policy : Policy) (logs : Bool) (n : ℕ) (side : Side) (full : Bool) (
           told_now ∙ ap (λ (l : List Event). events_of n late ++ (events_of n early ++ l)) (sym same),
           refl,
           late_stops,
+          stop_is_own end e,
         ),
         λ p. still_some r2.session.ended s3.ended last_end (reads.stopped end e),
+        λ p. ap (λ (m : Mode). m.notes) mode ∙ keeps_log ∙ reads.logged end e,
       )
 
   pub holds_now : Holds policy n s3 ((late ++ early) ++ was)
@@ -162,6 +202,7 @@ module _ (policy : Policy) (logs : Bool) (n : ℕ) (side : Side) (full : Bool) (
     notes = h.notes ++ reads.taken;
     told = w.1;
     over = w.2;
+    logs = w.3;
     stands = stands_now;
   }
 
@@ -171,7 +212,7 @@ module _ (policy : Policy) (logs : Bool) (n : ℕ) (side : Side) (full : Bool) (
       ∙ append_assoc (log n h.notes) (reads.lines ++ reads.rest) (log n xs)
       ∙ ap (λ (l : List ℕ). log n h.notes ++ l) (append_assoc reads.lines reads.rest (log n xs))
 
-  module _ (logged : logs ≡ true) (mode : s3.mode ≡ s0.mode) (kept : s0.mode.notes ≡ true) (none_before : s0.ended ≡ None → s0.notes ≡ [])
+  module _ (logged : logs ≡ true) (kept : s0.mode.notes ≡ true) (none_before : s0.ended ≡ None → s0.notes ≡ [])
       (same_before : r1.session.notes ≡ s0.notes) (same_after : s3.notes ≡ r2.session.notes) where
     keeps : s3.mode.notes ≡ true
     keeps = ap (λ (m : Mode). m.notes) mode ∙ kept
@@ -223,27 +264,22 @@ module _ (policy : Policy) (logs : Bool) (n : ℕ) (side : Side) (full : Bool) (
     cut_by : (stop : Option End) → reads.stop ≡ stop → s0.ended ≡ None →
         (reads.rest ++ log n s3.notes ≡ []) ⊎ ((is_some s3.ended ≡ true) × WhyCut n (reads.rest ++ log n s3.notes) s3 l0 l1)
     cut_by None e ran =
-        let whole : reads.rest ≡ [] = subst (λ (o : Option End). WrittenUnless o n reads.lines reads.rest l0 l1) e reads.written in
+        let whole : reads.rest ≡ [] = subst (λ (o : Option End). WrittenUnless o n reads.taken reads.lines reads.rest l0 l1) e reads.written in
         let none : s3.notes ≡ [] = same_after ∙ reads.all logged e (same_before ∙ none_before ran) in
         inl (ap₂ (λ (xs : List ℕ) (ys : List Note). xs ++ log n ys) whole none)
     cut_by (Some end) e ran = inr (
       still_some r2.session.ended s3.ended last_end (reads.stopped end e),
-      inr (why (subst (λ (o : Option End). WrittenUnless o n reads.lines reads.rest l0 l1) e reads.written)),
+      inr (why_log (LineRefused n reads.taken reads.lines reads.rest) ((note : Note) × (reads.rest ++ log n s3.notes ≡ log n (note ∷ s3.notes))) end l0 l1
+          (λ x. (x.note, ap (λ (l : List ℕ). l ++ log n s3.notes) x.line)) (subst (λ (o : Option End). WrittenUnless o n reads.taken reads.lines reads.rest l0 l1) e reads.written)),
     )
-      where
-        why : WhyUnwritten n reads.lines reads.rest l0 l1 → Rose l0.faults l1.faults ⊎ ((note : Note) × (reads.rest ++ log n s3.notes ≡ log n (note ∷ s3.notes)))
-        why (inl rose) = inl rose
-        why (inr x) = inr (x.1, ap (λ (l : List ℕ). l ++ log n s3.notes) x.3)
 
     whole_by : (stop : Option End) → reads.stop ≡ stop → Rose l0.faults l1.faults ⊎ AreLines n reads.lines
     whole_by None e =
-        let all : reads.rest ≡ [] = subst (λ (o : Option End). WrittenUnless o n reads.lines reads.rest l0 l1) e reads.written in
+        let all : reads.rest ≡ [] = subst (λ (o : Option End). WrittenUnless o n reads.taken reads.lines reads.rest l0 l1) e reads.written in
         inr (reads.taken, sym (reads.is ∙ ap (λ (l : List ℕ). reads.lines ++ l) all ∙ append-nil reads.lines))
-    whole_by (Some end) e = by (subst (λ (o : Option End). WrittenUnless o n reads.lines reads.rest l0 l1) e reads.written)
-      where
-        by : WhyUnwritten n reads.lines reads.rest l0 l1 → Rose l0.faults l1.faults ⊎ AreLines n reads.lines
-        by (inl rose) = inl rose
-        by (inr x) = inr (x.0, x.2)
+    whole_by (Some end) e =
+        why_log (LineRefused n reads.taken reads.lines reads.rest) (AreLines n reads.lines) end l0 l1 (λ x. (x.earlier, x.written))
+        (subst (λ (o : Option End). WrittenUnless o n reads.taken reads.lines reads.rest l0 l1) e reads.written)
 
     pub logged_now : (o0 : Option End) → s0.ended ≡ o0 → Logged policy n s3 was ((late ++ early) ++ was) l0 l1
     logged_now None e = by_memory (is_memory s3.ended) refl
@@ -277,9 +313,9 @@ module _ (policy : Policy) (logs : Bool) (n : ℕ) (side : Side) (full : Bool) (
           whole = inr ([], none);
         }
 
-  pub served_stands : s0.mode.notes ≡ logs → s3.mode ≡ s0.mode → (s0.mode.notes ≡ true → s0.ended ≡ None → s0.notes ≡ []) → r1.session.notes ≡ s0.notes → s3.notes ≡ r2.session.notes →
+  pub served_stands : (s0.mode.notes ≡ true → s0.ended ≡ None → s0.notes ≡ []) → r1.session.notes ≡ s0.notes → s3.notes ≡ r2.session.notes →
       ServedStands policy logs n s3 was ((late ++ early) ++ was) l0 l1
-  served_stands is same none_before same_before same_after = record {
+  served_stands none_before same_before same_after = record {
     holds = holds_now;
-    logged = λ e. let kept : s0.mode.notes ≡ true = is ∙ e in logged_now e same kept (none_before kept) same_before same_after s0.ended refl;
+    logged = λ e. let kept : s0.mode.notes ≡ true = keeps_log ∙ e in logged_now e kept (none_before kept) same_before same_after s0.ended refl;
   }

@@ -273,6 +273,7 @@ module _ (blocks : List Block) (listener : ℕ) (block : Block) (n : ℕ) (old n
         notes = [];
         told = sym none.0;
         over = λ e. cc;
+        logs = λ e. cc;
         stands = subst (λ (t : Taken). StandsFor block.options.policy d.session [] t)
             (ap₂ (λ (x y : List ℕ). record { bus_side = x; client_side = y; notes = []; visible = [] }) (sym (append-nil (written (bus_link n) was) ∙ none.1)) (sym (append-nil (written (client_link n) was) ∙ none.2)))
             (d.fresh block at);
@@ -291,7 +292,7 @@ module _ (blocks : List Block) (listener : ℕ) (block : Block) (n : ℕ) (old n
         listener = listener_same n added (AcceptedEntry listener n ∷ was) all
             ∙ ap (λ (b : Bool). if b then Some listener else listener_of n was) (same_number n) ∙ ap (λ (k : ℕ). Some k) (sym d.block);
         mode = d.sound.mode block (ap (slice_get blocks) d.block ∙ at);
-        holds = holds_moved block.options.policy n d.session d.running.session added (AcceptedEntry listener n ∷ was) moves d.goes.end
+        holds = holds_moved block.options.policy n d.session d.running.session added (AcceptedEntry listener n ∷ was) moves d.goes.end d.goes.mode
             (λ e. let none : is_some d.session.ended ≡ false = ap is_some d.runs in cc) (first_holds was f);
         client_gone = o.client_gone ∙ gone_on (client_link n) none.3;
         bus_gone = o.bus_gone ∙ gone_on (bus_link n) none.4;

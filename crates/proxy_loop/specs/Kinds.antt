@@ -65,6 +65,20 @@ is_read link (accepted listener session) = false
 is_read link (connected session path) = false
 is_read link (shut at) = false
 
+-- a read that gave bytes
+abbrev pub gave_bytes : Entry → Bool
+gave_bytes (read at bytes) = true
+gave_bytes (finished at) = false
+gave_bytes (not_ready call) = false
+gave_bytes (failed call) = false
+gave_bytes (wrote at bytes) = false
+gave_bytes (refused call) = false
+gave_bytes (listened listener path) = false
+gave_bytes (ready answer) = false
+gave_bytes (accepted listener session) = false
+gave_bytes (connected session path) = false
+gave_bytes (shut at) = false
+
 -- an entry after which nothing more is written to a link: its end was read, or one of its calls failed
 abbrev pub gone_call : Link → Call → Bool
 gone_call link (Read at) = same_link link at

@@ -1,5 +1,5 @@
 -- What a session and a sink are after new notes were logged.
-use Rattle.std.specs.Prelude.{ℕ, ◌≡◌, ◌⊎◌, ◌≤◌, Bool, true, false, List, [], ◌∷◌, ◌++◌, Option, Some, None}
+use Rattle.std.specs.Prelude.{ℕ, ◌≡◌, ◌≤◌, Bool, true, false, List, [], ◌∷◌, ◌++◌, Option, Some, None}
 use Rattle.link_traits.specs.Told.{Rose}
 use Rattle.explain_log.specs.Lines.{log_line, log}
 use Rattle.policy_args.specs.Policy.{Policy}
@@ -11,35 +11,34 @@ use Rattle.proxy_core.specs.Sessions.{SessionView, Taken, StandsFor}
 use Rattle.proxy_core.specs.Messages.{ended_by}
 use Rattle.proxy_loop.specs.Sinks.{SinkView, Appends}
 
--- the Ends of a log line that was refused memory, or that the sink didn't take: then its count rose
-abbrev pub IsLogEnd : End → SinkView → SinkView → Type 0
-IsLogEnd Memory before after = Unit {0}
-IsLogEnd LogFault before after = Rose before.faults after.faults
-IsLogEnd (ClientMalformed fault) before after = ⊥
-IsLogEnd (BusMalformed fault) before after = ⊥
-IsLogEnd ClientEnd before after = ⊥
-IsLogEnd BusEnd before after = ⊥
-IsLogEnd SerialsSpent before after = ⊥
-IsLogEnd ClientRead before after = ⊥
-IsLogEnd ClientWrite before after = ⊥
-IsLogEnd BusRead before after = ⊥
-IsLogEnd BusWrite before after = ⊥
-IsLogEnd BusConnect before after = ⊥
+-- the Ends with which a log stops a session: Memory if a line was refused memory, and LogFault if the sink failed, whose count rose
+abbrev pub IsLogEnd : Type 0 → End → SinkView → SinkView → Type 0
+IsLogEnd line_refused Memory before after = line_refused
+IsLogEnd line_refused LogFault before after = Rose before.faults after.faults
+IsLogEnd line_refused (ClientMalformed fault) before after = ⊥
+IsLogEnd line_refused (BusMalformed fault) before after = ⊥
+IsLogEnd line_refused ClientEnd before after = ⊥
+IsLogEnd line_refused BusEnd before after = ⊥
+IsLogEnd line_refused SerialsSpent before after = ⊥
+IsLogEnd line_refused ClientRead before after = ⊥
+IsLogEnd line_refused ClientWrite before after = ⊥
+IsLogEnd line_refused BusRead before after = ⊥
+IsLogEnd line_refused BusWrite before after = ⊥
+IsLogEnd line_refused BusConnect before after = ⊥
 
 -- a session that was told to stop: the first End stays
 abbrev pub stopped_at : Option End → End → SessionView → SessionView
 stopped_at None end session = ended_by end session
 stopped_at (Some first) end session = session
 
--- A front of the bytes was written, and the session was told to stop: the sink failed, or these bytes end with a line that was
--- refused memory, and all before it was written.
+-- A front of the bytes was written, and the session was told to stop: the sink failed, or what is left is the line that was refused
+-- memory.
 pub record JoinedStops (bytes : List ℕ) (line : Option (List ℕ)) (old new : SessionView) (before after : SinkView) : Type 0 where
   pub end : End
-  pub cause : IsLogEnd end before after
   pub got : List ℕ
   pub rest : List ℕ
   pub split : bytes ≡ got ++ rest
-  pub why : Rose before.faults after.faults ⊎ (line ≡ Some rest)
+  pub why : IsLogEnd (line ≡ Some rest) end before after
   pub appends : Appends before after got
   pub counts : before.faults ≤ after.faults
   pub view : new ≡ stopped_at old.ended end old
@@ -74,15 +73,20 @@ abbrev pub stop_events : Option End → List Event
 stop_events None = []
 stop_events (Some end) = Stopped end ∷ []
 
--- All notes were taken and their lines written; or a line wasn't written whole, and the session was told to stop.
-abbrev pub LogEnds : Option End → SessionView → SessionView → List Note → List ℕ → SinkView → SinkView → Type 0
-LogEnds None old new left rest before after = (left ≡ []) × (rest ≡ []) × (new ≡ record old { notes = [] })
-LogEnds (Some end) old new left rest before after = IsLogEnd end before after × (new ≡ stopped_at old.ended end (record old { notes = left }))
+-- the line of the last note that was taken was refused memory, and the lines of those before it were written
+pub record LineRefused (n : ℕ) (taken : List Note) (got rest : List ℕ) : Type 0 where
+  pub earlier : List Note
+  pub note : Note
+  pub last : taken ≡ earlier ++ note ∷ []
+  pub written : got ≡ log n earlier
+  pub line : rest ≡ log_line n note
 
--- why these bytes weren't written behind those that were: the sink failed; or they are a line that was refused memory, and what was
--- written are the lines of the notes before it
-abbrev pub WhyUnwritten : ℕ → List ℕ → List ℕ → SinkView → SinkView → Type 0
-WhyUnwritten n got rest before after = Rose before.faults after.faults ⊎ ((earlier : List Note) × (note : Note) × (got ≡ log n earlier) × (rest ≡ log_line n note))
+-- All notes were taken and their lines written; or a line wasn't written whole, and the session was told to stop, with the End that
+-- tells why.
+abbrev pub LogEnds : ℕ → Option End → SessionView → SessionView → List Note → List Note → List ℕ → List ℕ → SinkView → SinkView → Type 0
+LogEnds n None old new taken left got rest before after = (left ≡ []) × (rest ≡ []) × (new ≡ record old { notes = [] })
+LogEnds n (Some end) old new taken left got rest before after =
+    IsLogEnd (LineRefused n taken got rest) end before after × (new ≡ stopped_at old.ended end (record old { notes = left }))
 
 -- the notes of a session were logged: the lines of those that were taken were written, or a part of these, and then an End stands
 pub record Logs (n : ℕ) (old new : SessionView) (before after : SinkView) : Type 0 where
@@ -95,7 +99,6 @@ pub record Logs (n : ℕ) (old new : SessionView) (before after : SinkView) : Ty
   pub appends : Appends before after got
   pub counts : before.faults ≤ after.faults
   pub stop : Option End
-  pub ends : LogEnds stop old new left rest before after
-  pub why : (end : End) → stop ≡ Some end → WhyUnwritten n got rest before after
+  pub ends : LogEnds n stop old new taken left got rest before after
   pub stands : (policy : Policy) (events : List Event) (was : Taken) → StandsFor policy old events was →
       StandsFor policy new (stop_events stop ++ events) (record was { notes = was.notes ++ taken })

@@ -14,15 +14,16 @@ use Rattle.link_traits.specs.declared.links.Count.{Count}
 use Rattle.policy_args.specs.Policy.{Policy}
 use Rattle.policy_view.specs.declared.Mode.{Mode}
 use Rattle.policy_view.specs.declared.End.{End}
+use Rattle.policy_view.specs.declared.End.TheVariants.{LogFault}
 use Rattle.policy_view.specs.History.{Event, history}
 use Rattle.policy_view.specs.Notes.{Note, notes}
 use Rattle.proxy_core.specs.Sessions.{SessionView, Taken, StandsFor, is_memory}
 use Rattle.proxy_loop.specs.declared.serving.Running.{Running}
 use Rattle.proxy_loop.specs.Sinks.{SinkView, Appends}
 use Rattle.proxy_loop.specs.Sessions.{Holds, events_of}
-use Rattle.proxy_loop.specs.Kinds.{writes_of, all_are, some_of, gone_by, last_write}
-use Rattle.proxy_loop.specs.Works.{Only, Goes, Stood, Cause, OneRead, IsDrained, WritesInOrder, link_at, is_full, ShutBoth}
-use Rattle.proxy_loop.specs.Logging.{stop_events, IsLogEnd, WhyUnwritten, Logs}
+use Rattle.proxy_loop.specs.Kinds.{writes_of, gave_bytes, all_are, some_of, gone_by, last_write}
+use Rattle.proxy_loop.specs.Works.{Only, Goes, Stood, Cause, OneRead, FedOnce, IsDrained, WritesInOrder, link_at, is_full, ShutBoth}
+use Rattle.proxy_loop.specs.Logging.{stop_events, IsLogEnd, LineRefused, Logs}
 
 -- To a link that is gone nothing more is written: then an End stands. While a session that makes notes runs, none is left.
 pub record Sound (running : Running) : Type 0 where
@@ -70,7 +71,7 @@ pick_side Bus client bus = bus
 -- one link of a session was read
 pub record Reads (policy : Policy) (n : ℕ) (side : Side) (old new : Running) (before after : NetView) : Type 0 where
   pub gone : Bool
-  pub goes : Goes (Only policy) n old.session new.session before after (OneRead (link_at n side) gone)
+  pub goes : Goes (Only policy) n old.session new.session before after (FedOnce (link_at n side) old.session new.session gone)
   pub client_gone : new.client.gone ≡ pick_side side gone old.client.gone
   pub bus_gone : new.bus.gone ≡ pick_side side old.bus.gone gone
   pub client : new.client.gone ≡ true → is_some new.session.ended ≡ true
@@ -86,16 +87,18 @@ abbrev pub ReadUnless : Bool → Link → Journal → Type 0
 ReadUnless true link added = added ≡ []
 ReadUnless false link added = (is_last : Bool) × OneRead link is_last added
 
--- the read of a turn, and what it does to the states of the links
+-- The read of a turn, and what it does to the states of the links. If it gave no bytes, no memory is refused, neither to the session
+-- nor for a line.
 pub record ReadPart (n : ℕ) (side : Side) (idle : Bool) (old new : Running) (added : Journal) : Type 0 where
   pub once : ReadUnless idle (link_at n side) added
   pub client_gone : new.client.gone ≡ (some_of (gone_by (client_link n)) added || old.client.gone)
   pub bus_gone : new.bus.gone ≡ (some_of (gone_by (bus_link n)) added || old.bus.gone)
+  pub unfed : some_of gave_bytes added ≡ false → is_memory new.session.ended ≡ is_memory old.session.ended
 
--- all lines of the notes that were taken were written, or it is known why these weren't
-abbrev pub WrittenUnless : Option End → ℕ → List ℕ → List ℕ → SinkView → SinkView → Type 0
-WrittenUnless None n got rest before after = rest ≡ []
-WrittenUnless (Some end) n got rest before after = WhyUnwritten n got rest before after
+-- all lines of the notes that were taken were written, or the End tells why these weren't
+abbrev pub WrittenUnless : Option End → ℕ → List Note → List ℕ → List ℕ → SinkView → SinkView → Type 0
+WrittenUnless None n taken got rest before after = rest ≡ []
+WrittenUnless (Some end) n taken got rest before after = IsLogEnd (LineRefused n taken got rest) end before after
 
 -- The read of a turn and the lines of the new notes: the session is first fed; then notes are taken, and their lines written,
 -- or a part of these, and then an End stands.
@@ -107,17 +110,18 @@ pub record ReadsAndLogs (policy : Policy) (logs : Bool) (n : ℕ) (side : Side) 
   pub rest : List ℕ
   pub stop : Option End
   pub still : idle ≡ true → stop ≡ None
+  pub logged : (end : End) → stop ≡ Some end → logs ≡ true
   pub unread : idle ≡ true → lines ≡ []
   pub stands : (p : Policy) (events : List Event) (was : Taken) → StandsFor p fed events was →
       StandsFor p new.session (stop_events stop ++ events) (record was { notes = was.notes ++ taken })
   pub is : log n taken ≡ lines ++ rest
   pub appends : Appends first last lines
   pub counts : first.faults ≤ last.faults
-  pub written : WrittenUnless stop n lines rest first last
+  pub written : WrittenUnless stop n taken lines rest first last
   pub all : logs ≡ true → stop ≡ None → old.session.notes ≡ [] → new.session.notes ≡ []
   pub end : (end : End) → fed.ended ≡ Some end → new.session.ended ≡ Some end
   pub stopped : (end : End) → stop ≡ Some end → is_some new.session.ended ≡ true
-  pub cause : (end : End) → new.session.ended ≡ Some end → (fed.ended ≡ Some end) ⊎ IsLogEnd end first last
+  pub cause : (end : End) → new.session.ended ≡ Some end → (fed.ended ≡ Some end) ⊎ IsLogEnd (LineRefused n taken lines rest) end first last
   pub mode : new.session.mode ≡ fed.mode
   pub unlogged : logs ≡ false → last ≡ first
 
@@ -127,7 +131,8 @@ IsDone link queue shut added = (queue ≡ []) ⊎ (shut ≡ true) ⊎ (last_writ
 
 -- What a turn does for a session on one of whose links something is ready: it writes to both links, reads that link exactly
 -- once unless the session has ended by then or too much waits for the other side, writes again, and shuts links. Both times it
--- writes to the client first, nothing to a link that is gone or shut, and nothing behind a write that wasn't ready or failed.
+-- writes to the client first, nothing to a link that is gone or shut, and nothing behind a write that wasn't ready or failed. If
+-- the read gave no bytes, no memory is refused.
 pub record Served (n : ℕ) (side : Side) (old new : Running) (added : Journal) : Type 0 where
   pub mid : SessionView
   pub first : Journal
@@ -143,6 +148,7 @@ pub record Served (n : ℕ) (side : Side) (old new : Running) (added : Journal) 
   pub bus_drained : IsDrained (bus_link n) mid.bus_side ((some_of (gone_by (bus_link n)) first || old.bus.gone) || old.bus.shut) first
   pub mid_ended : is_some mid.ended ≡ (is_some old.session.ended || (some_of (gone_by (client_link n)) first || some_of (gone_by (bus_link n)) first))
   pub once : ReadUnless (is_some mid.ended || is_full side mid) (link_at n side) reads
+  pub unfed : some_of gave_bytes reads ≡ false → is_memory new.session.ended ≡ is_memory old.session.ended
   pub second_writes : all_are (writes_of n) second ≡ true
   pub second_order : WritesInOrder n ((some_of (gone_by (client_link n)) (reads ++ first) || old.client.gone) || old.client.shut) ((some_of (gone_by (bus_link n)) (reads ++ first) || old.bus.gone) || old.bus.shut) second
   pub client_written : IsDrained (client_link n) new.session.client_side (new.client.gone || old.client.shut) second
@@ -186,7 +192,7 @@ pub record ServedStands (policy : Policy) (logs : Bool) (n : ℕ) (new : Session
 
 -- what shows why a session has an End: the count that rose, of its link or of the log; an End of the session's own needs none
 abbrev pub CauseOf : ℕ → End → NetView → NetView → SinkView → SinkView → Type 0
-CauseOf n end before after first last = Cause n end before after ⊎ IsLogEnd end first last
+CauseOf n end before after first last = Cause n end before after ⊎ ((end ≡ LogFault) × Rose first.faults last.faults)
 
 -- The whole work of a turn for one session.
 pub record Serving (policy : Policy) (logs : Bool) (n : ℕ) (side : Side) (old new : Running) (before after : NetView) (first last : SinkView) : Type 0 where

@@ -8,6 +8,7 @@ use Rattle.link_traits.specs.Entries.{ready as ready_entry}
 use Rattle.link_traits.specs.declared.links.Accepted.{Accepted}
 use Rattle.link_traits.specs.declared.links.Accepted.TheVariants.{New, NotReady as AcceptNotReady, Failed as AcceptFailed, Memory as AcceptMemory}
 use Rattle.link_traits.specs.declared.links.NetFault.{NetFault}
+use Rattle.link_traits.specs.declared.links.NetFault.TheVariants.{Failed as FaultFailed, Memory as FaultMemory}
 use Rattle.link_traits.specs.declared.links.Count.TheVariants.{Own as OfNet, Listener as OfListener}
 use Rattle.link_traits.specs.declared.links.Ready.{Ready}
 use Rattle.link_traits.specs.declared.links.Ready.TheVariants.{Listener, Link as ReadyLink, Quiet, Failed as ReadyFailed}
@@ -17,6 +18,7 @@ use Rattle.link_traits.specs.declared.links.Link.{Link}
 use Rattle.link_traits.specs.declared.links.Wishes.{Wishes}
 use Rattle.policy_args.specs.declared.line.Block.{Block}
 use Rattle.policy_view.specs.declared.End.{End}
+use Rattle.policy_view.specs.declared.End.TheVariants.{BusConnect, Memory}
 use Rattle.proxy_core.specs.Sessions.{SessionView, StandsFor, nothing}
 use Rattle.proxy_loop.specs.declared.link_work.LinkState.{LinkState}
 use Rattle.proxy_loop.specs.declared.serving.Running.{Running}
@@ -78,10 +80,17 @@ LinkDid blocks link (Some running) old new before after first last = ServedDid b
 abbrev pub at_first : LinkState
 at_first = record { gone = false; shut = false }
 
+-- the End of a new session, by the answer of its connect
+abbrev pub connect_end : Result (Unit {0}) NetFault → Option End
+connect_end (Ok done) = None
+connect_end (Err FaultFailed) = Some BusConnect
+connect_end (Err FaultMemory) = Some Memory
+
 -- a new session is connected
-pub record OneConnect (n : ℕ) (address : List ℕ) (gone : Bool) (added : Journal) : Type 0 where
+pub record OneConnect (n : ℕ) (address : List ℕ) (ended : Option End) (gone : Bool) (added : Journal) : Type 0 where
   pub answer : Result (Unit {0}) NetFault
   pub is : added ≡ connect_entry n address answer ∷ []
+  pub end : ended ≡ connect_end answer
   pub client_gone : some_of (gone_by (client_link n)) added ≡ false
   pub bus_gone : some_of (gone_by (bus_link n)) added ≡ gone
 
@@ -90,6 +99,7 @@ pub record Opened (n : ℕ) (address : List ℕ) (running : Running) (added : Jo
   pub answer : Result (Unit {0}) NetFault
   pub shuts : Journal
   pub is : added ≡ shuts ++ connect_entry n address answer ∷ []
+  pub end : running.session.ended ≡ connect_end answer
   pub shut : ShutBoth n running.client.shut running.bus.shut shuts
   pub client_gone : running.client.gone ≡ some_of (gone_by (client_link n)) added
   pub bus_gone : running.bus.gone ≡ some_of (gone_by (bus_link n)) added

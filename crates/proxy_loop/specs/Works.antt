@@ -20,9 +20,9 @@ use Rattle.policy_args.specs.Policy.{Policy}
 use Rattle.policy_view.specs.declared.End.{End}
 use Rattle.policy_view.specs.declared.End.TheVariants.{ClientMalformed, BusMalformed, ClientEnd, BusEnd, SerialsSpent, Memory, ClientRead, ClientWrite, BusRead, BusWrite, BusConnect, LogFault}
 use Rattle.policy_view.specs.History.{Event}
-use Rattle.proxy_core.specs.Sessions.{SessionView, Taken, StandsFor, IsFront}
+use Rattle.proxy_core.specs.Sessions.{SessionView, Taken, StandsFor, IsFront, is_memory}
 use Rattle.proxy_loop.specs.Sessions.{events_of}
-use Rattle.proxy_loop.specs.Kinds.{is_write, is_taken, gone_by, all_are, some_of, last_write, only_newest_stops}
+use Rattle.proxy_loop.specs.Kinds.{is_write, is_taken, gave_bytes, gone_by, all_are, some_of, last_write, only_newest_stops}
 
 -- ---- what waits
 
@@ -150,10 +150,16 @@ Cause n BusEnd before after = Unit {0}
 Cause n SerialsSpent before after = Unit {0}
 Cause n Memory before after = Unit {0}
 
--- an End stays, and the notes are as before
+-- an End stays, the notes are as before, and no memory is refused
 pub record KeepsEnd (old new : SessionView) : Type 0 where
   pub each : (end : End) → old.ended ≡ Some end → new.ended ≡ Some end
   pub notes : new.notes ≡ old.notes
+  pub memory : is_memory new.ended ≡ is_memory old.ended
+
+-- One read for a session. If it gave no bytes, no note is made and no memory is refused.
+pub record FedOnce (link : Link) (old new : SessionView) (is_last : Bool) (added : Journal) : Type 0 where
+  pub once : OneRead link is_last added
+  pub unfed : some_of gave_bytes added ≡ false → KeepsEnd old new
 
 -- any policy; this policy
 abbrev pub Any : Policy → Type 0

@@ -33,7 +33,7 @@ fn connect_new<N: Net>(net: &mut N, running: &mut Running, address: &str)
     requires sound { Sound running.old }
     requires runs { running.old.session.ended ≡ None }
     requires open { running.old.bus.gone ≡ false }
-    ensures goes { Goes Any running.old.number running.old.session running.new.session (N.view net.old) (N.view net.new) (OneConnect running.old.number address.now running.new.bus.gone) }
+    ensures goes { Goes Any running.old.number running.old.session running.new.session (N.view net.old) (N.view net.new) (OneConnect running.old.number address.now running.new.session.ended running.new.bus.gone) }
     ensures place { KeepsPlace running.old running.new }
     ensures client { running.new.client ≡ running.old.client }
     ensures shut { running.new.bus.shut ≡ running.old.bus.shut }

@@ -6,10 +6,10 @@ ghost use Rattle.link_traits.specs.declared.links.Wishes.{Wishes};
 ghost use Rattle.policy_args.specs.Policy.{Policy as PolicyValue};
 ghost use Rattle.policy_view.specs.declared.End.{End as SessionEnd};
 ghost use Rattle.policy_view.specs.History.{Event, Bytes, Finished, Stopped};
-ghost use Rattle.proxy_core.specs.Sessions.{StandsFor, Taken, IsFront};
+ghost use Rattle.proxy_core.specs.Sessions.{StandsFor, Taken, IsFront, is_memory};
 ghost use Rattle.proxy_core.specs.Messages.{ended_by};
 ghost use Rattle.proxy_loop.specs.Sessions.{side_of as side_of_link, read_end, write_end};
-ghost use Rattle.proxy_loop.specs.Works.{Any, Only, queue_of, other_queue, ShutWhere, shuts_now, is_full as is_full_side, wishes_of, with_queue, with_taken, Goes, OneWrite, WroteOut, OneRead, read_room, KeepsEnd, is_failed};
+ghost use Rattle.proxy_loop.specs.Works.{Any, Only, queue_of, other_queue, ShutWhere, shuts_now, is_full as is_full_side, wishes_of, with_queue, with_taken, Goes, OneWrite, WroteOut, FedOnce, read_room, KeepsEnd, is_failed};
 ghost use Rattle.proxy_loop.specs.Writing.{Written};
 
 use link_traits::{Got, Link, Net, Side, Took};
@@ -165,6 +165,7 @@ fn feed(session: &mut Session, policy: &Policy, side: Side, piece: &[u8])
 fn finish(session: &mut Session, side: Side) -> End
     ensures stands { (policy : PolicyValue) (events : List Event) (taken : Taken) → StandsFor policy session.old events taken → StandsFor policy session.new (Finished (side_of_link side) ∷ events) taken }
     ensures answer { session.new ≡ ended_by result session.old }
+    ensures own { session.old.ended ≡ None → is_memory (Some result) ≡ false }
     ensures last { (end : SessionEnd) → session.old.ended ≡ Some end → result ≡ end }
 {
     match side {
@@ -195,7 +196,7 @@ pub fn read_once<N: Net>(
     buffer: &mut [u8],
 ) -> bool
     requires { length buffer.old ≡ read_room }
-    ensures goes { Goes (Only policy.now) link.session session.old session.new (N.view net.old) (N.view net.new) (OneRead link result) }
+    ensures goes { Goes (Only policy.now) link.session session.old session.new (N.view net.old) (N.view net.new) (FedOnce link session.old session.new result) }
     ensures gone { result ≡ true → is_some session.new.ended ≡ true }
     ensures wishes { KeepsWishes (N.view net.old) (N.view net.new) }
 {

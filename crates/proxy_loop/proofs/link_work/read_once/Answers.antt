@@ -12,7 +12,7 @@ pub returns-in-Finished-clause-goes : goal.returns-in-Finished-clause-goes
 returns-in-Finished-clause-goes g c =
     finished_goes c.args.policy.now c.args.link c.args.session.now c.finish.new.session
     (g.N.Net.view c.args.net.now) (g.N.Net.view c.read-answer.new.self) c.read-answer.new.into (c.read-answer.auto.into ∙ c.requires) c.finish.result
-    c.in-Finished.ensures.told (λ events taken s. c.finish.ensures.stands c.args.policy.now events taken s) c.finish.ensures.answer c.finish.ensures.last
+    c.in-Finished.ensures.told (λ events taken s. c.finish.ensures.stands c.args.policy.now events taken s) c.finish.ensures.answer c.finish.ensures.own c.finish.ensures.last
 
 pub returns-in-NotReady-clause-goes : goal.returns-in-NotReady-clause-goes
 returns-in-NotReady-clause-goes g c =

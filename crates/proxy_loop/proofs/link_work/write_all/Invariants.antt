@@ -1,4 +1,4 @@
-use Rattle.std.proofs.Common.{◌≡◌, length, is_some, false}
+use Rattle.std.proofs.Common.{◌≡◌, length, is_some}
 use Rattle.link_traits.specs.Views.{KeepsWishes}
 use Rattle.proxy_loop.specs.Works.{Any, queue_of, other_queue, Goes, WritesOn, KeepsEnd}
 use Rattle.proxy_loop.proofs.link_work.write_all.Given as goal
