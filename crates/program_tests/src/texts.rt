@@ -8,7 +8,7 @@ use std::thread::Threads;
 use tool_words::{explain_words, replay_words, sample_words, twin_words};
 
 /// Each option of a policy file, as the help shows it, and a word of it.
-const OPTIONS: [(&str, &str); 7] = [
+const OPTIONS: [(&str, &str); 9] = [
     ("--filter", "--filter"),
     ("--log", "--log"),
     ("--see=NAME", "--see=org.a.B"),
@@ -16,6 +16,8 @@ const OPTIONS: [(&str, &str); 7] = [
     ("--own=NAME", "--own=org.a.B"),
     ("--call=NAME=RULE", "--call=org.a.B=org.a.I.*@/p"),
     ("--broadcast=NAME=RULE", "--broadcast=org.a.B=*"),
+    ("--sloppy-names", "--sloppy-names"),
+    ("--known-fields", "--known-fields"),
 ];
 
 /// Each option that a proxy line alone has, as the help shows it.
