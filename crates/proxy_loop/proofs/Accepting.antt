@@ -36,7 +36,7 @@ connected_goes n address gone session before after e runs adds =
     (λ policy u. moves_quiet policy n session (Connected n address) refl refl refl)
     (λ end e. e) (λ policy u s end e. inl e) refl
 
--- a new session has the End that it is told
+-- A session that stops before anything else ended it has the End that it was stopped with.
 first_end : (old new : SessionView) (own result : End) → old.ended ≡ None → Stops old new own result → new.ended ≡ Some own
 first_end old new own result runs stops = ap (λ (s : SessionView). s.ended) stops.answer ∙ ap (λ (x : End). Some x) (stops.first runs)
 

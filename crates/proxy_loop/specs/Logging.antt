@@ -31,8 +31,8 @@ abbrev pub stopped_at : Option End → End → SessionView → SessionView
 stopped_at None end session = ended_by end session
 stopped_at (Some first) end session = session
 
--- A front of the bytes was written, and the session was told to stop: the sink failed, or what is left is the line that was refused
--- memory.
+-- A prefix of the bytes was written, and the session was stopped. Either the sink failed, or what is left is one line, for which
+-- memory was refused.
 pub record JoinedStops (bytes : List ℕ) (line : Option (List ℕ)) (old new : SessionView) (before after : SinkView) : Type 0 where
   pub end : End
   pub got : List ℕ

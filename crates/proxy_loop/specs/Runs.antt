@@ -131,8 +131,8 @@ IsDone link queue shut added = (queue ≡ []) ⊎ (shut ≡ true) ⊎ (last_writ
 
 -- What a turn does for a session on one of whose links something is ready: it writes to both links, reads that link exactly
 -- once unless the session has ended by then or too much waits for the other side, writes again, and shuts links. Both times it
--- writes to the client first, nothing to a link that is gone or shut, and nothing behind a write that wasn't ready or failed. If
--- the read gave no bytes, no memory is refused.
+-- writes to the client first. It writes nothing to a link that is gone or shut, and nothing after a write that wasn't ready or
+-- failed. If the read gave no bytes, no memory is refused.
 pub record Served (n : ℕ) (side : Side) (old new : Running) (added : Journal) : Type 0 where
   pub mid : SessionView
   pub first : Journal

@@ -89,7 +89,8 @@ is_log_end BusRead = false
 is_log_end BusWrite = false
 is_log_end BusConnect = false
 
--- The journal's events of a session, or these with an End of the log put in. Behind it nothing is read.
+-- What was recorded of a session is its events in the journal. If the log stopped it, one stop is added to them, and nothing is
+-- read after that stop.
 abbrev pub IsWithStop : Bool → List Event → List Event → Type 0
 IsWithStop false events told = events ≡ told
 IsWithStop true events told =
