@@ -1,6 +1,7 @@
 pub mod Frames
 pub mod Growth
 pub mod PastLaws
+pub mod Closings
 pub mod Streams
 pub mod Alike
 pub mod CutLaws

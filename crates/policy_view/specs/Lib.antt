@@ -6,6 +6,7 @@ pub mod Verdicts
 pub mod Shown
 pub mod Past
 pub mod History
+pub mod Closings
 pub mod Outputs
 pub mod Notes
 pub mod Visible

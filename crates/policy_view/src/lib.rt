@@ -10,6 +10,7 @@ mod visible;
 ghost use Rattle.std.specs.Prelude.{◌≡◌, ℕ, [], ◌∷◌, ◌++◌, ◌&&◌, not, false, List, None, IsTrue};
 ghost use Rattle.std.specs.List.{AllByRecursion};
 ghost use Rattle.policy_args.specs.Policy.{Policy};
+ghost use Rattle.policy_view.specs.Closings.{ClosesFirst};
 ghost use Rattle.policy_view.specs.Elements.{BringsBytes, DifferAsGiven, TellThePart};
 ghost use Rattle.policy_view.specs.History.{Event, Bytes, end_of, history, is_over, line_fault};
 ghost use Rattle.policy_view.specs.Laws.{DecideTheSame, GivesTheSame, HiddenChangesNothing, KnowTheSame, OnlyGrows, PassesAll};
@@ -175,6 +176,11 @@ pub enum End {
 /// With more events, what either side was given stands, and only more follows it.
 pub fn bytes_only_grow()
     ensures { (policy : Policy) (mode : SessionMode) (more events : List Event) → OnlyGrows policy mode more events }
+{}
+
+/// The closing of events is the End of their history, with the number of the first event after which it stands.
+pub fn histories_close_once()
+    ensures { (policy : Policy) (mode : SessionMode) (events : List Event) → ClosesFirst policy mode events }
 {}
 
 /// Where a session that filters messages takes a stream in two pieces or in one makes no difference, whatever comes
