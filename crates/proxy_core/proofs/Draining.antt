@@ -1,14 +1,13 @@
 -- Lines and messages taken from the front of a stream, one and then many; bytes that go on as they came.
-use Rattle.std.proofs.Common.{ℕ, zero, suc, ◌≡◌, ◌+◌, ◌-◌, ◌*◌, ◌≤◌, ◌<◌, Bool, true, false, cond, List, [], ◌∷◌, ◌++◌, length, Option, Some, None, refl, ap, ◌∙◌, sym, subst, arith, length-append, inl, inr}
-use Rattle.std.specs.Prelude.{◌==◌, is_none, is_some, not}
+use Rattle.std.proofs.Common.{ℕ, zero, suc, ◌≡◌, ◌+◌, ◌-◌, ◌*◌, ◌≤◌, ◌<◌, Bool, true, false, cond, List, [], ◌∷◌, ◌++◌, length, take, Option, Some, None, refl, ap, ◌∙◌, sym, subst, arith, length-append, inl, inr}
+use Rattle.std.specs.Prelude.{◌==◌, is_none, is_some, nat_lt, not}
 use Rattle.dbus_names.specs.Names.{is_empty}
 use Rattle.dbus_header.specs.Message.{Message, spell}
 use Rattle.dbus_header.specs.Malformed.{front, fault}
 use Rattle.dbus_header.specs.declared.Malformed.{Malformed}
 use Rattle.dbus_framing.specs.Framing.{Takes}
 use Rattle.policy_args.specs.Policy.{Policy}
-use Rattle.policy_view.specs.Notes.{Note}
-use Rattle.policy_view.specs.declared.visible.Visible.{Visible as Element}
+use Rattle.policy_view.specs.History.{finished}
 use Rattle.policy_view.specs.declared.Side.{Side}
 use Rattle.policy_view.specs.declared.Side.TheVariants.{Client, Bus}
 use Rattle.policy_view.specs.declared.End.{End}
@@ -16,8 +15,8 @@ use Rattle.policy_view.specs.declared.End.TheVariants.{Memory}
 use Rattle.proxy_core.specs.Streams.{StreamView, Phase, InLines, InMessages, pushed}
 use Rattle.proxy_core.specs.Sessions.{SessionView, stream_of, IsFront}
 use Rattle.proxy_core.specs.Messages.{ended_by, with_watched_message, KeepsSides}
-use Rattle.proxy_core.specs.Steps.{with_stream, with_left, with_fault, and_runs, with_front, with_raw, raw_step, step_at, step_of, more_if, drained, with_more, with_bytes, TookMessage, IsRefused, Took, Stepped, Did, own_to_come, weight, IsLight}
-use Rattle.proxy_core.proofs.Keeping.{Grows, grows_none, grows_then, bus_grows, client_grows, watched_kept}
+use Rattle.proxy_core.specs.Steps.{with_stream, with_left, with_fault, and_runs, with_front, with_raw, raw_step, step_at, step_of, more_if, drained, with_more, with_bytes, end_unless, closed_if, room_of, with_piece, Grows, TookMessage, IsRefused, Took, Stepped, Did, own_to_come, weight, IsLight}
+use Rattle.proxy_core.proofs.Keeping.{waits, grows_as, grows_none, grows_then, bus_grows, client_grows, watched_kept}
 use Rattle.proxy_core.proofs.Weights.{watched_light}
 use Rattle.proxy_core.proofs.LineSteps.{line_grows, line_runs, did_light}
 
@@ -43,34 +42,36 @@ left_watches Client left view = refl
 left_watches Bus left view = refl
 
 left_grows : (side : Side) (left : List ℕ) (view new : SessionView) → Grows (with_left side left view) new → Grows view new
-left_grows Client left view new g = g
-left_grows Bus left view new g = g
+left_grows Client left view new g = grows_as g refl refl
+left_grows Bus left view new g = grows_as g refl refl
 
 grows_left : (side : Side) (left : List ℕ) (view new : SessionView) → Grows view new → Grows (with_left side left view) new
-grows_left Client left view new g = g
-grows_left Bus left view new g = g
+grows_left Client left view new g = grows_as g refl refl
+grows_left Bus left view new g = grows_as g refl refl
 
 -- what waits is as it was
+same_waits : (old new : SessionView) → KeepsSides old new → waits new ≡ waits old
+same_waits old new k = cc (k.bus_side, k.client_side, k.notes, k.visible)
+
 kept_grows : (old new expected : SessionView) → KeepsSides old new → Grows old expected → Grows new expected
-kept_grows old new expected k (bus, client, notes, visible) = (
-  subst (λ (xs : List ℕ). IsFront xs expected.bus_side) (sym k.bus_side) bus,
-  subst (λ (xs : List ℕ). IsFront xs expected.client_side) (sym k.client_side) client,
-  subst (λ (xs : List Note). IsFront xs expected.notes) (sym k.notes) notes,
-  subst (λ (xs : List Element). IsFront xs expected.visible) (sym k.visible) visible,
-)
+kept_grows old new expected k g = grows_as g (same_waits old new k) refl
+
+grows_kept : (old new : SessionView) → KeepsSides old new → Grows old new
+grows_kept old new k = grows_as (grows_none old) refl (same_waits old new k)
 
 -- memory was refused in the midst of what was to be
-refused_in : (expected old new : SessionView) → old.ended ≡ None → new.ended ≡ Some Memory → new.mode ≡ old.mode → new.watches ≡ old.watches → Grows new expected → IsRefused expected old new
-refused_in expected old new runs ended mode watches (bus, client, notes, visible) =
-    record { running = runs; ended = ended; mode = mode; for_bus = bus; for_client = client; noted = notes; watches = watches; watched = visible }
+refused_in : (expected old new : SessionView) → old.ended ≡ None → new.ended ≡ Some Memory → new.mode ≡ old.mode → new.watches ≡ old.watches → Grows old new → Grows new expected → IsRefused expected old new
+refused_in expected old new runs ended mode watches grows most =
+    record { running = runs; ended = ended; mode = mode; grows = grows; for_bus = most.for_bus; for_client = most.for_client; noted = most.noted; watches = watches; watched = most.watched }
 
 refused_grows : (expected old new : SessionView) → IsRefused expected old new → Grows new expected
-refused_grows expected old new r = (r.for_bus, r.for_client, r.noted, r.watched)
+refused_grows expected old new r = record { for_bus = r.for_bus; for_client = r.for_client; noted = r.noted; watched = r.watched }
 
 -- and before anything was done
 refused_first : (expected old new : SessionView) → old.ended ≡ None → new ≡ ended_by Memory old → Grows old expected → IsRefused expected old new
 refused_first expected old new runs is grows =
-    refused_in expected old new runs (ap (λ (v : SessionView). v.ended) is) (ap (λ (v : SessionView). v.mode) is) (ap (λ (v : SessionView). v.watches) is) (subst (λ (v : SessionView). Grows v expected) (sym is) grows)
+    refused_in expected old new runs (ap (λ (v : SessionView). v.ended) is) (ap (λ (v : SessionView). v.mode) is) (ap (λ (v : SessionView). v.watches) is)
+    (subst (λ (v : SessionView). Grows old v) (sym is) (grows_as (grows_none old) refl refl)) (grows_as grows (ap waits is) refl)
 
 -- a message's bytes are no longer left
 left_weighs : (policy : Policy) (side : Side) (left : List ℕ) (n : ℕ) (view : SessionView) → length (left_of side view) ≡ n + length left → weight policy (with_left side left view) + 19 * n ≡ weight policy view
@@ -114,7 +115,7 @@ module _ (policy : Policy) (side : Side) where
 
   fault_grows : (o : Option Malformed) (view : SessionView) → Grows view (with_fault side o view)
   fault_grows None view = grows_none view
-  fault_grows (Some f) view = grows_none view
+  fault_grows (Some f) view = grows_as (grows_none view) refl refl
 
   front_grows : (o : Option (Message × List ℕ)) (view : SessionView) → Grows view (with_front policy side o view).0
   front_grows None view = fault_grows (fault (left_of side view)) view
@@ -177,6 +178,7 @@ module _ (policy : Policy) (side : Side) where
       inr (
         refused_in (step_of policy side old).0 old new runs refused.ended (refused.kept.mode ∙ ap (λ (v : SessionView). v.mode) is ∙ left_mode side left old)
             (refused.kept.watches ∙ ap (λ (v : SessionView). v.watches) is ∙ left_watches side left old)
+            (left_grows side left old new (subst (λ (v : SessionView). Grows v new) is (grows_kept mid new refused.kept)))
             (kept_grows mid new (step_of policy side old).0 refused.kept
             (subst (λ (v : SessionView). Grows v (step_of policy side old).0) (sym is) (grows_left side left old (step_of policy side old).0 (step_grows old)))),
         ap is_none refused.ended,
@@ -240,26 +242,33 @@ module _ (policy : Policy) (side : Side) where
   step view = step_of policy side view
 
   -- where more may follow
-  pub goes_on : (n : ℕ) (view new : SessionView) (more : Bool) → 0 < n → view.ended ≡ None → Stepped (step_of policy side view) view new more → more ≡ true → (drained policy side (n - 1) new ≡ drained policy side n view) × (new.ended ≡ None)
+  pub record GoesOn (n : ℕ) (view new : SessionView) : Type 0 where
+    pub same : drained policy side (n - 1) new ≡ drained policy side n view
+    pub runs : new.ended ≡ None
+    pub grows : Grows view new
+
+  pub goes_on : (n : ℕ) (view new : SessionView) (more : Bool) → 0 < n → view.ended ≡ None → Stepped (step_of policy side view) view new more → more ≡ true → GoesOn n view new
   goes_on zero view new more pos runs s e = absurd (omega (arith, pos))
   goes_on (suc n) view new more pos runs (inl done) e =
       let goes : (step_of policy side view).1 ≡ true = sym done.1 ∙ e in
-      let less : suc n - 1 ≡ n = omega arith in (
-        ap (λ (k : ℕ). drained policy side k new) less ∙ ap (drained policy side n) done.0 ∙ ap (λ (b : Bool). more_if ((step_of policy side view).0, b) (drained policy side n)) (sym goes),
-        ap (λ (v : SessionView). v.ended) done.0 ∙ step_runs view runs goes,
-      )
+      let less : suc n - 1 ≡ n = omega arith in
+      record {
+        same = ap (λ (k : ℕ). drained policy side k new) less ∙ ap (drained policy side n) done.0 ∙ ap (λ (b : Bool). more_if ((step_of policy side view).0, b) (drained policy side n)) (sym goes);
+        runs = ap (λ (v : SessionView). v.ended) done.0 ∙ step_runs view runs goes;
+        grows = subst (λ (v : SessionView). Grows view v) (sym done.0) (step_grows view);
+      }
   goes_on (suc n) view new more pos runs (inr refused) e = absurd (let h : true ≡ false = sym e ∙ refused.1 in cc)
 
   -- where it doesn't
-  pub stops : (n : ℕ) (first view new : SessionView) (expected : SessionView) (more : Bool) → 0 < n → first.ended ≡ None → view.mode ≡ first.mode → view.watches ≡ first.watches → drained policy side n view ≡ expected
+  pub stops : (n : ℕ) (first view new : SessionView) (expected : SessionView) (more : Bool) → 0 < n → first.ended ≡ None → view.mode ≡ first.mode → view.watches ≡ first.watches → Grows first view → drained policy side n view ≡ expected
       → Stepped (step_of policy side view) view new more → more ≡ false → Took expected first new
-  stops zero first view new expected more pos runs mode watches is s e = absurd (omega (arith, pos))
-  stops (suc n) first view new expected more pos runs mode watches is (inl done) e =
+  stops zero first view new expected more pos runs mode watches grows is s e = absurd (omega (arith, pos))
+  stops (suc n) first view new expected more pos runs mode watches grows is (inl done) e =
       let halts : (step_of policy side view).1 ≡ false = sym done.1 ∙ e in
       inl (done.0 ∙ ap (λ (b : Bool). more_if ((step_of policy side view).0, b) (drained policy side n)) (sym halts) ∙ is)
-  stops (suc n) first view new expected more pos runs mode watches is (inr refused) e =
+  stops (suc n) first view new expected more pos runs mode watches grows is (inr refused) e =
       let whole : SessionView = drained policy side (suc n) view in
-      inr (refused_in expected first new runs refused.0.ended (refused.0.mode ∙ mode) (refused.0.watches ∙ watches)
+      inr (refused_in expected first new runs refused.0.ended (refused.0.mode ∙ mode) (refused.0.watches ∙ watches) (grows_then first view new grows refused.0.grows)
       (subst (λ (v : SessionView). Grows new v) is (grows_then new (step_of policy side view).0 whole (refused_grows (step_of policy side view).0 view new refused.0) (later (step_of policy side view).1))))
     where
       later : (b : Bool) → Grows (step_of policy side view).0 (more_if ((step_of policy side view).0, b) (drained policy side n))
@@ -282,6 +291,7 @@ module _ (policy : Policy) (side : Side) (old mid new : SessionView) (bytes : Li
           running = runs;
           ended = cut.0.ended;
           mode = cut.0.mode ∙ ap (λ (v : SessionView). v.mode) mid_is ∙ left_mode side [] old;
+          grows = left_grows side [] old new (subst (λ (v : SessionView). Grows v new) mid_is cut.0.grows);
           for_bus = subst (λ (v : SessionView). IsFront new.bus_side v.bus_side) target_is cut.0.for_bus;
           for_client = subst (λ (v : SessionView). IsFront new.client_side v.client_side) target_is cut.0.for_client;
           noted = subst (λ (v : SessionView). IsFront new.notes v.notes) target_is cut.0.noted;
@@ -342,8 +352,8 @@ stepped_as expected old new a b e s = subst (λ (c : Bool). Stepped expected old
 -- ---- bytes that come
 
 pushed_grows : (side : Side) (s : StreamView) (view new : SessionView) → Grows (with_stream side s view) new → Grows view new
-pushed_grows Client s view new g = g
-pushed_grows Bus s view new g = g
+pushed_grows Client s view new g = grows_as g refl refl
+pushed_grows Bus s view new g = grows_as g refl refl
 
 pushed_left : (side : Side) (s : StreamView) (view : SessionView) → left_of side (with_stream side s view) ≡ s.left
 pushed_left Client s view = refl
@@ -366,10 +376,10 @@ not_empty_by [] e = absurd cc
 not_empty_by (byte ∷ bytes) e = refl
 
 -- from what stood before
-pub took_from : (expected other old mid new : SessionView) → expected ≡ other → mid.ended ≡ old.ended → mid.mode ≡ old.mode → mid.watches ≡ old.watches → Took expected mid new → Took other old new
-took_from expected other old mid new is runs mode watches (inl done) = inl (done ∙ is)
-took_from expected other old mid new is runs mode watches (inr refused) =
-    inr (refused_in other old new (sym runs ∙ refused.running) refused.ended (refused.mode ∙ mode) (refused.watches ∙ watches) (subst (λ (v : SessionView). Grows new v) is (refused_grows expected mid new refused)))
+pub took_from : (expected other old mid new : SessionView) → expected ≡ other → mid.ended ≡ old.ended → mid.mode ≡ old.mode → mid.watches ≡ old.watches → (Grows mid new → Grows old new) → Took expected mid new → Took other old new
+took_from expected other old mid new is runs mode watches grows (inl done) = inl (done ∙ is)
+took_from expected other old mid new is runs mode watches grows (inr refused) =
+    inr (refused_in other old new (sym runs ∙ refused.running) refused.ended (refused.mode ∙ mode) (refused.watches ∙ watches) (grows refused.grows) (subst (λ (v : SessionView). Grows new v) is (refused_grows expected mid new refused)))
 
 module _ (policy : Policy) (side : Side) (bytes : List ℕ) where
   more_grows : (view : SessionView) → Grows view (with_more policy side bytes view)
@@ -399,7 +409,26 @@ module _ (policy : Policy) (side : Side) (bytes : List ℕ) where
       took_from (drained policy side most mid) (with_bytes policy side bytes old) old mid new all (ap (λ (v : SessionView). v.ended) is ∙ pushed_ended side (pushed bytes (stream_of side old)) old)
       (ap (λ (v : SessionView). v.mode) is ∙ pushed_mode side (pushed bytes (stream_of side old)) old)
       (ap (λ (v : SessionView). v.watches) is ∙ pushed_watches side (pushed bytes (stream_of side old)) old)
+      (λ grows. pushed_grows side (pushed bytes (stream_of side old)) old new (subst (λ (v : SessionView). Grows v new) is grows))
       took
+
+-- ---- a piece
+
+unless_grows : (o : Option End) (end : End) (old view : SessionView) → Grows old view → Grows old (end_unless o end view)
+unless_grows None end old view g = grows_as g refl refl
+unless_grows (Some before) end old view g = g
+
+closed_grows : (over : Bool) (side : Side) (old view : SessionView) → Grows old view → Grows old (closed_if over side view)
+closed_grows true side old view g = unless_grows view.ended (finished side) old view g
+closed_grows false side old view g = g
+
+-- it only adds to what waits, also where memory was refused in its midst
+pub piece_grows : (policy : Policy) (side : Side) (piece : List ℕ) (old new : SessionView) → Took (with_piece policy side piece old) old new → Grows old new
+piece_grows policy side piece old new (inl done) =
+    let bytes : List ℕ = take (room_of side old) piece in
+    subst (λ (v : SessionView). Grows old v) (sym done)
+    (closed_grows (nat_lt (room_of side old) (length piece)) side old (with_bytes policy side bytes old) (bytes_grow policy side bytes (is_empty bytes) old))
+piece_grows policy side piece old new (inr refused) = refused.grows
 
 pub light_same : (policy : Policy) (view : SessionView) → IsLight policy 0 view view
 light_same policy view = record { mode = refl; watches = refl; weighs = no_more _ _ (19 * 0) refl }

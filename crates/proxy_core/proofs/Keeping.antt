@@ -1,5 +1,5 @@
 -- What a message leaves as it was: the mode, the streams, and what waited before it; and how it is without its note and its element.
-use Rattle.std.proofs.Common.{ℕ, ◌≡◌, ◌+◌, Bool, true, false, cond, List, [], ◌∷◌, ◌++◌, length, refl, ap, ap₂, ◌∙◌, sym, append-nil, append_assoc, flat_map}
+use Rattle.std.proofs.Common.{ℕ, ◌≡◌, ◌+◌, Bool, true, false, cond, List, [], ◌∷◌, ◌++◌, length, refl, ap, ap₂, ◌∙◌, sym, append-nil, append_assoc, flat_map, subst}
 use Rattle.std.specs.Prelude.{nat_le, ◌&&◌, is_none}
 use Rattle.dbus_header.specs.Message.{Message, reply_serial, spell}
 use Rattle.policy_args.specs.Policy.{Policy}
@@ -21,6 +21,7 @@ use Rattle.unique_names.specs.Taught.{kept_level}
 use Rattle.verdicts.specs.Kept.{expected_at}
 use Rattle.proxy_core.specs.Sessions.{SessionView, IsFront}
 use Rattle.proxy_core.specs.Messages.{decision_in, elements_in, ended_by, if_watched, known, sending, unless_ended, with_elements, with_message, with_note, with_note_on, with_noted_message, with_replied, with_role, with_sent, with_shown, with_told, with_used, with_verdict, with_watched_message, KeepsSides}
+use Rattle.proxy_core.specs.Steps.{Grows}
 
 -- ---- fronts
 
@@ -35,30 +36,46 @@ front_then xs ys zs p q = record { rest = p.rest ++ q.rest; is = sym (append_ass
 
 -- ---- what waits
 
--- what waits for either side, the notes, and the elements stand behind what was there before
-abbrev pub Grows : SessionView → SessionView → Type 0
-Grows old new = IsFront old.bus_side new.bus_side × IsFront old.client_side new.client_side × IsFront old.notes new.notes × IsFront old.visible new.visible
+abbrev pub waits : SessionView → List ℕ × List ℕ × List Note × List Element
+waits view = (view.bus_side, view.client_side, view.notes, view.visible)
+
+-- of views in which the same waits
+pub grows_as : {a b c d : SessionView} → Grows a b → waits c ≡ waits a → waits d ≡ waits b → Grows c d
+grows_as {a = a} {b = b} {c = c} {d = d} g p q = record {
+  for_bus = both (ap (λ w. w.0) p) (ap (λ w. w.0) q) g.for_bus;
+  for_client = both (ap (λ w. w.1) p) (ap (λ w. w.1) q) g.for_client;
+  noted = both (ap (λ w. w.2) p) (ap (λ w. w.2) q) g.noted;
+  watched = both (ap (λ w. w.3) p) (ap (λ w. w.3) q) g.watched;
+}
+  where
+    both : {A : Type 0} {xs ys zs ws : List A} → zs ≡ xs → ws ≡ ys → IsFront xs ys → IsFront zs ws
+    both {xs = xs} {ws = ws} e f front = subst (λ (vs : List _). IsFront vs ws) (sym e) (subst (λ (vs : List _). IsFront xs vs) (sym f) front)
 
 pub grows_none : (view : SessionView) → Grows view view
-grows_none view = (front_all view.bus_side, front_all view.client_side, front_all view.notes, front_all view.visible)
+grows_none view = record { for_bus = front_all view.bus_side; for_client = front_all view.client_side; noted = front_all view.notes; watched = front_all view.visible }
 
 pub grows_then : (a b c : SessionView) → Grows a b → Grows b c → Grows a c
-grows_then a b c (bus, client, notes, visible) (more_bus, more_client, more_notes, more_visible) = (
-  front_then a.bus_side b.bus_side c.bus_side bus more_bus,
-  front_then a.client_side b.client_side c.client_side client more_client,
-  front_then a.notes b.notes c.notes notes more_notes,
-  front_then a.visible b.visible c.visible visible more_visible,
-)
+grows_then a b c p q = record {
+  for_bus = front_then a.bus_side b.bus_side c.bus_side p.for_bus q.for_bus;
+  for_client = front_then a.client_side b.client_side c.client_side p.for_client q.for_client;
+  noted = front_then a.notes b.notes c.notes p.noted q.noted;
+  watched = front_then a.visible b.visible c.visible p.watched q.watched;
+}
 
 pub bus_grows : (view : SessionView) (more : List ℕ) → Grows view (record view { bus_side = view.bus_side ++ more })
-bus_grows view more = (front_more view.bus_side more, front_all view.client_side, front_all view.notes, front_all view.visible)
+bus_grows view more = record { for_bus = front_more view.bus_side more; for_client = front_all view.client_side; noted = front_all view.notes; watched = front_all view.visible }
 
 pub client_grows : (view : SessionView) (more : List ℕ) → Grows view (record view { client_side = view.client_side ++ more })
-client_grows view more = (front_all view.bus_side, front_more view.client_side more, front_all view.notes, front_all view.visible)
+client_grows view more = record { for_bus = front_all view.bus_side; for_client = front_more view.client_side more; noted = front_all view.notes; watched = front_all view.visible }
 
 -- where elements are kept too
 pub elements_grow : (old new : SessionView) (elements : List Element) → Grows old new → Grows old (with_elements elements new)
-elements_grow old new elements (bus, client, notes, visible) = (bus, client, notes, front_then old.visible new.visible _ visible (front_more new.visible (if_watched new.watches elements)))
+elements_grow old new elements g = record {
+  for_bus = g.for_bus;
+  for_client = g.for_client;
+  noted = g.noted;
+  watched = front_then old.visible new.visible _ g.watched (front_more new.visible (if_watched new.watches elements));
+}
 
 -- ---- a message
 
@@ -74,7 +91,7 @@ pub itself : (view : SessionView) → IsKept view view
 itself view = record { mode = refl; watches = refl; client = refl; bus = refl; grows = grows_none view }
 
 pub ended_kept : (end : End) (view : SessionView) → IsKept view (ended_by end view)
-ended_kept end view = record { mode = refl; watches = refl; client = refl; bus = refl; grows = grows_none view }
+ended_kept end view = record { mode = refl; watches = refl; client = refl; bus = refl; grows = grows_as (grows_none view) refl refl }
 
 either : (old x y : SessionView) (b : Bool) → IsKept old x → IsKept old y → IsKept old (cond b x y)
 either old x y true k l = k
@@ -88,7 +105,7 @@ sent_kept due old new k = record {
   watches = k.watches;
   client = k.client;
   bus = k.bus;
-  grows = grows_then old new (with_sent due new) k.grows (bus_grows new (spelled_from (new.sent + 1) due));
+  grows = grows_then old new (with_sent due new) k.grows (grows_as (bus_grows new (spelled_from (new.sent + 1) due)) refl refl);
 }
 
 pub sending_kept : (due : List Sent) (view new : SessionView) → IsKept view new → IsKept view (sending due view new)
@@ -99,7 +116,7 @@ sending_kept (s ∷ due) view new k =
 -- ---- what a message does
 
 replied_kept : (replied : List Exchange) (view : SessionView) → IsKept view (with_replied replied view)
-replied_kept replied view = record { mode = refl; watches = refl; client = refl; bus = refl; grows = grows_none view }
+replied_kept replied view = record { mode = refl; watches = refl; client = refl; bus = refl; grows = grows_as (grows_none view) refl refl }
 
 module _ (policy : Policy) (m : Message) where
   verdict_kept : (v : Verdict) (view : SessionView) → IsKept view (with_verdict policy m v view)
@@ -111,7 +128,7 @@ module _ (policy : Policy) (m : Message) where
     watches = refl;
     client = refl;
     bus = refl;
-    grows = client_grows view (flat_map spell (seen_as (kept_level policy view.ids) m showing));
+    grows = grows_as (client_grows view (flat_map spell (seen_as (kept_level policy view.ids) m showing))) refl refl;
   }
 
   role_kept : (role : BusRole) (view : SessionView) → IsKept view (with_role policy m role view)
@@ -120,7 +137,7 @@ module _ (policy : Policy) (m : Message) where
       (told_kept role (showing_at policy (known policy view) m role) view)
 
   used_kept : (view new : SessionView) → IsKept (with_used m view) new → IsKept view new
-  used_kept view new k = record { mode = k.mode; watches = k.watches; client = k.client; bus = k.bus; grows = k.grows }
+  used_kept view new k = record { mode = k.mode; watches = k.watches; client = k.client; bus = k.bus; grows = grows_as k.grows refl refl }
 
 -- ---- notes and elements
 
@@ -235,7 +252,8 @@ noted_kept policy side m view = by (with_message policy side m view) (message_ke
           watches = k.watches;
           client = k.client;
           bus = k.bus;
-          grows = grows_then view new (with_note side m decision new) k.grows (front_all new.bus_side, front_all new.client_side, front_more new.notes _, front_all new.visible);
+          grows = grows_then view new (with_note side m decision new) k.grows
+              (record { for_bus = front_all new.bus_side; for_client = front_all new.client_side; noted = front_more new.notes _; watched = front_all new.visible });
         })
         k
 

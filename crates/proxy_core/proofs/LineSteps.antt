@@ -18,26 +18,26 @@ use Rattle.policy_view.specs.declared.Side.{Side}
 use Rattle.policy_view.specs.declared.Side.TheVariants.{Client, Bus}
 use Rattle.proxy_core.specs.Streams.{StreamView, InLines, watch_at, GaveLine}
 use Rattle.proxy_core.specs.Sessions.{SessionView, IsFront}
-use Rattle.proxy_core.specs.Steps.{behind_line, in_messages, with_line_fault, with_lines, with_cut, unanswered, has_begun, with_all_answered, step_at, Stepped, Did, own_to_come, weight, IsLight}
-use Rattle.proxy_core.proofs.Keeping.{Grows, grows_none, bus_grows, client_grows, elements_grow}
+use Rattle.proxy_core.specs.Steps.{behind_line, in_messages, with_line_fault, with_lines, with_cut, unanswered, has_begun, with_all_answered, step_at, Grows, Stepped, Did, own_to_come, weight, IsLight}
+use Rattle.proxy_core.proofs.Keeping.{grows_as, grows_none, grows_then, bus_grows, client_grows, elements_grow}
 
 -- ---- what waits behind a line starts with what waited before
 
 fault_grows : (side : Side) (place : ℕ) (o : Option LineFault) (view : SessionView) → Grows view (with_line_fault side place o view)
 fault_grows side place None view = grows_none view
-fault_grows Client place (Some f) view = grows_none view
-fault_grows Bus place (Some f) view = grows_none view
+fault_grows Client place (Some f) view = grows_as (grows_none view) refl refl
+fault_grows Bus place (Some f) view = grows_as (grows_none view) refl refl
 
 lines_grow : (side : Side) (place : ℕ) (ls : List (List ℕ)) (o : Option LineFault) (view : SessionView) → Grows view (with_lines side place ls o view).0
 lines_grow side place [] o view = fault_grows side place o view
-lines_grow Client place (l ∷ ls) o view = elements_grow view (record view { bus_side = view.bus_side ++ for_bus l }) (element.Line Client l ∷ []) (bus_grows view (for_bus l))
-lines_grow Bus place (l ∷ ls) o view = elements_grow view (record view { client_side = view.client_side ++ l }) (element.Line Bus l ∷ []) (client_grows view l)
+lines_grow Client place (l ∷ ls) o view = grows_as (elements_grow view (record view { bus_side = view.bus_side ++ for_bus l }) (element.Line Client l ∷ []) (bus_grows view (for_bus l))) refl refl
+lines_grow Bus place (l ∷ ls) o view = grows_as (elements_grow view (record view { client_side = view.client_side ++ l }) (element.Line Bus l ∷ []) (client_grows view l)) refl refl
 
 abbrev by_begun : Bool → Option LineFault → ℕ → SessionView → SessionView × Bool
 by_begun b o place view = cond b (record view { bus = in_messages view.bus }, true) (with_line_fault Bus place o view, false)
 
 begun_grows : (b : Bool) (o : Option LineFault) (place : ℕ) (view : SessionView) → Grows view (by_begun b o place view).0
-begun_grows true o place view = grows_none view
+begun_grows true o place view = grows_as (grows_none view) refl refl
 begun_grows false o place view = fault_grows Bus place o view
 
 abbrev early : ℕ → SessionView → Option LineFault
@@ -81,7 +81,7 @@ stream_behind s place n l w parts is =
 
 -- ---- what was done with a line
 
-module _ (expected : SessionView × Bool) (old mid new target : SessionView) (goes : Bool) (runs : old.ended ≡ None) (is : target ≡ expected.0) (more : expected.1 ≡ true) (mode : mid.mode ≡ old.mode) (watches : mid.watches ≡ old.watches) where
+module _ (expected : SessionView × Bool) (old mid new target : SessionView) (goes : Bool) (runs : old.ended ≡ None) (is : target ≡ expected.0) (more : expected.1 ≡ true) (mode : mid.mode ≡ old.mode) (watches : mid.watches ≡ old.watches) (grows : Grows old mid) where
   pub did_step : Did target mid new goes → Stepped expected old new goes
   did_step (inl done) = inl (done.0 ∙ is, done.1 ∙ sym more)
   did_step (inr cut) = inr (
@@ -89,6 +89,7 @@ module _ (expected : SessionView × Bool) (old mid new target : SessionView) (go
       running = runs;
       ended = cut.0.ended;
       mode = cut.0.mode ∙ mode;
+      grows = grows_then old mid new grows cut.0.grows;
       for_bus = subst (λ (v : SessionView). IsFront new.bus_side v.bus_side) is cut.0.for_bus;
       for_client = subst (λ (v : SessionView). IsFront new.client_side v.client_side) is cut.0.for_client;
       noted = subst (λ (v : SessionView). IsFront new.notes v.notes) is cut.0.noted;

@@ -15,7 +15,7 @@ use Rattle.sasl_watch.proofs.Followed.{client-starts, bus-starts}
 use Rattle.policy_args.specs.Policy.{Policy}
 use Rattle.policy_view.specs.Sent.{Exchange, answered, call_at, nothing_before, owed}
 use Rattle.policy_view.specs.Past.{Item, Ended, History, past}
-use Rattle.policy_view.specs.History.{Event, Bytes, Finished, Stopped, longest_stream, whole_stream, stream, lines, content, found, raw, raw_item, fault, taken_of, is_over, end_if, fault_end, new_in, finished, arrived, followed_by, followed_by_all, history}
+use Rattle.policy_view.specs.History.{Event, Bytes, Finished, Stopped, longest_stream, whole_stream, stream, lines, content, found, raw, raw_item, fault, taken_of, is_over, end_if, fault_end, new_in, finished, arrived, end_of, followed_by, followed_by_all, history}
 use Rattle.policy_view.specs.Elements.{elements, given_of}
 use Rattle.policy_view.specs.Notes.{Note, notes, notes_made, numbered}
 use Rattle.policy_view.specs.Visible.{part, visible_of}
@@ -33,7 +33,7 @@ use Rattle.policy_view.proofs.PastLaws.{ended_is_final}
 use Rattle.policy_view.proofs.Streams.{stream_more, apart, grows, found_by, raw_by}
 use Rattle.policy_view.proofs.CutLaws.{all_append, new_last}
 use Rattle.proxy_core.specs.Streams.{StreamView, Phase, InLines, InMessages, new_stream, pushed}
-use Rattle.proxy_core.specs.Sessions.{SessionView, Taken, Holds, Follows, FollowsStream, StandsAt, lines_in, rest_of, StandsFor, IsFront, at_start, elements_given, nothing, watching_at_start, watching_mode, stream_of, is_memory, nothing_expected}
+use Rattle.proxy_core.specs.Sessions.{SessionView, Taken, Holds, Follows, FollowsStream, StandsAt, lines_in, rest_of, StandsFor, Closes, IsFront, at_start, elements_given, nothing, watching_at_start, watching_mode, stream_of, is_memory, nothing_expected}
 use Rattle.dbus_names.specs.Texts.{Text}
 use Rattle.reply_ledger.proofs.Counting.{none-count}
 use Rattle.unique_names.proofs.Learned.{start-taught}
@@ -41,6 +41,7 @@ use Rattle.verdicts.specs.Kept.{expected_at, owed_by, owed_to}
 use Rattle.verdicts.proofs.KnowledgeLaws.{CoversNoUniqueName}
 use Rattle.proxy_core.specs.Messages.{ended_by}
 use Rattle.proxy_core.specs.Steps.{with_stream, drained, end_unless, closed_if, room_of, with_piece, IsRefused, Took}
+use Rattle.policy_view.proofs.Closings.{closes_at}
 use Rattle.proxy_core.proofs.Watching.{watched_holds}
 use Rattle.proxy_core.proofs.Going.{Goes, reached}
 use Rattle.proxy_core.proofs.Driven.{Steps, Final, KnowsOther, phase_weight, weight, none_last, drained_last, end_followed, end_ignored, new_none, stream_holds, same_stream, stream_runs}
@@ -522,6 +523,15 @@ pub stop_stands : (policy : Policy) (view : SessionView) (events : List Event) (
 unfolding arrived
 stop_stands policy view events taken end stays first last stands =
     end_stands policy view events taken (Stopped end) end stays refl first last stands
+
+-- ---- the event at which a session ends
+
+-- it is the one at which the history gets the End
+pub closes : (policy : Policy) (event : Event) (old new : SessionView) → new.mode ≡ old.mode → ((events : List Event) (taken : Taken) → StandsFor policy old events taken → StandsFor policy new (event ∷ events) taken) → Closes policy event old new
+closes policy event old new mode stands events taken end stood runs ended no_memory =
+    closes_at policy new.mode event events end
+    (ap (λ (m : Mode). end_of (history policy m events)) mode ∙ sym (stood.holds (ap is_memory runs)).end_is ∙ runs)
+    (sym ((stands events taken stood).holds (ap is_memory ended ∙ no_memory)).end_is ∙ ended)
 
 -- ---- a feed
 

@@ -1,5 +1,5 @@
 -- What a session is seen as, and when it stands for events.
-use Rattle.std.specs.Prelude.{◌≡◌, ◌≤◌, ◌<◌, ℕ, Bool, true, false, List, [], ◌++◌, length, get_or, IsTrue, if◌then◌else◌, Option, Some, None, Result, Ok, Err}
+use Rattle.std.specs.Prelude.{◌≡◌, ◌≤◌, ◌<◌, ℕ, ◌+◌, Bool, true, false, List, [], ◌∷◌, ◌++◌, length, get_or, IsTrue, if◌then◌else◌, Option, Some, None, Result, Ok, Err}
 use Rattle.std.specs.FinMap.{empty}
 use Rattle.std.specs.Global.{Box}
 use Rattle.dbus_header.specs.Stream.{rest}
@@ -19,6 +19,7 @@ use Rattle.policy_view.specs.declared.Side.{Side}
 use Rattle.policy_view.specs.declared.Side.TheVariants.{Client, Bus}
 use Rattle.policy_view.specs.declared.End.{End}
 use Rattle.policy_view.specs.declared.End.TheVariants.{ClientMalformed, BusMalformed, ClientEnd, BusEnd, SerialsSpent, Memory, ClientRead, ClientWrite, BusRead, BusWrite, BusConnect, LogFault}
+use Rattle.policy_view.specs.Closings.{closing}
 use Rattle.proxy_core.specs.Streams.{StreamView, Phase, InLines, InMessages, new_stream, watch_at}
 use Rattle.reply_ledger.specs.Ledger.{Ledger}
 use Rattle.unique_names.specs.Taught.{Ids}
@@ -129,7 +130,7 @@ is_memory (Some BusWrite) = false
 is_memory (Some BusConnect) = false
 is_memory (Some LogFault) = false
 
--- the Ends for which a session is stopped: a link or the log failed, or memory was refused for a connect or for a line
+-- the Ends for which a session is stopped: a link or the log failed, or memory was refused for a connect
 abbrev pub is_from_outside : End → Bool
 is_from_outside (ClientMalformed fault) = false
 is_from_outside (BusMalformed fault) = false
@@ -211,6 +212,12 @@ pub record StandsFor (policy : Policy) (view : SessionView) (events : List Event
   pub visible_front : IsFront (taken.visible ++ view.visible) (elements_given view.watches policy (history policy view.mode events))
   pub holds : is_memory view.ended ≡ false → Holds policy view (history policy view.mode events) taken
   pub follows : view.ended ≡ None → Follows view events
+
+-- An event that ends a running session is the one at which the history gets this End; memory that is refused is no part of the history.
+abbrev pub Closes : Policy → Event → SessionView → SessionView → Type 0
+Closes policy event old new =
+    (events : List Event) (taken : Taken) (end : End) → StandsFor policy old events taken → old.ended ≡ None → new.ended ≡ Some end → is_memory (Some end) ≡ false
+    → closing policy new.mode (event ∷ events) ≡ Some (end, length events + 1)
 
 -- what a feed answers
 abbrev pub answer_of : Option End → Result (Unit {0}) End

@@ -180,6 +180,15 @@ abbrev pub with_piece : Policy → Side → List ℕ → SessionView → Session
 with_piece policy side piece view =
     closed_if (nat_lt (room_of side view) (length piece)) side (with_bytes policy side (take (room_of side view) piece) view)
 
+-- ---- what waits only grows
+
+-- what waited for either side, the notes, and the elements are a prefix of what waits now
+pub record Grows (old new : SessionView) : Type 0 where
+  pub for_bus : IsFront old.bus_side new.bus_side
+  pub for_client : IsFront old.client_side new.client_side
+  pub noted : IsFront old.notes new.notes
+  pub watched : IsFront old.visible new.visible
+
 -- ---- memory that was refused
 
 -- at one message, which has no effect then
@@ -191,11 +200,12 @@ pub record IsRefusedAtOnce (old new : SessionView) : Type 0 where
 abbrev pub TookMessage : SessionView → SessionView → SessionView → Type 0
 TookMessage expected old new = (new ≡ expected) ⊎ IsRefusedAtOnce old new
 
--- what waits, the notes, and the elements are the first of what was to be
+-- what waits, the notes, and the elements are the first of what was to be, and still start with what they were
 pub record IsRefused (expected old new : SessionView) : Type 0 where
   pub running : old.ended ≡ None
   pub ended : new.ended ≡ Some Memory
   pub mode : new.mode ≡ old.mode
+  pub grows : Grows old new
   pub for_bus : IsFront new.bus_side expected.bus_side
   pub for_client : IsFront new.client_side expected.client_side
   pub noted : IsFront new.notes expected.notes
@@ -209,10 +219,11 @@ Took expected old new = (new ≡ expected) ⊎ IsRefused expected old new
 abbrev pub Stepped : SessionView × Bool → SessionView → SessionView → Bool → Type 0
 Stepped expected old new more = ((new ≡ expected.0) × (more ≡ expected.1)) ⊎ (IsRefused expected.0 old new × (more ≡ false))
 
--- at one line, which has no effect on what waits then, or at the end of the lines; neither has a note
+-- at one line, which has no effect on what waits then, or at the end of the lines; neither has a note, and nothing that waited is lost
 pub record IsCutOff (expected old new : SessionView) : Type 0 where
   pub ended : new.ended ≡ Some Memory
   pub mode : new.mode ≡ old.mode
+  pub grows : Grows old new
   pub for_bus : IsFront new.bus_side expected.bus_side
   pub for_client : IsFront new.client_side expected.client_side
   pub noted : IsFront new.notes expected.notes

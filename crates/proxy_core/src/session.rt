@@ -8,9 +8,9 @@ ghost use Rattle.policy_view.specs.declared.visible.Visible.{Visible as Element}
 ghost use Rattle.policy_view.specs.declared.End.TheVariants.{ClientEnd, BusEnd};
 ghost use Rattle.policy_args.specs.Policy.{Policy as PolicyValue};
 ghost use Rattle.proxy_core.specs.Streams.{InMessages, is_in_lines as in_lines, pushed};
-ghost use Rattle.proxy_core.specs.Sessions.{StandsFor, Taken, nothing, at_start, watching_at_start, stream_of, answer_of, is_from_outside, IsFront};
+ghost use Rattle.proxy_core.specs.Sessions.{StandsFor, Closes, Taken, nothing, at_start, watching_at_start, stream_of, answer_of, is_from_outside, IsFront};
 ghost use Rattle.proxy_core.specs.Messages.{ended_by};
-ghost use Rattle.proxy_core.specs.Steps.{with_stream, with_left, step_of, drained, with_bytes, with_piece, Took, Stepped, IsLight, weight};
+ghost use Rattle.proxy_core.specs.Steps.{with_stream, with_left, step_of, drained, with_bytes, with_piece, Grows, Took, Stepped, IsLight, weight};
 
 mod fronts;
 mod lines;
@@ -156,8 +156,10 @@ impl Session {
     /// Answers the End where the session ended; what comes later has no effect.
     pub fn feed_client(&mut self, policy: &Policy, piece: &[u8]) -> Result<(), End>
         ensures stands { (events : List Event) (taken : Taken) → StandsFor policy.now self.old events taken → StandsFor policy.now self.new (Bytes Side.Client piece.now ∷ events) taken }
+        ensures closes { Closes policy.now (Bytes Side.Client piece.now) self.old self.new }
         ensures answer { result ≡ answer_of self.new.ended }
         ensures last { (end : SessionEnd) → self.old.ended ≡ Some end → self.new ≡ self.old }
+        ensures grows { Grows self.old self.new }
         ensures light { IsLight policy.now (length piece.now) self.old self.new }
     {
         self.feed(policy, Side::Client, piece)
@@ -168,8 +170,10 @@ impl Session {
     /// for the bus. Where messages aren't filtered, its bytes behind the lines wait for the client as they came. Answers the End where the session ended; what comes later has no effect.
     pub fn feed_bus(&mut self, policy: &Policy, piece: &[u8]) -> Result<(), End>
         ensures stands { (events : List Event) (taken : Taken) → StandsFor policy.now self.old events taken → StandsFor policy.now self.new (Bytes Side.Bus piece.now ∷ events) taken }
+        ensures closes { Closes policy.now (Bytes Side.Bus piece.now) self.old self.new }
         ensures answer { result ≡ answer_of self.new.ended }
         ensures last { (end : SessionEnd) → self.old.ended ≡ Some end → self.new ≡ self.old }
+        ensures grows { Grows self.old self.new }
         ensures light { IsLight policy.now (length piece.now) self.old self.new }
     {
         self.feed(policy, Side::Bus, piece)
@@ -178,6 +182,7 @@ impl Session {
     /// The client's stream ended. Answers the session's End, which is an earlier one where there was one.
     pub fn client_ended(&mut self) -> End
         ensures stands { (policy : PolicyValue) (events : List Event) (taken : Taken) → StandsFor policy self.old events taken → StandsFor policy self.new (Finished Side.Client ∷ events) taken }
+        ensures closes { (policy : PolicyValue) → Closes policy (Finished Side.Client) self.old self.new }
         ensures answer { self.new ≡ ended_by result self.old }
         ensures first { self.old.ended ≡ None → result ≡ ClientEnd }
         ensures last { (end : SessionEnd) → self.old.ended ≡ Some end → result ≡ end }
@@ -188,6 +193,7 @@ impl Session {
     /// The bus's stream ended. Answers the session's End, which is an earlier one where there was one.
     pub fn bus_ended(&mut self) -> End
         ensures stands { (policy : PolicyValue) (events : List Event) (taken : Taken) → StandsFor policy self.old events taken → StandsFor policy self.new (Finished Side.Bus ∷ events) taken }
+        ensures closes { (policy : PolicyValue) → Closes policy (Finished Side.Bus) self.old self.new }
         ensures answer { self.new ≡ ended_by result self.old }
         ensures first { self.old.ended ≡ None → result ≡ BusEnd }
         ensures last { (end : SessionEnd) → self.old.ended ≡ Some end → result ≡ end }
@@ -200,6 +206,7 @@ impl Session {
     pub fn stop(&mut self, end: End) -> End
         requires { is_from_outside end ≡ true }
         ensures stands { (policy : PolicyValue) (events : List Event) (taken : Taken) → StandsFor policy self.old events taken → StandsFor policy self.new (Stopped end ∷ events) taken }
+        ensures closes { (policy : PolicyValue) → Closes policy (Stopped end) self.old self.new }
         ensures answer { self.new ≡ ended_by result self.old }
         ensures first { self.old.ended ≡ None → result ≡ end }
         ensures last { (earlier : SessionEnd) → self.old.ended ≡ Some earlier → result ≡ earlier }
@@ -410,8 +417,10 @@ impl Session {
     /// Takes a piece that came of a side.
     fn feed(&mut self, policy: &Policy, side: Side, piece: &[u8]) -> Result<(), End>
         ensures stands { (events : List Event) (taken : Taken) → StandsFor policy.now self.old events taken → StandsFor policy.now self.new (Bytes side piece.now ∷ events) taken }
+        ensures closes { Closes policy.now (Bytes side piece.now) self.old self.new }
         ensures answer { result ≡ answer_of self.new.ended }
         ensures last { (end : SessionEnd) → self.old.ended ≡ Some end → self.new ≡ self.old }
+        ensures grows { Grows self.old self.new }
         ensures light { IsLight policy.now (length piece.now) self.old self.new }
     {
         if let Some(end) = self.ended {

@@ -1,16 +1,21 @@
-use Rattle.std.proofs.Common.{◌∙◌}
-use Rattle.proxy_core.proofs.Draining.{goes_on, light_then, stops}
+use Rattle.std.proofs.Common.{◌∙◌, refl}
+use Rattle.proxy_core.proofs.Draining.{goes_on, light_same, light_then, stops}
+use Rattle.proxy_core.proofs.Keeping.{grows_none, grows_then}
 use Rattle.proxy_core.proofs.session.Session.drain.Goals as goal
+
+pub loop-left-init : goal.loop-left-init
+loop-left-init c = record { same = refl; runs = c.requires; grows = grows_none c.args.self.now; light = light_same c.args.policy.now c.args.self.now }
 
 pub returns-then-not-take_front-clause-took : goal.returns-then-not-take_front-clause-took
 returns-then-not-take_front-clause-took c =
-    stops c.args.policy.now c.args.side c.loop-left.left c.args.self.now c.loop-left.self c.take_front.new.self _ c.take_front.result c.loop-left-test.true c.requires c.loop-left.invariant.light.mode c.loop-left.invariant.light.watches c.loop-left.invariant.same c.take_front.ensures.step c.if-not-take_front.true
+    stops c.args.policy.now c.args.side c.loop-left.left c.args.self.now c.loop-left.self c.take_front.new.self _ c.take_front.result c.loop-left-test.true c.requires c.loop-left.invariant.light.mode c.loop-left.invariant.light.watches c.loop-left.invariant.grows c.loop-left.invariant.same c.take_front.ensures.step c.if-not-take_front.true
 
 pub loop-left-preserved : goal.loop-left-preserved
 loop-left-preserved c =
     let next = goes_on c.args.policy.now c.args.side c.loop-left.left c.loop-left.self c.take_front.new.self c.take_front.result c.loop-left-test.true c.loop-left.invariant.runs c.take_front.ensures.step c.if-not-take_front.false in
     record {
-      same = next.0 ∙ c.loop-left.invariant.same;
-      runs = next.1;
+      same = next.same ∙ c.loop-left.invariant.same;
+      runs = next.runs;
+      grows = grows_then _ _ _ c.loop-left.invariant.grows next.grows;
       light = light_then c.args.policy.now _ _ _ c.loop-left.invariant.light c.take_front.ensures.light;
     }
