@@ -1,3 +1,4 @@
 pub mod LineWords
 pub mod EntryWords
 pub mod EntriesNamed
+pub mod Buffers

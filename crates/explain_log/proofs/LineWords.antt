@@ -1,10 +1,10 @@
 -- What is pushed to a line, one part after the other, is the line.
-use Rattle.std.proofs.Common.{◌≡◌, ℕ, [], ◌∷◌, ◌++◌, Option, codes, decimal, refl, ap, ◌∙◌, append_assoc}
-use Rattle.std.specs.Prelude.{unwrap_or}
+use Rattle.std.proofs.Common.{◌≡◌, ℕ, List, [], ◌∷◌, ◌++◌, length, get_or, Bor, Option, codes, decimal, refl, ap, ◌∙◌, append_assoc, append-nil, arith}
+use Rattle.std.specs.Prelude.{flat_map, unwrap_or}
 use Rattle.dbus_names.specs.Texts.{Text}
 use Rattle.dbus_header.specs.Message.{Message, Valid, spell, path, interface, member, destination, sender, reply_serial}
 use Rattle.dbus_header.specs.Contents.{Contents, contents_of}
-use Rattle.dbus_header.specs.Kinds.{kind_of}
+use Rattle.dbus_header.specs.Kinds.{kind_by, kind_of}
 use Rattle.policy_view.proofs.Frames.{spelled_message}
 use Rattle.policy_view.specs.Notes.{Note, message_in}
 use Rattle.policy_view.specs.Own.{ping}
@@ -12,35 +12,34 @@ use Rattle.policy_view.specs.declared.Side.{Side}
 use Rattle.policy_view.specs.declared.Decision.{Decision}
 use Rattle.explain_log.specs.Laws.{TellsMessage}
 use Rattle.explain_log.specs.Lines.{decision_words, line_of, log_line, number_word, side_word, text_word, type_word}
-use Rattle.explain_log.specs.Parts.{message_words}
 
--- eight names and words behind a line
-pub eight_pushed : (b₀ b₁ b₂ b₃ b₄ b₅ b₆ b₇ b₈ n₁ n₂ n₃ n₄ n₅ n₆ n₇ n₈ p₁ p₂ p₃ p₄ p₅ p₆ p₇ p₈ : Text) →
-    b₁ ≡ b₀ ++ n₁ ++ p₁ → b₂ ≡ b₁ ++ n₂ ++ p₂ → b₃ ≡ b₂ ++ n₃ ++ p₃ → b₄ ≡ b₃ ++ n₄ ++ p₄ → b₅ ≡ b₄ ++ n₅ ++ p₅ → b₆ ≡ b₅ ++ n₆ ++ p₆ →
-    b₇ ≡ b₆ ++ n₇ ++ p₇ → b₈ ≡ b₇ ++ n₈ ++ p₈ →
-    b₈ ≡ b₀ ++ (n₁ ++ p₁ ++ n₂ ++ p₂ ++ n₃ ++ p₃ ++ n₄ ++ p₄ ++ n₅ ++ p₅ ++ n₆ ++ p₆ ++ n₇ ++ p₇ ++ n₈ ++ p₈)
-eight_pushed b₀ b₁ b₂ b₃ b₄ b₅ b₆ b₇ b₈ n₁ n₂ n₃ n₄ n₅ n₆ n₇ n₈ p₁ p₂ p₃ p₄ p₅ p₆ p₇ p₈ e₁ e₂ e₃ e₄ e₅ e₆ e₇ e₈ =
-    rw (e₈, e₇, e₆, e₅, e₄, e₃, e₂, e₁) (simp append_assoc)
+-- two pieces of a word and six, with more pieces after them
+two_then : (xs : List (Bor Text)) (d : Bor Text) (word rest : Text) → length xs ≡ 2 → flat_map (λ piece. piece.now) xs ≡ word →
+    (get_or xs 0 d).now ++ ((get_or xs 1 d).now ++ rest) ≡ word ++ rest
+two_then (a ∷ b ∷ []) d word rest two e = rw (← e) (simp append_assoc)
+two_then _ d word rest two e = absurd (omega arith)
 
--- the parts of a line, one behind the other
-all_pushed : (space feed session side number words decision b₀ b₁ b₂ b₃ b₄ b₅ b₆ b₇ : Text) →
-    b₀ ≡ [] → b₁ ≡ b₀ ++ session → b₂ ≡ b₁ ++ space ++ side ++ space → b₃ ≡ b₂ ++ number → b₄ ≡ b₃ ++ words → b₅ ≡ b₄ ++ space → b₆ ≡ b₅ ++ decision →
-    b₇ ≡ b₆ ++ feed → b₇ ≡ session ++ space ++ side ++ space ++ number ++ words ++ space ++ decision ++ feed
-all_pushed space feed session side number words decision b₀ b₁ b₂ b₃ b₄ b₅ b₆ b₇ e₀ e₁ e₂ e₃ e₄ e₅ e₆ e₇ = rw (e₇, e₆, e₅, e₄, e₃, e₂, e₁, e₀) refl
+six_then : (xs : List (Bor Text)) (d : Bor Text) (word rest : Text) → length xs ≡ 6 → flat_map (λ piece. piece.now) xs ≡ word →
+    (get_or xs 0 d).now ++ ((get_or xs 1 d).now ++ ((get_or xs 2 d).now ++ ((get_or xs 3 d).now ++ ((get_or xs 4 d).now ++ ((get_or xs 5 d).now ++ rest)))))
+    ≡ word ++ rest
+six_then (a ∷ b ∷ c ∷ d ∷ e ∷ f ∷ []) x word rest six is = rw (← is) (simp append_assoc)
+six_then _ x word rest six is = absurd (omega arith)
 
--- the words of a line, as they are pushed and as they are joined
-rejoined : (space feed session side number kind n₁ n₂ n₃ n₄ n₅ n₆ n₇ p₁ p₂ p₃ p₄ p₅ p₆ p₇ decision : Text) →
-    session ++ space ++ side ++ space ++ number
-    ++ (space ++ kind ++ (space ++ n₁) ++ p₁ ++ (space ++ n₂) ++ p₂ ++ (space ++ n₃) ++ p₃ ++ (space ++ n₄) ++ p₄ ++ (space ++ n₅) ++ p₅ ++ (space ++ n₆) ++ p₆
-    ++ (space ++ n₇) ++ p₇)
-    ++ space ++ decision ++ feed
-    ≡ session ++ space ++ (side ++ space ++ (number ++ space ++ (kind ++ space ++ (n₁ ++ p₁ ++ space ++ (n₂ ++ p₂ ++ space ++ (n₃ ++ p₃ ++ space ++ (n₄ ++ p₄ ++ space
+-- the pieces of a line, as they come one after the other and as they are joined
+rejoined : (space feed session side number type n₁ n₂ n₃ n₄ n₅ n₆ n₇ p₁ p₂ p₃ p₄ p₅ p₆ p₇ decision : Text) →
+    session ++ ((space ++ side ++ space) ++ (number ++ ((space ++ type) ++ ((space ++ n₁) ++ (p₁ ++ ((space ++ n₂) ++ (p₂ ++ ((space ++ n₃) ++ (p₃ ++ ((space ++ n₄)
+    ++ (p₄ ++ ((space ++ n₅) ++ (p₅ ++ ((space ++ n₆) ++ (p₆ ++ ((space ++ n₇) ++ (p₇ ++ (space ++ (decision ++ (feed ++ []))))))))))))))))))))
+    ≡ session ++ space ++ (side ++ space ++ (number ++ space ++ (type ++ space ++ (n₁ ++ p₁ ++ space ++ (n₂ ++ p₂ ++ space ++ (n₃ ++ p₃ ++ space ++ (n₄ ++ p₄ ++ space
     ++ (n₅ ++ p₅ ++ space ++ (n₆ ++ p₆ ++ space ++ (n₇ ++ p₇ ++ space ++ (decision ++ feed)))))))))))
-rejoined space feed session side number kind n₁ n₂ n₃ n₄ n₅ n₆ n₇ p₁ p₂ p₃ p₄ p₅ p₆ p₇ decision = simp append_assoc
+rejoined space feed session side number type n₁ n₂ n₃ n₄ n₅ n₆ n₇ p₁ p₂ p₃ p₄ p₅ p₆ p₇ decision = simp (append_assoc, append-nil)
 
 whole_line : (session : ℕ) (note : Note) →
-    decimal session ++ codes " " ++ side_word note.side ++ codes " " ++ decimal note.number ++ message_words (contents_of (message_in note.frame)) ++ codes " "
-    ++ decision_words note.decision ++ 10 ∷ []
+    decimal session ++ ((codes " " ++ side_word note.side ++ codes " ") ++ (decimal note.number
+    ++ ((codes " " ++ type_word (message_in note.frame).kind (kind_by (message_in note.frame).kind))
+    ++ (codes " serial=" ++ (decimal (message_in note.frame).serial ++ (codes " reply=" ++ (number_word (reply_serial (message_in note.frame))
+    ++ (codes " from=" ++ (text_word (sender (message_in note.frame)) ++ (codes " dest=" ++ (text_word (destination (message_in note.frame))
+    ++ (codes " path=" ++ (text_word (path (message_in note.frame)) ++ (codes " iface=" ++ (text_word (interface (message_in note.frame))
+    ++ (codes " member=" ++ (text_word (member (message_in note.frame)) ++ (codes " " ++ (decision_words note.decision ++ (10 ∷ [] ++ []))))))))))))))))))))
     ≡ log_line session note
 unfolding log_line kind_of
 whole_line session note =
@@ -50,15 +49,35 @@ whole_line session note =
     (text_word (destination (message_in note.frame))) (text_word (path (message_in note.frame))) (text_word (interface (message_in note.frame)))
     (text_word (member (message_in note.frame))) (decision_words note.decision)
 
-pub line_pushed : (session : ℕ) (note : Note) (b₀ b₁ b₂ b₃ b₄ b₅ b₆ b₇ : Text) (side : Side) (number : ℕ) (seen : Contents) (decision : Decision) →
+-- the pieces of a line are the line
+pub line_of_pieces : (session : ℕ) (note : Note) (side : Side) (number : ℕ) (seen : Contents) (decision : Decision) (kinds decided : List (Bor Text)) (d : Bor Text)
+    (t₁ t₂ t₃ t₄ t₅ t₆ t₇ t₈ t₉ t₁₀ : Text) →
     side ≡ note.side → number ≡ note.number → seen ≡ contents_of (message_in note.frame) → decision ≡ note.decision →
-    b₀ ≡ [] → b₁ ≡ b₀ ++ decimal session → b₂ ≡ b₁ ++ codes " " ++ side_word side ++ codes " " → b₃ ≡ b₂ ++ decimal number →
-    b₄ ≡ b₃ ++ message_words seen → b₅ ≡ b₄ ++ codes " " → b₆ ≡ b₅ ++ decision_words decision → b₇ ≡ b₆ ++ 10 ∷ [] → b₇ ≡ log_line session note
-line_pushed session note b₀ b₁ b₂ b₃ b₄ b₅ b₆ b₇ side number seen decision s n m d e₀ e₁ e₂ e₃ e₄ e₅ e₆ e₇ =
-    all_pushed (codes " ") (10 ∷ []) (decimal session) (side_word note.side) (decimal note.number) (message_words (contents_of (message_in note.frame)))
-    (decision_words note.decision) b₀ b₁ b₂ b₃ b₄ b₅ b₆ b₇ e₀ e₁ (e₂ ∙ ap (λ (x : Side). b₁ ++ codes " " ++ side_word x ++ codes " ") s) (e₃ ∙ ap (λ x. b₂ ++ decimal x) n)
-    (e₄ ∙ ap (λ (x : Contents). b₃ ++ message_words x) m) e₅ (e₆ ∙ ap (λ (x : Decision). b₅ ++ decision_words x) d) e₇
-    ∙ whole_line session note
+    length kinds ≡ 2 → flat_map (λ piece. piece.now) kinds ≡ codes " " ++ type_word seen.kind (kind_by seen.kind) →
+    length decided ≡ 6 → flat_map (λ piece. piece.now) decided ≡ decision_words decision →
+    t₁ ≡ decimal session → t₂ ≡ codes " " ++ side_word side ++ codes " " → t₃ ≡ decimal number →
+    t₄ ≡ decimal seen.serial → t₅ ≡ number_word seen.parts.reply_serial → t₆ ≡ text_word seen.parts.sender → t₇ ≡ text_word seen.parts.destination →
+    t₈ ≡ text_word seen.parts.path → t₉ ≡ text_word seen.parts.interface → t₁₀ ≡ text_word seen.parts.member →
+    t₁ ++ (t₂ ++ (t₃ ++ ((get_or kinds 0 d).now ++ ((get_or kinds 1 d).now ++ (codes " serial=" ++ (t₄ ++ (codes " reply=" ++ (t₅ ++ (codes " from=" ++ (t₆
+    ++ (codes " dest=" ++ (t₇ ++ (codes " path=" ++ (t₈ ++ (codes " iface=" ++ (t₉ ++ (codes " member=" ++ (t₁₀ ++ (codes " "
+    ++ ((get_or decided 0 d).now ++ ((get_or decided 1 d).now ++ ((get_or decided 2 d).now ++ ((get_or decided 3 d).now ++ ((get_or decided 4 d).now
+    ++ ((get_or decided 5 d).now ++ (10 ∷ [] ++ []))))))))))))))))))))))))))
+    ≡ log_line session note
+line_of_pieces session note side number seen decision kinds decided d t₁ t₂ t₃ t₄ t₅ t₆ t₇ t₈ t₉ t₁₀ s n is c two k six w e₁ e₂ e₃ e₄ e₅ e₆ e₇ e₈ e₉ e₁₀ =
+    rw (
+      e₁,
+      e₂ ∙ ap (λ (x : Side). codes " " ++ side_word x ++ codes " ") s,
+      e₃ ∙ ap (λ x. decimal x) n,
+      e₄ ∙ ap (λ (x : Contents). decimal x.serial) is,
+      e₅ ∙ ap (λ (x : Contents). number_word x.parts.reply_serial) is,
+      e₆ ∙ ap (λ (x : Contents). text_word x.parts.sender) is,
+      e₇ ∙ ap (λ (x : Contents). text_word x.parts.destination) is,
+      e₈ ∙ ap (λ (x : Contents). text_word x.parts.path) is,
+      e₉ ∙ ap (λ (x : Contents). text_word x.parts.interface) is,
+      e₁₀ ∙ ap (λ (x : Contents). text_word x.parts.member) is,
+      two_then kinds d _ _ two (k ∙ ap (λ (x : Contents). codes " " ++ type_word x.kind (kind_by x.kind)) is),
+      six_then decided d _ _ six (w ∙ ap (λ (x : Decision). decision_words x) c),
+    ) (whole_line session note)
 
 -- a frame that spells a message is told as it
 pub tells_message : (session number : ℕ) (side : Side) (m : Message) (decision : Decision) → Valid m → TellsMessage session number side m decision

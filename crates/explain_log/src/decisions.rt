@@ -1,11 +1,10 @@
-//! The words of a decision, each pushed at the end of a line, and the entry on which it rests.
-ghost use Rattle.std.specs.Prelude.{◌≡◌, ◌++◌, OnOk, codes, string_bytes};
+//! The words of a decision, as pieces of a line, and the entry on which it rests.
+ghost use Rattle.std.specs.Prelude.{◌≡◌, flat_map};
 ghost use Rattle.explain_log.specs.Lines.{decision_entry, decision_words, instead_word, reason_entry, reason_name, reason_words, showing_words, verdict_words};
 
-use crate::parts::push_number;
 use dbus_header::Instead;
+use itoa::Buffer;
 use policy_view::{Decision, Reason, Showing, Verdict};
-use std::alloc::AllocError;
 
 /// The number of the entry on which a decision rests, 0 where it rests on none.
 pub(crate) fn entry_number(decision: Decision) -> u32
@@ -66,68 +65,57 @@ fn name_of_answer(what: Instead) -> &'static str
     }
 }
 
-/// Pushes a reason and the number of its entry.
-fn push_reason(line: &mut String, reason: Reason) -> Result<(), AllocError>
-    ensures { OnOk result (string_bytes line.new ≡ string_bytes line.old ++ reason_words reason) }
+/// The name of a reason, a space and the number of its entry.
+fn reason_pieces<'a>(number: &'a mut Buffer, reason: Reason) -> [&'a str; 3]
+    ensures { flat_map (λ piece. piece.now) result ≡ reason_words reason }
 {
-    line.push_str(name_of_reason(reason))?;
-    line.push_str(" ")?;
-    push_number(line, reason_number(reason) as u64)
+    let name: &'a str = name_of_reason(reason);
+    [name, " ", number.format(reason_number(reason))]
 }
 
-/// Pushes a word and the reason behind it.
-fn push_with_reason(line: &mut String, word: &str, reason: Reason) -> Result<(), AllocError>
-    ensures { OnOk result (string_bytes line.new ≡ string_bytes line.old ++ word.now ++ reason_words reason) }
-{
-    line.push_str(word)?;
-    push_reason(line, reason)
-}
-
-/// Pushes a word and the answer behind it.
-fn push_with_answer(line: &mut String, word: &str, what: Instead) -> Result<(), AllocError>
-    ensures { OnOk result (string_bytes line.new ≡ string_bytes line.old ++ word.now ++ instead_word what) }
-{
-    line.push_str(word)?;
-    line.push_str(name_of_answer(what))
-}
-
-/// Pushes that a ping goes in a message's place: why, and what its answer comes to the client as.
-fn push_ping(line: &mut String, what: Instead, reason: Reason) -> Result<(), AllocError>
-    ensures { OnOk result (string_bytes line.new ≡ string_bytes line.old ++ codes "ping " ++ reason_words reason ++ codes " " ++ instead_word what) }
-{
-    push_with_reason(line, "ping ", reason)?;
-    push_with_answer(line, " ", what)
-}
-
-/// Pushes the verdict on a message of the client.
-fn push_verdict(line: &mut String, verdict: Verdict) -> Result<(), AllocError>
-    ensures { OnOk result (string_bytes line.new ≡ string_bytes line.old ++ verdict_words verdict) }
+/// The pieces of the verdict on a message of the client.
+fn verdict_pieces<'a>(number: &'a mut Buffer, verdict: Verdict) -> [&'a str; 6]
+    ensures { flat_map (λ piece. piece.now) result ≡ verdict_words verdict }
 {
     match verdict {
-        Verdict::Pass => line.push_str("pass"),
-        Verdict::Ping(what, reason) => push_ping(line, what, reason),
-        Verdict::Drop(reason) => push_with_reason(line, "drop ", reason),
+        Verdict::Pass => ["pass", "", "", "", "", ""],
+        Verdict::Ping(what, reason) => {
+            let [name, space, entry] = reason_pieces(number, reason);
+            let answer: &'a str = name_of_answer(what);
+            ["ping ", name, space, entry, " ", answer]
+        }
+        Verdict::Drop(reason) => {
+            let [name, space, entry] = reason_pieces(number, reason);
+            ["drop ", name, space, entry, "", ""]
+        }
     }
 }
 
-/// Pushes what the client is shown of a message of the bus.
-fn push_showing(line: &mut String, showing: Showing) -> Result<(), AllocError>
-    ensures { OnOk result (string_bytes line.new ≡ string_bytes line.old ++ showing_words showing) }
+/// The pieces of what the client is shown of a message of the bus.
+fn showing_pieces<'a>(number: &'a mut Buffer, showing: Showing) -> [&'a str; 6]
+    ensures { flat_map (λ piece. piece.now) result ≡ showing_words showing }
 {
     match showing {
-        Showing::Whole | Showing::Reply(_) => line.push_str("show"),
-        Showing::Cut(_) => line.push_str("cut"),
-        Showing::Instead { what, .. } => push_with_answer(line, "instead ", what),
-        Showing::Hide(reason) => push_with_reason(line, "hide ", reason),
+        Showing::Whole | Showing::Reply(_) => ["show", "", "", "", "", ""],
+        Showing::Cut(_) => ["cut", "", "", "", "", ""],
+        Showing::Instead { what, .. } => {
+            let answer: &'a str = name_of_answer(what);
+            ["instead ", "", "", "", "", answer]
+        }
+        Showing::Hide(reason) => {
+            let [name, space, entry] = reason_pieces(number, reason);
+            ["hide ", name, space, entry, "", ""]
+        }
     }
 }
 
-/// Pushes the decision on a message.
-pub(crate) fn push_decision(line: &mut String, decision: Decision) -> Result<(), AllocError>
-    ensures { OnOk result (string_bytes line.new ≡ string_bytes line.old ++ decision_words decision) }
+/// The pieces of a decision: its word, the name of its reason, a space, the number of the reason's entry, a space, and
+/// what a refused call is answered with. What a decision hasn't is empty.
+pub(crate) fn decision_pieces<'a>(number: &'a mut Buffer, decision: Decision) -> [&'a str; 6]
+    ensures { flat_map (λ piece. piece.now) result ≡ decision_words decision }
 {
     match decision {
-        Decision::Judged(verdict) => push_verdict(line, verdict),
-        Decision::Shown(showing) => push_showing(line, showing),
+        Decision::Judged(verdict) => verdict_pieces(number, verdict),
+        Decision::Shown(showing) => showing_pieces(number, showing),
     }
 }

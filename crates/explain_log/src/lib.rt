@@ -1,11 +1,13 @@
 //! The lines of the log: what was decided on each message of a session, and the entry of the policy on which that rests.
 //!
-//! It is driven by `push_line` with each note of a session, or by `line` with one, and by `entry_line` where the entry is to be shown too.
+//! `LineBuffer` writes the line of each note of a session to a sink, and loses none for want of memory. `line` is the line of one
+//! note, `push_line` puts it after others in a string, and `entry_line` is the line of the entry.
 #![tactic(auto)]
 
+mod buffer;
 mod decisions;
 mod lines;
-mod parts;
+mod pieces;
 
 ghost use Rattle.std.specs.Prelude.{◌≡◌, ℕ, List};
 ghost use Rattle.dbus_header.specs.Message.{Message, Valid};
@@ -15,6 +17,7 @@ ghost use Rattle.policy_view.specs.declared.Decision.{Decision};
 ghost use Rattle.policy_view.specs.declared.Side.{Side};
 ghost use Rattle.explain_log.specs.Laws.{SpeakOf, TellsMessage};
 
+pub use buffer::{LONG, LineBuffer};
 pub use lines::{entry_line, line, push_line};
 
 /// The line of a note tells the message that the note's frame spells.

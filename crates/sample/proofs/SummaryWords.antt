@@ -2,11 +2,18 @@
 use Rattle.std.proofs.Common.{◌≡◌, ◌++◌, List, [], ◌∷◌, refl, ap, ◌∙◌, append_assoc, codes, decimal}
 use Rattle.std.specs.Prelude.{Result, Ok}
 use Rattle.dbus_names.specs.Texts.{Text}
-use Rattle.explain_log.proofs.LineWords.{eight_pushed}
 use Rattle.policy_args.specs.Words.{PolicyOptions, options_of}
 use Rattle.policy_args.specs.declared.BadWord.{BadWord}
 use Rattle.sample.specs.Summary.{line_of, sample_options}
 use Rattle.sample.specs.declared.counts.Counts.{Counts}
+
+-- eight names and words after a text
+eight_pushed : (b₀ b₁ b₂ b₃ b₄ b₅ b₆ b₇ b₈ n₁ n₂ n₃ n₄ n₅ n₆ n₇ n₈ p₁ p₂ p₃ p₄ p₅ p₆ p₇ p₈ : Text) →
+    b₁ ≡ b₀ ++ n₁ ++ p₁ → b₂ ≡ b₁ ++ n₂ ++ p₂ → b₃ ≡ b₂ ++ n₃ ++ p₃ → b₄ ≡ b₃ ++ n₄ ++ p₄ → b₅ ≡ b₄ ++ n₅ ++ p₅ → b₆ ≡ b₅ ++ n₆ ++ p₆ →
+    b₇ ≡ b₆ ++ n₇ ++ p₇ → b₈ ≡ b₇ ++ n₈ ++ p₈ →
+    b₈ ≡ b₀ ++ (n₁ ++ p₁ ++ n₂ ++ p₂ ++ n₃ ++ p₃ ++ n₄ ++ p₄ ++ n₅ ++ p₅ ++ n₆ ++ p₆ ++ n₇ ++ p₇ ++ n₈ ++ p₈)
+eight_pushed b₀ b₁ b₂ b₃ b₄ b₅ b₆ b₇ b₈ n₁ n₂ n₃ n₄ n₅ n₆ n₇ n₈ p₁ p₂ p₃ p₄ p₅ p₆ p₇ p₈ e₁ e₂ e₃ e₄ e₅ e₆ e₇ e₈ =
+    rw (e₈, e₇, e₆, e₅, e₄, e₃, e₂, e₁) (simp append_assoc)
 
 options_are : options_of (codes "--filter" ∷ codes "--talk=org.sample.A" ∷ []) ≡ Ok sample_options
 unfolding options_of

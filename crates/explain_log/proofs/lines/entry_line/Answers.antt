@@ -13,5 +13,5 @@ pub returns : goal.returns
 returns c =
     line_of_number c.args.policy.now c.args.note.now c.entry_number-number.result c.word-word.result.now _ _ _ _ _ _ (c.entry_number-number.ensures ∙ ap decision_entry c.decision.ensures)
     (omega arith) c.word-word.ensures
-    c.in_ok-line.ensures.bytes c.in_ok-push_str.ensures.bytes c.in_ok-push_number.ensures c.in_ok-push_str-2.ensures.bytes c.in_ok-push_str-3.ensures.bytes
-    c.in_ok-push_str-4.ensures.bytes
+    c.in_ok-line.ensures.bytes c.in_ok-push_str.ensures.bytes (rw c.format.ensures.text at c.in_ok-push_str-2.ensures.bytes)
+    c.in_ok-push_str-3.ensures.bytes c.in_ok-push_str-4.ensures.bytes c.in_ok-push_str-5.ensures.bytes
