@@ -2,6 +2,8 @@
 #![tactic(auto)]
 
 #[cfg(test)]
+mod logged;
+#[cfg(test)]
 mod many;
 #[cfg(test)]
 mod served;

@@ -1,5 +1,5 @@
 //! What servers do with the clients of a script. Each row has the words of a proxy line, a script and the links that are asked
-//! for, and how the server ends, what was written to these links, and the log.
+//! for, and how the server ends and what was written to these links. Rows with a log are in `logged`.
 use crate::served::told_server;
 use std::test::Fail;
 use test_tables::wrong_row;
@@ -37,15 +37,6 @@ unix:path=/bus /p --filter --talk=org.a.T; WaitFails 3, arrival 0, piece c1 ~AUT
 unix:path=/bus /p --filter --talk=org.a.T unix:path=/bus2 /q --filter --sessions=2; arrival 1, arrival 0, piece c1 ~AUTH EXTERNAL%0D%0ABEGIN%0D%0Al%01~%01~~~~%01~~~@~~~%01%01o~%02~~~/p~~~~~~%02%01s~%07~~~org.a.I~%03%01s~%01~~~A~~~~~~~%06%01s~%07~~~org.a.T~, piece c2 ~AUTH EXTERNAL%0D%0ABEGIN%0D%0Al%01~%01~~~~%01~~~@~~~%01%01o~%02~~~/p~~~~~~%02%01s~%07~~~org.a.I~%03%01s~%01~~~A~~~~~~~%06%01s~%07~~~org.a.T~, end c1, end c2; c1 b1 c2 b2 => Stopped, c1 , b1 ~AUTH EXTERNAL%0D%0ABEGIN%0D%0Al%01~%01~~~~%01~~~e~~~%01%01o~%01~~~/~~~~~~~%02%01s~%19~~~org.freedesktop.DBus.Peer~~~~~~~%03%01s~%04~~~Ping~~~~%06%01s~%14~~~org.freedesktop.DBus~~~~, c2 , b2 ~AUTH EXTERNAL%0D%0ABEGIN%0D%0Al%01~%01~~~~%01~~~@~~~%01%01o~%02~~~/p~~~~~~%02%01s~%07~~~org.a.I~%03%01s~%01~~~A~~~~~~~%06%01s~%07~~~org.a.T~
 ";
 
-/// Sessions with a log: one that takes all, one that fails in the midst of the first line, and one that fails at the second; and
-/// two sessions, one of which has no log.
-const LOGGED: &str = "\
-unix:path=/bus /p --filter --log --talk=org.a.T --sessions=1; arrival 0, piece c1 ~AUTH EXTERNAL%0D%0ABEGIN%0D, piece c1 %0Al%01~%01~~~~%01~~~@~~~%01%01o~%02~~~/p~~~~~~%02%01s~%07~~~org.a.I~%03%01s~%01~~~A~~~~~~~%06%01s~%07~~~org.a.T~, piece b1 OK 00112233445566778899aabbccddeeff%0D%0Al%02%01%01~~~~%09~~~%25~~~%05%01u~%01~~~%06%01s~%05~~~:1.40~~~%07%01s~%04~~~:1.7~~~~, end c1; c1 b1 => Stopped, c1 OK 00112233445566778899aabbccddeeff%0D%0Al%02%01%01~~~~%09~~~%25~~~%05%01u~%01~~~%06%01s~%05~~~:1.40~~~%07%01s~%04~~~:1.7~~~~, b1 ~AUTH EXTERNAL%0D%0ABEGIN%0D%0Al%01~%01~~~~%01~~~@~~~%01%01o~%02~~~/p~~~~~~%02%01s~%07~~~org.a.I~%03%01s~%01~~~A~~~~~~~%06%01s~%07~~~org.a.T~, log 1 c 1 call serial=1 reply=- from=- dest=org.a.T path=/p iface=org.a.I member=A pass%0A1 b 2 return serial=9 reply=1 from=:1.7 dest=:1.40 path=- iface=- member=- show%0A
-30 | unix:path=/bus /p --filter --log --talk=org.a.T --sessions=1; arrival 0, piece c1 ~AUTH EXTERNAL%0D%0ABEGIN%0D, piece c1 %0Al%01~%01~~~~%01~~~@~~~%01%01o~%02~~~/p~~~~~~%02%01s~%07~~~org.a.I~%03%01s~%01~~~A~~~~~~~%06%01s~%07~~~org.a.T~, piece b1 OK 00112233445566778899aabbccddeeff%0D%0Al%02%01%01~~~~%09~~~%25~~~%05%01u~%01~~~%06%01s~%05~~~:1.40~~~%07%01s~%04~~~:1.7~~~~, end c1; c1 b1 => Stopped, c1 , b1 ~AUTH EXTERNAL%0D%0ABEGIN%0D%0Al%01~%01~~~~%01~~~@~~~%01%01o~%02~~~/p~~~~~~%02%01s~%07~~~org.a.I~%03%01s~%01~~~A~~~~~~~%06%01s~%07~~~org.a.T~, log 1 c 1 call serial=1 reply=- fr
-84 | unix:path=/bus /p --filter --log --talk=org.a.T --sessions=1; arrival 0, piece c1 ~AUTH EXTERNAL%0D%0ABEGIN%0D, piece c1 %0Al%01~%01~~~~%01~~~@~~~%01%01o~%02~~~/p~~~~~~%02%01s~%07~~~org.a.I~%03%01s~%01~~~A~~~~~~~%06%01s~%07~~~org.a.T~, piece b1 OK 00112233445566778899aabbccddeeff%0D%0Al%02%01%01~~~~%09~~~%25~~~%05%01u~%01~~~%06%01s~%05~~~:1.40~~~%07%01s~%04~~~:1.7~~~~, end c1; c1 b1 => Stopped, c1 OK 00112233445566778899aabbccddeeff%0D%0Al%02%01%01~~~~%09~~~%25~~~%05%01u~%01~~~%06%01s~%05~~~:1.40~~~%07%01s~%04~~~:1.7~~~~, b1 ~AUTH EXTERNAL%0D%0ABEGIN%0D%0Al%01~%01~~~~%01~~~@~~~%01%01o~%02~~~/p~~~~~~%02%01s~%07~~~org.a.I~%03%01s~%01~~~A~~~~~~~%06%01s~%07~~~org.a.T~, log 1 c 1 call serial=1 reply=- from=- dest=org.a.T path=/p iface=org.a.I member=A pass%0A
-unix:path=/bus /p --filter --log --talk=org.a.T unix:path=/bus2 /q --filter --talk=org.a.T --sessions=2; arrival 1, arrival 0, piece c1 ~AUTH EXTERNAL%0D%0ABEGIN%0D%0Al%01~%01~~~~%01~~~@~~~%01%01o~%02~~~/p~~~~~~%02%01s~%07~~~org.a.I~%03%01s~%01~~~A~~~~~~~%06%01s~%07~~~org.a.T~, piece c2 ~AUTH EXTERNAL%0D%0ABEGIN%0D%0Al%01~%01~~~~%01~~~@~~~%01%01o~%02~~~/p~~~~~~%02%01s~%07~~~org.a.I~%03%01s~%01~~~A~~~~~~~%06%01s~%07~~~org.a.T~, end c1, end c2; b1 b2 => Stopped, b1 ~AUTH EXTERNAL%0D%0ABEGIN%0D%0Al%01~%01~~~~%01~~~@~~~%01%01o~%02~~~/p~~~~~~%02%01s~%07~~~org.a.I~%03%01s~%01~~~A~~~~~~~%06%01s~%07~~~org.a.T~, b2 ~AUTH EXTERNAL%0D%0ABEGIN%0D%0Al%01~%01~~~~%01~~~@~~~%01%01o~%02~~~/p~~~~~~%02%01s~%07~~~org.a.I~%03%01s~%01~~~A~~~~~~~%06%01s~%07~~~org.a.T~, log 2 c 1 call serial=1 reply=- from=- dest=org.a.T path=/p iface=org.a.I member=A pass%0A
-";
-
 #[test]
 fn sessions_are_served(rt: HostRuntime) -> Result<(), Fail> {
     assert_eq!(rt; wrong_row(rt.alloc(), PLAYED, &told_server)?, None);
@@ -55,11 +46,5 @@ fn sessions_are_served(rt: HostRuntime) -> Result<(), Fail> {
 #[test]
 fn sessions_end_alone(rt: HostRuntime) -> Result<(), Fail> {
     assert_eq!(rt; wrong_row(rt.alloc(), ENDED, &told_server)?, None);
-    Ok(())
-}
-
-#[test]
-fn messages_are_logged(rt: HostRuntime) -> Result<(), Fail> {
-    assert_eq!(rt; wrong_row(rt.alloc(), LOGGED, &told_server)?, None);
     Ok(())
 }

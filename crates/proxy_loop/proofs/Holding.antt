@@ -26,7 +26,7 @@ use Rattle.proxy_core.specs.Sessions.{SessionView, Taken, StandsFor, IsFront, is
 use Rattle.proxy_core.specs.Messages.{ended_by}
 use Rattle.proxy_loop.specs.Sessions.{events_of, events_by, side_of, read_end, write_end}
 use Rattle.proxy_loop.specs.Kinds.{is_write, is_taken, gave_bytes, all_are, some_of, gone_by, last_write, only_newest_stops}
-use Rattle.proxy_loop.specs.Works.{with_taken, with_queue, more_taken, Moves, Stood, StoodFor, Goes, Any, Only, Cause, queue_of, OneWrite, Writes, WritesOn, WroteOut, FedOnce, read_room, ShutWhere, KeepsEnd}
+use Rattle.proxy_loop.specs.Works.{with_taken, with_queue, more_taken, Moves, Stood, StoodFor, Goes, Any, Only, Cause, queue_of, OneWrite, Writes, WritesOn, WroteOut, FedOnce, read_room, ShutWhere, KeepsEnd, KeepsWaiting}
 use Rattle.proxy_loop.proofs.Ends.{is_plain, event_cause}
 
 pub same_number : (n : ℕ) → nat_eq n n ≡ true
@@ -467,6 +467,16 @@ end_none a = record { each = λ end e. e; notes = refl; memory = refl }
 pub end_then : (a b c : SessionView) → KeepsEnd a b → KeepsEnd b c → KeepsEnd a c
 end_then a b c x y = record { each = λ end e. y.each end (x.each end e); notes = y.notes ∙ x.notes; memory = y.memory ∙ x.memory }
 
+-- what takes nothing that waits
+pub waits_none : (a : SessionView) → KeepsWaiting a a
+waits_none a = record { client = record { rest = []; is = append-nil a.client_side }; bus = record { rest = []; is = append-nil a.bus_side } }
+
+waits_ended : (old new : SessionView) (result : End) → new ≡ ended_by result old → KeepsWaiting old new
+waits_ended old new result answer = record {
+  client = record { rest = []; is = append-nil old.client_side ∙ sym (ap (λ (v : SessionView). v.client_side) answer) };
+  bus = record { rest = []; is = append-nil old.bus_side ∙ sym (ap (λ (v : SessionView). v.bus_side) answer) };
+}
+
 pub some_room : (into : List ℕ) → length into ≡ read_room → 0 < length into
 some_room into e = omega (arith, e)
 
@@ -476,11 +486,12 @@ module _ (policy : Policy) (link : Link) (old new : SessionView) (before after :
       gone_by link (read_entry link into answer) ≡ gone → Moves policy link.session old new (read_entry link into answer ∷ []) →
       ((end : End) → old.ended ≡ Some end → new.ended ≡ Some end) →
       (Stood policy old → (end : End) → new.ended ≡ Some end → (old.ended ≡ Some end) ⊎ Cause link.session end before after) → new.mode ≡ old.mode →
-      (gave_bytes (read_entry link into answer) ≡ false → KeepsEnd old new) → Goes (Only policy) link.session old new before after (FedOnce link old new gone)
-  read_one answer gone adds progress is moves kept cause mode unfed =
+      KeepsWaiting old new → (gave_bytes (read_entry link into answer) ≡ false → KeepsEnd old new) → Goes (Only policy) link.session old new before after (FedOnce link old new gone)
+  read_one answer gone adds progress is moves kept cause mode waits unfed =
       goes_one (Only policy) link.session old new before after (FedOnce link old new gone) (read_entry link into answer) adds
       (record {
         once = record { into = into; answer = answer; room = room; progress = progress; one = refl; gone = is };
+        waits = waits;
         unfed = λ e. unfed (sym (some_one gave_bytes (read_entry link into answer)) ∙ e);
       })
       (λ p u. subst (λ (x : Policy). Moves x link.session old new (read_entry link into answer ∷ [])) (sym u) moves) kept
@@ -494,7 +505,7 @@ module _ (policy : Policy) (link : Link) (old new : SessionView) (before after :
       (moves_event policy link.session old new (Failed (ReadCall link)) (Stopped (read_end link.side)) refl refl (rw (same_number link.session) refl) (stops.stands policy))
       (λ end e. same_end old new result end stops.answer stops.last e)
       (λ s end e. stop_cause link.session old new (read_end link.side) result before after stops (read_cause link before after rose) end e)
-      (stopped_mode old new result stops.answer)
+      (stopped_mode old new result stops.answer) (waits_ended old new result stops.answer)
       (λ e. ended_keeps old new result stops.answer (λ none. ap (λ (x : End). is_memory (Some x)) (stops.first none) ∙ read_end_plain link.side) stops.last)
 
   -- an entry that tells an event other than a stop
@@ -502,21 +513,21 @@ module _ (policy : Policy) (link : Link) (old new : SessionView) (before after :
       gone_by link (read_entry link into answer) ≡ gone → written_by (bus_link link.session) (read_entry link into answer) ≡ [] →
       written_by (client_link link.session) (read_entry link into answer) ≡ [] → events_by link.session (read_entry link into answer) ≡ event ∷ [] → is_plain event ≡ true →
       ((events : List Event) (taken : Taken) → StandsFor policy old events taken → StandsFor policy new (event ∷ events) taken) →
-      ((end : End) → old.ended ≡ Some end → new.ended ≡ Some end) → new.mode ≡ old.mode →
+      ((end : End) → old.ended ≡ Some end → new.ended ≡ Some end) → new.mode ≡ old.mode → KeepsWaiting old new →
       (gave_bytes (read_entry link into answer) ≡ false → KeepsEnd old new) → Goes (Only policy) link.session old new before after (FedOnce link old new gone)
-  plain_goes answer gone event adds progress is bus client one plain step kept mode unfed =
+  plain_goes answer gone event adds progress is bus client one plain step kept mode waits unfed =
       read_one answer gone adds progress is (moves_event policy link.session old new (read_entry link into answer) event bus client one step) kept
-      (λ s end e. event_cause policy link.session old new before after event plain step kept mode s end e) mode unfed
+      (λ s end e. event_cause policy link.session old new before after event plain step kept mode s end e) mode waits unfed
 
   pub read_goes : (n : ℕ) → Adds before after (Read link (take n into) ∷ []) → 0 < n → n ≤ length into →
       ((events : List Event) (taken : Taken) → StandsFor policy old events taken → StandsFor policy new (Bytes (side_of link.side) (take n into) ∷ events) taken) →
-      ((end : End) → old.ended ≡ Some end → new ≡ old) → new.mode ≡ old.mode →
+      ((end : End) → old.ended ≡ Some end → new ≡ old) → new.mode ≡ old.mode → KeepsWaiting old new →
       Goes (Only policy) link.session old new before after (FedOnce link old new false)
-  read_goes n adds some within step last mode =
+  read_goes n adds some within step last mode waits =
       plain_goes (GotBytes n) false (Bytes (side_of link.side) (take n into)) adds
       (λ m e. let same : n ≡ m = cc in (subst (λ (k : ℕ). 0 < k) same some, subst (λ (k : ℕ). m ≤ k) room (subst (λ (k : ℕ). k ≤ length into) same within)))
       refl refl refl (rw (same_number link.session) refl) refl step
-      (λ end e. ap (λ (v : SessionView). v.ended) (last end e) ∙ e) mode (λ e. cc)
+      (λ end e. ap (λ (v : SessionView). v.ended) (last end e) ∙ e) mode waits (λ e. cc)
 
   pub finished_goes : (result : End) → Adds before after (Finished link ∷ []) →
       ((events : List Event) (taken : Taken) → StandsFor policy old events taken → StandsFor policy new (FinishedEvent (side_of link.side) ∷ events) taken) →
@@ -524,7 +535,7 @@ module _ (policy : Policy) (link : Link) (old new : SessionView) (before after :
       Goes (Only policy) link.session old new before after (FedOnce link old new true)
   finished_goes result adds step answer own last =
       plain_goes GotFinished true (FinishedEvent (side_of link.side)) adds (λ n e. cc) (same_link_self link) refl refl (rw (same_number link.session) refl) refl step
-      (λ end e. same_end old new result end answer last e) (stopped_mode old new result answer) (λ e. ended_keeps old new result answer own last)
+      (λ end e. same_end old new result end answer last e) (stopped_mode old new result answer) (waits_ended old new result answer) (λ e. ended_keeps old new result answer own last)
 
   pub unread_goes : new ≡ old → Adds before after (NotReady (ReadCall link) ∷ []) → Goes (Only policy) link.session old new before after (FedOnce link old new false)
   unread_goes same adds =
@@ -532,6 +543,7 @@ module _ (policy : Policy) (link : Link) (old new : SessionView) (before after :
       (subst (λ (s : SessionView). Moves policy link.session old s (NotReady (ReadCall link) ∷ [])) (sym same)
       (moves_quiet policy link.session old (NotReady (ReadCall link)) refl refl refl))
       (λ end e. ap (λ (s : SessionView). s.ended) same ∙ e) (λ s end e. inl (sym (ap (λ (s : SessionView). s.ended) same) ∙ e)) (ap (λ (s : SessionView). s.mode) same)
+      (subst (λ (s : SessionView). KeepsWaiting old s) (sym same) (waits_none old))
       (λ e. subst (λ (s : SessionView). KeepsEnd old s) (sym same) (end_none old))
 
 pub wishes_none : (a : NetView) → KeepsWishes a a

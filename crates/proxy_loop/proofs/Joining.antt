@@ -1,6 +1,7 @@
 -- The calls of one turn for one session, joined.
 use Rattle.std.proofs.Common.{ℕ, nat_eq, ◌≡◌, ◌⊎◌, inl, inr, Bool, true, false, ◌&&◌, ◌||◌, not, is_some, List, [], ◌∷◌, ◌++◌, Option, Some, None, if◌then◌else◌, refl, ap, ap₂, ◌∙◌, sym, subst, append-nil, arith}
 use Rattle.link_traits.specs.Journals.{Journal, same_side, same_link, written, written_by}
+use Rattle.link_traits.specs.Told.{Rose}
 use Rattle.link_traits.specs.Views.{NetView}
 use Rattle.link_traits.specs.Answers.{client_link, bus_link, read_entry}
 use Rattle.link_traits.specs.Entries.{Entry, not_ready as NotReady, shut as Shut}
@@ -11,19 +12,18 @@ use Rattle.link_traits.specs.declared.links.Side.TheVariants.{Client, Bus}
 use Rattle.link_traits.specs.declared.links.Link.{Link}
 use Rattle.link_traits.specs.declared.links.Call.TheVariants.{Write as WriteCall}
 use Rattle.policy_args.specs.Policy.{Policy}
-use Rattle.policy_view.specs.Notes.{Note}
 use Rattle.policy_view.specs.declared.End.{End}
-use Rattle.policy_view.specs.declared.End.TheVariants.{ClientMalformed, BusMalformed, ClientEnd, BusEnd, SerialsSpent, Memory, ClientRead, ClientWrite, BusRead, BusWrite, BusConnect, LogFault}
-use Rattle.proxy_core.specs.Sessions.{SessionView, Taken, StandsFor, is_memory}
+use Rattle.policy_view.specs.declared.End.TheVariants.{LogFault}
+use Rattle.proxy_core.specs.Sessions.{SessionView, Taken, StandsFor, IsFront, is_memory}
 use Rattle.proxy_loop.specs.declared.serving.Running.{Running}
 use Rattle.proxy_loop.specs.Sinks.{SinkView}
 use Rattle.proxy_loop.specs.Kinds.{is_write, is_read, writes_of, gave_bytes, all_are, some_of, gone_by, last_write, first_of}
-use Rattle.proxy_loop.specs.Works.{Any, Only, Goes, OneRead, FedOnce, KeepsEnd, ShutWhere, ShutBoth, link_at, IsDrained}
+use Rattle.proxy_loop.specs.Works.{Any, Only, Goes, OneRead, FedOnce, KeepsEnd, ShutWhere, ShutBoth, link_at, IsDrained, KeepsWaiting}
 use Rattle.proxy_loop.specs.Writing.{Written}
-use Rattle.proxy_loop.specs.Logging.{stopped_at, IsLogEnd, LineRefused, LogEnds, Logs}
-use Rattle.proxy_loop.specs.Runs.{Sound, WroteBoth, Reads, LogsIf, ReadPart, WrittenUnless, ReadsAndLogs, pick_side}
+use Rattle.proxy_loop.specs.Logging.{stopped_at, LogEnds, Logs}
+use Rattle.proxy_loop.specs.Runs.{Sound, WroteBoth, Reads, LogsIf, ReadPart, WrittenUnless, IsLogEnd, ReadsAndLogs, pick_side}
 use Rattle.proxy_loop.proofs.KindCases.{read_cases, write_cases}
-use Rattle.proxy_loop.proofs.Holding.{same_link_self, goes_then, goes_none, goes_map, all_joined, wrote_append, some_append}
+use Rattle.proxy_loop.proofs.Holding.{same_link_self, waits_none, goes_then, goes_none, goes_map, all_joined, wrote_append, some_append}
 use Rattle.proxy_loop.proofs.Logged.{appends_none}
 
 -- two links that are never the same
@@ -231,10 +231,10 @@ read_is link into GotFailed = same_link_self link
 
 read_part : (n : ℕ) (side : Side) (r0 r1 : Running) (gone : Bool) (added : Journal) → OneRead (link_at n side) gone added →
     r0.client.gone ≡ false → r0.bus.gone ≡ false →
-    r1.client.gone ≡ pick_side side gone r0.client.gone → r1.bus.gone ≡ pick_side side r0.bus.gone gone →
+    r1.client.gone ≡ pick_side side gone r0.client.gone → r1.bus.gone ≡ pick_side side r0.bus.gone gone → KeepsWaiting r0.session r1.session →
     (some_of gave_bytes added ≡ false → is_memory r1.session.ended ≡ is_memory r0.session.ended) → ReadPart n side false r0 r1 added
 unfolding some_of
-read_part n Client r0 r1 gone added o c b client bus unfed =
+read_part n Client r0 r1 gone added o c b client bus waits unfed =
     let own : some_of (gone_by (client_link n)) added ≡ gone = ap (some_of (gone_by (client_link n))) o.one ∙ ap (λ (x : Bool). x || false) o.gone ∙ or_none gone in
     let other : some_of (gone_by (bus_link n)) added ≡ false =
     ap (some_of (gone_by (bus_link n))) o.one ∙ ap (λ (x : Bool). x || false) (read_gone_other (client_link n) (bus_link n) (client_apart n) (read_entry (client_link n) o.into o.answer) (read_is (client_link n) o.into o.answer)) in
@@ -242,9 +242,10 @@ read_part n Client r0 r1 gone added o c b client bus unfed =
       once = (gone, o);
       client_gone = client ∙ or_was gone r0.client.gone c ∙ ap (λ (x : Bool). x || r0.client.gone) (sym own);
       bus_gone = bus ∙ ap (λ (x : Bool). x || r0.bus.gone) (sym other);
+      waits = waits;
       unfed = unfed;
     }
-read_part n Bus r0 r1 gone added o c b client bus unfed =
+read_part n Bus r0 r1 gone added o c b client bus waits unfed =
     let own : some_of (gone_by (bus_link n)) added ≡ gone = ap (some_of (gone_by (bus_link n))) o.one ∙ ap (λ (x : Bool). x || false) o.gone ∙ or_none gone in
     let other : some_of (gone_by (client_link n)) added ≡ false =
     ap (some_of (gone_by (client_link n))) o.one ∙ ap (λ (x : Bool). x || false) (read_gone_other (bus_link n) (client_link n) (bus_apart n) (read_entry (bus_link n) o.into o.answer) (read_is (bus_link n) o.into o.answer)) in
@@ -252,6 +253,7 @@ read_part n Bus r0 r1 gone added o c b client bus unfed =
       once = (gone, o);
       client_gone = client ∙ ap (λ (x : Bool). x || r0.client.gone) (sym other);
       bus_gone = bus ∙ or_was gone r0.bus.gone b ∙ ap (λ (x : Bool). x || r0.bus.gone) (sym own);
+      waits = waits;
       unfed = unfed;
     }
 
@@ -262,19 +264,26 @@ not_gone true ended h e = let t : is_some ended ≡ true = h refl in let f : is_
 nothing_more : (was : Taken) → was ≡ record was { notes = was.notes ++ [] }
 nothing_more was = rw (append-nil was.notes) refl
 
+-- what waits for either side, where the queues are the same
+same_queues : (old mid new : SessionView) → new.bus_side ≡ mid.bus_side → new.client_side ≡ mid.client_side → KeepsWaiting old mid → KeepsWaiting old new
+same_queues old mid new b c g = record {
+  client = subst (λ (l : List ℕ). IsFront old.client_side l) (sym c) g.client;
+  bus = subst (λ (l : List ℕ). IsFront old.bus_side l) (sym b) g.bus;
+}
+
 -- nothing is read
 pub reads_idle : (policy : Policy) (log : Bool) (n : ℕ) (side : Side) (idle : Bool) (running : Running) (net : NetView) (sink : SinkView) → idle ≡ true →
     ReadsAndLogs policy log n side idle running running net net sink sink
 unfolding some_of
 reads_idle policy log n side idle running net sink e = record {
   fed = running.session;
-  goes = goes_none (Only policy) n running.session net (ReadPart n side idle running running) (rw e (record { once = refl; client_gone = refl; bus_gone = refl; unfed = λ h. refl }));
+  goes = goes_none (Only policy) n running.session net (ReadPart n side idle running running) (rw e (record { once = refl; client_gone = refl; bus_gone = refl; waits = waits_none running.session; unfed = λ h. refl }));
   taken = [];
   lines = [];
   rest = [];
-  stop = None;
+  failed = false;
   still = λ h. refl;
-  logged = λ end h. cc;
+  logged = λ h. cc;
   unread = λ h. refl;
   stands = λ p events was s. subst (λ (t : Taken). StandsFor p running.session events t) (nothing_more was) s;
   is = refl;
@@ -283,7 +292,7 @@ reads_idle policy log n side idle running net sink e = record {
   written = refl;
   all = λ l s h. h;
   end = λ end h. h;
-  stopped = λ end h. cc;
+  stopped = λ h. cc;
   cause = λ end h. inl h;
   mode = refl;
   unlogged = λ h. refl;
@@ -293,23 +302,24 @@ reads_idle policy log n side idle running net sink e = record {
 module _ (policy : Policy) (n : ℕ) (side : Side) (idle : Bool) (r0 r1 r2 : Running) (v0 v1 : NetView) (l0 l1 : SinkView)
     (busy : idle ≡ false) (sound : Sound r0) (runs : r0.session.ended ≡ None) (reads : Reads policy n side r0 r1 v0 v1)
     (client : r2.client.gone ≡ r1.client.gone) (bus : r2.bus.gone ≡ r1.bus.gone) where
-  fed_goes : (KeepsEnd r0.session r1.session → is_memory r2.session.ended ≡ is_memory r0.session.ended) → Goes (Only policy) n r0.session r1.session v0 v1 (ReadPart n side idle r0 r2)
-  fed_goes unfed = goes_map (Only policy) n r0.session r1.session v0 v1 (FedOnce (link_at n side) r0.session r1.session reads.gone) (ReadPart n side idle r0 r2)
+  fed_goes : (KeepsWaiting r0.session r1.session → KeepsWaiting r0.session r2.session) → (KeepsEnd r0.session r1.session → is_memory r2.session.ended ≡ is_memory r0.session.ended) →
+      Goes (Only policy) n r0.session r1.session v0 v1 (ReadPart n side idle r0 r2)
+  fed_goes waits unfed = goes_map (Only policy) n r0.session r1.session v0 v1 (FedOnce (link_at n side) r0.session r1.session reads.gone) (ReadPart n side idle r0 r2)
       (λ added o. rw busy (read_part n side r0 r2 reads.gone added o.once
       (not_gone r0.client.gone r0.session.ended sound.client runs) (not_gone r0.bus.gone r0.session.ended sound.bus runs)
-      (client ∙ reads.client_gone) (bus ∙ reads.bus_gone) (λ e. unfed (o.unfed e))))
+      (client ∙ reads.client_gone) (bus ∙ reads.bus_gone) (waits o.waits) (λ e. unfed (o.unfed e))))
       reads.goes
 
   pub reads_unlogged : r2.session ≡ r1.session → l1 ≡ l0 → ReadsAndLogs policy false n side idle r0 r2 v0 v1 l0 l1
   reads_unlogged same quiet = record {
     fed = r1.session;
-    goes = fed_goes (λ k. ap (λ (s : SessionView). is_memory s.ended) same ∙ k.memory);
+    goes = fed_goes (λ g. subst (λ (s : SessionView). KeepsWaiting r0.session s) (sym same) g) (λ k. ap (λ (s : SessionView). is_memory s.ended) same ∙ k.memory);
     taken = [];
     lines = [];
     rest = [];
-    stop = None;
+    failed = false;
     still = λ h. refl;
-    logged = λ end h. cc;
+    logged = λ h. cc;
     unread = λ h. refl;
     stands = λ p events was s. rw same (subst (λ (t : Taken). StandsFor p r1.session events t) (nothing_more was) s);
     is = refl;
@@ -318,113 +328,98 @@ module _ (policy : Policy) (n : ℕ) (side : Side) (idle : Bool) (r0 r1 r2 : Run
     written = refl;
     all = λ l s h. cc;
     end = λ end h. rw same h;
-    stopped = λ end h. cc;
+    stopped = λ h. cc;
     cause = λ end h. inl (rw same at h);
     mode = ap (λ (s : SessionView). s.mode) same;
     unlogged = λ h. quiet;
   }
 
   module _ (logs : Logs n r1.session r2.session l0 l1) where
-    stop_view : (end : End) → logs.stop ≡ Some end →
-        IsLogEnd (LineRefused n logs.taken logs.got logs.rest) end l0 l1 × (r2.session ≡ stopped_at r1.session.ended end (record r1.session { notes = logs.left }))
-    stop_view end e = by logs.stop e logs.ends
+    stop_view : logs.failed ≡ true → Rose l0.faults l1.faults × (r2.session ≡ stopped_at r1.session.ended LogFault (record r1.session { notes = logs.left }))
+    stop_view e = by logs.failed e logs.ends
       where
-        by : (stop : Option End) → stop ≡ Some end → LogEnds n stop r1.session r2.session logs.taken logs.left logs.got logs.rest l0 l1 →
-            IsLogEnd (LineRefused n logs.taken logs.got logs.rest) end l0 l1 × (r2.session ≡ stopped_at r1.session.ended end (record r1.session { notes = logs.left }))
-        by None h w = cc
-        by (Some x) h w = let same : x ≡ end = cc in
-            subst (λ (y : End). IsLogEnd (LineRefused n logs.taken logs.got logs.rest) y l0 l1 × (r2.session ≡ stopped_at r1.session.ended y (record r1.session { notes = logs.left }))) same w
+        by : (failed : Bool) → failed ≡ true → LogEnds failed r1.session r2.session logs.left logs.rest l0 l1 →
+            Rose l0.faults l1.faults × (r2.session ≡ stopped_at r1.session.ended LogFault (record r1.session { notes = logs.left }))
+        by false h w = cc
+        by true h w = w
 
-    is_stopped : (end : End) → logs.stop ≡ Some end → is_some r2.session.ended ≡ true
-    is_stopped end e = ap (λ (s : SessionView). is_some s.ended) (stop_view end e).1 ∙ by r1.session.ended refl
+    is_stopped : logs.failed ≡ true → is_some r2.session.ended ≡ true
+    is_stopped e = ap (λ (s : SessionView). is_some s.ended) (stop_view e).1 ∙ by r1.session.ended refl
       where
-        by : (o : Option End) → r1.session.ended ≡ o → is_some (stopped_at o end (record r1.session { notes = logs.left })).ended ≡ true
+        by : (o : Option End) → r1.session.ended ≡ o → is_some (stopped_at o LogFault (record r1.session { notes = logs.left })).ended ≡ true
         by None h = refl
         by (Some x) h = ap (λ (o : Option End). is_some o) h
 
-    whole_view : logs.stop ≡ None → (logs.rest ≡ []) × (r2.session ≡ record r1.session { notes = [] })
-    whole_view e = by logs.stop e logs.ends
+    whole_view : logs.failed ≡ false → (logs.rest ≡ []) × (r2.session ≡ record r1.session { notes = [] })
+    whole_view e = by logs.failed e logs.ends
       where
-        by : (stop : Option End) → stop ≡ None → LogEnds n stop r1.session r2.session logs.taken logs.left logs.got logs.rest l0 l1 → (logs.rest ≡ []) × (r2.session ≡ record r1.session { notes = [] })
-        by None h w = (w.1, w.2)
-        by (Some x) h w = cc
+        by : (failed : Bool) → failed ≡ false → LogEnds failed r1.session r2.session logs.left logs.rest l0 l1 → (logs.rest ≡ []) × (r2.session ≡ record r1.session { notes = [] })
+        by false h w = (w.1, w.2)
+        by true h w = cc
 
-    written_all : WrittenUnless logs.stop n logs.taken logs.got logs.rest l0 l1
-    written_all = by logs.stop refl
+    written_all : WrittenUnless logs.failed logs.rest l0 l1
+    written_all = by logs.failed refl
       where
-        by : (stop : Option End) → logs.stop ≡ stop → WrittenUnless stop n logs.taken logs.got logs.rest l0 l1
-        by None e = (whole_view e).0
-        by (Some end) e = (stop_view end e).0
+        by : (failed : Bool) → logs.failed ≡ failed → WrittenUnless failed logs.rest l0 l1
+        by false e = (whole_view e).0
+        by true e = (stop_view e).0
 
-    ends_stay : (stop : Option End) → logs.stop ≡ stop → (end : End) → r1.session.ended ≡ Some end → r2.session.ended ≡ Some end
-    ends_stay None e end h = ap (λ (s : SessionView). s.ended) (whole_view e).1 ∙ h
-    ends_stay (Some own) e end h = ap (λ (s : SessionView). s.ended) (stop_view own e).1 ∙ ap (λ (o : Option End). (stopped_at o own (record r1.session { notes = logs.left })).ended) h ∙ h
+    ends_stay : (failed : Bool) → logs.failed ≡ failed → (end : End) → r1.session.ended ≡ Some end → r2.session.ended ≡ Some end
+    ends_stay false e end h = ap (λ (s : SessionView). s.ended) (whole_view e).1 ∙ h
+    ends_stay true e end h = ap (λ (s : SessionView). s.ended) (stop_view e).1 ∙ ap (λ (o : Option End). (stopped_at o LogFault (record r1.session { notes = logs.left })).ended) h ∙ h
 
-    causes : (stop : Option End) → logs.stop ≡ stop → (end : End) → r2.session.ended ≡ Some end →
-        (r1.session.ended ≡ Some end) ⊎ IsLogEnd (LineRefused n logs.taken logs.got logs.rest) end l0 l1
-    causes None e end h = inl (ap (λ (s : SessionView). s.ended) (sym (whole_view e).1) ∙ h)
-    causes (Some own) e end h = by r1.session.ended refl (ap (λ (s : SessionView). s.ended) (sym (stop_view own e).1) ∙ h)
+    causes : (failed : Bool) → logs.failed ≡ failed → (end : End) → r2.session.ended ≡ Some end → (r1.session.ended ≡ Some end) ⊎ IsLogEnd end l0 l1
+    causes false e end h = inl (ap (λ (s : SessionView). s.ended) (sym (whole_view e).1) ∙ h)
+    causes true e end h = by r1.session.ended refl (ap (λ (s : SessionView). s.ended) (sym (stop_view e).1) ∙ h)
       where
-        by : (o : Option End) → r1.session.ended ≡ o → (stopped_at o own (record r1.session { notes = logs.left })).ended ≡ Some end →
-            (r1.session.ended ≡ Some end) ⊎ IsLogEnd (LineRefused n logs.taken logs.got logs.rest) end l0 l1
-        by None k t = let same : own ≡ end = cc in inr (subst (λ (y : End). IsLogEnd (LineRefused n logs.taken logs.got logs.rest) y l0 l1) same (stop_view own e).0)
+        by : (o : Option End) → r1.session.ended ≡ o → (stopped_at o LogFault (record r1.session { notes = logs.left })).ended ≡ Some end → (r1.session.ended ≡ Some end) ⊎ IsLogEnd end l0 l1
+        by None k t = let same : end ≡ LogFault = cc in inr (same, (stop_view e).0)
         by (Some x) k t = inl t
 
-    mode_all : (stop : Option End) → logs.stop ≡ stop → r2.session.mode ≡ r1.session.mode
-    mode_all None e = ap (λ (s : SessionView). s.mode) (whole_view e).1
-    mode_all (Some own) e = ap (λ (s : SessionView). s.mode) (stop_view own e).1 ∙ by r1.session.ended
+    mode_all : (failed : Bool) → logs.failed ≡ failed → r2.session.mode ≡ r1.session.mode
+    mode_all false e = ap (λ (s : SessionView). s.mode) (whole_view e).1
+    mode_all true e = ap (λ (s : SessionView). s.mode) (stop_view e).1 ∙ by r1.session.ended
       where
-        by : (o : Option End) → (stopped_at o own (record r1.session { notes = logs.left })).mode ≡ r1.session.mode
+        by : (o : Option End) → (stopped_at o LogFault (record r1.session { notes = logs.left })).mode ≡ r1.session.mode
         by None = refl
         by (Some x) = refl
 
     pub no_note_left : r2.session.ended ≡ None → r2.session.notes ≡ []
-    no_note_left h = by logs.stop refl
+    no_note_left h = by logs.failed refl
       where
-        by : (stop : Option End) → logs.stop ≡ stop → r2.session.notes ≡ []
-        by None e = ap (λ (s : SessionView). s.notes) (whole_view e).1
-        by (Some own) e = let t : is_some r2.session.ended ≡ true = is_stopped own e in let f : is_some r2.session.ended ≡ false = ap (λ (o : Option End). is_some o) h in cc
+        by : (failed : Bool) → logs.failed ≡ failed → r2.session.notes ≡ []
+        by false e = ap (λ (s : SessionView). s.notes) (whole_view e).1
+        by true e = let t : is_some r2.session.ended ≡ true = is_stopped e in let f : is_some r2.session.ended ≡ false = ap (λ (o : Option End). is_some o) h in cc
 
-    -- where no note was made no line was refused memory
-    no_note_taken : r1.session.notes ≡ [] → LineRefused n logs.taken logs.got logs.rest → ⊥
-    no_note_taken none l = let e : [] ≡ (l.earlier ++ l.note ∷ []) ++ logs.left = sym none ∙ logs.split ∙ ap (λ (ns : List Note). ns ++ logs.left) l.last in some_note l.earlier l.note e
+    -- the log refuses no memory
+    log_memory : (failed : Bool) → logs.failed ≡ failed → is_memory r2.session.ended ≡ is_memory r1.session.ended
+    log_memory false e = ap (λ (s : SessionView). is_memory s.ended) (whole_view e).1
+    log_memory true e = ap (λ (s : SessionView). is_memory s.ended) (stop_view e).1 ∙ by r1.session.ended refl
       where
-        some_note : (earlier : List Note) (note : Note) → [] ≡ (earlier ++ note ∷ []) ++ logs.left → ⊥
-        some_note [] note e = absurd cc
-        some_note (first ∷ earlier) note e = absurd cc
-
-    log_memory : (P : Type 0) (end : End) → (P → ⊥) → IsLogEnd P end l0 l1 → is_memory (Some end) ≡ false
-    log_memory P Memory h w = absurd (h w)
-    log_memory P LogFault h w = refl
-    log_memory P (ClientMalformed fault) h w = refl
-    log_memory P (BusMalformed fault) h w = refl
-    log_memory P ClientEnd h w = refl
-    log_memory P BusEnd h w = refl
-    log_memory P SerialsSpent h w = refl
-    log_memory P ClientRead h w = refl
-    log_memory P ClientWrite h w = refl
-    log_memory P BusRead h w = refl
-    log_memory P BusWrite h w = refl
-    log_memory P BusConnect h w = refl
-
-    log_unfed : r1.session.notes ≡ [] → (stop : Option End) → logs.stop ≡ stop → is_memory r2.session.ended ≡ is_memory r1.session.ended
-    log_unfed none None e = ap (λ (s : SessionView). is_memory s.ended) (whole_view e).1
-    log_unfed none (Some end) e = ap (λ (s : SessionView). is_memory s.ended) (stop_view end e).1 ∙ by r1.session.ended refl
-      where
-        by : (o : Option End) → r1.session.ended ≡ o → is_memory (stopped_at o end (record r1.session { notes = logs.left })).ended ≡ is_memory r1.session.ended
-        by None h = log_memory (LineRefused n logs.taken logs.got logs.rest) end (no_note_taken none) (stop_view end e).0 ∙ sym (ap is_memory h)
+        by : (o : Option End) → r1.session.ended ≡ o → is_memory (stopped_at o LogFault (record r1.session { notes = logs.left })).ended ≡ is_memory r1.session.ended
+        by None h = sym (ap is_memory h)
         by (Some x) h = refl
 
-    pub reads_logged : r0.session.mode.notes ≡ true → ReadsAndLogs policy true n side idle r0 r2 v0 v1 l0 l1
-    reads_logged notes = record {
+    -- nor does it take a byte that waits
+    log_queues : (failed : Bool) → logs.failed ≡ failed → (r2.session.bus_side ≡ r1.session.bus_side) × (r2.session.client_side ≡ r1.session.client_side)
+    log_queues false e = (ap (λ (s : SessionView). s.bus_side) (whole_view e).1, ap (λ (s : SessionView). s.client_side) (whole_view e).1)
+    log_queues true e =
+        (ap (λ (s : SessionView). s.bus_side) (stop_view e).1 ∙ (by r1.session.ended).0, ap (λ (s : SessionView). s.client_side) (stop_view e).1 ∙ (by r1.session.ended).1)
+      where
+        by : (o : Option End) → let stopped = stopped_at o LogFault (record r1.session { notes = logs.left }) in (stopped.bus_side ≡ r1.session.bus_side) × (stopped.client_side ≡ r1.session.client_side)
+        by None = (refl, refl)
+        by (Some x) = (refl, refl)
+
+    pub reads_logged : ReadsAndLogs policy true n side idle r0 r2 v0 v1 l0 l1
+    reads_logged = record {
       fed = r1.session;
-      goes = fed_goes (λ k. log_unfed (k.notes ∙ sound.notes notes runs) logs.stop refl ∙ k.memory);
+      goes = fed_goes (let same = log_queues logs.failed refl in same_queues r0.session r1.session r2.session same.0 same.1) (λ k. log_memory logs.failed refl ∙ k.memory);
       taken = logs.taken;
       lines = logs.got;
       rest = logs.rest;
-      stop = logs.stop;
+      failed = logs.failed;
       still = λ h. let f : idle ≡ false = busy in cc;
-      logged = λ end h. refl;
+      logged = λ h. refl;
       unread = λ h. let f : idle ≡ false = busy in cc;
       stands = logs.stands;
       is = logs.lines;
@@ -432,16 +427,16 @@ module _ (policy : Policy) (n : ℕ) (side : Side) (idle : Bool) (r0 r1 r2 : Run
       counts = logs.counts;
       written = written_all;
       all = λ l s h. ap (λ (s : SessionView). s.notes) (whole_view s).1;
-      end = ends_stay logs.stop refl;
+      end = ends_stay logs.failed refl;
       stopped = is_stopped;
-      cause = causes logs.stop refl;
-      mode = mode_all logs.stop refl;
+      cause = causes logs.failed refl;
+      mode = mode_all logs.failed refl;
       unlogged = λ h. cc;
     }
 
-  pub reads_if : (log : Bool) → r0.session.mode.notes ≡ log → LogsIf log n r1.session r2.session l0 l1 → ReadsAndLogs policy log n side idle r0 r2 v0 v1 l0 l1
-  reads_if true notes logs = reads_logged logs notes
-  reads_if false notes logs = reads_unlogged logs.0 logs.1
+  pub reads_if : (log : Bool) → LogsIf log n r1.session r2.session l0 l1 → ReadsAndLogs policy log n side idle r0 r2 v0 v1 l0 l1
+  reads_if true logs = reads_logged logs
+  reads_if false logs = reads_unlogged logs.0 logs.1
 
 pub runs_on : (ended : Option End) (full : Bool) → is_some ended || full ≡ false → ended ≡ None
 runs_on None full e = refl

@@ -14,6 +14,7 @@ pub mod NewSession
 pub mod Others
 pub mod TurnLaws
 pub mod Hearing
+pub mod Unheard
 pub mod TurnLogs
 pub mod Wishing
 pub mod LinkFronts

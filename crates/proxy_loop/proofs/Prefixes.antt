@@ -6,7 +6,7 @@ use Rattle.link_traits.specs.Journals.{Journal, written}
 use Rattle.link_traits.specs.Answers.{client_link, bus_link}
 use Rattle.policy_args.specs.Policy.{Policy}
 use Rattle.policy_view.specs.declared.End.{End}
-use Rattle.policy_view.specs.declared.End.TheVariants.{SerialsSpent}
+use Rattle.policy_view.specs.declared.End.TheVariants.{SerialsSpent, LogFault}
 use Rattle.policy_view.specs.declared.Mode.{Mode}
 use Rattle.policy_view.specs.History.{Event, Bytes, Finished, Stopped, history, arrived, followed_by, followed_by_all, followed_unless, placed, end_of, most_sent}
 use Rattle.policy_view.specs.Notes.{notes, numbered}
@@ -67,8 +67,8 @@ module _ {A : Type 0} (policy : Policy) (mode : Mode) (given : History → List 
   pub same_given : (put : Bool) (events told : List Event) → IsWithStop put events told → given (history policy mode events) ≡ given (history policy mode told)
   same_given false events told e = ap (λ (es : List Event). given (history policy mode es)) e
   same_given true events told s =
-      ap (λ (es : List Event). given (history policy mode es)) s.4 ∙ ap given (after_stop policy mode s.0 s.1 s.2) ∙ stopped_given s.1 s.2
-      ∙ sym (stops_given s.0 s.1 s.5) ∙ ap (λ (es : List Event). given (history policy mode es)) (sym s.3)
+      ap (λ (es : List Event). given (history policy mode es)) s.3 ∙ ap given (after_stop policy mode s.0 s.1 LogFault) ∙ stopped_given s.1 LogFault
+      ∙ sym (stops_given s.0 s.1 s.4) ∙ ap (λ (es : List Event). given (history policy mode es)) (sym s.2)
 
   pub taken_front : (put : Bool) (events told : List Event) (taken waits : List A) → IsWithStop put events told →
       IsFront (taken ++ waits) (given (history policy mode events)) → IsFront taken (given (history policy mode told))

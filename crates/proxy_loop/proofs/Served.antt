@@ -1,27 +1,28 @@
 -- The five parts of a turn for one session, joined.
-use Rattle.std.proofs.Common.{ℕ, ◌≡◌, ◌≤◌, ◌⊎◌, inl, inr, Bool, true, false, ◌&&◌, ◌||◌, not, is_some, List, [], ◌∷◌, ◌++◌, Some, if◌then◌else◌, refl, ap, ap₂, ◌∙◌, sym, subst, append_assoc, arith}
+use Rattle.std.proofs.Common.{ℕ, ◌≡◌, ◌≤◌, ◌⊎◌, inl, inr, Bool, true, false, ◌&&◌, ◌||◌, not, is_some, List, [], ◌∷◌, ◌++◌, Some, if◌then◌else◌, refl, ap, ap₂, ◌∙◌, sym, subst, append-nil, append_assoc, arith}
 use Rattle.std.proofs.Math.Logic.{∥∥₁_map}
 use Rattle.dbus_names.specs.Names.{is_empty}
-use Rattle.link_traits.specs.Journals.{Journal}
+use Rattle.link_traits.specs.Journals.{Journal, written}
 use Rattle.link_traits.specs.Views.{NetView, Adds}
-use Rattle.link_traits.specs.Answers.{client_link, bus_link}
+use Rattle.link_traits.specs.Answers.{client_link, bus_link, read_entry}
 use Rattle.link_traits.specs.Entries.{not_ready as NotReady, shut as Shut}
 use Rattle.link_traits.specs.declared.links.Count.{Count}
+use Rattle.link_traits.specs.declared.links.Got.{Got}
+use Rattle.link_traits.specs.declared.links.Got.TheVariants.{Bytes as GotBytes, Finished as GotFinished, NotReady as GotNotReady, Failed as GotFailed}
 use Rattle.link_traits.specs.declared.links.Side.{Side}
 use Rattle.link_traits.specs.declared.links.Side.TheVariants.{Client, Bus}
 use Rattle.link_traits.specs.declared.links.Link.{Link}
 use Rattle.link_traits.specs.declared.links.Call.TheVariants.{Write as WriteCall}
 use Rattle.policy_args.specs.Policy.{Policy}
 use Rattle.policy_view.specs.declared.End.{End}
-use Rattle.policy_view.specs.declared.End.TheVariants.{ClientMalformed, BusMalformed, ClientEnd, BusEnd, SerialsSpent, Memory, ClientRead, ClientWrite, BusRead, BusWrite, BusConnect, LogFault}
-use Rattle.proxy_core.specs.Sessions.{SessionView, is_memory}
+use Rattle.proxy_core.specs.Sessions.{SessionView, IsFront, is_memory}
 use Rattle.proxy_loop.specs.declared.serving.Running.{Running}
 use Rattle.proxy_loop.specs.Sinks.{SinkView}
 use Rattle.proxy_loop.specs.Kinds.{some_of, gone_by, last_write}
 use Rattle.proxy_loop.specs.Works.{Any, Goes, Stood, StoodFor, Cause, ShutBoth, IsDrained, WritesInOrder, link_at, shuts_now, is_full, KeepsEnd}
-use Rattle.proxy_loop.specs.Logging.{IsLogEnd, LineRefused, stop_events}
-use Rattle.proxy_loop.specs.Runs.{Sound, KeepsPlace, KeepsShut, WroteBoth, ReadsAndLogs, ReadPart, IsDone, Served, ServedStands, CauseOf, Serving}
-use Rattle.proxy_loop.proofs.Holding.{moves_then, cause_later, cause_sooner, some_append}
+use Rattle.proxy_loop.specs.Logging.{stop_events}
+use Rattle.proxy_loop.specs.Runs.{IsLogEnd, Sound, KeepsPlace, KeepsShut, WroteBoth, ReadsAndLogs, ReadPart, ReadUnless, IsDone, Served, ServedStands, CauseOf, Serving}
+use Rattle.proxy_loop.proofs.Holding.{moves_then, cause_later, cause_sooner, some_append, wrote_append}
 use Rattle.proxy_loop.proofs.Joining.{last_newer, or_assoc}
 use Rattle.proxy_loop.proofs.Standing.{served_stands, idle_by, still_some}
 use Rattle.proxy_loop.proofs.Stopping.{both_stop, unread_stop, writes_stop, shuts_stop}
@@ -46,6 +47,45 @@ none_gone n link false false = refl
 pub shuts_gone : (n : ℕ) (link : Link) (client bus : Bool) (added : Journal) → ShutBoth n client bus added → some_of (gone_by link) added ≡ false
 shuts_gone n link client bus added s = ap (some_of (gone_by link)) s.is ∙ none_gone n link client bus
 
+-- nor is anything written by them
+none_wrote : (n : ℕ) (link : Link) (client bus : Bool) →
+    written link ((if bus then Shut (bus_link n) ∷ [] else []) ++ (if client then Shut (client_link n) ∷ [] else [])) ≡ []
+none_wrote n link true true = refl
+none_wrote n link true false = refl
+none_wrote n link false true = refl
+none_wrote n link false false = refl
+
+shuts_wrote : (n : ℕ) (link : Link) (client bus : Bool) (added : Journal) → ShutBoth n client bus added → written link added ≡ []
+shuts_wrote n link client bus added s = ap (written link) s.is ∙ none_wrote n link client bus
+
+-- a read writes nothing
+read_wrote : (link at : Link) (into : List ℕ) (answer : Got) → written link (read_entry at into answer ∷ []) ≡ []
+read_wrote link at into (GotBytes n) = refl
+read_wrote link at into GotFinished = refl
+read_wrote link at into GotNotReady = refl
+read_wrote link at into GotFailed = refl
+
+unread_wrote : (n : ℕ) (side : Side) (idle : Bool) (link : Link) (reads : Journal) → ReadUnless idle (link_at n side) reads → written link reads ≡ []
+unread_wrote n side true link reads none = ap (written link) none
+unread_wrote n side false link reads once = ap (written link) once.1.one ∙ read_wrote link (link_at n side) once.1.into once.1.answer
+
+-- What waited is a prefix of what was written and then waits: the first writes take from its front, the read adds to its end, and the second
+-- writes take from its front.
+kept_front : (link : Link) (shuts second reads first : Journal) (q0 q1 q2 q3 : List ℕ) → written link shuts ≡ [] → written link reads ≡ [] →
+    q0 ≡ written link first ++ q1 → IsFront q1 q2 → q2 ≡ written link second ++ q3 →
+    IsFront q0 (written link (shuts ++ (second ++ (reads ++ first))) ++ q3)
+kept_front link shuts second reads first q0 q1 q2 q3 none unread took grows last =
+    let wrote : written link (shuts ++ (second ++ (reads ++ first))) ≡ written link first ++ written link second =
+    wrote_append link shuts (second ++ (reads ++ first)) ∙ ap (λ (l : List ℕ). written link (second ++ (reads ++ first)) ++ l) none ∙ append-nil (written link (second ++ (reads ++ first)))
+    ∙ wrote_append link second (reads ++ first)
+    ∙ ap (λ (l : List ℕ). l ++ written link second) (wrote_append link reads first ∙ ap (λ (l : List ℕ). written link first ++ l) unread ∙ append-nil (written link first)) in
+    record {
+      rest = grows.rest;
+      is = ap (λ (l : List ℕ). l ++ grows.rest) took ∙ append_assoc (written link first) q1 grows.rest
+          ∙ ap (λ (l : List ℕ). written link first ++ l) (grows.is ∙ last)
+          ∙ sym (append_assoc (written link first) (written link second) q3) ∙ ap (λ (l : List ℕ). l ++ q3) (sym wrote);
+    }
+
 four_parts : (shuts second reads first w0 w1 w2 w3 w4 now : Journal) → now ≡ w4 → w4 ≡ shuts ++ w3 → w3 ≡ second ++ w2 → w2 ≡ reads ++ w1 → w1 ≡ first ++ w0 →
     now ≡ (shuts ++ (second ++ (reads ++ first))) ++ w0
 four_parts shuts second reads first w0 w1 w2 w3 w4 now e4 e3 e2 e1 e0 =
@@ -69,20 +109,6 @@ gone_twice : (link : Link) (later sooner : Journal) (g0 g1 g2 : Bool) → g1 ≡
 gone_twice link later sooner g0 g1 g2 x y =
     y ∙ ap (λ (p : Bool). some_of (gone_by link) later || p) x ∙ sym (or_assoc (some_of (gone_by link) later) (some_of (gone_by link) sooner) g0)
     ∙ ap (λ (p : Bool). p || g0) (sym (some_append (gone_by link) later sooner))
-
-log_cause : (P : Type 0) (n : ℕ) (end : End) (before after : NetView) (first last : SinkView) → IsLogEnd P end first last → CauseOf n end before after first last
-log_cause P n Memory before after first last w = inl tt
-log_cause P n LogFault before after first last w = inr (refl, w)
-log_cause P n (ClientMalformed fault) before after first last w = absurd w
-log_cause P n (BusMalformed fault) before after first last w = absurd w
-log_cause P n ClientEnd before after first last w = absurd w
-log_cause P n BusEnd before after first last w = absurd w
-log_cause P n SerialsSpent before after first last w = absurd w
-log_cause P n ClientRead before after first last w = absurd w
-log_cause P n ClientWrite before after first last w = absurd w
-log_cause P n BusRead before after first last w = absurd w
-log_cause P n BusWrite before after first last w = absurd w
-log_cause P n BusConnect before after first last w = absurd w
 
 shut_by_now : (gone shut ended nil : Bool) → (gone ≡ true → ended ≡ true) → gone || shut ≡ true → shut || (ended && (gone || nil)) ≡ true
 shut_by_now gone true ended nil h e = refl
@@ -159,6 +185,14 @@ module _ (policy : Policy) (log : Bool) (n : ℕ) (side : Side) (r0 r1 r2 r3 r4 
     shut = subst (λ (p : Bool). ShutBoth n p (not r0.bus.shut && r4.bus.shut) shuts) client_is (subst (λ (p : Bool). ShutBoth n client p shuts) bus_is s);
     client_gone = client_gone ∙ gone_now (client_link n) first reads second shuts r0.client.gone r1.client.gone r2.client.gone r3.client.gone s w.client_gone x.client_gone y.client_gone;
     bus_gone = bus_gone ∙ gone_now (bus_link n) first reads second shuts r0.bus.gone r1.bus.gone r2.bus.gone r3.bus.gone s w.bus_gone x.bus_gone y.bus_gone;
+    client_kept = subst (λ (z : SessionView). IsFront r0.session.client_side (written (client_link n) (shuts ++ (second ++ (reads ++ first))) ++ z.client_side)) (sym same)
+        (kept_front (client_link n) shuts second reads first r0.session.client_side r1.session.client_side r2.session.client_side r3.session.client_side
+        (shuts_wrote n (client_link n) client bus shuts s) (unread_wrote n side (is_some r1.session.ended || is_full side r1.session) (client_link n) reads x.once)
+        w.client_took x.waits.client y.client_took);
+    bus_kept = subst (λ (z : SessionView). IsFront r0.session.bus_side (written (bus_link n) (shuts ++ (second ++ (reads ++ first))) ++ z.bus_side)) (sym same)
+        (kept_front (bus_link n) shuts second reads first r0.session.bus_side r1.session.bus_side r2.session.bus_side r3.session.bus_side
+        (shuts_wrote n (bus_link n) client bus shuts s) (unread_wrote n side (is_some r1.session.ended || is_full side r1.session) (bus_link n) reads x.once)
+        w.bus_took x.waits.bus y.bus_took);
     client_done = subst (λ (z : SessionView). IsDone (client_link n) z.client_side r4.client.shut (shuts ++ (second ++ (reads ++ first)))) (sym same)
         (done_now (client_link n) shuts second (reads ++ first) r3.session.client_side r3.client.gone r3.client.shut r4.client.shut (is_some r3.session.ended) (is_empty r3.session.client_side)
         s sound3.client client_shut y.client_drained);
@@ -197,7 +231,7 @@ module _ (policy : Policy) (log : Bool) (n : ℕ) (side : Side) (r0 r1 r2 r3 r4 
 
   stood3 : Stood policy r0.session → Stood policy r2.session
   stood3 s = ∥∥₁_map (stood2 s) (λ (t : StoodFor policy b.fed). record {
-    events = stop_events b.stop ++ t.events;
+    events = stop_events b.failed ++ t.events;
     taken = record t.taken { notes = t.taken.notes ++ b.taken };
     stands = b.stands policy t.events t.taken t.stands;
   })
@@ -213,9 +247,9 @@ module _ (policy : Policy) (log : Bool) (n : ℕ) (side : Side) (r0 r1 r2 r3 r4 
   cause2 s end (inl e) = cause1 end (a.cause policy tt s end e)
   cause2 s end (inr w) = inr (inl (widen end v1 v2 to1 from2 w))
 
-  cause3 : Stood policy r0.session → (end : End) → (b.fed.ended ≡ Some end) ⊎ IsLogEnd (LineRefused n b.taken b.lines b.rest) end l0 l1 → (r0.session.ended ≡ Some end) ⊎ CauseOf n end v0 v5 l0 l1
+  cause3 : Stood policy r0.session → (end : End) → (b.fed.ended ≡ Some end) ⊎ IsLogEnd end l0 l1 → (r0.session.ended ≡ Some end) ⊎ CauseOf n end v0 v5 l0 l1
   cause3 s end (inl e) = cause2 s end (b.goes.cause policy refl (stood1 s) end e)
-  cause3 s end (inr w) = inr (log_cause (LineRefused n b.taken b.lines b.rest) n end v0 v5 l0 l1 w)
+  cause3 s end (inr w) = inr (inr w)
 
   cause4 : Stood policy r0.session → (end : End) → (r2.session.ended ≡ Some end) ⊎ Cause n end v2 v3 → (r0.session.ended ≡ Some end) ⊎ CauseOf n end v0 v5 l0 l1
   cause4 s end (inl e) = cause3 s end (b.cause end e)
@@ -240,8 +274,8 @@ module _ (policy : Policy) (log : Bool) (n : ℕ) (side : Side) (r0 r1 r2 r3 r4 
           shuts ++ (second ++ (reads ++ first)),
           whole,
           served_now first reads second shuts t1.4 t2.4 t3.4 t4.4,
-          λ h. subst (λ (z : SessionView). ServedStands policy log n z t1.0 now l0 l1) (sym same)
-              (subst (λ (j : Journal). ServedStands policy log n r3.session t1.0 j l0 l1) parts
+          λ h. subst (λ (z : SessionView). ServedStands policy log n r0.session z t1.0 now l0 l1) (sym same)
+              (subst (λ (j : Journal). ServedStands policy log n r0.session r3.session t1.0 j l0 l1) parts
               (served_stands policy log n side (is_full side r1.session) r0.session r1.session r3.session r1 r2 v1 v2 l0 l1 b t1.0 (reads ++ first) (shuts ++ second)
               (moves_then policy n r0.session r1.session b.fed first reads (t1.5 policy tt) (t2.5 policy refl))
               (moves_then policy n r2.session r3.session r3.session second shuts (t3.5 policy tt) (t4.5 policy tt))

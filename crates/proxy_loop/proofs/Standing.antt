@@ -1,5 +1,5 @@
 -- A session that was served stands for the journal with what its turn added, and its log is exact.
-use Rattle.std.proofs.Common.{ℕ, ◌≡◌, ◌⊎◌, inl, inr, Bool, true, false, ◌||◌, is_some, List, [], ◌∷◌, ◌++◌, Option, Some, None, if◌then◌else◌, refl, ap, ap₂, ◌∙◌, sym, subst, append-nil, append_assoc}
+use Rattle.std.proofs.Common.{ℕ, ◌≡◌, ◌<◌, length, ◌⊎◌, inl, inr, Bool, true, false, ◌||◌, is_some, List, [], ◌∷◌, ◌++◌, Option, Some, None, if◌then◌else◌, refl, ap, ap₂, ◌∙◌, sym, subst, append-nil, append_assoc}
 use Rattle.explain_log.specs.Lines.{log}
 use Rattle.link_traits.specs.Journals.{Journal, written}
 use Rattle.link_traits.specs.Views.{NetView}
@@ -9,17 +9,19 @@ use Rattle.link_traits.specs.declared.links.Side.{Side}
 use Rattle.link_traits.specs.declared.links.Link.{Link}
 use Rattle.policy_args.specs.Policy.{Policy}
 use Rattle.policy_view.specs.declared.End.{End}
-use Rattle.policy_view.specs.declared.End.TheVariants.{ClientMalformed, BusMalformed, ClientEnd, BusEnd, SerialsSpent, Memory, ClientRead, ClientWrite, BusRead, BusWrite, BusConnect, LogFault}
+use Rattle.policy_view.specs.declared.End.TheVariants.{LogFault}
 use Rattle.policy_view.specs.declared.Mode.{Mode}
-use Rattle.policy_view.specs.History.{Event, Stopped, history}
+use Rattle.policy_view.specs.Closings.{closing}
+use Rattle.policy_view.specs.History.{Event, Stopped, end_of, history}
 use Rattle.policy_view.specs.Notes.{Note, notes, notes_made}
 use Rattle.proxy_core.specs.Sessions.{SessionView, Taken, StandsFor, IsFront, is_memory}
+use Rattle.policy_view.proofs.Closings.{open_has_none, there_is_closing, closes_later}
 use Rattle.proxy_loop.specs.declared.serving.Running.{Running}
 use Rattle.proxy_loop.specs.Sinks.{SinkView}
-use Rattle.proxy_loop.specs.Sessions.{Holds, IsWithStop, is_log_end, events_of, taken_of}
+use Rattle.proxy_loop.specs.Sessions.{Holds, IsWithStop, events_of, taken_of}
 use Rattle.proxy_loop.specs.Works.{Moves, more_taken}
-use Rattle.proxy_loop.specs.Logging.{stop_events, IsLogEnd, LineRefused}
-use Rattle.proxy_loop.specs.Runs.{WrittenUnless, ReadsAndLogs, WhyCut, AreLines, Logged, ServedStands, log_of}
+use Rattle.proxy_loop.specs.Logging.{stop_events}
+use Rattle.proxy_loop.specs.Runs.{WrittenUnless, ReadsAndLogs, WhyCut, AreLines, Logged, ClosesIn, ServedStands, log_of}
 use Rattle.proxy_loop.proofs.Holding.{wrote_append, events_append}
 use Rattle.proxy_loop.proofs.Stopping.{AllStops, stops_append, both_stop}
 use Rattle.proxy_loop.proofs.Logged.{log-append}
@@ -38,11 +40,9 @@ with_stop_grow false more events told stops e = ap (λ (l : List Event). more ++
 with_stop_grow true more events told stops s = (
   more ++ s.0,
   s.1,
-  s.2,
-  ap (λ (l : List Event). more ++ l) s.3 ∙ sym (append_assoc more s.0 s.1),
-  ap (λ (l : List Event). more ++ l) s.4 ∙ sym (append_assoc more s.0 (Stopped s.2 ∷ s.1)),
-  stops_append more s.0 (stops refl) s.5,
-  s.6,
+  ap (λ (l : List Event). more ++ l) s.2 ∙ sym (append_assoc more s.0 s.1),
+  ap (λ (l : List Event). more ++ l) s.3 ∙ sym (append_assoc more s.0 (Stopped LogFault ∷ s.1)),
+  stops_append more s.0 (stops refl) s.4,
 )
 
 -- a session that goes by some entries stands for the journal with them
@@ -61,43 +61,13 @@ holds_moved policy n old new added was moves kept mode stops h = record {
       (moves.each h.events (taken_of n h.notes was) h.stands);
 }
 
--- an End of the log
-own_end : (P : Type 0) (end : End) (first last : SinkView) → IsLogEnd P end first last → is_log_end end ≡ true
-own_end P Memory first last w = refl
-own_end P LogFault first last w = refl
-own_end P (ClientMalformed fault) first last w = absurd w
-own_end P (BusMalformed fault) first last w = absurd w
-own_end P ClientEnd first last w = absurd w
-own_end P BusEnd first last w = absurd w
-own_end P SerialsSpent first last w = absurd w
-own_end P ClientRead first last w = absurd w
-own_end P ClientWrite first last w = absurd w
-own_end P BusRead first last w = absurd w
-own_end P BusWrite first last w = absurd w
-own_end P BusConnect first last w = absurd w
-
--- why lines weren't written, by the End
-why_log : (P Q : Type 0) (end : End) (first last : SinkView) → (P → Q) → IsLogEnd P end first last → Rose first.faults last.faults ⊎ Q
-why_log P Q Memory first last f w = inr (f w)
-why_log P Q LogFault first last f w = inl w
-why_log P Q (ClientMalformed fault) first last f w = absurd w
-why_log P Q (BusMalformed fault) first last f w = absurd w
-why_log P Q ClientEnd first last f w = absurd w
-why_log P Q BusEnd first last f w = absurd w
-why_log P Q SerialsSpent first last f w = absurd w
-why_log P Q ClientRead first last f w = absurd w
-why_log P Q ClientWrite first last f w = absurd w
-why_log P Q BusRead first last f w = absurd w
-why_log P Q BusWrite first last f w = absurd w
-why_log P Q BusConnect first last f w = absurd w
-
 not_put : (put : Bool) (ended : Option End) → (put ≡ true → is_some ended ≡ true) → ended ≡ None → put ≡ false
 not_put false ended h e = refl
 not_put true ended h e = let t : is_some ended ≡ true = h refl in let f : is_some ended ≡ false = ap (λ (o : Option End). is_some o) e in cc
 
-not_idle : (idle : Bool) (stop : Option End) (end : End) → (idle ≡ true → stop ≡ None) → stop ≡ Some end → idle ≡ false
-not_idle false stop end h e = refl
-not_idle true stop end h e = let n : stop ≡ None = h refl in cc
+not_idle : (idle failed : Bool) → (idle ≡ true → failed ≡ false) → failed ≡ true → idle ≡ false
+not_idle false failed h e = refl
+not_idle true failed h e = let n : failed ≡ false = h refl in cc
 
 runs_by : (ended : Option End) (full : Bool) → is_some ended || full ≡ false → ended ≡ None
 runs_by None full e = refl
@@ -146,7 +116,12 @@ module _ (policy : Policy) (logs : Bool) (n : ℕ) (side : Side) (full : Bool) (
   all_end end e = last_end end (reads.end end (read_end end (first_end end e)))
 
   events_now : List Event
-  events_now = events_of n late ++ (stop_events reads.stop ++ (events_of n early ++ h.events))
+  events_now = events_of n late ++ (stop_events reads.failed ++ (events_of n early ++ h.events))
+
+  regrouped_now : (events_of n late ++ (stop_events reads.failed ++ events_of n early)) ++ h.events ≡ events_now
+  unfolding events_now
+  regrouped_now = append_assoc (events_of n late) (stop_events reads.failed ++ events_of n early) h.events
+      ∙ ap (λ (l : List Event). events_of n late ++ l) (append_assoc (stop_events reads.failed) (events_of n early) h.events)
 
   told_now : events_of n ((late ++ early) ++ was) ≡ events_of n late ++ (events_of n early ++ events_of n was)
   told_now = events_append n (late ++ early) was ∙ ap (λ (l : List Event). l ++ events_of n was) (events_append n late early)
@@ -156,20 +131,17 @@ module _ (policy : Policy) (logs : Bool) (n : ℕ) (side : Side) (full : Bool) (
   words_now link = append_assoc (written link was) (written link early) (written link late)
       ∙ ap (λ (l : List ℕ). written link was ++ l) (sym (wrote_append link late early)) ∙ sym (wrote_append link (late ++ early) was)
 
-  stands_now : StandsFor policy s3 (events_of n late ++ (stop_events reads.stop ++ (events_of n early ++ h.events))) (taken_of n (h.notes ++ reads.taken) ((late ++ early) ++ was))
+  stands_now : StandsFor policy s3 (events_of n late ++ (stop_events reads.failed ++ (events_of n early ++ h.events))) (taken_of n (h.notes ++ reads.taken) ((late ++ early) ++ was))
   stands_now =
-      subst (λ (t : Taken). StandsFor policy s3 (events_of n late ++ (stop_events reads.stop ++ (events_of n early ++ h.events))) t)
+      subst (λ (t : Taken). StandsFor policy s3 (events_of n late ++ (stop_events reads.failed ++ (events_of n early ++ h.events))) t)
       (ap₂ (λ (x y : List ℕ). record { bus_side = x; client_side = y; notes = h.notes ++ reads.taken; visible = [] }) (words_now (bus_link n)) (words_now (client_link n)))
-      (after.each (stop_events reads.stop ++ (events_of n early ++ h.events)) (record (more_taken n early (taken_of n h.notes was)) { notes = h.notes ++ reads.taken })
+      (after.each (stop_events reads.failed ++ (events_of n early ++ h.events)) (record (more_taken n early (taken_of n h.notes was)) { notes = h.notes ++ reads.taken })
       (reads.stands policy (events_of n early ++ h.events) (more_taken n early (taken_of n h.notes was)) (before.each h.events (taken_of n h.notes was) h.stands)))
 
-  stop_is_own : (end : End) → reads.stop ≡ Some end → is_log_end end ≡ true
-  stop_is_own end e = own_end (LineRefused n reads.taken reads.lines reads.rest) end l0 l1 (subst (λ (o : Option End). WrittenUnless o n reads.taken reads.lines reads.rest l0 l1) e reads.written)
-
-  holds_by : (stop : Option End) → reads.stop ≡ stop →
-      (p : Bool) × IsWithStop p (events_of n late ++ (stop_events stop ++ (events_of n early ++ h.events))) (events_of n ((late ++ early) ++ was)) × (p ≡ true → is_some s3.ended ≡ true)
+  holds_by : (failed : Bool) → reads.failed ≡ failed →
+      (p : Bool) × IsWithStop p (events_of n late ++ (stop_events failed ++ (events_of n early ++ h.events))) (events_of n ((late ++ early) ++ was)) × (p ≡ true → is_some s3.ended ≡ true)
       × (p ≡ true → s3.mode.notes ≡ true)
-  holds_by None e = (
+  holds_by false e = (
     h.put,
     subst (λ (l : List Event). IsWithStop h.put (events_of n late ++ (events_of n early ++ h.events)) l) (sym told_now)
         (with_stop_grow h.put (events_of n late) (events_of n early ++ h.events) (events_of n early ++ events_of n was) (λ e. late_stops)
@@ -177,34 +149,54 @@ module _ (policy : Policy) (logs : Bool) (n : ℕ) (side : Side) (full : Bool) (
     λ p. still_some s0.ended s3.ended all_end (h.over p),
     λ p. ap (λ (m : Mode). m.notes) mode ∙ h.logs p,
   )
-  holds_by (Some end) e =
-      let runs : s1.ended ≡ None = runs_by s1.ended full (not_idle (is_some s1.ended || full) reads.stop end reads.still e) in
+  holds_by true e =
+      let runs : s1.ended ≡ None = runs_by s1.ended full (not_idle (is_some s1.ended || full) reads.failed reads.still e) in
       let ran : s0.ended ≡ None = still_none s0.ended s1.ended first_end runs in
       let same : h.events ≡ events_of n was = no_stop_in h.put h.events (events_of n was) (not_put h.put s0.ended h.over ran) h.told in (
         true,
         (
           events_of n late,
           events_of n early ++ h.events,
-          end,
           told_now ∙ ap (λ (l : List Event). events_of n late ++ (events_of n early ++ l)) (sym same),
           refl,
           late_stops,
-          stop_is_own end e,
         ),
-        λ p. still_some r2.session.ended s3.ended last_end (reads.stopped end e),
-        λ p. ap (λ (m : Mode). m.notes) mode ∙ keeps_log ∙ reads.logged end e,
+        λ p. still_some r2.session.ended s3.ended last_end (reads.stopped e),
+        λ p. ap (λ (m : Mode). m.notes) mode ∙ keeps_log ∙ reads.logged e,
       )
 
   pub holds_now : Holds policy n s3 ((late ++ early) ++ was)
-  holds_now = let w = holds_by reads.stop refl in record {
+  holds_now = let w = holds_by reads.failed refl in record {
     put = w.0;
-    events = events_of n late ++ (stop_events reads.stop ++ (events_of n early ++ h.events));
+    events = events_of n late ++ (stop_events reads.failed ++ (events_of n early ++ h.events));
     notes = h.notes ++ reads.taken;
     told = w.1;
     over = w.2;
     logs = w.3;
     stands = stands_now;
   }
+
+  -- the events so far had no End
+  open_before : s0.ended ≡ None → closing policy s3.mode h.events ≡ None
+  open_before ran = open_has_none policy s3.mode h.events
+      (ap (λ (m : Mode). end_of (history policy m h.events)) mode ∙ sym (h.stands.holds (ap is_memory ran)).end_is ∙ ran)
+
+  closes_now : s0.ended ≡ None → (end : End) → s3.ended ≡ Some end → is_memory s3.ended ≡ false → ClosesIn policy n s3 end was ((late ++ early) ++ was)
+  unfolding events_now
+  closes_now ran end e whole =
+      let w = holds_by reads.failed refl in
+      let same : h.events ≡ events_of n was = no_stop_in h.put h.events (events_of n was) (not_put h.put s0.ended h.over ran) h.told in
+      let at = there_is_closing policy s3.mode events_now end (sym (stands_now.holds whole).end_is ∙ e) in
+      record {
+        put = w.0;
+        events = events_now;
+        told = w.1;
+        at = at.0;
+        closes = at.1;
+        here = subst (λ (es : List Event). length es < at.0) same
+            (closes_later policy s3.mode (events_of n late ++ (stop_events reads.failed ++ events_of n early)) h.events end at.0 (open_before ran)
+            (ap (λ (es : List Event). closing policy s3.mode es) regrouped_now ∙ at.1));
+      }
 
   more_lines : (xs : List Note) → log n ((h.notes ++ reads.taken) ++ xs) ≡ log n h.notes ++ (reads.lines ++ (reads.rest ++ log n xs))
   more_lines xs = log-append n (h.notes ++ reads.taken) xs
@@ -233,9 +225,9 @@ module _ (policy : Policy) (logs : Bool) (n : ℕ) (side : Side) (full : Bool) (
     given_late : (events : List Event) → notes policy (history policy s3.mode (events_of n late ++ events)) ≡ notes policy (history policy s3.mode events)
     given_late events = stops_given policy s3.mode (notes policy) (notes_ended policy) (events_of n late) events late_stops
 
-    given_stopped : (stop : Option End) (events : List Event) → notes policy (history policy s3.mode (stop_events stop ++ events)) ≡ notes policy (history policy s3.mode events)
-    given_stopped None events = refl
-    given_stopped (Some end) events = stops_given policy s3.mode (notes policy) (notes_ended policy) (Stopped end ∷ []) events refl
+    given_stopped : (failed : Bool) (events : List Event) → notes policy (history policy s3.mode (stop_events failed ++ events)) ≡ notes policy (history policy s3.mode events)
+    given_stopped false events = refl
+    given_stopped true events = stops_given policy s3.mode (notes policy) (notes_ended policy) (Stopped LogFault ∷ []) events refl
 
     -- a session that wasn't refused memory knows all of its notes
     exact_after : s0.ended ≡ None → is_memory s3.ended ≡ false → log_of policy s3.mode n ((late ++ early) ++ was) ≡ log n h.notes ++ (reads.lines ++ (reads.rest ++ log n s3.notes))
@@ -247,8 +239,8 @@ module _ (policy : Policy) (logs : Bool) (n : ℕ) (side : Side) (full : Bool) (
         ap (λ (es : List Event). notes policy (history policy s3.mode es)) told_now
         ∙ given_late (events_of n early ++ events_of n was)
         ∙ ap (λ (es : List Event). notes policy (history policy s3.mode (events_of n early ++ es))) (sym same)
-        ∙ sym (given_stopped reads.stop (events_of n early ++ h.events))
-        ∙ sym (given_late (stop_events reads.stop ++ (events_of n early ++ h.events)))
+        ∙ sym (given_stopped reads.failed (events_of n early ++ h.events))
+        ∙ sym (given_late (stop_events reads.failed ++ (events_of n early ++ h.events)))
         ∙ sym (noted ∙ made_all s3.mode policy events_now keeps)
         )
         ∙ more_lines s3.notes
@@ -261,25 +253,22 @@ module _ (policy : Policy) (logs : Bool) (n : ℕ) (side : Side) (full : Bool) (
         ∙ ap (log n) (stops_given policy s3.mode (notes policy) (notes_ended policy) (events_of n (late ++ early)) (events_of n was)
         (both_stop n late early late_stops (early_stops e)))
 
-    cut_by : (stop : Option End) → reads.stop ≡ stop → s0.ended ≡ None →
-        (reads.rest ++ log n s3.notes ≡ []) ⊎ ((is_some s3.ended ≡ true) × WhyCut n (reads.rest ++ log n s3.notes) s3 l0 l1)
-    cut_by None e ran =
-        let whole : reads.rest ≡ [] = subst (λ (o : Option End). WrittenUnless o n reads.taken reads.lines reads.rest l0 l1) e reads.written in
+    cut_by : (failed : Bool) → reads.failed ≡ failed → s0.ended ≡ None →
+        (reads.rest ++ log n s3.notes ≡ []) ⊎ ((is_some s3.ended ≡ true) × WhyCut s3 l0 l1)
+    cut_by false e ran =
+        let whole : reads.rest ≡ [] = subst (λ (b : Bool). WrittenUnless b reads.rest l0 l1) e reads.written in
         let none : s3.notes ≡ [] = same_after ∙ reads.all logged e (same_before ∙ none_before ran) in
         inl (ap₂ (λ (xs : List ℕ) (ys : List Note). xs ++ log n ys) whole none)
-    cut_by (Some end) e ran = inr (
-      still_some r2.session.ended s3.ended last_end (reads.stopped end e),
-      inr (why_log (LineRefused n reads.taken reads.lines reads.rest) ((note : Note) × (reads.rest ++ log n s3.notes ≡ log n (note ∷ s3.notes))) end l0 l1
-          (λ x. (x.note, ap (λ (l : List ℕ). l ++ log n s3.notes) x.line)) (subst (λ (o : Option End). WrittenUnless o n reads.taken reads.lines reads.rest l0 l1) e reads.written)),
+    cut_by true e ran = inr (
+      still_some r2.session.ended s3.ended last_end (reads.stopped e),
+      inr (subst (λ (b : Bool). WrittenUnless b reads.rest l0 l1) e reads.written),
     )
 
-    whole_by : (stop : Option End) → reads.stop ≡ stop → Rose l0.faults l1.faults ⊎ AreLines n reads.lines
-    whole_by None e =
-        let all : reads.rest ≡ [] = subst (λ (o : Option End). WrittenUnless o n reads.taken reads.lines reads.rest l0 l1) e reads.written in
+    whole_by : (failed : Bool) → reads.failed ≡ failed → Rose l0.faults l1.faults ⊎ AreLines n reads.lines
+    whole_by false e =
+        let all : reads.rest ≡ [] = subst (λ (b : Bool). WrittenUnless b reads.rest l0 l1) e reads.written in
         inr (reads.taken, sym (reads.is ∙ ap (λ (l : List ℕ). reads.lines ++ l) all ∙ append-nil reads.lines))
-    whole_by (Some end) e =
-        why_log (LineRefused n reads.taken reads.lines reads.rest) (AreLines n reads.lines) end l0 l1 (λ x. (x.earlier, x.written))
-        (subst (λ (o : Option End). WrittenUnless o n reads.taken reads.lines reads.rest l0 l1) e reads.written)
+    whole_by true e = inl (subst (λ (b : Bool). WrittenUnless b reads.rest l0 l1) e reads.written)
 
     pub logged_now : (o0 : Option End) → s0.ended ≡ o0 → Logged policy n s3 was ((late ++ early) ++ was) l0 l1
     logged_now None e = by_memory (is_memory s3.ended) refl
@@ -291,15 +280,15 @@ module _ (policy : Policy) (logs : Bool) (n : ℕ) (side : Side) (full : Bool) (
           appends = reads.appends;
           is = all_after ∙ ap (λ (l : List ℕ). l ++ (reads.lines ++ (reads.rest ++ log n first_now.rest))) (sym (all_before e));
           cut = inr (some_memory s3.ended m, inl m);
-          whole = whole_by reads.stop refl;
+          whole = whole_by reads.failed refl;
         }
         by_memory false m = record {
           lines = reads.lines;
           rest = reads.rest ++ log n s3.notes;
           appends = reads.appends;
           is = exact_after e m ∙ ap (λ (l : List ℕ). l ++ (reads.lines ++ (reads.rest ++ log n s3.notes))) (sym (all_before e));
-          cut = cut_by reads.stop refl e;
-          whole = whole_by reads.stop refl;
+          cut = cut_by reads.failed refl e;
+          whole = whole_by reads.failed refl;
         }
     logged_now (Some end) e =
         let ended : is_some s0.ended ≡ true = ap (λ (o : Option End). is_some o) e in
@@ -314,8 +303,9 @@ module _ (policy : Policy) (logs : Bool) (n : ℕ) (side : Side) (full : Bool) (
         }
 
   pub served_stands : (s0.mode.notes ≡ true → s0.ended ≡ None → s0.notes ≡ []) → r1.session.notes ≡ s0.notes → s3.notes ≡ r2.session.notes →
-      ServedStands policy logs n s3 was ((late ++ early) ++ was) l0 l1
+      ServedStands policy logs n s0 s3 was ((late ++ early) ++ was) l0 l1
   served_stands none_before same_before same_after = record {
     holds = holds_now;
+    closes = closes_now;
     logged = λ e. let kept : s0.mode.notes ≡ true = keeps_log ∙ e in logged_now e kept (none_before kept) same_before same_after s0.ended refl;
   }

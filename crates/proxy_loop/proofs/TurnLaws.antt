@@ -181,7 +181,7 @@ same_on blocks old new before after same accepted e =
 module _ (blocks : List Block) (link : Link) (running : Running) (old new : Table) (before after : NetView) (first last : SinkView)
     (at : old.at link.session ≡ Some running) (number : running.number ≡ link.session) (d : ServedDid blocks link running old new before after first last) where
   held_after : (was added : Journal) → Served running.number link.side running d.now added →
-      (Holds d.served.own.options.policy running.number running.session was → ServedStands d.served.own.options.policy d.served.own.options.log running.number d.now.session was (added ++ was) first last) →
+      (Holds d.served.own.options.policy running.number running.session was → ServedStands d.served.own.options.policy d.served.own.options.log running.number running.session d.now.session was (added ++ was) first last) →
       Held blocks link.session running was → Held blocks link.session d.now (added ++ was)
   held_after was added s stands h =
       let own_is : d.served.own ≡ h.block = same_block blocks running.block d.served.own h.block d.served.at h.at in
@@ -217,7 +217,7 @@ module _ (blocks : List Block) (link : Link) (running : Running) (old new : Tabl
   stays_at was added all h s n false e = stays_other blocks link.session n (old.at n) added was all e (s.each n)
 
   serves_after : (was added : Journal) → Served running.number link.side running d.now added →
-      (Holds d.served.own.options.policy running.number running.session was → ServedStands d.served.own.options.policy d.served.own.options.log running.number d.now.session was (added ++ was) first last) →
+      (Holds d.served.own.options.policy running.number running.session was → ServedStands d.served.own.options.policy d.served.own.options.log running.number running.session d.now.session was (added ++ was) first last) →
       Serves blocks old was → Serves blocks new (added ++ was)
   serves_after was added served stands s =
       let all : all_are (about link.session) added ≡ true = subst (λ (m : ℕ). all_are (about m) added ≡ true) number (served_about running.number link.side running d.now added served) in
@@ -238,7 +238,7 @@ module _ (blocks : List Block) (link : Link) (running : Running) (old new : Tabl
           t.3,
           λ s. subst (λ (j : Journal). Serves blocks new j) (sym t.3)
               (serves_after t.0 t.2 t.4
-              (subst (λ (j : Journal). Holds d.served.own.options.policy running.number running.session t.0 → ServedStands d.served.own.options.policy d.served.own.options.log running.number d.now.session t.0 j first last) t.3 t.5) s),
+              (subst (λ (j : Journal). Holds d.served.own.options.policy running.number running.session t.0 → ServedStands d.served.own.options.policy d.served.own.options.log running.number running.session d.now.session t.0 j first last) t.3 t.5) s),
         );
   }
 
@@ -248,7 +248,7 @@ connect_about n address (Ok u) = rw (same_number n) refl
 connect_about n address (Err FaultFailed) = rw (same_number n) refl
 connect_about n address (Err FaultMemory) = rw (same_number n) refl
 
-opened_about : (n : ℕ) (address : List ℕ) (running : Running) (added : Journal) → Opened n address running added → all_are (about n) added ≡ true
+pub opened_about : (n : ℕ) (address : List ℕ) (running : Running) (added : Journal) → Opened n address running added → all_are (about n) added ≡ true
 opened_about n address running added o =
     ap (all_are (about n)) o.is
     ∙ all_joined (about n) (connect_entry n address o.answer ∷ []) o.shuts (connect_about n address o.answer)

@@ -54,8 +54,8 @@ module _ (blocks : List Block) (old new : Table) (between after : NetView) (firs
       let holds : Holds d.served.own.options.policy running.number running.session (ReadyEntry ready ∷ was) =
       subst (λ (m : ℕ). Holds d.served.own.options.policy m running.session (ReadyEntry ready ∷ was)) (sym number)
       (subst (λ (b : Block). Holds b.options.policy link.session running.session (ReadyEntry ready ∷ was)) (sym own_is) h.holds) in
-      let stands : ServedStands d.served.own.options.policy d.served.own.options.log running.number d.now.session (ReadyEntry ready ∷ was) now first last =
-      subst (λ (j : Journal). Holds d.served.own.options.policy running.number running.session j → ServedStands d.served.own.options.policy d.served.own.options.log running.number d.now.session j now first last) same_mid t.5 holds in
+      let stands : ServedStands d.served.own.options.policy d.served.own.options.log running.number running.session d.now.session (ReadyEntry ready ∷ was) now first last =
+      subst (λ (j : Journal). Holds d.served.own.options.policy running.number running.session j → ServedStands d.served.own.options.policy d.served.own.options.log running.number running.session d.now.session j now first last) same_mid t.5 holds in
       subst (λ (b : Block). BlockLogs b.options.log b link.session new was now first last) (same_block blocks running.block d.served.own block d.served.at block_at)
       (by_log d.served.own.options.log refl number stands)
     where
@@ -66,7 +66,7 @@ module _ (blocks : List Block) (old new : Table) (between after : NetView) (firs
       mode = d.served.serving.mode ∙ (sound.each link.session running at).mode d.served.own d.served.at
 
       by_log : (b : Bool) → d.served.own.options.log ≡ b → running.number ≡ link.session →
-          ServedStands d.served.own.options.policy d.served.own.options.log running.number d.now.session (ReadyEntry ready ∷ was) now first last →
+          ServedStands d.served.own.options.policy d.served.own.options.log running.number running.session d.now.session (ReadyEntry ready ∷ was) now first last →
           BlockLogs b d.served.own link.session new was now first last
       by_log true e number stands = record {
         served = d.now;

@@ -7,6 +7,7 @@ use Rattle.link_traits.specs.declared.links.Count.{Count}
 use Rattle.link_traits.specs.declared.links.Count.TheVariants.{Own as OfNet}
 use Rattle.link_traits.specs.declared.links.Call.TheVariants.{Listen}
 use Rattle.policy_args.specs.declared.line.Block.{Block}
+use Rattle.proxy_core.specs.Sessions.{IsFront}
 use Rattle.proxy_loop.specs.declared.turns.ServerEnd.{ServerEnd}
 use Rattle.proxy_loop.specs.declared.turns.ServerEnd.TheVariants.{Listen as EndListen, Wait, Memory as EndMemory}
 use Rattle.proxy_loop.specs.Kinds.{all_are}
@@ -42,6 +43,10 @@ unfoldable pub listeners_of : Journal → List (ℕ × List ℕ)
 listeners_of [] = []
 listeners_of (entry ∷ before) = listeners_of before ++ listener_by entry
 
+-- where the journal is told it was told before, and no listener was made
+pub record HearsNoMore (before after : NetView) : Type 0 where
+  pub each : (now : Journal) → after.journal ≡ Some now → (was : Journal) × (before.journal ≡ Some was) × (listeners_of now ≡ listeners_of was)
+
 -- paths with numbers from one on
 abbrev pub numbered_from : ℕ → List (List ℕ) → List (ℕ × List ℕ)
 numbered_from n [] = []
@@ -49,6 +54,10 @@ numbered_from n (path ∷ paths) = (n, path) ∷ numbered_from (n + 1) paths
 
 abbrev pub path_at : Block → List ℕ
 path_at block = string_bytes block.path
+
+-- The listeners of a journal are those of the first blocks: each has its block's number and its block's path.
+abbrev pub ListensForBlocks : List Block → Journal → Type 0
+ListensForBlocks blocks journal = IsFront (listeners_of journal) (numbered_from 0 (map path_at blocks))
 
 -- The first blocks' paths were listened at, in order, and nothing else was done. Their listeners are numbered from the number of
 -- those that were there before, which is none at a fresh net: then a block's listener has the block's place.

@@ -1,5 +1,5 @@
 -- A session with the states of its links, and what a turn does for it.
-use Rattle.std.specs.Prelude.{ℕ, ◌≡◌, ◌≤◌, ◌⊎◌, Bool, true, false, not, List, [], ◌∷◌, ◌++◌, Option, Some, None, is_some, nat_eq, ◌&&◌, ◌||◌}
+use Rattle.std.specs.Prelude.{ℕ, ◌≡◌, ◌≤◌, ◌<◌, ◌⊎◌, Bool, true, false, not, length, List, [], ◌∷◌, ◌++◌, Option, Some, None, is_some, nat_eq, ◌&&◌, ◌||◌}
 use Rattle.explain_log.specs.Lines.{log}
 use Rattle.link_traits.specs.Journals.{Journal, written}
 use Rattle.link_traits.specs.Views.{NetView}
@@ -15,15 +15,16 @@ use Rattle.policy_args.specs.Policy.{Policy}
 use Rattle.policy_view.specs.declared.Mode.{Mode}
 use Rattle.policy_view.specs.declared.End.{End}
 use Rattle.policy_view.specs.declared.End.TheVariants.{LogFault}
+use Rattle.policy_view.specs.Closings.{closing}
 use Rattle.policy_view.specs.History.{Event, history}
 use Rattle.policy_view.specs.Notes.{Note, notes}
-use Rattle.proxy_core.specs.Sessions.{SessionView, Taken, StandsFor, is_memory}
+use Rattle.proxy_core.specs.Sessions.{SessionView, Taken, StandsFor, IsFront, is_memory}
 use Rattle.proxy_loop.specs.declared.serving.Running.{Running}
 use Rattle.proxy_loop.specs.Sinks.{SinkView, Appends}
-use Rattle.proxy_loop.specs.Sessions.{Holds, events_of}
+use Rattle.proxy_loop.specs.Sessions.{Holds, IsWithStop, events_of}
 use Rattle.proxy_loop.specs.Kinds.{writes_of, gave_bytes, all_are, some_of, gone_by, last_write}
-use Rattle.proxy_loop.specs.Works.{Only, Goes, Stood, Cause, OneRead, FedOnce, IsDrained, WritesInOrder, link_at, is_full, ShutBoth}
-use Rattle.proxy_loop.specs.Logging.{stop_events, IsLogEnd, LineRefused, Logs}
+use Rattle.proxy_loop.specs.Works.{Only, Goes, Stood, Cause, OneRead, FedOnce, KeepsWaiting, IsDrained, WritesInOrder, link_at, is_full, ShutBoth}
+use Rattle.proxy_loop.specs.Logging.{stop_events, Logs}
 
 -- To a link that is gone nothing more is written: then an End stands. While a session that makes notes runs, none is left.
 pub record Sound (running : Running) : Type 0 where
@@ -87,41 +88,46 @@ abbrev pub ReadUnless : Bool → Link → Journal → Type 0
 ReadUnless true link added = added ≡ []
 ReadUnless false link added = (is_last : Bool) × OneRead link is_last added
 
--- The read of a turn, and what it does to the states of the links. If it gave no bytes, no memory is refused, neither to the session
--- nor for a line.
+-- The read of a turn, and what it does to the states of the links. It takes nothing that waits, whatever the End. If it gave no bytes, no
+-- memory is refused.
 pub record ReadPart (n : ℕ) (side : Side) (idle : Bool) (old new : Running) (added : Journal) : Type 0 where
   pub once : ReadUnless idle (link_at n side) added
   pub client_gone : new.client.gone ≡ (some_of (gone_by (client_link n)) added || old.client.gone)
   pub bus_gone : new.bus.gone ≡ (some_of (gone_by (bus_link n)) added || old.bus.gone)
+  pub waits : KeepsWaiting old.session new.session
   pub unfed : some_of gave_bytes added ≡ false → is_memory new.session.ended ≡ is_memory old.session.ended
 
--- all lines of the notes that were taken were written, or the End tells why these weren't
-abbrev pub WrittenUnless : Option End → ℕ → List Note → List ℕ → List ℕ → SinkView → SinkView → Type 0
-WrittenUnless None n taken got rest before after = rest ≡ []
-WrittenUnless (Some end) n taken got rest before after = IsLogEnd (LineRefused n taken got rest) end before after
+-- all lines of the notes that were taken were written, or the sink failed
+abbrev pub WrittenUnless : Bool → List ℕ → SinkView → SinkView → Type 0
+WrittenUnless false rest before after = rest ≡ []
+WrittenUnless true rest before after = Rose before.faults after.faults
+
+-- an End that the log brings
+abbrev pub IsLogEnd : End → SinkView → SinkView → Type 0
+IsLogEnd end before after = (end ≡ LogFault) × Rose before.faults after.faults
 
 -- The read of a turn and the lines of the new notes: the session is first fed; then notes are taken, and their lines written,
--- or a part of these, and then an End stands.
+-- or a prefix of these, and then the sink failed and an End stands.
 pub record ReadsAndLogs (policy : Policy) (logs : Bool) (n : ℕ) (side : Side) (idle : Bool) (old new : Running) (before after : NetView) (first last : SinkView) : Type 0 where
   pub fed : SessionView
   pub goes : Goes (Only policy) n old.session fed before after (ReadPart n side idle old new)
   pub taken : List Note
   pub lines : List ℕ
   pub rest : List ℕ
-  pub stop : Option End
-  pub still : idle ≡ true → stop ≡ None
-  pub logged : (end : End) → stop ≡ Some end → logs ≡ true
+  pub failed : Bool
+  pub still : idle ≡ true → failed ≡ false
+  pub logged : failed ≡ true → logs ≡ true
   pub unread : idle ≡ true → lines ≡ []
   pub stands : (p : Policy) (events : List Event) (was : Taken) → StandsFor p fed events was →
-      StandsFor p new.session (stop_events stop ++ events) (record was { notes = was.notes ++ taken })
+      StandsFor p new.session (stop_events failed ++ events) (record was { notes = was.notes ++ taken })
   pub is : log n taken ≡ lines ++ rest
   pub appends : Appends first last lines
   pub counts : first.faults ≤ last.faults
-  pub written : WrittenUnless stop n taken lines rest first last
-  pub all : logs ≡ true → stop ≡ None → old.session.notes ≡ [] → new.session.notes ≡ []
+  pub written : WrittenUnless failed rest first last
+  pub all : logs ≡ true → failed ≡ false → old.session.notes ≡ [] → new.session.notes ≡ []
   pub end : (end : End) → fed.ended ≡ Some end → new.session.ended ≡ Some end
-  pub stopped : (end : End) → stop ≡ Some end → is_some new.session.ended ≡ true
-  pub cause : (end : End) → new.session.ended ≡ Some end → (fed.ended ≡ Some end) ⊎ IsLogEnd (LineRefused n taken lines rest) end first last
+  pub stopped : failed ≡ true → is_some new.session.ended ≡ true
+  pub cause : (end : End) → new.session.ended ≡ Some end → (fed.ended ≡ Some end) ⊎ IsLogEnd end first last
   pub mode : new.session.mode ≡ fed.mode
   pub unlogged : logs ≡ false → last ≡ first
 
@@ -132,7 +138,8 @@ IsDone link queue shut added = (queue ≡ []) ⊎ (shut ≡ true) ⊎ (last_writ
 -- What a turn does for a session on one of whose links something is ready: it writes to both links, reads that link exactly
 -- once unless the session has ended by then or too much waits for the other side, writes again, and shuts links. Both times it
 -- writes to the client first. It writes nothing to a link that is gone or shut, and nothing after a write that wasn't ready or
--- failed. If the read gave no bytes, no memory is refused.
+-- failed. What waited before the turn is a prefix of what the turn wrote and then waits, whatever the End. If the read gave no bytes, no
+-- memory is refused.
 pub record Served (n : ℕ) (side : Side) (old new : Running) (added : Journal) : Type 0 where
   pub mid : SessionView
   pub first : Journal
@@ -156,6 +163,8 @@ pub record Served (n : ℕ) (side : Side) (old new : Running) (added : Journal) 
   pub shut : ShutBoth n (not old.client.shut && new.client.shut) (not old.bus.shut && new.bus.shut) shuts
   pub client_gone : new.client.gone ≡ (some_of (gone_by (client_link n)) added || old.client.gone)
   pub bus_gone : new.bus.gone ≡ (some_of (gone_by (bus_link n)) added || old.bus.gone)
+  pub client_kept : IsFront old.session.client_side (written (client_link n) added ++ new.session.client_side)
+  pub bus_kept : IsFront old.session.bus_side (written (bus_link n) added ++ new.session.bus_side)
   pub client_done : IsDone (client_link n) new.session.client_side new.client.shut added
   pub bus_done : IsDone (bus_link n) new.session.bus_side new.bus.shut added
 
@@ -165,40 +174,51 @@ pub record Served (n : ℕ) (side : Side) (old new : Running) (added : Journal) 
 unfoldable pub log_of : Policy → Mode → ℕ → Journal → List ℕ
 log_of policy mode n journal = log n (notes policy (history policy mode (events_of n journal)))
 
--- Why these lines weren't written: the session was refused memory in its midst, and some of its notes with it; or the sink failed;
--- or memory was refused for a line, which is the first of these, and the others are those of the notes that it left.
-abbrev pub WhyCut : ℕ → List ℕ → SessionView → SinkView → SinkView → Type 0
-WhyCut n rest session before after =
-    (is_memory session.ended ≡ true) ⊎ (Rose before.faults after.faults ⊎ ((note : Note) × (rest ≡ log n (note ∷ session.notes))))
+-- why lines weren't written: the session was refused memory while it was fed, and the notes of the messages after that with it; or the
+-- sink failed
+abbrev pub WhyCut : SessionView → SinkView → SinkView → Type 0
+WhyCut session before after = (is_memory session.ended ≡ true) ⊎ Rose before.faults after.faults
 
 -- lines of some notes, each of them whole
 abbrev pub AreLines : ℕ → List ℕ → Type 0
 AreLines n lines = (told : List Note) × (lines ≡ log n told)
 
--- The log got the lines of the session's new notes in order; or a part of these, and then the session has an End and it is known
+-- The log got the lines of the session's new notes in order; or a prefix of these, and then the session has an End and it is known
 -- why the others weren't written. Unless the sink failed each line is whole.
 pub record Logged (policy : Policy) (n : ℕ) (new : SessionView) (first last : Journal) (before after : SinkView) : Type 0 where
   pub lines : List ℕ
   pub rest : List ℕ
   pub appends : Appends before after lines
   pub is : log_of policy new.mode n last ≡ log_of policy new.mode n first ++ (lines ++ rest)
-  pub cut : (rest ≡ []) ⊎ ((is_some new.ended ≡ true) × WhyCut n rest new before after)
+  pub cut : (rest ≡ []) ⊎ ((is_some new.ended ≡ true) × WhyCut new before after)
   pub whole : Rose before.faults after.faults ⊎ AreLines n lines
 
--- a session that stood for the journal before stands for the one after, and the log is exact
-pub record ServedStands (policy : Policy) (logs : Bool) (n : ℕ) (new : SessionView) (first last : Journal) (before after : SinkView) : Type 0 where
+-- The session's events in the journal, with the stop that its log put in, if any, close with this End at an event that came after those
+-- of the journal before.
+pub record ClosesIn (policy : Policy) (n : ℕ) (new : SessionView) (end : End) (first last : Journal) : Type 0 where
+  pub put : Bool
+  pub events : List Event
+  pub told : IsWithStop put events (events_of n last)
+  pub at : ℕ
+  pub closes : closing policy new.mode events ≡ Some (end, at)
+  pub here : length (events_of n first) < at
+
+-- A session that stood for the journal before stands for the one after, and the log is exact. An End that came in between, other than
+-- that of refused memory, is the one with which the session's events close, at an event that came in between.
+pub record ServedStands (policy : Policy) (logs : Bool) (n : ℕ) (old new : SessionView) (first last : Journal) (before after : SinkView) : Type 0 where
   pub holds : Holds policy n new last
+  pub closes : old.ended ≡ None → (end : End) → new.ended ≡ Some end → is_memory new.ended ≡ false → ClosesIn policy n new end first last
   pub logged : logs ≡ true → Logged policy n new first last before after
 
 -- what shows why a session has an End: the count that rose, of its link or of the log; an End of the session's own needs none
 abbrev pub CauseOf : ℕ → End → NetView → NetView → SinkView → SinkView → Type 0
-CauseOf n end before after first last = Cause n end before after ⊎ ((end ≡ LogFault) × Rose first.faults last.faults)
+CauseOf n end before after first last = Cause n end before after ⊎ IsLogEnd end first last
 
 -- The whole work of a turn for one session.
 pub record Serving (policy : Policy) (logs : Bool) (n : ℕ) (side : Side) (old new : Running) (before after : NetView) (first last : SinkView) : Type 0 where
   pub told : (now : Journal) → after.journal ≡ Some now → (was : Journal) × (before.journal ≡ Some was)
       × (added : Journal) × (now ≡ added ++ was) × Served n side old new added
-      × (Holds policy n old.session was → ServedStands policy logs n new.session was now first last)
+      × (Holds policy n old.session was → ServedStands policy logs n old.session new.session was now first last)
   pub counts : (count : Count) → before.counts count ≤ after.counts count
   pub log_counts : first.faults ≤ last.faults
   pub stood : Stood policy new.session

@@ -12,7 +12,7 @@ use Rattle.policy_args.specs.Policy.{Policy}
 use Rattle.policy_view.specs.declared.Side.{Side}
 use Rattle.policy_view.specs.declared.Side.TheVariants.{Client, Bus}
 use Rattle.policy_view.specs.declared.End.{End}
-use Rattle.policy_view.specs.declared.End.TheVariants.{ClientMalformed, BusMalformed, ClientEnd, BusEnd, SerialsSpent, ClientRead, ClientWrite, BusRead, BusWrite, BusConnect, Memory, LogFault}
+use Rattle.policy_view.specs.declared.End.TheVariants.{ClientRead, ClientWrite, BusRead, BusWrite, BusConnect, Memory, LogFault}
 use Rattle.policy_view.specs.Notes.{Note}
 use Rattle.policy_view.specs.History.{Event, Bytes, Finished, Stopped}
 use Rattle.proxy_core.specs.Sessions.{SessionView, Taken, StandsFor}
@@ -74,31 +74,15 @@ is_stop (Bytes side piece) = false
 is_stop (Finished side) = false
 is_stop (Stopped end) = true
 
--- an End with which the log stops a session: a line could not be written, or was refused memory
-abbrev pub is_log_end : End → Bool
-is_log_end LogFault = true
-is_log_end Memory = true
-is_log_end (ClientMalformed fault) = false
-is_log_end (BusMalformed fault) = false
-is_log_end ClientEnd = false
-is_log_end BusEnd = false
-is_log_end SerialsSpent = false
-is_log_end ClientRead = false
-is_log_end ClientWrite = false
-is_log_end BusRead = false
-is_log_end BusWrite = false
-is_log_end BusConnect = false
-
--- What was recorded of a session is its events in the journal. If the log stopped it, one stop is added to them, and nothing is
+-- What was recorded of a session is its events in the journal. If its log failed, the stop for that is added to them, and nothing is
 -- read after that stop.
 abbrev pub IsWithStop : Bool → List Event → List Event → Type 0
 IsWithStop false events told = events ≡ told
 IsWithStop true events told =
-    (later : List Event) × (earlier : List Event) × (end : End) × (told ≡ later ++ earlier) × (events ≡ later ++ Stopped end ∷ earlier)
-    × (list_all is_stop later ≡ true) × (is_log_end end ≡ true)
+    (later : List Event) × (earlier : List Event) × (told ≡ later ++ earlier) × (events ≡ later ++ Stopped LogFault ∷ earlier) × (list_all is_stop later ≡ true)
 
--- Session n stands for its events in the journal; what was written to its links was taken from it, and so were some notes. An End of
--- the log is put in only if the session makes notes.
+-- Session n stands for its events in the journal; what was written to its links was taken from it, and so were some notes. The stop of a
+-- log is put in only if the session makes notes.
 pub record Holds (policy : Policy) (n : ℕ) (session : SessionView) (journal : Journal) : Type 0 where
   pub put : Bool
   pub events : List Event

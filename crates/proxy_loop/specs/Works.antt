@@ -156,9 +156,15 @@ pub record KeepsEnd (old new : SessionView) : Type 0 where
   pub notes : new.notes ≡ old.notes
   pub memory : is_memory new.ended ≡ is_memory old.ended
 
--- One read for a session. If it gave no bytes, no note is made and no memory is refused.
+-- what waited for either side is a prefix of what waits now
+pub record KeepsWaiting (old new : SessionView) : Type 0 where
+  pub client : IsFront old.client_side new.client_side
+  pub bus : IsFront old.bus_side new.bus_side
+
+-- One read for a session, which takes nothing that waits. If the read gave no bytes, no note is made and no memory is refused.
 pub record FedOnce (link : Link) (old new : SessionView) (is_last : Bool) (added : Journal) : Type 0 where
   pub once : OneRead link is_last added
+  pub waits : KeepsWaiting old new
   pub unfed : some_of gave_bytes added ≡ false → KeepsEnd old new
 
 -- any policy; this policy

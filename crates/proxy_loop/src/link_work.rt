@@ -9,7 +9,7 @@ ghost use Rattle.policy_view.specs.History.{Event, Bytes, Finished, Stopped};
 ghost use Rattle.proxy_core.specs.Sessions.{StandsFor, Taken, IsFront, is_memory};
 ghost use Rattle.proxy_core.specs.Messages.{ended_by};
 ghost use Rattle.proxy_loop.specs.Sessions.{side_of as side_of_link, read_end, write_end};
-ghost use Rattle.proxy_loop.specs.Works.{Any, Only, queue_of, other_queue, ShutWhere, shuts_now, is_full as is_full_side, wishes_of, with_queue, with_taken, Goes, OneWrite, WroteOut, FedOnce, read_room, KeepsEnd, is_failed};
+ghost use Rattle.proxy_loop.specs.Works.{Any, Only, queue_of, other_queue, ShutWhere, shuts_now, is_full as is_full_side, wishes_of, with_queue, with_taken, Goes, OneWrite, WroteOut, FedOnce, read_room, KeepsEnd, is_failed, KeepsWaiting};
 ghost use Rattle.proxy_loop.specs.Writing.{Written};
 
 use link_traits::{Got, Link, Net, Side, Took};
@@ -150,6 +150,7 @@ fn feed(session: &mut Session, policy: &Policy, side: Side, piece: &[u8])
     ensures stands { (events : List Event) (taken : Taken) → StandsFor policy.now session.old events taken → StandsFor policy.now session.new (Bytes (side_of_link side) piece.now ∷ events) taken }
     ensures last { (end : SessionEnd) → session.old.ended ≡ Some end → session.new ≡ session.old }
     ensures mode { session.new.mode ≡ session.old.mode }
+    ensures waits { KeepsWaiting session.old session.new }
 {
     match side {
         Side::Client => {

@@ -6,7 +6,7 @@ pub returns-in-Bytes-clause-goes : goal.returns-in-Bytes-clause-goes
 returns-in-Bytes-clause-goes g c =
     read_goes c.args.policy.now c.args.link c.args.session.now c.feed.new.session
     (g.N.Net.view c.args.net.now) (g.N.Net.view c.read-answer.new.self) c.read-answer.new.into (c.read-answer.auto.into ∙ c.requires) c.in-Bytes.n
-    c.in-Bytes.ensures.told (c.in-Bytes.ensures.progress c.in-Bytes.n refl (some_room c.read-answer.new.into (c.read-answer.auto.into ∙ c.requires))) (c.in-Bytes.ensures.within c.in-Bytes.n refl) c.feed.ensures.stands c.feed.ensures.last c.feed.ensures.mode
+    c.in-Bytes.ensures.told (c.in-Bytes.ensures.progress c.in-Bytes.n refl (some_room c.read-answer.new.into (c.read-answer.auto.into ∙ c.requires))) (c.in-Bytes.ensures.within c.in-Bytes.n refl) c.feed.ensures.stands c.feed.ensures.last c.feed.ensures.mode c.feed.ensures.waits
 
 pub returns-in-Finished-clause-goes : goal.returns-in-Finished-clause-goes
 returns-in-Finished-clause-goes g c =

@@ -1,29 +1,54 @@
-use Rattle.std.proofs.Common.{string_bytes}
+use Rattle.std.proofs.Common.{sym, ◌∙◌}
 use Rattle.proxy_loop.specs.Sinks.{sink_of}
-use Rattle.proxy_loop.proofs.Logged.{logs_start, one_logged, one_stops, all_logged}
+use Rattle.proxy_loop.proofs.Logged.{logs_start, one_logged, one_stops, all_logged, last_stops, on_ok, on_err}
 use Rattle.proxy_loop.proofs.log_work.log_new.Goals as goal
 
 pub loop-note-init : goal.loop-note-init
-loop-note-init g c = logs_start c.args.number c.args.session.now (sink_of (g.S.Sink.told c.args.sink.now) (g.S.Sink.faults c.args.sink.now)) (string_bytes c.new-lines.result) c.new-lines.ensures.bytes
+loop-note-init g c = logs_start c.args.number c.args.session.now (sink_of (g.S.Sink.told c.args.sink.now) (g.S.Sink.faults c.args.sink.now)) c.new-lines.result c.new-lines.ensures
 
 pub loop-note-preserved : goal.loop-note-preserved
 loop-note-preserved g c =
-    one_logged c.args.number c.args.session.now c.loop-note.session c.next_note.new.self c.log_note.new.session
-    (sink_of (g.S.Sink.told c.args.sink.now) (g.S.Sink.faults c.args.sink.now)) (sink_of (g.S.Sink.told c.loop-note.sink) (g.S.Sink.faults c.loop-note.sink)) (sink_of (g.S.Sink.told c.log_note.new.sink) (g.S.Sink.faults c.log_note.new.sink))
-    (string_bytes c.loop-note.lines) (string_bytes c.log_note.new.lines) c.in-Some.note c.loop-note.invariant
-    c.in-Some.ensures.some.0 c.in-Some.ensures.some.1 c.in-Some.ensures.some.2 c.in-Some.ensures.stands c.log_note.result c.if-not-log_note.false c.log_note.ensures
+    one_logged c.args.number c.args.session.now c.loop-note.session c.next_note.new.self
+    (sink_of (g.S.Sink.told c.args.sink.now) (g.S.Sink.faults c.args.sink.now)) (sink_of (g.S.Sink.told c.loop-note.sink) (g.S.Sink.faults c.loop-note.sink)) (sink_of (g.S.Sink.told c.put_line.new.sink) (g.S.Sink.faults c.put_line.new.sink))
+    c.loop-note.lines c.in-Some.note c.loop-note.invariant
+    c.in-Some.ensures.some.0 c.in-Some.ensures.some.1 c.in-Some.ensures.some.2 c.in-Some.ensures.stands c.put_line.new.self
+    (on_ok c.put_line.result _ (sym c.is_err.ensures.value ∙ c.if-is_err.false) c.put_line.ensures.ok) c.put_line.ensures.count
 
-pub returns-then-not-log_note : goal.returns-then-not-log_note
-returns-then-not-log_note g c = record {
-  logs = one_stops c.args.number c.args.session.now c.loop-note.session c.next_note.new.self c.log_note.new.session
-      (sink_of (g.S.Sink.told c.args.sink.now) (g.S.Sink.faults c.args.sink.now)) (sink_of (g.S.Sink.told c.loop-note.sink) (g.S.Sink.faults c.loop-note.sink)) (sink_of (g.S.Sink.told c.log_note.new.sink) (g.S.Sink.faults c.log_note.new.sink))
-      (string_bytes c.loop-note.lines) (string_bytes c.log_note.new.lines) c.in-Some.note c.loop-note.invariant
-      c.in-Some.ensures.some.0 c.in-Some.ensures.some.1 c.in-Some.ensures.some.2 c.in-Some.ensures.stands c.log_note.result c.if-not-log_note.true c.log_note.ensures;
-}
+pub loop-note-preserved-else-is_err : goal.loop-note-preserved-else-is_err
+loop-note-preserved-else-is_err g c =
+    one_logged c.args.number c.args.session.now c.loop-note.session c.next_note.new.self
+    (sink_of (g.S.Sink.told c.args.sink.now) (g.S.Sink.faults c.args.sink.now)) (sink_of (g.S.Sink.told c.loop-note.sink) (g.S.Sink.faults c.loop-note.sink)) (sink_of (g.S.Sink.told c.put_line.new.sink) (g.S.Sink.faults c.put_line.new.sink))
+    c.loop-note.lines c.in-Some.note c.loop-note.invariant
+    c.in-Some.ensures.some.0 c.in-Some.ensures.some.1 c.in-Some.ensures.some.2 c.in-Some.ensures.stands c.put_line.new.self
+    (on_ok c.put_line.result _ (sym c.is_err.ensures.value ∙ c.if-is_err.false) c.put_line.ensures.ok) c.put_line.ensures.count
+
+pub returns-then-is_err : goal.returns-then-is_err
+returns-then-is_err g c =
+    let short = on_err c.put_line.result _ (sym c.is_err.ensures.value ∙ c.if-is_err.true) c.put_line.ensures.err in
+    record {
+      logs = one_stops c.args.number c.args.session.now c.loop-note.session c.next_note.new.self
+          (sink_of (g.S.Sink.told c.args.sink.now) (g.S.Sink.faults c.args.sink.now)) (sink_of (g.S.Sink.told c.loop-note.sink) (g.S.Sink.faults c.loop-note.sink)) (sink_of (g.S.Sink.told c.put_line.new.sink) (g.S.Sink.faults c.put_line.new.sink))
+          c.loop-note.lines c.in-Some.note c.loop-note.invariant
+          c.in-Some.ensures.some.0 c.in-Some.ensures.some.1 c.in-Some.ensures.some.2 c.in-Some.ensures.stands short.0 c.stop.new.self c.stop.result short.1 c.put_line.ensures.count
+          (on_err c.put_line.result _ (sym c.is_err.ensures.value ∙ c.if-is_err.true) c.put_line.ensures.cause)
+          (record { stands = c.stop.ensures.stands; answer = c.stop.ensures.answer; first = c.stop.ensures.first; last = c.stop.ensures.last });
+    }
+
+pub returns-then-is_err-2 : goal.returns-then-is_err-2
+returns-then-is_err-2 g c =
+    let short = on_err c.write_out.result _ (sym c.is_err-2.ensures.value ∙ c.if-is_err-2.true) c.write_out.ensures.err in
+    record {
+      logs = last_stops c.args.number c.args.session.now c.loop-note.session c.next_note.new.self
+          (sink_of (g.S.Sink.told c.args.sink.now) (g.S.Sink.faults c.args.sink.now)) (sink_of (g.S.Sink.told c.loop-note.sink) (g.S.Sink.faults c.loop-note.sink)) (sink_of (g.S.Sink.told c.write_out.new.sink) (g.S.Sink.faults c.write_out.new.sink))
+          c.loop-note.lines c.loop-note.invariant c.in_default.ensures.none.0 c.in_default.ensures.none.1 short.0 c.stop-then-is_err-2.new.self c.stop-then-is_err-2.result short.1 c.write_out.ensures.count
+          (on_err c.write_out.result _ (sym c.is_err-2.ensures.value ∙ c.if-is_err-2.true) c.write_out.ensures.cause)
+          (record { stands = c.stop-then-is_err-2.ensures.stands; answer = c.stop-then-is_err-2.ensures.answer; first = c.stop-then-is_err-2.ensures.first; last = c.stop-then-is_err-2.ensures.last });
+    }
 
 pub returns : goal.returns
 returns g c = record {
-  logs = all_logged c.args.number c.args.session.now c.loop-note.session c.next_note.new.self c.write_lines.new.session
-      (sink_of (g.S.Sink.told c.args.sink.now) (g.S.Sink.faults c.args.sink.now)) (sink_of (g.S.Sink.told c.loop-note.sink) (g.S.Sink.faults c.loop-note.sink)) (sink_of (g.S.Sink.told c.write_lines.new.sink) (g.S.Sink.faults c.write_lines.new.sink))
-      (string_bytes c.loop-note.lines) (string_bytes c.write_lines.new.lines) c.loop-note.invariant c.in_default.ensures.none.0 c.in_default.ensures.none.1 c.write_lines.result c.write_lines.ensures.none c.write_lines.ensures.done;
+  logs = all_logged c.args.number c.args.session.now c.loop-note.session c.next_note.new.self
+      (sink_of (g.S.Sink.told c.args.sink.now) (g.S.Sink.faults c.args.sink.now)) (sink_of (g.S.Sink.told c.loop-note.sink) (g.S.Sink.faults c.loop-note.sink)) (sink_of (g.S.Sink.told c.write_out.new.sink) (g.S.Sink.faults c.write_out.new.sink))
+      c.loop-note.lines c.loop-note.invariant c.in_default.ensures.none.0 c.in_default.ensures.none.1
+      (on_ok c.write_out.result _ (sym c.is_err-2.ensures.value ∙ c.if-is_err-2.false) c.write_out.ensures.ok).1 c.write_out.ensures.count;
 }

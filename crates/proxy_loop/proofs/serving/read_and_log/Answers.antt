@@ -14,6 +14,6 @@ returns-clause-reads g c =
     reads_if c.args.policy.now c.args.running.now.number c.args.side _ c.args.running.now c.read_named.new.running _
     (g.N.Net.view c.args.net.now) (g.N.Net.view c.read_named.new.net) (sink_of (g.S.Sink.told c.args.sink.now) (g.S.Sink.faults c.args.sink.now)) (sink_of (g.S.Sink.told c.log_if.new.sink) (g.S.Sink.faults c.log_if.new.sink))
     (sym c.is_unread.ensures ∙ c.if-is_unread.false) c.requires.sound
-    (runs_on c.args.running.now.session.ended _ (sym c.is_unread.ensures ∙ c.if-is_unread.false)) c.read_named.ensures.reads refl refl c.args.log c.requires.log
+    (runs_on c.args.running.now.session.ended _ (sym c.is_unread.ensures ∙ c.if-is_unread.false)) c.read_named.ensures.reads refl refl c.args.log
     (subst (λ (m : ℕ). LogsIf c.args.log m c.read_named.new.running.session c.log_if.new.session (sink_of (g.S.Sink.told c.args.sink.now) (g.S.Sink.faults c.args.sink.now)) (sink_of (g.S.Sink.told c.log_if.new.sink) (g.S.Sink.faults c.log_if.new.sink)))
     c.read_named.ensures.place.number c.log_if.ensures)
