@@ -171,7 +171,7 @@ module _ (log_failed : Type 0) (blocks : List Block) (n : ℕ) (block : Block) (
         part (inl rose) = inl (widen rose)
         part (inr lines) = inr lines
 
-        by_cut : (d.logged.rest ≡ []) ⊎ ((is_some d.served.session.ended ≡ true) × WhyCut n d.logged.rest d.served.session first last) → Grows log_failed blocks n new now before got first last
+        by_cut : (d.logged.rest ≡ []) ⊎ ((is_some d.served.session.ended ≡ true) × WhyCut d.served.session first last) → Grows log_failed blocks n new now before got first last
         by_cut (inl none) = record {
           cut = before;
           more = d.logged.lines;

@@ -1,12 +1,12 @@
 -- What holds of a whole run.
-use Rattle.std.proofs.Common.{ℕ, ◌≡◌, ◌≤◌, inl, inr, List, Some, None, Ok, Err, refl, sym, ◌∙◌, arith, subst}
+use Rattle.std.proofs.Common.{ℕ, ◌≡◌, ◌≤◌, inl, inr, List, Some, None, Ok, Err, refl, ap, sym, ◌∙◌, arith, subst}
 use Rattle.link_traits.specs.Journals.{Journal}
 use Rattle.link_traits.specs.Views.{NetView, RoseAt}
 use Rattle.link_traits.specs.declared.links.Count.TheVariants.{Own as OfNet}
 use Rattle.policy_args.specs.declared.line.Block.{Block}
 use Rattle.proxy_loop.specs.declared.turns.ServerEnd.TheVariants.{Listen, Wait, Memory}
 use Rattle.proxy_loop.specs.Sinks.{SinkView}
-use Rattle.proxy_loop.specs.Listening.{ListenDid}
+use Rattle.proxy_loop.specs.Listening.{ListenDid, listeners_of}
 use Rattle.proxy_loop.specs.Tables.{Table, IsEmpty}
 use Rattle.proxy_loop.specs.Servers.{GoesOn, Serves, WithoutSessions}
 use Rattle.proxy_loop.proofs.Holding.{rose_sooner}
@@ -15,6 +15,7 @@ use Rattle.proxy_loop.proofs.LinkFronts.{links_stand, empty_serves, listen_on, l
 use Rattle.proxy_run.specs.Runs.{RunEnd, LastTurn, TurnsEnd, AfterListen, RunDid, RunLinks, most_turns}
 use Rattle.proxy_run.proofs.Counts.{turn_counts, turns_counts}
 use Rattle.proxy_run.proofs.Chains.{ended_on}
+use Rattle.proxy_run.proofs.Listeners.{run_heard}
 
 -- no session
 unfoldable pub no_sessions : Table
@@ -49,7 +50,11 @@ run_serves blocks limit v0 v2 l0 l2 end (inr d) = record {
 
 pub run_links : (blocks : List Block) (limit : ℕ) (v0 v2 : NetView) (l0 l2 : SinkView) (end : RunEnd) → RunDid blocks limit v0 v2 l0 l2 end → RunLinks blocks v0 v2
 run_links blocks limit v0 v2 l0 l2 end d = record {
-  each = λ now e. let s = (run_serves blocks limit v0 v2 l0 l2 end d).each now e in (s.0, s.1, λ w. links_stand blocks (s.2 w).0 now (s.2 w).1);
+  each = λ now e.
+      let s = (run_serves blocks limit v0 v2 l0 l2 end d).each now e in
+      let h = (run_heard blocks limit v0 v2 l0 l2 end d).each now e in
+      let same : h.0 ≡ s.0 = let both : Some h.0 ≡ Some s.0 = sym h.1 ∙ s.1 in cc in
+      (s.0, s.1, λ w. links_stand blocks (s.2 w).0 now (s.2 w).1, λ w. h.2 (ap listeners_of same ∙ w));
 }
 
 -- ---- the counts

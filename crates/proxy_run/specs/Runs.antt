@@ -1,5 +1,5 @@
 -- A whole run of a proxy line: listening, and then turn after turn.
-use Rattle.std.specs.Prelude.{ℕ, zero, suc, ◌≡◌, ◌⊎◌, List, Option, Some, None, Result, Ok, Err}
+use Rattle.std.specs.Prelude.{ℕ, zero, suc, ◌≡◌, ◌⊎◌, List, [], Option, Some, None, Result, Ok, Err}
 use Rattle.link_traits.specs.Journals.{Journal}
 use Rattle.link_traits.specs.Views.{NetView}
 use Rattle.policy_args.specs.declared.line.Block.{Block}
@@ -11,7 +11,7 @@ use Rattle.proxy_loop.specs.Sinks.{SinkView}
 use Rattle.proxy_loop.specs.Tables.{Table, IsEmpty, AllWished, SoundTable}
 use Rattle.proxy_loop.specs.Turns.{TurnDid}
 use Rattle.proxy_loop.specs.Servers.{Serves, GoesOn, LogExact, LinksStand, QueuesStand, WithoutSessions}
-use Rattle.proxy_loop.specs.Listening.{ListenDid}
+use Rattle.proxy_loop.specs.Listening.{ListenDid, ListensForBlocks, listeners_of}
 
 -- what comes of a run
 abbrev pub RunEnd : Type 0
@@ -90,6 +90,8 @@ abbrev pub RunDid : List Block → ℕ → NetView → NetView → SinkView → 
 RunDid blocks limit before after first last end = ListensAndTurns blocks limit before after first last end ⊎ Unserved before after first last end
 
 -- Where the journal is told at the end it was told at the start. Where it was without sessions then, what was written to each link
--- is a front of that side's bytes of the history of its session's events, under the block of the listener that accepted it.
+-- is a prefix of that side's bytes of the history of its session's events, under the block of the listener that accepted it. Where the
+-- journal was without listeners then, its listeners are those of the blocks: so a session is under the block whose path its client came to.
 pub record RunLinks (blocks : List Block) (before after : NetView) : Type 0 where
   pub each : (now : Journal) → after.journal ≡ Some now → (was : Journal) × (before.journal ≡ Some was) × (WithoutSessions was → LinksStand blocks now)
+      × (listeners_of was ≡ [] → ListensForBlocks blocks now)
