@@ -5,8 +5,10 @@
 #![tactic(auto)]
 
 mod parts;
+mod property_rule;
 mod rule;
 
+pub use property_rule::PropertyRule;
 pub use rule::Rule;
 use std::alloc::AllocError;
 use thiserror::Error;

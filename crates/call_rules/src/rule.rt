@@ -1,11 +1,11 @@
 //! A rule, and what it matches.
 ghost use Rattle.std.specs.Prelude.{◌≡◌, Some, None, IfOk, IfErr, IfSome, IsSome, option_map};
-ghost use Rattle.call_rules.specs.Parts.{IsCut, part_in};
+ghost use Rattle.call_rules.specs.Parts.{IsCut, IsRead, part_in, rule_in};
 ghost use Rattle.call_rules.specs.Rules.{matches, part_matches, path_matches, rule_of};
 
 use crate::BadRule;
 use crate::parts::{Part, Parts, parts_of};
-use std::alloc::Global;
+use std::alloc::{AllocError, Global};
 use std::marker::Model;
 
 /// A rule of calls or broadcasts, `[METHOD][@PATH]` (xdg-dbus-proxy(1), `--call`).
@@ -42,12 +42,18 @@ impl Rule {
         ensures memory { IfErr result (λ error. error ≡ BadRule.Memory → IsSome (rule_of text.now)) }
     {
         match parts_of(text) {
-            Some(parts) => {
-                let text = String::from_str(alloc, text)?;
-                Ok(Rule { text, parts })
-            }
+            Some(parts) => Ok(Rule::keep(alloc, text, parts)?),
             None => Err(BadRule::Form),
         }
+    }
+
+    // The rule of a text whose parts stand there.
+    pub(crate) fn keep(alloc: Global, text: &str, parts: Parts) -> Result<Rule, AllocError>
+        requires { IsRead text.now parts }
+        ensures { IfOk result (λ rule. rule ≡ rule_in text.now parts) }
+    {
+        let text = String::from_str(alloc, text)?;
+        Ok(Rule { text, parts })
     }
 
     /// Whether the rule matches a call of the member, or a signal of that name, at the path.
@@ -111,7 +117,7 @@ fn cut(text: &str, part: Option<Part>) -> Option<&str>
 }
 
 // Whether a given part is one that a rule's part means.
-fn is_of(part: Option<&str>, given: Option<&str>) -> bool
+pub(crate) fn is_of(part: Option<&str>, given: Option<&str>) -> bool
     ensures { result ≡ part_matches (option_map (λ p. p.now) part.entry) (option_map (λ g. g.now) given.entry) }
 {
     match (part, given) {
@@ -122,7 +128,7 @@ fn is_of(part: Option<&str>, given: Option<&str>) -> bool
 }
 
 // The same of a path.
-fn is_of_path(path: Option<&str>, below: bool, given: &str) -> bool
+pub(crate) fn is_of_path(path: Option<&str>, below: bool, given: &str) -> bool
     ensures { result ≡ path_matches (option_map (λ p. p.now) path.entry) below given.now }
 {
     match path {

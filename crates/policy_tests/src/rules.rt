@@ -1,5 +1,5 @@
-//! Which texts are call rules, and which calls they match.
-use call_rules::{BadRule, Rule};
+//! Which texts are call rules or property rules, and which calls and requests they match.
+use call_rules::{BadRule, PropertyRule, Rule};
 use std::alloc::{AllocError, Global};
 use std::test::Fail;
 use test_tables::wrong_row;
@@ -67,6 +67,45 @@ org.a.I.M@/p /q org.a.I M => false
 org.a.I.M@/p /p org.a.I N => false
 ";
 
+/// Texts, and the interface, the property and the path of the property rule, a `-` for none, whether it is of all paths below,
+/// and its text; or why it is refused.
+const PROPERTY_RULES: &str = "\
+org.a.I.* => org.a.I - - false org.a.I.*
+org.a.I.Volume => org.a.I Volume - false org.a.I.Volume
+org.a.I.Volume@/p => org.a.I Volume /p false org.a.I.Volume@/p
+org.a.I.Volume@/p/* => org.a.I Volume /p true org.a.I.Volume@/p/*
+org.a.I.*@/* => org.a.I - - false org.a.I.*@/*
+a.I.V@/ => a.I V / false a.I.V@/
+ => Form
+* => Form
+@/p => Form
+*@/p => Form
+Volume => Form
+a.Volume => Form
+org.a.I. => Form
+org.a.I.Volume* => Form
+org.a.I.Volume@ => Form
+org.a.I.Volume@p => Form
+org.a.I.Volume@/p@/q => Form
+";
+
+/// Property rules with the path, the interface and the property, a `-` for all, of requests, and whether they match.
+const REQUESTS: &str = "\
+org.a.I.Volume /p org.a.I Volume => true
+org.a.I.Volume /p org.a.I Mute => false
+org.a.I.Volume /p org.a.J Volume => false
+org.a.I.Volume /p org.a.I.J Volume => false
+org.a.I.Volume /p org.a.I - => false
+org.a.I.* /p org.a.I Mute => true
+org.a.I.* /p org.a.I - => true
+org.a.I.* /p org.a.J - => false
+org.a.I.Volume@/p /p org.a.I Volume => true
+org.a.I.Volume@/p /q org.a.I Volume => false
+org.a.I.Volume@/p /p/q org.a.I Volume => false
+org.a.I.Volume@/p/* /p/q org.a.I Volume => true
+org.a.I.*@/p/* /pq org.a.I - => false
+";
+
 fn told_rule(alloc: Global, text: &str) -> Result<String, AllocError> {
     match Rule::read(alloc, text) {
         Ok(rule) => told_parts(alloc, &rule),
@@ -83,6 +122,22 @@ fn told_parts(alloc: Global, rule: &Rule) -> Result<String, AllocError> {
         rule.is_below(),
         rule.text()
     )
+}
+
+fn told_property_rule(alloc: Global, text: &str) -> Result<String, AllocError> {
+    match PropertyRule::read(alloc, text) {
+        Ok(rule) => {
+            let property = rule.property().unwrap_or("-");
+            let path = rule.path().unwrap_or("-");
+            format!(in alloc;
+                "{} {property} {path} {} {}",
+                rule.interface(),
+                rule.is_below(),
+                rule.text()
+            )
+        }
+        Err(refusal) => told_refusal(alloc, refusal),
+    }
 }
 
 fn told_refusal(alloc: Global, refusal: BadRule) -> Result<String, AllocError> {
@@ -108,6 +163,39 @@ fn is_matched(rule: &Rule, call: &str) -> bool {
         Some((interface, member)) => rule.matches(path, Some(interface), member),
         None => false,
     }
+}
+
+fn told_request(alloc: Global, row: &str) -> Result<String, AllocError> {
+    let (text, request) = row.split_once(' ').unwrap_or((row, ""));
+    match PropertyRule::read(alloc, text) {
+        Ok(rule) => format!(in alloc; "{}", is_requested(&rule, request)),
+        Err(refusal) => told_refusal(alloc, refusal),
+    }
+}
+
+/// Whether a rule matches the request of a path, an interface and a property.
+fn is_requested(rule: &PropertyRule, request: &str) -> bool {
+    let (path, names) = request.split_once(' ').unwrap_or((request, ""));
+    match names.split_once(' ') {
+        Some((interface, "-")) => rule.matches(path, interface, None),
+        Some((interface, property)) => rule.matches(path, interface, Some(property)),
+        None => false,
+    }
+}
+
+#[test]
+fn texts_say_property_rules_or_none(rt: HostRuntime) -> Result<(), Fail> {
+    assert_eq!(rt;
+        wrong_row(rt.alloc(), PROPERTY_RULES, &told_property_rule)?,
+        None
+    );
+    Ok(())
+}
+
+#[test]
+fn property_rules_match_requests(rt: HostRuntime) -> Result<(), Fail> {
+    assert_eq!(rt; wrong_row(rt.alloc(), REQUESTS, &told_request)?, None);
+    Ok(())
 }
 
 #[test]
