@@ -1,5 +1,5 @@
 //! The words of a decision, as pieces of a line, and the entry on which it rests.
-ghost use Rattle.std.specs.Prelude.{◌≡◌, flat_map};
+ghost use Rattle.std.specs.Prelude.{◌≡◌, ◌++◌, codes, flat_map};
 ghost use Rattle.explain_log.specs.Lines.{decision_entry, decision_words, instead_word, reason_entry, reason_name, reason_words, showing_words, verdict_words};
 
 use dbus_header::Instead;
@@ -28,91 +28,89 @@ fn reason_number(reason: Reason) -> u32
     }
 }
 
-/// The name of a reason.
-fn name_of_reason(reason: Reason) -> &'static str
-    ensures { result.now ≡ reason_name reason }
+/// The name of a reason and a space.
+fn reason_word(reason: Reason) -> &'static str
+    ensures { result.now ≡ reason_name reason ++ codes " " }
 {
     match reason {
-        Reason::NotVisible => "NotVisible",
-        Reason::OnlySee(_) => "OnlySee",
-        Reason::NoRule(_) => "NoRule",
-        Reason::BusMember => "BusMember",
-        Reason::BusInterface => "BusInterface",
-        Reason::ArgNotVisible => "ArgNotVisible",
-        Reason::ArgNotTalk => "ArgNotTalk",
-        Reason::ArgNotOwn => "ArgNotOwn",
-        Reason::Eavesdrop => "Eavesdrop",
-        Reason::NotOutstanding => "NotOutstanding",
-        Reason::UnknownType => "UnknownType",
-        Reason::BadArgument => "BadArgument",
-        Reason::SenderNotTalk => "SenderNotTalk",
-        Reason::NameHidden => "NameHidden",
-        Reason::NotExpected => "NotExpected",
-        Reason::OwnAnswer => "OwnAnswer",
-        Reason::UnknownField => "UnknownField",
+        Reason::NotVisible => "NotVisible ",
+        Reason::OnlySee(_) => "OnlySee ",
+        Reason::NoRule(_) => "NoRule ",
+        Reason::BusMember => "BusMember ",
+        Reason::BusInterface => "BusInterface ",
+        Reason::ArgNotVisible => "ArgNotVisible ",
+        Reason::ArgNotTalk => "ArgNotTalk ",
+        Reason::ArgNotOwn => "ArgNotOwn ",
+        Reason::Eavesdrop => "Eavesdrop ",
+        Reason::NotOutstanding => "NotOutstanding ",
+        Reason::UnknownType => "UnknownType ",
+        Reason::BadArgument => "BadArgument ",
+        Reason::SenderNotTalk => "SenderNotTalk ",
+        Reason::NameHidden => "NameHidden ",
+        Reason::NotExpected => "NotExpected ",
+        Reason::OwnAnswer => "OwnAnswer ",
+        Reason::UnknownField => "UnknownField ",
     }
 }
 
-/// The name of what a refused call is answered with.
-fn name_of_answer(what: Instead) -> &'static str
-    ensures { result.now ≡ instead_word what }
+/// A space and the name of what a refused call is answered with.
+fn answer_word(what: Instead) -> &'static str
+    ensures { result.now ≡ codes " " ++ instead_word what }
 {
     match what {
-        Instead::AccessDenied => "AccessDenied",
-        Instead::NameHasNoOwner => "NameHasNoOwner",
-        Instead::ServiceUnknown => "ServiceUnknown",
-        Instead::False => "False",
+        Instead::AccessDenied => " AccessDenied",
+        Instead::NameHasNoOwner => " NameHasNoOwner",
+        Instead::ServiceUnknown => " ServiceUnknown",
+        Instead::False => " False",
     }
 }
 
-/// The name of a reason, a space and the number of its entry.
-fn reason_pieces<'a>(number: &'a mut Buffer, reason: Reason) -> [&'a str; 3]
-    ensures { flat_map (λ piece. piece.now) result ≡ reason_words reason }
+/// A word, a reason with the number of its entry, and an answer.
+fn reason_pieces<'a>(
+    number: &'a mut Buffer,
+    word: &'a str,
+    reason: Reason,
+    answer: &'a str,
+) -> [&'a str; 4]
+    ensures { flat_map (λ piece. piece.now) result ≡ word.now ++ reason_words reason ++ answer.now }
 {
-    let name: &'a str = name_of_reason(reason);
-    [name, " ", number.format(reason_number(reason))]
+    let name: &'a str = reason_word(reason);
+    [word, name, number.format(reason_number(reason)), answer]
 }
 
-/// The pieces of the verdict on a message of the client.
-fn verdict_pieces<'a>(number: &'a mut Buffer, verdict: Verdict) -> [&'a str; 6]
-    ensures { flat_map (λ piece. piece.now) result ≡ verdict_words verdict }
+/// A space and the verdict on a message of the client.
+fn verdict_pieces<'a>(number: &'a mut Buffer, verdict: Verdict) -> [&'a str; 4]
+    ensures { flat_map (λ piece. piece.now) result ≡ codes " " ++ verdict_words verdict }
 {
     match verdict {
-        Verdict::Pass => ["pass", "", "", "", "", ""],
+        Verdict::Pass => [" pass", "", "", ""],
         Verdict::Ping(what, reason) => {
-            let [name, space, entry] = reason_pieces(number, reason);
-            let answer: &'a str = name_of_answer(what);
-            ["ping ", name, space, entry, " ", answer]
+            let answer: &'a str = answer_word(what);
+            reason_pieces(number, " ping ", reason, answer)
         }
-        Verdict::Drop(reason) => {
-            let [name, space, entry] = reason_pieces(number, reason);
-            ["drop ", name, space, entry, "", ""]
-        }
+        Verdict::Drop(reason) => reason_pieces(number, " drop ", reason, ""),
     }
 }
 
-/// The pieces of what the client is shown of a message of the bus.
-fn showing_pieces<'a>(number: &'a mut Buffer, showing: Showing) -> [&'a str; 6]
-    ensures { flat_map (λ piece. piece.now) result ≡ showing_words showing }
+/// A space and what the client is shown of a message of the bus.
+fn showing_pieces<'a>(number: &'a mut Buffer, showing: Showing) -> [&'a str; 4]
+    ensures { flat_map (λ piece. piece.now) result ≡ codes " " ++ showing_words showing }
 {
     match showing {
-        Showing::Whole | Showing::Reply(_) => ["show", "", "", "", "", ""],
-        Showing::Cut(_) => ["cut", "", "", "", "", ""],
+        Showing::Whole | Showing::Reply(_) => [" show", "", "", ""],
+        Showing::Cut(_) => [" cut", "", "", ""],
         Showing::Instead { what, .. } => {
-            let answer: &'a str = name_of_answer(what);
-            ["instead ", "", "", "", "", answer]
+            let answer: &'a str = answer_word(what);
+            [" instead", "", "", answer]
         }
-        Showing::Hide(reason) => {
-            let [name, space, entry] = reason_pieces(number, reason);
-            ["hide ", name, space, entry, "", ""]
-        }
+        Showing::Hide(reason) => reason_pieces(number, " hide ", reason, ""),
     }
 }
 
-/// The pieces of a decision: its word, the name of its reason, a space, the number of the reason's entry, a space, and
-/// what a refused call is answered with. What a decision hasn't is empty.
-pub(crate) fn decision_pieces<'a>(number: &'a mut Buffer, decision: Decision) -> [&'a str; 6]
-    ensures { flat_map (λ piece. piece.now) result ≡ decision_words decision }
+/// A space and the decision on a message: its word, its reason, the number of the reason's entry, and what a refused call is
+/// answered with. A piece that the decision hasn't is empty.
+pub(crate) fn decision_pieces<'a>(number: &'a mut Buffer, decision: Decision) -> [&'a str; 4]
+    ensures { flat_map (λ piece. piece.now) result ≡ codes " " ++ decision_words decision }
 {
     match decision {
         Decision::Judged(verdict) => verdict_pieces(number, verdict),

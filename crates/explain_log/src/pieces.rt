@@ -10,7 +10,7 @@ use itoa::Buffer;
 use policy_view::{Note, Side};
 
 /// The number of pieces of a line.
-const PIECES: usize = 27;
+const PIECES: usize = 24;
 
 /// The numbers of a line, printed.
 #[derive(Drop)]
@@ -93,10 +93,7 @@ pub(crate) fn pieces<'a>(
     let path = text_word(message.path);
     let interface = text_word(message.interface);
     let member = text_word(message.member);
-    let [decision, reason, space, entry, gap, answer] = decision_pieces(
-        &mut numbers.entry,
-        note.decision(),
-    );
+    let [decision, reason, entry, answer] = decision_pieces(&mut numbers.entry, note.decision());
     [
         numbers.session.format(session),
         side,
@@ -117,12 +114,9 @@ pub(crate) fn pieces<'a>(
         interface,
         " member=",
         member,
-        " ",
         decision,
         reason,
-        space,
         entry,
-        gap,
         answer,
         "\n",
     ]
