@@ -1,5 +1,5 @@
 -- A turn makes no listener.
-use Rattle.std.proofs.Common.{ℕ, ◌≡◌, Bool, true, false, ◌&&◌, List, [], ◌∷◌, ◌++◌, Option, Some, None, Result, Ok, Err, refl, ap, ◌∙◌, sym, subst, append-nil, slice_get, string_bytes}
+use Rattle.std.proofs.Common.{ℕ, ◌≡◌, Bool, true, false, List, [], ◌∷◌, ◌++◌, Option, Some, None, Result, Ok, Err, refl, ap, ◌∙◌, sym, subst, append-nil, slice_get, string_bytes}
 use Rattle.link_traits.specs.Journals.{Journal}
 use Rattle.link_traits.specs.Views.{NetView, Adds}
 use Rattle.link_traits.specs.Answers.{accept_entry}
@@ -20,6 +20,7 @@ use Rattle.proxy_loop.specs.Listening.{listener_by, listeners_of, HearsNoMore}
 use Rattle.proxy_loop.specs.Tables.{Table}
 use Rattle.proxy_loop.specs.Turns.{Still, LinkDid, ListenerDid, Brought, ReadyDid, AfterWait, TurnDid}
 use Rattle.proxy_loop.proofs.Others.{served_about}
+use Rattle.proxy_loop.proofs.Stopping.{and_first, and_second}
 use Rattle.proxy_loop.proofs.TurnLaws.{opened_about}
 
 -- an entry about a session tells of no listener
@@ -36,20 +37,12 @@ about_none n (Failed call) h = refl
 about_none n (Refused call) h = refl
 about_none n (Shut at) h = refl
 
-both_first : (x y : Bool) → x && y ≡ true → x ≡ true
-both_first true y h = refl
-both_first false y h = cc
-
-both_second : (x y : Bool) → x && y ≡ true → y ≡ true
-both_second true y h = h
-both_second false y h = cc
-
 about_unheard : (n : ℕ) (added was : Journal) → all_are (about n) added ≡ true → listeners_of (added ++ was) ≡ listeners_of was
 unfolding all_are listeners_of
 about_unheard n [] was h = refl
 about_unheard n (entry ∷ added) was h =
-    rw (about_none n entry (both_first (about n entry) (all_are (about n) added) h), append-nil (listeners_of (added ++ was)))
-    (about_unheard n added was (both_second (about n entry) (all_are (about n) added) h))
+    rw (about_none n entry (and_first (about n entry) (all_are (about n) added) h), append-nil (listeners_of (added ++ was)))
+    (about_unheard n added was (and_second (about n entry) (all_are (about n) added) h))
 
 pub unheard_same : (before after : NetView) → after ≡ before → HearsNoMore before after
 unheard_same before after e = record { each = λ now h. (now, ap (λ (v : NetView). v.journal) (sym e) ∙ h, refl) }
