@@ -2,9 +2,13 @@
 #![tactic(auto)]
 
 #[cfg(test)]
+mod every_place;
+#[cfg(test)]
 mod logged;
 #[cfg(test)]
 mod many;
+#[cfg(test)]
+mod rich_session;
 #[cfg(test)]
 mod served;
 #[cfg(test)]
