@@ -22,18 +22,22 @@ pub struct Case {
     /// The bytes of the policy file.
     pub policy: Vec<u8>,
     auth: u8,
-    came: Vec<Came>,
-    to_bus: Vec<u8>,
-    to_client: Vec<u8>,
+    /// What came, in order.
+    pub came: Vec<Came>,
+    /// The bytes that go to the bus.
+    pub to_bus: Vec<u8>,
+    /// The bytes that go to the client.
+    pub to_client: Vec<u8>,
     end: Vec<u8>,
-    log: String,
+    /// The lines of the log.
+    pub log: String,
 }
 
 /// What came: bytes of the client (0) or of the bus (1), or the client's end (2).
 #[derive(Drop)]
-struct Came {
-    kind: u8,
-    bytes: Vec<u8>,
+pub struct Came {
+    pub kind: u8,
+    pub bytes: Vec<u8>,
 }
 
 /// A case of which nothing is said.
@@ -49,7 +53,8 @@ pub fn empty_case(alloc: Global) -> Case {
     }
 }
 
-fn case_of(alloc: Global, text: &str) -> Result<Case, AllocError> {
+/// The case of a text.
+pub fn case_of(alloc: Global, text: &str) -> Result<Case, AllocError> {
     let mut case = empty_case(alloc);
     for line in text.lines() {
         add_line(alloc, &mut case, line)?;
@@ -96,15 +101,20 @@ fn add_came(came: &mut Vec<Came>, kind: u8, bytes: Vec<u8>) -> Result<(), AllocE
 }
 
 /// Adds a record: a kind, a length and that many bytes.
-fn add_record(into: &mut Vec<u8>, kind: u8, bytes: &[u8]) -> Result<(), AllocError> {
+pub fn add_record(into: &mut Vec<u8>, kind: u8, bytes: &[u8]) -> Result<(), AllocError> {
     into.push(kind)?;
     into.extend_from_slice(&length(bytes))?;
     into.extend_from_slice(bytes)
 }
 
+/// The recording of a case in which nothing came yet.
+pub fn empty_recording(alloc: Global, case: &Case) -> Result<Vec<u8>, AllocError> {
+    Vec::from_slice(alloc, &[b'D', b'B', b'P', b'R', 1, case.auth])
+}
+
 /// The recording of what came, in pieces of so many bytes at most.
 pub fn recording_of(alloc: Global, case: &Case, size: usize) -> Result<Vec<u8>, AllocError> {
-    let mut recording = Vec::from_slice(alloc, &[b'D', b'B', b'P', b'R', 1, case.auth])?;
+    let mut recording = empty_recording(alloc, case)?;
     for came in &case.came {
         add_records(&mut recording, came, size)?;
     }

@@ -16,6 +16,8 @@ mod owners;
 #[cfg(test)]
 mod peers;
 #[cfg(test)]
+mod prefixes;
+#[cfg(test)]
 mod raw;
 #[cfg(test)]
 mod runs;
