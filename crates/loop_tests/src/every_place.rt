@@ -258,7 +258,7 @@ fn wrong_limit(alloc: Global, side: &str) -> Result<Option<String>, AllocError> 
     Ok(None)
 }
 
-/// What is wrong with a session of which a side is to be sent so many bytes.
+/// What is wrong with a session if one of its sides must be sent this number of bytes.
 fn length_fault(sent: &Option<Sent>, side: &str, bytes: usize) -> Option<&'static str> {
     let length = match (sent, side) {
         (Some(sent), "c") => sent.to_client.len(),
@@ -292,7 +292,7 @@ fn reached(cuts: &[Run], room: usize) -> Option<&Run> {
     cuts.last()
 }
 
-/// What is wrong with a run with room for so many bytes in its log.
+/// What is wrong with a run whose log has room for this number of bytes.
 fn room_fault(run: &Run, cuts: &[Run], room: usize) -> Option<&'static str> {
     let (Some(cut), Some(whole)) = (reached(cuts, room), cuts.last()) else {
         return Some("the runs of the first pieces");

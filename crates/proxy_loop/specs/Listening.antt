@@ -43,7 +43,7 @@ unfoldable pub listeners_of : Journal → List (ℕ × List ℕ)
 listeners_of [] = []
 listeners_of (entry ∷ before) = listeners_of before ++ listener_by entry
 
--- where the journal is told it was told before, and no listener was made
+-- If the net tells its journal after this, it told it before, and no listener was added.
 pub record HearsNoMore (before after : NetView) : Type 0 where
   pub each : (now : Journal) → after.journal ≡ Some now → (was : Journal) × (before.journal ≡ Some was) × (listeners_of now ≡ listeners_of was)
 
