@@ -5,7 +5,7 @@ use Rattle.std.specs.List.{list_all, list_any}
 use Rattle.dbus_names.specs.Names.{is_interface, is_error_name, is_member, is_bus_name}
 use Rattle.dbus_types.specs.Signature.{uint32, byte, string, Complete, basic, spelled_types}
 use Rattle.dbus_values.specs.Values.{Value, a_number, a_string, a_path, a_signature, a_variant, an_array, a_struct, no_values, value, values_of, type_of, padding, zeros, number_bytes, spelled, is_value, is_within}
-use Rattle.dbus_values.specs.Bodies.{first_text_of, three_of, list_in}
+use Rattle.dbus_values.specs.Bodies.{first_text_of, two_of, three_of, list_in}
 use Rattle.dbus_values.specs.declared.Order.{Order}
 use Rattle.dbus_values.specs.declared.Order.TheVariants.{Little, Big}
 
@@ -89,17 +89,13 @@ signature m = spelled_types (map type_of m.body)
 abbrev pub first_text : Message → Option (List ℕ)
 first_text m = first_text_of m.body
 
--- the texts of a body of signature sss
-abbrev pub three_texts : Message → Option (List ℕ × List ℕ × List ℕ)
-three_texts m = three_of m.body
-
-abbrev pub two_of : List Value → Option (List ℕ × List ℕ)
-two_of (a_string a ∷ a_string b ∷ values) = Some (a, b)
-two_of _ = None
-
 -- the first two body values, where the body's signature begins with ss
 abbrev pub two_texts : Message → Option (List ℕ × List ℕ)
 two_texts m = two_of m.body
+
+-- the texts of a body of signature sss
+abbrev pub three_texts : Message → Option (List ℕ × List ℕ × List ℕ)
+three_texts m = three_of m.body
 
 -- the texts of a body of signature as
 abbrev pub text_list : Message → Option (List (List ℕ))

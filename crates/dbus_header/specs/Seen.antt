@@ -23,6 +23,9 @@ end_seen x = (part_seen x.0, x.1)
 abbrev pub text_seen : Option (Bor (List ℕ)) → Option (List ℕ)
 text_seen text = option_map (λ t. t.now) text
 
+abbrev pub two_seen : Option (Bor (List ℕ) × Bor (List ℕ)) → Option (List ℕ × List ℕ)
+two_seen texts = option_map (λ t. (t.0.now, t.1.now)) texts
+
 abbrev pub texts_seen : Option (Bor (List ℕ) × Bor (List ℕ) × Bor (List ℕ)) → Option (List ℕ × List ℕ × List ℕ)
 texts_seen texts = option_map (λ t. (t.0.now, t.1.now, t.2.now)) texts
 

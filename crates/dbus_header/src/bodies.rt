@@ -1,8 +1,8 @@
 //! The texts of a message's body.
 ghost use Rattle.std.specs.Prelude.{◌≡◌, Some, bytes_eq};
 ghost use Rattle.dbus_header.specs.Contents.{message_of};
-ghost use Rattle.dbus_header.specs.Message.{Message as MessageTree, Valid, first_text, only_text, three_texts, text_list};
-ghost use Rattle.dbus_header.specs.Seen.{text_seen, texts_seen};
+ghost use Rattle.dbus_header.specs.Message.{Message as MessageTree, Valid, first_text, two_texts, only_text, three_texts, text_list};
+ghost use Rattle.dbus_header.specs.Seen.{text_seen, two_seen, texts_seen};
 
 use crate::message::Message;
 use dbus_values::Texts;
@@ -28,6 +28,14 @@ impl<'a> Message<'a> {
     {
         is_valid(self.bytes);
         dbus_values::first_text(self.order, self.signature, self.body)
+    }
+
+    /// The first two values of the body, if both are strings: none exactly where SIGNATURE doesn't begin with `ss`.
+    pub fn two_texts(&self) -> Option<(&'a str, &'a str)>
+        ensures { (m : MessageTree) → message_of self.now.bytes.now ≡ Some m → two_seen result ≡ two_texts m }
+    {
+        is_valid(self.bytes);
+        dbus_values::two_texts(self.order, self.signature, self.body)
     }
 
     /// The string that is the whole body: none exactly where SIGNATURE isn't `s`.

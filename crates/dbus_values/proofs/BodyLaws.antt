@@ -1,5 +1,5 @@
 -- The texts of a body, read at its start, are those of its values.
-use Rattle.std.proofs.Common.{◌≡◌, ℕ, zero, suc, ◌+◌, ◌<◌, ◌≤◌, ◌%◌, ◌^◌, cond, Bool, true, false, List, [], ◌∷◌, ◌++◌, length, take, drop, Option, Some, None, refl, sym, ap, subst, ◌∙◌, arith}
+use Rattle.std.proofs.Common.{◌≡◌, ℕ, zero, suc, ◌+◌, ◌<◌, ◌≤◌, ◌%◌, ◌^◌, cond, Bool, true, false, List, [], ◌∷◌, ◌++◌, length, take, drop, map, nat_eq, Option, Some, None, refl, sym, ap, subst, ◌∙◌, arith}
 use Rattle.std.specs.Prelude.{nat_le, IsSome}
 use Rattle.std.specs.Int.{w32}
 use Rattle.std.proofs.lemmas.Option.{same_Some}
@@ -8,13 +8,15 @@ use Rattle.byte_lists.proofs.Options.{some}
 use Rattle.dbus_names.specs.Names.{is_empty}
 use Rattle.std.proofs.lemmas.Bool.{and_parts, leb-true}
 use Rattle.std.proofs.lemmas.List.{length-drop}
-use Rattle.std.specs.List.{list_all}
+use Rattle.std.specs.List.{list_all, starts_with}
+use Rattle.std.proofs.lemmas.Bool.Decides.{Decides-eqb}
+use Rattle.std.proofs.lemmas.Slice.Eq.{starts_is}
 use Rattle.dbus_types.specs.Signature.{byte, boolean, int16, uint16, int32, uint32, int64, uint64, double, handle, number, string, path, signature, Complete, basic, variant, array, struct, entry, spelled_type, spelled_types, is_complete, signature_fault}
 use Rattle.dbus_types.proofs.SignatureLaws.{spelled_types_is}
-use Rattle.dbus_values.specs.Values.{Value, a_number, a_string, a_path, a_signature, a_variant, an_array, a_struct, an_entry, Values, no_values, value, type_of, padding, is_text}
+use Rattle.dbus_values.specs.Values.{Value, a_string, an_array, Values, no_values, value, type_of, padding, is_text}
 use Rattle.dbus_values.specs.Reading.{At, ◌>>=◌, when, past, some_bytes, all_zero, aligned, number_of, a_width, ended_by_nul, text_at, to_the_end, value_at, values_at, and_then_all}
 use Rattle.dbus_values.specs.Walk.{front_code}
-use Rattle.dbus_values.specs.Bodies.{IsBody, first_text_of, three_of, three_at, strings, list_in, texts_at, texts_in, texts_or_none, elements_in}
+use Rattle.dbus_values.specs.Bodies.{IsBody, first_text_of, two_of, three_of, two_at, three_at, strings, list_in, texts_at, texts_in, texts_or_none, elements_in}
 use Rattle.dbus_values.proofs.ValueRead.{bind_case, when_is, some_bytes-takes, aligned-takes, width-takes, read_32}
 use Rattle.dbus_values.proofs.ValueLaws.{then_is}
 use Rattle.dbus_values.proofs.ValueIs.{within-is}
@@ -33,15 +35,37 @@ shifted_start p body = let same : p ≡ p + 0 = omega arith in ap (λ (q : ℕ).
 
 -- ---- a string in front
 
-abbrev pub text_only : List ℕ × At → Option (List ℕ)
-text_only x = Some x.0
+-- a string of the body, and the values behind it; the body begins at p, and is read from its start
+pub record Front (o : Order) (p : ℕ) (ts : List Complete) (a : At) (values : List Value) : Type 0 where
+  pub text : List ℕ × At
+  pub there : text_at o a ≡ Some text
+  pub others : List Value
+  pub is : values ≡ a_string text.0 ∷ others
+  pub read : (values_at o ts (shift p text.1)).0 ≡ others
+  pub all : length others ≡ length ts
 
-only-shift : (o : Order) (p : ℕ) (a : At) → p % 8 ≡ 0 → (text_at o (shift p a) >>= text_only) ≡ (text_at o a >>= text_only)
-only-shift o p a e = ap (λ (x : Option (List ℕ × At)). x >>= text_only) (text-shift o p a e) ∙ go (text_at o a)
+abbrev string_of : List ℕ × At → Option (Value × At)
+string_of x = Some (a_string x.0, x.1)
+
+string_front : (o : Order) (p : ℕ) (ts : List Complete) (a : At) (values : List Value) → p % 8 ≡ 0 → (values_at o (basic string ∷ ts) (shift p a)).0 ≡ values → length values ≡ suc (length ts) → Front o p ts a values
+string_front o p ts a values e is len =
+    go (text_at o a) refl (sym is ∙ ap (λ (x : Option (List ℕ × At)). (and_then_all (x >>= string_of) (shift p a) (λ v rest. values_at o ts rest)).0) (text-shift o p a e)) len
   where
-    go : (x : Option (List ℕ × At)) → (shifted p x >>= text_only) ≡ (x >>= text_only)
-    go None = refl
-    go (Some x) = refl
+    go : (x : Option (List ℕ × At)) → text_at o a ≡ x → values ≡ (and_then_all (shifted p x >>= string_of) (shift p a) (λ v rest. values_at o ts rest)).0 → length values ≡ suc (length ts) → Front o p ts a values
+    go None t v l = absurd (omega (arith, ap length v, l))
+    go (Some x) t v l = record { text = x; there = t; others = (values_at o ts (shift p x.1)).0; is = v; read = refl; all = omega (arith, ap length v, l) }
+
+front_of_body : (o : Order) (bytes body : List ℕ) (p : ℕ) (types ts : List Complete) (values : List Value) → IsBody o bytes body p types values → types ≡ basic string ∷ ts → Front o p ts (from_start body) values
+front_of_body o bytes body p types ts values b is =
+    string_front o p ts (from_start body) values b.start
+    (ap (λ (a : At). (values_at o (basic string ∷ ts) a).0) (sym (shifted_start p body)) ∙ ap (λ (us : List Complete). (values_at o us (from p body)).0) (sym is) ∙ ap (λ (x : List Value × At). x.0) b.read)
+    (b.all ∙ ap length is)
+
+-- the string behind it
+front_behind : (o : Order) (p : ℕ) (ts : List Complete) (a : At) (values : List Value) → p % 8 ≡ 0 → (f : Front o p (basic string ∷ ts) a values) → Front o p ts f.text.1 f.others
+front_behind o p ts a values e f = string_front o p ts f.text.1 f.others e f.read f.all
+
+-- ---- the types that a signature begins with
 
 string_in_front : (t : Complete) (rest : List ℕ) → front_code (spelled_type t ++ rest) ≡ 115 → t ≡ basic string
 string_in_front (basic (number byte)) rest e = absurd (omega (arith, e))
@@ -62,105 +86,109 @@ string_in_front (array t) rest e = absurd (omega (arith, e))
 string_in_front (struct t ts) rest e = absurd (omega (arith, e))
 string_in_front (entry k t) rest e = absurd (omega (arith, e))
 
--- the first value is the string in front
-string_value : (o : Order) (ts : List Complete) (a : At) (values : List Value) → (values_at o (basic string ∷ ts) a).0 ≡ values → length values ≡ suc (length ts) → ((text_at o a >>= text_only) ≡ first_text_of values) × IsSome (text_at o a)
-string_value o ts a values is len = go (text_at o a) (sym is) len
-  where
-    go : (x : Option (List ℕ × At)) → values ≡ (and_then_all (x >>= λ y. Some (a_string y.0, y.1)) a (λ v rest. values_at o ts rest)).0 → length values ≡ suc (length ts) → ((x >>= text_only) ≡ first_text_of values) × IsSome x
-    go None e l = absurd (omega (arith, ap length e, l))
-    go (Some x) e l = (ap first_text_of (sym e), refl)
+types_behind : (t : Complete) (ts : List Complete) (rest : List ℕ) → t ≡ basic string → spelled_types (t ∷ ts) ≡ 115 ∷ rest → spelled_types ts ≡ rest
+types_behind t ts rest is e = ap (drop 1) (ap (λ (u : Complete). spelled_types (u ∷ ts)) (sym is) ∙ e)
 
-pub first_string : (o : Order) (bytes body : List ℕ) (p : ℕ) (types : List Complete) (values : List Value) → IsBody o bytes body p types values → front_code bytes ≡ 115 → ((text_at o (from_start body) >>= text_only) ≡ first_text_of values) × IsSome (text_at o (from_start body))
-first_string o bytes body p [] values b front = absurd (omega (arith, sym (ap front_code b.spelled) ∙ front))
-first_string o bytes body p (t ∷ ts) values b front =
-    let is : t ≡ basic string = string_in_front t (spelled_types ts) (ap front_code (sym b.spelled) ∙ front) in
-    let read = subst (λ (u : Complete). (values_at o (u ∷ ts) (from p body)).0 ≡ values) is (ap (λ (x : List Value × At). x.0) b.read) in
-    let found = string_value o ts (from p body) values read b.all in
-    (sym (only-shift o p (from_start body) b.start) ∙ ap (λ (a : At). text_at o a >>= text_only) (sym (shifted_start p body)) ∙ found.0, unshifted (text_at o (from_start body)) (subst IsSome (ap (text_at o) (shifted_start p body) ∙ text-shift o p (from_start body) b.start) found.1))
-  where
-    unshifted : (x : Option (List ℕ × At)) → IsSome (shifted p x) → IsSome x
-    unshifted None e = e
-    unshifted (Some x) e = refl
+pub begins_with_string : (types : List Complete) (rest : List ℕ) → spelled_types types ≡ 115 ∷ rest → (ts : List Complete) × (types ≡ basic string ∷ ts) × (spelled_types ts ≡ rest)
+begins_with_string [] rest e = absurd cc
+begins_with_string (t ∷ ts) rest e =
+    let is : t ≡ basic string = string_in_front t (spelled_types ts) (ap front_code e) in
+    (ts, ap (λ (u : Complete). u ∷ ts) is, types_behind t ts rest is e)
 
--- ---- another value in front
+pub starts-then : (bytes word : List ℕ) → starts_with nat_eq bytes word ≡ true → bytes ≡ word ++ drop (length word) bytes
+starts-then bytes word e = (starts_is Decides-eqb bytes word (starts_with nat_eq bytes word) refl).0 e
 
-no_text : (v : Value) (vs : List Value) → (type_of v ≡ basic string → ⊥) → None ≡ first_text_of (v ∷ vs)
-no_text (a_number n x) vs h = refl
-no_text (a_string text) vs h = absurd (h refl)
-no_text (a_path text) vs h = refl
-no_text (a_signature ts) vs h = refl
-no_text (a_variant v) vs h = refl
-no_text (an_array t ws) vs h = refl
-no_text (a_struct v ws) vs h = refl
-no_text (an_entry k v) vs h = refl
+pub starts-if : (bytes word rest : List ℕ) → starts_with nat_eq bytes word ≡ false → bytes ≡ word ++ rest → ⊥
+starts-if bytes word rest n e = let s : starts_with nat_eq bytes word ≡ true = (starts_is Decides-eqb bytes word (starts_with nat_eq bytes word) refl).1 rest e in cc
 
-other_value : (o : Order) (t : Complete) (ts : List Complete) (a : At) (values : List Value) → is_complete t ≡ true → AreBytes a.bytes → (t ≡ basic string → ⊥) → (values_at o (t ∷ ts) a).0 ≡ values → None ≡ first_text_of values
-other_value o t ts a values c h n is = go (value_at o t a) refl ∙ ap first_text_of is
-  where
-    go : (x : Option (Value × At)) → value_at o t a ≡ x → None ≡ first_text_of (and_then_all x a (λ v rest. values_at o ts rest)).0
-    go None e = refl
-    go (Some x) e = no_text x.0 (values_at o ts x.1).0 (λ s. n (sym (within-is 65 o t a x c h e).type ∙ s))
+-- ---- one string, two and three
 
-pub first_other : (o : Order) (bytes body : List ℕ) (p : ℕ) (types : List Complete) (values : List Value) → IsBody o bytes body p types values → signature_fault bytes ≡ None → AreBytes body → (front_code bytes ≡ 115 → ⊥) → None ≡ first_text_of values
-first_other o bytes body p [] values b valid are n = ap first_text_of (ap (λ (x : List Value × At). x.0) b.read)
-first_other o bytes body p (t ∷ ts) values b valid are n =
-    let complete = and_parts (is_complete t) (list_all is_complete ts) (all_complete (t ∷ ts) (ap signature_fault (sym b.spelled) ∙ valid)) in
-    other_value o t ts (from p body) values complete.0 are (λ s. n (ap front_code b.spelled ∙ ap (λ (u : Complete). front_code (spelled_type u ++ spelled_types ts)) s)) (ap (λ (x : List Value × At). x.0) b.read)
+abbrev pub text_only : List ℕ × At → Option (List ℕ)
+text_only x = Some x.0
 
--- ---- three strings
+abbrev pub two_only : (List ℕ × List ℕ) × At → Option (List ℕ × List ℕ)
+two_only x = Some x.0
 
-abbrev tripled : List ℕ → List ℕ → List ℕ × At → Option (List ℕ × List ℕ × List ℕ)
-tripled x y z = Some (x, y, z.0)
+pub first_string : (o : Order) (bytes body : List ℕ) (p : ℕ) (types : List Complete) (values : List Value) → IsBody o bytes body p types values → starts_with nat_eq bytes (115 ∷ []) ≡ true →
+    ((text_at o (from_start body) >>= text_only) ≡ first_text_of values) × IsSome (text_at o (from_start body))
+first_string o bytes body p types values b front =
+    let t = begins_with_string types (drop 1 bytes) (sym b.spelled ∙ starts-then bytes (115 ∷ []) front) in
+    let f = front_of_body o bytes body p types t.0 values b t.1 in
+    (ap (λ (x : Option (List ℕ × At)). x >>= text_only) f.there ∙ ap first_text_of (sym f.is), subst IsSome (sym f.there) refl)
 
-abbrev third_of : Order → List ℕ → List ℕ × At → Option (List ℕ × List ℕ × List ℕ)
-third_of o x y = text_at o y.1 >>= tripled x y.0
+-- two strings of the body
+record Two (o : Order) (p : ℕ) (ts : List Complete) (a : At) (values : List Value) : Type 0 where
+  one : Front o p (basic string ∷ ts) a values
+  other : Front o p ts one.text.1 one.others
+  there : two_at o a ≡ Some ((one.text.0, other.text.0), other.text.1)
+  is : values ≡ a_string one.text.0 ∷ a_string other.text.0 ∷ other.others
 
-abbrev second_of : Order → List ℕ × At → Option (List ℕ × List ℕ × List ℕ)
-second_of o x = text_at o x.1 >>= third_of o x.0
+two_front : (o : Order) (bytes body : List ℕ) (p : ℕ) (types ts : List Complete) (values : List Value) → IsBody o bytes body p types values → types ≡ basic string ∷ basic string ∷ ts → Two o p ts (from_start body) values
+two_front o bytes body p types ts values b is =
+    let f = front_of_body o bytes body p types (basic string ∷ ts) values b is in
+    let g = front_behind o p ts (from_start body) values b.start f in
+    record { one = f; other = g; there = then_is _ _ _ _ f.there (then_is _ _ _ _ g.there refl); is = f.is ∙ ap (λ (vs : List Value). a_string f.text.0 ∷ vs) g.is }
 
-three-shift : (o : Order) (p : ℕ) (a : At) → p % 8 ≡ 0 → three_at o (shift p a) ≡ three_at o a
-three-shift o p a e = ap (λ (x : Option (List ℕ × At)). x >>= second_of o) (text-shift o p a e) ∙ first (text_at o a)
-  where
-    last : (x y : List ℕ) (z : Option (List ℕ × At)) → (shifted p z >>= tripled x y) ≡ (z >>= tripled x y)
-    last x y None = refl
-    last x y (Some z) = refl
-
-    middle : (x : List ℕ) (y : Option (List ℕ × At)) → (shifted p y >>= third_of o x) ≡ (y >>= third_of o x)
-    middle x None = refl
-    middle x (Some y) = ap (λ (z : Option (List ℕ × At)). z >>= tripled x y.0) (text-shift o p y.1 e) ∙ last x y.0 (text_at o y.1)
-
-    first : (x : Option (List ℕ × At)) → (shifted p x >>= second_of o) ≡ (x >>= second_of o)
-    first None = refl
-    first (Some x) = ap (λ (y : Option (List ℕ × At)). y >>= third_of o x.0) (text-shift o p x.1 e) ∙ middle x.0 (text_at o x.1)
-
-abbrev string_of : List ℕ × At → Option (Value × At)
-string_of x = Some (a_string x.0, x.1)
+pub two_strings : (o : Order) (bytes body : List ℕ) (p : ℕ) (types : List Complete) (values : List Value) → IsBody o bytes body p types values → starts_with nat_eq bytes (115 ∷ 115 ∷ []) ≡ true →
+    ((two_at o (from_start body) >>= two_only) ≡ two_of values) × IsSome (two_at o (from_start body))
+two_strings o bytes body p types values b front =
+    let t = begins_with_string types (115 ∷ drop 2 bytes) (sym b.spelled ∙ starts-then bytes (115 ∷ 115 ∷ []) front) in
+    let u = begins_with_string t.0 (drop 2 bytes) t.2 in
+    let f = two_front o bytes body p types u.0 values b (t.1 ∙ ap (λ (ts : List Complete). basic string ∷ ts) u.1) in
+    (ap (λ (x : Option ((List ℕ × List ℕ) × At)). x >>= two_only) f.there ∙ ap two_of (sym f.is), subst IsSome (sym f.there) refl)
 
 abbrev pub three_strings : List Complete
 three_strings = basic string ∷ basic string ∷ basic string ∷ []
 
-three_values : (o : Order) (a : At) (values : List Value) → (values_at o three_strings a).0 ≡ values → length values ≡ 3 → (three_at o a ≡ three_of values) × IsSome (three_at o a)
-three_values o a values is len = first (text_at o a) (sym is) len
-  where
-    last : (x y : List ℕ × At) (z : Option (List ℕ × At)) → values ≡ a_string x.0 ∷ a_string y.0 ∷ (and_then_all (z >>= string_of) y.1 (λ v rest. values_at o [] rest)).0 → length values ≡ 3 → ((z >>= tripled x.0 y.0) ≡ three_of values) × IsSome (z >>= tripled x.0 y.0)
-    last x y None e l = absurd (omega (arith, ap length e, l))
-    last x y (Some z) e l = (ap three_of (sym e), refl)
-
-    middle : (x : List ℕ × At) (y : Option (List ℕ × At)) → values ≡ a_string x.0 ∷ (and_then_all (y >>= string_of) x.1 (λ v rest. values_at o (basic string ∷ []) rest)).0 → length values ≡ 3 → ((y >>= third_of o x.0) ≡ three_of values) × IsSome (y >>= third_of o x.0)
-    middle x None e l = absurd (omega (arith, ap length e, l))
-    middle x (Some y) e l = last x y (text_at o y.1) e l
-
-    first : (x : Option (List ℕ × At)) → values ≡ (and_then_all (x >>= string_of) a (λ v rest. values_at o (basic string ∷ basic string ∷ []) rest)).0 → length values ≡ 3 → ((x >>= second_of o) ≡ three_of values) × IsSome (x >>= second_of o)
-    first None e l = absurd (omega (arith, ap length e, l))
-    first (Some x) e l = middle x (text_at o x.1) e l
+no_more : (vs : List Value) → length vs ≡ 0 → vs ≡ []
+no_more [] e = refl
+no_more (v ∷ vs) e = absurd (omega (arith, e))
 
 pub three_in_body : (o : Order) (body : List ℕ) (p : ℕ) (types : List Complete) (values : List Value) → IsBody o (115 ∷ 115 ∷ 115 ∷ []) body p types values → (three_at o (from_start body) ≡ three_of values) × IsSome (three_at o (from_start body))
 three_in_body o body p types values b =
-    let is : types ≡ three_strings = spelled_types_is types three_strings (sym b.spelled) in
-    let read = subst (λ (ts : List Complete). (values_at o ts (from p body)).0 ≡ values) is (ap (λ (x : List Value × At). x.0) b.read) in
-    let found = three_values o (from p body) values read (b.all ∙ ap length is) in
-    let here : three_at o (from p body) ≡ three_at o (from_start body) = ap (three_at o) (shifted_start p body) ∙ three-shift o p (from_start body) b.start in
-    (sym here ∙ found.0, subst IsSome here found.1)
+    let f = two_front o (115 ∷ 115 ∷ 115 ∷ []) body p types (basic string ∷ []) values b (spelled_types_is types three_strings (sym b.spelled)) in
+    let g = front_behind o p [] f.one.text.1 f.one.others b.start f.other in
+    let there : three_at o (from_start body) ≡ Some (f.one.text.0, f.other.text.0, g.text.0) = then_is _ _ _ _ f.there (then_is _ _ _ _ g.there refl) in
+    let others : f.other.others ≡ a_string g.text.0 ∷ [] = g.is ∙ ap (λ (vs : List Value). a_string g.text.0 ∷ vs) (no_more g.others g.all) in
+    (there ∙ ap three_of (sym (f.is ∙ ap (λ (vs : List Value). a_string f.one.text.0 ∷ a_string f.other.text.0 ∷ vs) others)), subst IsSome (sym there) refl)
+
+-- ---- bodies that begin with others
+
+types_read : (o : Order) (ts : List Complete) (a : At) → list_all is_complete ts ≡ true → AreBytes a.bytes → length (values_at o ts a).0 ≡ length ts → map type_of (values_at o ts a).0 ≡ ts
+types_read o [] a c h e = refl
+types_read o (t ∷ ts) a c h e = go (value_at o t a) refl (λ b. types_read o ts b (and_parts (is_complete t) (list_all is_complete ts) c).1) e
+  where
+    go : (x : Option (Value × At)) → value_at o t a ≡ x → ((b : At) → AreBytes b.bytes → length (values_at o ts b).0 ≡ length ts → map type_of (values_at o ts b).0 ≡ ts)
+        → length (and_then_all x a (λ v rest. values_at o ts rest)).0 ≡ suc (length ts) → map type_of (and_then_all x a (λ v rest. values_at o ts rest)).0 ≡ t ∷ ts
+    go None is ih l = absurd (omega (arith, l))
+    go (Some x) is ih l =
+        let s = within-is 65 o t a x (and_parts (is_complete t) (list_all is_complete ts) c).0 h is in
+        ap (λ (u : Complete). u ∷ map type_of (values_at o ts x.1).0) s.type ∙ ap (λ (us : List Complete). t ∷ us) (ih x.1 s.takes.are (omega (arith, l)))
+
+-- a body's signature spells its values' types
+signature_of_body : (o : Order) (bytes body : List ℕ) (p : ℕ) (types : List Complete) (values : List Value) → IsBody o bytes body p types values → signature_fault bytes ≡ None → AreBytes body → bytes ≡ spelled_types (map type_of values)
+signature_of_body o bytes body p types values b valid are =
+    let read : (values_at o types (from p body)).0 ≡ values = ap (λ (x : List Value × At). x.0) b.read in
+    let here = types_read o types (from p body) (all_complete types (ap signature_fault (sym b.spelled) ∙ valid)) are (ap length read ∙ b.all) in
+    b.spelled ∙ ap spelled_types (sym here) ∙ ap (λ (vs : List Value). spelled_types (map type_of vs)) read
+
+no_text : (vs : List Value) → starts_with nat_eq (spelled_types (map type_of vs)) (115 ∷ []) ≡ false → None ≡ first_text_of vs
+no_text (a_string text ∷ vs) n = absurd (starts-if (spelled_types (map type_of (a_string text ∷ vs))) (115 ∷ []) (spelled_types (map type_of vs)) n refl)
+no_text _ n = refl
+
+no_two : (vs : List Value) → starts_with nat_eq (spelled_types (map type_of vs)) (115 ∷ 115 ∷ []) ≡ false → None ≡ two_of vs
+no_two (a_string a ∷ a_string b ∷ vs) n = absurd (starts-if (spelled_types (map type_of (a_string a ∷ a_string b ∷ vs))) (115 ∷ 115 ∷ []) (spelled_types (map type_of vs)) n refl)
+no_two _ n = refl
+
+pub first_other : (o : Order) (bytes body : List ℕ) (p : ℕ) (types : List Complete) (values : List Value) → IsBody o bytes body p types values → signature_fault bytes ≡ None → AreBytes body →
+    starts_with nat_eq bytes (115 ∷ []) ≡ false → None ≡ first_text_of values
+first_other o bytes body p types values b valid are n =
+    no_text values (ap (λ (s : List ℕ). starts_with nat_eq s (115 ∷ [])) (sym (signature_of_body o bytes body p types values b valid are)) ∙ n)
+
+pub two_other : (o : Order) (bytes body : List ℕ) (p : ℕ) (types : List Complete) (values : List Value) → IsBody o bytes body p types values → signature_fault bytes ≡ None → AreBytes body →
+    starts_with nat_eq bytes (115 ∷ 115 ∷ []) ≡ false → None ≡ two_of values
+two_other o bytes body p types values b valid are n =
+    no_two values (ap (λ (s : List ℕ). starts_with nat_eq s (115 ∷ 115 ∷ [])) (sym (signature_of_body o bytes body p types values b valid are)) ∙ n)
 
 -- ---- an array of strings
 

@@ -1,10 +1,9 @@
 -- Bodies, and the texts in them.
-use Rattle.std.specs.Prelude.{◌≡◌, ℕ, zero, suc, ◌+◌, ◌%◌, List, [], ◌∷◌, length, Option, Some, None, if◌then◌else◌, ◌==◌}
+use Rattle.std.specs.Prelude.{◌≡◌, ℕ, zero, suc, ◌+◌, ◌%◌, List, [], ◌∷◌, length, Option, Some, None, if◌then◌else◌}
 use Rattle.std.specs.Int.{w32}
 use Rattle.dbus_names.specs.Names.{is_empty}
 use Rattle.dbus_types.specs.Signature.{Complete, basic, string, spelled_types}
 use Rattle.dbus_values.specs.Values.{Value, a_string, an_array, Values, no_values, value}
-use Rattle.dbus_values.specs.Walk.{front_code}
 use Rattle.dbus_values.specs.Reading.{At, ◌>>=◌, some_bytes, aligned, a_width, text_at, values_at}
 use Rattle.dbus_values.specs.declared.Order.{Order}
 
@@ -25,6 +24,11 @@ HasBody order signature body = (place : ℕ) × (types : List Complete) × (valu
 abbrev pub first_text_of : List Value → Option (List ℕ)
 first_text_of (a_string text ∷ values) = Some text
 first_text_of _ = None
+
+-- the first two body values, where the signature begins with ss
+abbrev pub two_of : List Value → Option (List ℕ × List ℕ)
+two_of (a_string a ∷ a_string b ∷ values) = Some (a, b)
+two_of _ = None
 
 -- the texts of a body of signature sss
 abbrev pub three_of : List Value → Option (List ℕ × List ℕ × List ℕ)
@@ -67,17 +71,19 @@ elements_in order at = do
   x ← some_bytes n.0 first
   Some (record { place = first.place; bytes = x.0 })
 
+-- two strings one after the other, and what follows them
+abbrev pub two_at : Order → At → Option ((List ℕ × List ℕ) × At)
+two_at order at = do
+  a ← text_at order at
+  b ← text_at order a.1
+  Some ((a.0, b.0), b.1)
+
 -- three strings one after the other
 abbrev pub three_at : Order → At → Option (List ℕ × List ℕ × List ℕ)
 three_at order at = do
-  a ← text_at order at
-  b ← text_at order a.1
-  c ← text_at order b.1
-  Some (a.0, b.0, c.0)
+  two ← two_at order at
+  c ← text_at order two.1
+  Some (two.0.0, two.0.1, c.0)
 
 abbrev pub listed : List ℕ × List ℕ × List ℕ → List (List ℕ)
 listed x = x.0 ∷ x.1 ∷ x.2 ∷ []
-
--- a string, where the signature begins with s
-abbrev pub first_at : Order → List ℕ → At → Option (List ℕ)
-first_at order signature at = if front_code signature == 115 then (text_at order at >>= λ x. Some x.0) else None

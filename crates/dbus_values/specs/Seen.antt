@@ -17,3 +17,7 @@ number_seen x = (x.0, place_seen x.1)
 -- a text, and what follows it
 abbrev pub text_seen : Bor (List ℕ) × Cursor → List ℕ × At
 text_seen x = (x.0.now, place_seen x.1)
+
+-- two texts, and what follows them
+abbrev pub two_seen : (Bor (List ℕ) × Bor (List ℕ)) × Cursor → (List ℕ × List ℕ) × At
+two_seen x = ((x.0.0.now, x.0.1.now), place_seen x.1)

@@ -1,7 +1,7 @@
 //! D-Bus values: how one is spelled at a place of a message, how it is read from bytes, and the laws between the two.
 //!
 //! It is driven by `value_end`, which passes over the values of a signature; the texts of a body that was so passed over are read by `first_text`,
-//! `texts3` and `text_list`.
+//! `two_texts`, `texts3` and `text_list`.
 #![tactic(auto)]
 
 mod basic;
@@ -14,7 +14,7 @@ mod values;
 
 pub use laws::{read_values_are_spelled, spelled_values_are_read, unread_values_are_not_spelled};
 pub use steps::{is_zero, padding};
-pub use texts::{Texts, first_text, text_list, texts3};
+pub use texts::{Texts, first_text, text_list, texts3, two_texts};
 use thiserror::Error;
 pub use values::value_end;
 

@@ -3,16 +3,25 @@ ghost use Rattle.std.specs.Prelude.{◌≡◌, Some, None, IsSome, IfSome, ℕ, 
 ghost use Rattle.dbus_types.specs.Signature.{Complete};
 ghost use Rattle.dbus_values.specs.Values.{Value};
 ghost use Rattle.dbus_values.specs.Reading.{text_at};
-ghost use Rattle.dbus_values.specs.Bodies.{IsBody, HasBody, first_text_of, three_of, listed, three_at, list_in, elements_in, texts_in, texts_or_none};
-ghost use Rattle.dbus_values.specs.Seen.{place_seen, text_seen};
+ghost use Rattle.dbus_values.specs.Bodies.{IsBody, HasBody, first_text_of, two_of, three_of, listed, two_at, three_at, list_in, elements_in, texts_in, texts_or_none};
+ghost use Rattle.dbus_values.specs.Seen.{place_seen, text_seen, two_seen};
 
 use crate::Order;
-use crate::containers::front_code;
 use crate::cursor::Cursor;
 use dbus_types::Signature;
 use std::alloc::AllocError;
 use std::marker::Model;
 use std::str;
+
+// The start of a body. A valid body begins at a multiple of 8, so that its values are aligned as they are from 0 on.
+fn start(body: &[u8]) -> Cursor<'_>
+    ensures { place_seen result ≡ record { place = 0; bytes = body.now } }
+{
+    Cursor {
+        place: 0,
+        bytes: body,
+    }
+}
 
 /// The string that stands at the cursor, and the cursor behind it.
 pub(crate) fn text<'a>(order: Order, at: Cursor<'a>) -> (&'a str, Cursor<'a>)
@@ -25,13 +34,22 @@ pub(crate) fn text<'a>(order: Order, at: Cursor<'a>) -> (&'a str, Cursor<'a>)
     }
 }
 
+/// The two strings that stand at the cursor, and the cursor behind them.
+fn pair<'a>(order: Order, at: Cursor<'a>) -> ((&'a str, &'a str), Cursor<'a>)
+    requires { IsSome (two_at order (place_seen at)) }
+    ensures { Some (two_seen result) ≡ two_at order (place_seen at.entry) }
+{
+    let (first, at) = text(order, at);
+    let (second, behind) = text(order, at);
+    ((first, second), behind)
+}
+
 /// The three strings that stand at the cursor.
 fn three_texts<'a>(order: Order, at: Cursor<'a>) -> [&'a str; 3]
     requires { IsSome (three_at order (place_seen at)) }
     ensures { Some (map (λ t. t.now) result) ≡ option_map listed (three_at order (place_seen at.entry)) }
 {
-    let (first, at) = text(order, at);
-    let (second, at) = text(order, at);
+    let ((first, second), at) = pair(order, at);
     let (third, _) = text(order, at);
     [first, second, third]
 }
@@ -41,12 +59,24 @@ pub fn first_text<'a>(order: Order, signature: Signature<'_>, body: &'a [u8]) ->
     requires { HasBody order signature.bytes.now body.now }
     ensures { (place : ℕ) (types : List Complete) (values : List Value) → IsBody order signature.entry.bytes.now body.now place types values → option_map (λ t. t.now) result ≡ first_text_of values }
 {
-    let at = Cursor {
-        place: 0,
-        bytes: body,
-    };
-    if front_code(signature.as_bytes()) == b's' {
-        Some(text(order, at).0)
+    if signature.as_bytes().starts_with(b"s") {
+        Some(text(order, start(body)).0)
+    } else {
+        None
+    }
+}
+
+/// The first two values of a valid body, if both are strings: none exactly where its signature doesn't begin with `ss`.
+pub fn two_texts<'a>(
+    order: Order,
+    signature: Signature<'_>,
+    body: &'a [u8],
+) -> Option<(&'a str, &'a str)>
+    requires { HasBody order signature.bytes.now body.now }
+    ensures { (place : ℕ) (types : List Complete) (values : List Value) → IsBody order signature.entry.bytes.now body.now place types values → option_map (λ t. (t.0.now, t.1.now)) result ≡ two_of values }
+{
+    if signature.as_bytes().starts_with(b"ss") {
+        Some(pair(order, start(body)).0)
     } else {
         None
     }
@@ -57,11 +87,7 @@ pub fn texts3<'a>(order: Order, body: &'a [u8]) -> [&'a str; 3]
     requires { HasBody order (codes "sss") body.now }
     ensures { (place : ℕ) (types : List Complete) (values : List Value) → IsBody order (codes "sss") body.now place types values → option_map listed (three_of values) ≡ Some (map (λ t. t.now) result) }
 {
-    let at = Cursor {
-        place: 0,
-        bytes: body,
-    };
-    three_texts(order, at)
+    three_texts(order, start(body))
 }
 
 /// The strings of an array, one after the other.
@@ -143,11 +169,7 @@ fn elements(order: Order, body: &[u8]) -> Cursor<'_>
     requires { IsSome (elements_in order (record { place = 0; bytes = body.now })) }
     ensures { Some (place_seen result) ≡ elements_in order (record { place = 0; bytes = body.now }) }
 {
-    let at = Cursor {
-        place: 0,
-        bytes: body,
-    };
-    match array_elements(order, at) {
+    match array_elements(order, start(body)) {
         Some(elements) => elements,
         None => unreachable!(),
     }

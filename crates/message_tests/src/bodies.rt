@@ -5,35 +5,48 @@ use std::alloc::{AllocError, Global};
 use std::test::Fail;
 use test_tables::{plain, wrong_row};
 
-/// The byte order, the signature, a `-` for none, and the body of a return, and the text in front, the only text, the three
-/// texts and the list of texts that the body is.
+/// The byte order, the signature, a `-` for none, and the body of a return, and its first text, its first two texts, and the
+/// only text, the three texts and the list of texts that the body is.
 const BODIES: &str = "\
-l s %03~~~abc~ => Some(\"abc\") Some(\"abc\") None None
-B s ~~~%03abc~ => Some(\"abc\") Some(\"abc\") None None
-l s ~~~~~ => Some(\"\") Some(\"\") None None
-l s %02~~~%C3%A9~ => Some(\"é\") Some(\"é\") None None
-l ss %01~~~a~~~%01~~~b~ => Some(\"a\") None None None
-l sss %01~~~a~~~%01~~~b~~~%02~~~cd~ => Some(\"a\") None Some((\"a\", \"b\", \"cd\")) None
-B sss ~~~%01a~~~~~~%01b~~~~~~%02cd~ => Some(\"a\") None Some((\"a\", \"b\", \"cd\")) None
-l sss ~~~~~~~~~~~~~~~~~~~~~ => Some(\"\") None Some((\"\", \"\", \"\")) None
-l ssss %01~~~a~~~%01~~~b~~~%01~~~c~~~%01~~~d~ => Some(\"a\") None None None
-l su %01~~~a~~~%07~~~ => Some(\"a\") None None None
-B su ~~~%01a~~~~~~%07 => Some(\"a\") None None None
-l us %07~~~%01~~~a~ => None None None None
-l ssu %01~~~a~~~%01~~~b~~~%07~~~ => Some(\"a\") None None None
-l as %0F~~~%01~~~a~~~%02~~~bc~ => None None None Some([\"a\", \"bc\"])
-B as ~~~%0F~~~%01a~~~~~~%02bc~ => None None None Some([\"a\", \"bc\"])
-l as ~~~~ => None None None Some([])
-B as ~~~~ => None None None Some([])
-l asas ~~~~~~~~ => None None None None
-l sas %01~~~a~~~~~~~ => Some(\"a\") None None None
-l ao ~~~~ => None None None None
-l o %02~~~/p~ => None None None None
-l g %01s~ => None None None None
-l v %01s~~%01~~~a~ => None None None None
-l (s) %01~~~a~ => None None None None
-l - => None None None None
-B - => None None None None
+l s %03~~~abc~ => Some(\"abc\") None Some(\"abc\") None None
+B s ~~~%03abc~ => Some(\"abc\") None Some(\"abc\") None None
+l s ~~~~~ => Some(\"\") None Some(\"\") None None
+l s %02~~~%C3%A9~ => Some(\"é\") None Some(\"é\") None None
+l ss %01~~~a~~~%01~~~b~ => Some(\"a\") Some((\"a\", \"b\")) None None None
+B ss ~~~%01a~~~~~~%01b~ => Some(\"a\") Some((\"a\", \"b\")) None None None
+l ss %03~~~abc~%02~~~%C3%A9~ => Some(\"abc\") Some((\"abc\", \"é\")) None None None
+B ss ~~~%03abc~~~~%02%C3%A9~ => Some(\"abc\") Some((\"abc\", \"é\")) None None None
+l ss ~~~~~~~~~~~~~ => Some(\"\") Some((\"\", \"\")) None None None
+l ssv %01~~~a~~~%01~~~b~%01u~~~~%07~~~ => Some(\"a\") Some((\"a\", \"b\")) None None None
+B ssv ~~~%01a~~~~~~%01b~%01u~~~~~~~%07 => Some(\"a\") Some((\"a\", \"b\")) None None None
+l sss %01~~~a~~~%01~~~b~~~%02~~~cd~ => Some(\"a\") Some((\"a\", \"b\")) None Some((\"a\", \"b\", \"cd\")) None
+B sss ~~~%01a~~~~~~%01b~~~~~~%02cd~ => Some(\"a\") Some((\"a\", \"b\")) None Some((\"a\", \"b\", \"cd\")) None
+l sss ~~~~~~~~~~~~~~~~~~~~~ => Some(\"\") Some((\"\", \"\")) None Some((\"\", \"\", \"\")) None
+l ssss %01~~~a~~~%01~~~b~~~%01~~~c~~~%01~~~d~ => Some(\"a\") Some((\"a\", \"b\")) None None None
+l su %01~~~a~~~%07~~~ => Some(\"a\") None None None None
+B su ~~~%01a~~~~~~%07 => Some(\"a\") None None None None
+l us %07~~~%01~~~a~ => None None None None None
+B us ~~~%07~~~%01a~ => None None None None None
+l ssu %01~~~a~~~%01~~~b~~~%07~~~ => Some(\"a\") Some((\"a\", \"b\")) None None None
+l sus %01~~~a~~~%07~~~%01~~~b~ => Some(\"a\") None None None None
+l so %01~~~a~~~%02~~~/p~ => Some(\"a\") None None None None
+l os %02~~~/p~~%01~~~a~ => None None None None None
+l as %0F~~~%01~~~a~~~%02~~~bc~ => None None None None Some([\"a\", \"bc\"])
+B as ~~~%0F~~~%01a~~~~~~%02bc~ => None None None None Some([\"a\", \"bc\"])
+l as ~~~~ => None None None None Some([])
+B as ~~~~ => None None None None Some([])
+l asas ~~~~~~~~ => None None None None None
+l sas %01~~~a~~~~~~~ => Some(\"a\") None None None None
+l ao ~~~~ => None None None None None
+l o %02~~~/p~ => None None None None None
+l g %01s~ => None None None None None
+l v %01s~~%01~~~a~ => None None None None None
+l vs %01u~~%07~~~%01~~~a~ => None None None None None
+l (s) %01~~~a~ => None None None None None
+l (ss) %01~~~a~~~%01~~~b~ => None None None None None
+l s(s) %01~~~a~~~%01~~~b~ => Some(\"a\") None None None None
+l - => None None None None None
+B - => None None None None None
 ";
 
 /// A number as four bytes in an order.
@@ -97,10 +110,11 @@ fn told_bodies(alloc: Global, row: &str) -> Result<String, AllocError> {
 
 fn told_texts(alloc: Global, message: &Message<'_>) -> Result<String, AllocError> {
     let first = message.first_text();
+    let two = message.two_texts();
     let only = message.only_text();
     let three = message.three_texts();
     let list = told_list(alloc, message)?;
-    format!(in alloc; "{first:?} {only:?} {three:?} {list}")
+    format!(in alloc; "{first:?} {two:?} {only:?} {three:?} {list}")
 }
 
 fn told_list(alloc: Global, message: &Message<'_>) -> Result<String, AllocError> {

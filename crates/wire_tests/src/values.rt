@@ -1,6 +1,8 @@
 //! Where values end, and the texts of bodies.
+ghost use Rattle.dbus_values.specs.Bodies.{HasBody};
+
 use dbus_types::Signature;
-use dbus_values::{BadValue, Order, first_text, text_list, texts3, value_end};
+use dbus_values::{BadValue, Order, first_text, text_list, texts3, two_texts, value_end};
 use std::alloc::{AllocError, Global};
 use std::test::Fail;
 use test_tables::{plain, wrong_row};
@@ -122,6 +124,55 @@ fn told_texts(alloc: Global) -> Result<String, AllocError> {
     format!(in alloc; "{first}|{one}|{two}|{three}")
 }
 
+/// The first text and the first two texts of a valid body.
+fn told_first(
+    alloc: Global,
+    order: Order,
+    signature: &[u8],
+    body: &[u8],
+) -> Result<String, AllocError>
+    requires { HasBody order signature.now body.now }
+{
+    match Signature::read(signature) {
+        Ok(signature) => {
+            let first = first_text(order, signature, body);
+            let two = two_texts(order, signature, body);
+            format!(in alloc; "{first:?} {two:?}")
+        }
+        Err(_) => String::from_str(alloc, "no signature"),
+    }
+}
+
+/// The same of bodies in little order, one after the other.
+fn told_in_little(alloc: Global) -> Result<String, AllocError> {
+    let order = Order::Little;
+    let none = told_first(alloc, order, b"", b"")?;
+    let s = told_first(alloc, order, b"s", b"\x01\0\0\0a\0")?;
+    let ss = told_first(alloc, order, b"ss", b"\x01\0\0\0a\0\0\0\x02\0\0\0bc\0")?;
+    let su = told_first(alloc, order, b"su", b"\x01\0\0\0a\0\0\0\x07\0\0\0")?;
+    let us = told_first(alloc, order, b"us", b"\x07\0\0\0\x01\0\0\0a\0")?;
+    format!(in alloc; "{none}|{s}|{ss}|{su}|{us}")
+}
+
+/// The same of bodies in big order.
+fn told_in_big(alloc: Global) -> Result<String, AllocError> {
+    let order = Order::Big;
+    let s = told_first(alloc, order, b"s", b"\0\0\0\x01a\0")?;
+    let sss = told_first(
+        alloc,
+        order,
+        b"sss",
+        b"\0\0\0\x01a\0\0\0\0\0\0\0\0\0\0\0\0\0\0\x02bc\0",
+    )?;
+    let ssv = told_first(
+        alloc,
+        order,
+        b"ssv",
+        b"\0\0\0\x01a\0\0\0\0\0\0\x02bc\0\x01y\0\x07",
+    )?;
+    format!(in alloc; "{s}|{sss}|{ssv}")
+}
+
 /// The strings of a list, where one was taken from a clone of it.
 fn told_list(alloc: Global) -> Result<String, AllocError> {
     let list = b"\x0f\0\0\0\x01\0\0\0a\0\0\0\x02\0\0\0bc\0";
@@ -140,6 +191,19 @@ fn told_list(alloc: Global) -> Result<String, AllocError> {
 fn texts_of_a_body_are_lent(rt: HostRuntime) -> Result<(), Fail> {
     assert_eq!(rt; told_texts(rt.alloc())?.as_str(), "a|a||bc", "sss");
     assert_eq!(rt; told_list(rt.alloc())?.as_str(), "a a|bc|", "as");
+    Ok(())
+}
+
+#[test]
+fn first_texts_are_told_by_the_signature(rt: HostRuntime) -> Result<(), Fail> {
+    assert_eq!(rt;
+        told_in_little(rt.alloc())?.as_str(),
+        "None None|Some(\"a\") None|Some(\"a\") Some((\"a\", \"bc\"))|Some(\"a\") None|None None"
+    );
+    assert_eq!(rt;
+        told_in_big(rt.alloc())?.as_str(),
+        "Some(\"a\") None|Some(\"a\") Some((\"a\", \"\"))|Some(\"a\") Some((\"a\", \"bc\"))"
+    );
     Ok(())
 }
 
