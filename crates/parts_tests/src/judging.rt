@@ -33,6 +33,7 @@ call --see=org.a.T --call=org.a.T=org.a.I.B --call=org.a.T=org.a.I.C => Ping(Acc
 call --call=org.a.U=org.a.I.A --see=org.a.T => Ping(AccessDenied, OnlySee(2))
 call --broadcast=org.a.T=org.a.I.A@/p => Ping(AccessDenied, OnlySee(1))
 no_reply --broadcast=org.a.T=org.a.I.A@/p --call=org.a.T=org.a.I.B => Drop(NoRule(2))
+call --see=org.a.T --property=org.a.T=org.a.I.A@/p => Ping(AccessDenied, NoRule(2))
 call --see=org.a.* --talk=org.a.T => Pass
 call --talk=org.a.* --see=org.a.T => Pass
 call --own=org.a.T.* --see=org.a.T => Pass
@@ -51,6 +52,148 @@ path=/p interface=org.a.J member=A => Ping(AccessDenied, NoRule(2))
 path=/p member=A => Ping(AccessDenied, NoRule(2))
 path=/pq interface=org.a.J member=M => Pass
 path=/pq member=M => Ping(AccessDenied, NoRule(2))
+";
+
+/// Calls of `org.freedesktop.DBus.Properties` to `org.a.C`, which is seen and of which requests of `org.a.I.Volume@/p/*` and of
+/// all properties of `org.a.J` pass, and calls of `org.a.I.M`, and the verdict.
+const PROPERTIES: &str = "\
+call path=/p member=Get signature=ss text=org.a.I text=Volume => Pass
+call path=/p/q member=Get signature=ss text=org.a.I text=Volume => Pass
+call path=/p member=Set signature=ssv text=org.a.I text=Volume variant=7 => Pass
+call path=/p/q member=Set signature=ssv text=org.a.I text=Volume variant=7 => Pass
+no_reply path=/p member=Set signature=ssv text=org.a.I text=Volume variant=7 => Pass
+no_start path=/p member=Get signature=ss text=org.a.I text=Volume => Pass
+call path=/ member=Get signature=ss text=org.a.I text=Volume => Ping(AccessDenied, NoRule(2))
+call path=/pq member=Get signature=ss text=org.a.I text=Volume => Ping(AccessDenied, NoRule(2))
+call path=/ member=Set signature=ssv text=org.a.I text=Volume variant=7 => Ping(AccessDenied, NoRule(2))
+call path=/pq member=Set signature=ssv text=org.a.I text=Volume variant=7 => Ping(AccessDenied, NoRule(2))
+call path=/p member=Get signature=ss text=org.a.I text=Mute => Ping(AccessDenied, NoRule(2))
+call path=/p member=Set signature=ssv text=org.a.I text=Mute variant=7 => Ping(AccessDenied, NoRule(2))
+call path=/p member=Get signature=ss text=org.a.I text=volume => Ping(AccessDenied, NoRule(2))
+call path=/p member=Get signature=ss text=org.a.I text=Volum => Ping(AccessDenied, NoRule(2))
+call path=/p member=Get signature=ss text=org.a.I text=Volume2 => Ping(AccessDenied, NoRule(2))
+call path=/p member=Get signature=ss text=org.a.I text=Volume.Left => Ping(AccessDenied, NoRule(2))
+call path=/p member=Get signature=ss text=org.a text=I.Volume => Ping(AccessDenied, NoRule(2))
+call path=/p member=Get signature=ss text=org.a.I text= => Ping(AccessDenied, NoRule(2))
+call path=/p member=Get signature=ss text=org.a.I text=* => Ping(AccessDenied, NoRule(2))
+call path=/p member=Get signature=ss text=org.a.K text=Volume => Ping(AccessDenied, NoRule(2))
+call path=/p member=Get signature=ss text=org.a.I.J text=Volume => Ping(AccessDenied, NoRule(2))
+call path=/p member=Get signature=ss text=org.a text=Volume => Ping(AccessDenied, NoRule(2))
+call path=/p member=Get signature=ss text= text=Volume => Ping(AccessDenied, NoRule(2))
+call path=/p member=Get signature=ss text=no-interface text=Volume => Ping(AccessDenied, NoRule(2))
+call path=/p member=Get signature=ss text=Volume text=org.a.I => Ping(AccessDenied, NoRule(2))
+call path=/p member=Get signature=ss text=org.freedesktop.DBus.Properties text=Volume => Ping(AccessDenied, NoRule(2))
+call path=/pq member=Get signature=ss text=org.a.J text=Volume => Pass
+call path=/ member=Get signature=ss text=org.a.J text=Mute => Pass
+call path=/ member=Set signature=ssv text=org.a.J text=Mute variant=7 => Pass
+call path=/ member=Get signature=ss text=org.a.J text=Mute.Left => Pass
+call path=/ member=Get signature=ss text=org.a.J text= => Pass
+call path=/ member=Get signature=ss text=org.a text=J.Mute => Ping(AccessDenied, NoRule(2))
+call path=/ member=Get signature=ss text=org.a.J.K text=Mute => Ping(AccessDenied, NoRule(2))
+call path=/p member=GetAll signature=s text=org.a.I => Ping(AccessDenied, NoRule(2))
+call path=/pq member=GetAll signature=s text=org.a.J => Pass
+no_reply path=/p member=GetAll signature=s text=org.a.J => Pass
+call path=/p member=GetAll signature=s text= => Ping(AccessDenied, NoRule(2))
+call path=/p member=GetAll signature=s text=org.a.J.* => Ping(AccessDenied, NoRule(2))
+call path=/p member=GetAll signature=ss text=org.a.J text=Mute => Ping(AccessDenied, NoRule(2))
+call path=/p member=GetAll signature=ss text=org.a.I text=Volume => Ping(AccessDenied, NoRule(2))
+call path=/p member=GetAll signature=u number=7 => Ping(AccessDenied, NoRule(2))
+call path=/p member=GetAll => Ping(AccessDenied, NoRule(2))
+call path=/p member=Get signature=s text=org.a.J => Ping(AccessDenied, NoRule(2))
+call path=/p member=Get signature=sss text=org.a.I text=Volume text=x => Ping(AccessDenied, NoRule(2))
+call path=/p member=Get signature=sss text=org.a.J text=Mute text=x => Ping(AccessDenied, NoRule(2))
+call path=/p member=Get signature=ssv text=org.a.I text=Volume variant=7 => Ping(AccessDenied, NoRule(2))
+call path=/p member=Get signature=vs variant=7 text=Volume => Ping(AccessDenied, NoRule(2))
+call path=/p member=Get signature=(ss) text=org.a.J text=Mute => Ping(AccessDenied, NoRule(2))
+call path=/p member=Get signature=u number=7 => Ping(AccessDenied, NoRule(2))
+call path=/p member=Get => Ping(AccessDenied, NoRule(2))
+call path=/p member=Set signature=ss text=org.a.I text=Volume => Ping(AccessDenied, NoRule(2))
+call path=/p member=Set signature=ssu text=org.a.I text=Volume number=7 => Ping(AccessDenied, NoRule(2))
+call path=/p member=Set signature=ssu text=org.a.J text=Mute number=7 => Ping(AccessDenied, NoRule(2))
+call path=/p member=Set signature=ssvv text=org.a.J text=Mute variant=7 variant=7 => Ping(AccessDenied, NoRule(2))
+call path=/p member=Set => Ping(AccessDenied, NoRule(2))
+call path=/p member=PropertiesChanged signature=ss text=org.a.J text=Mute => Ping(AccessDenied, NoRule(2))
+call path=/p member=get signature=ss text=org.a.J text=Mute => Ping(AccessDenied, NoRule(2))
+call path=/p member=Gets signature=ss text=org.a.J text=Mute => Ping(AccessDenied, NoRule(2))
+call path=/p member=SetAll signature=s text=org.a.J => Ping(AccessDenied, NoRule(2))
+call path=/p member=M signature=ss text=org.a.J text=Mute => Ping(AccessDenied, NoRule(2))
+no_reply path=/p member=Get signature=ss text=org.a.I text=Mute => Drop(NoRule(2))
+no_reply path=/p member=Set signature=ssv text=org.a.I text=Mute variant=7 => Drop(NoRule(2))
+no_reply path=/p member=GetAll signature=s text=org.a.I => Drop(NoRule(2))
+no_start path=/p member=Get signature=ss text=org.a.I text=Mute => Ping(AccessDenied, NoRule(2))
+";
+
+/// Calls of other interfaces, and of none, to the same name, and the verdict.
+const NO_REQUESTS: &str = "\
+call path=/p member=Get signature=ss text=org.a.I text=Volume => Ping(AccessDenied, NoRule(2))
+call path=/p member=Set signature=ssv text=org.a.I text=Volume variant=7 => Ping(AccessDenied, NoRule(2))
+call path=/p member=GetAll signature=s text=org.a.J => Ping(AccessDenied, NoRule(2))
+call path=/p interface=org.a.I member=Get signature=ss text=org.a.I text=Volume => Ping(AccessDenied, NoRule(2))
+call path=/p interface=org.a.J member=Get signature=ss text=org.a.J text=Mute => Ping(AccessDenied, NoRule(2))
+call path=/p interface=org.a.J member=GetAll signature=s text=org.a.J => Ping(AccessDenied, NoRule(2))
+call path=/p interface=org.a.I member=Volume => Ping(AccessDenied, NoRule(2))
+call path=/p interface=org.freedesktop.DBus.Propertie member=Get signature=ss text=org.a.J text=Mute => Ping(AccessDenied, NoRule(2))
+call path=/p interface=org.freedesktop.DBus.Properties2 member=Get signature=ss text=org.a.J text=Mute => Ping(AccessDenied, NoRule(2))
+call path=/p interface=org.freedesktop.DBus.properties member=Set signature=ssv text=org.a.J text=Mute variant=7 => Ping(AccessDenied, NoRule(2))
+call path=/p interface=org.freedesktop.DBus member=GetAll signature=s text=org.a.J => Ping(AccessDenied, NoRule(2))
+no_reply path=/p interface=org.a.I member=Get signature=ss text=org.a.I text=Volume => Drop(NoRule(2))
+call path=/pq interface=org.a.I member=M signature=ss text=org.a.K text=Mute => Pass
+";
+
+/// The flags of a call that requests `org.a.I.Volume` of `org.a.T` at `/p`, and the words of a policy, and the verdict.
+const REQUESTS: &str = "\
+call --property=org.a.T=org.a.I.Volume => Pass
+call --property=org.a.*=org.a.I.Volume => Pass
+call --property=org.a.*=org.a.I.*@/* --see=org.a.T => Pass
+both --see=org.a.T --property=org.a.T=org.a.I.Volume@/p => Pass
+call --property=org.a.T=org.a.I.Mute --property=org.a.T=org.a.I.Volume => Pass
+call --property=org.a.T=org.a.I.Volume@/q --property=org.a.T=org.a.I.*@/p => Pass
+call --call=org.a.T=org.freedesktop.DBus.Properties.Get => Pass
+call --property=org.a.T=org.a.I.Mute --call=org.a.T=org.freedesktop.DBus.Properties.* => Pass
+call --see=org.a.T --property=org.a.T=org.a.I.Mute => Ping(AccessDenied, NoRule(2))
+no_reply --see=org.a.T --property=org.a.T=org.a.I.Mute => Drop(NoRule(2))
+call --property=org.a.T=org.a.I.Mute --see=org.a.T --call=org.a.T=org.a.I.M => Ping(AccessDenied, NoRule(1))
+call --see=org.a.T --property=org.a.T=org.a.I.Mute --call=org.a.T=org.a.I.M => Ping(AccessDenied, NoRule(2))
+call --see=org.a.T --call=org.a.T=org.a.I.M --property=org.a.T=org.a.I.Mute => Ping(AccessDenied, NoRule(2))
+call --see=org.a.T --broadcast=org.a.T=* --property=org.a.T=org.a.I.Mute --property=org.a.T=org.a.J.* => Ping(AccessDenied, NoRule(3))
+call --property=org.a.U=org.a.I.* --see=org.a.T --property=org.a.T=org.a.I.Mute => Ping(AccessDenied, NoRule(3))
+call --see=org.a.* --see=org.a.T --property=org.a.*=org.a.I.Mute => Ping(AccessDenied, NoRule(3))
+call --property=org.a.T=org.a.I.Volume@/q => Ping(AccessDenied, NoRule(1))
+call --property=org.a.T=org.freedesktop.DBus.Properties.Get => Ping(AccessDenied, NoRule(1))
+call --call=org.a.T=org.a.I.Volume => Ping(AccessDenied, NoRule(1))
+call --call=org.a.T=org.freedesktop.DBus.Properties.Set => Ping(AccessDenied, NoRule(1))
+call --broadcast=org.a.T=org.a.I.Volume => Ping(AccessDenied, OnlySee(1))
+call --see=org.a.T --property=org.a.U=org.a.I.Volume => Ping(AccessDenied, OnlySee(1))
+call --property=org.a.U=org.a.I.Volume --see=org.a.T => Ping(AccessDenied, OnlySee(2))
+call --property=org.a.U=org.a.I.Volume => Ping(ServiceUnknown, NotVisible)
+no_start --property=org.a.U=org.a.I.Volume => Ping(NameHasNoOwner, NotVisible)
+no_reply --property=org.a.U=org.a.I.Volume => Drop(NotVisible)
+call --talk=org.a.T --property=org.a.T=org.a.I.Mute => Pass
+call --property=org.a.T=org.a.I.Mute --talk=org.a.T => Pass
+call --property=org.a.T=org.a.I.Mute --own=org.a.* => Pass
+call --known-fields --property=org.a.T=org.a.I.Volume => Pass
+";
+
+/// Messages where a Property entry of number 8 speaks of `org.a.I.Volume` of `org.a.See`, which `:1.1` owns, and the verdict.
+const OWNERS_PROPERTIES: &str = "\
+call path=/p interface=org.freedesktop.DBus.Properties member=Get to=:1.1 signature=ss text=org.a.I text=Volume => Pass
+call path=/p interface=org.freedesktop.DBus.Properties member=Set to=:1.1 signature=ssv text=org.a.I text=Volume variant=7 => Pass
+call path=/p interface=org.freedesktop.DBus.Properties member=Get to=org.a.See signature=ss text=org.a.I text=Volume => Pass
+call path=/p interface=org.freedesktop.DBus.Properties member=Get to=:1.1 signature=ss text=org.a.I text=Mute => Ping(AccessDenied, NoRule(8))
+call path=/p interface=org.freedesktop.DBus.Properties member=GetAll to=:1.1 signature=s text=org.a.I => Ping(AccessDenied, NoRule(8))
+call path=/p interface=org.freedesktop.DBus.Properties member=Get to=org.a.See signature=ss text=org.a.I text=Mute => Ping(AccessDenied, NoRule(8))
+no_reply path=/p interface=org.freedesktop.DBus.Properties member=Get to=:1.1 signature=ss text=org.a.I text=Mute => Drop(NoRule(8))
+call path=/p interface=org.a.I member=Volume to=:1.1 => Ping(AccessDenied, NoRule(8))
+signal path=/p interface=org.freedesktop.DBus.Properties member=Get to=:1.1 signature=ss text=org.a.I text=Volume => Drop(OnlySee(1))
+call path=/p interface=org.freedesktop.DBus.Properties member=Get to=:1.2 signature=ss text=org.a.I text=Mute => Pass
+call path=/p interface=org.freedesktop.DBus.Properties member=Get to=:1.4 signature=ss text=org.a.I text=Volume => Ping(AccessDenied, NoRule(5))
+call path=/p interface=org.freedesktop.DBus.Properties member=Get to=:1.5 signature=ss text=org.a.I text=Volume => Ping(AccessDenied, OnlySee(0))
+call path=/p interface=org.freedesktop.DBus.Properties member=Get to=:1.7 signature=ss text=org.a.I text=Volume => Ping(AccessDenied, OnlySee(7))
+call path=/p interface=org.freedesktop.DBus.Properties member=Get to=:1.9 signature=ss text=org.a.I text=Volume => Ping(NameHasNoOwner, NotVisible)
+call path=/p interface=org.freedesktop.DBus.Properties member=Get to=org.a.No signature=ss text=org.a.I text=Volume => Ping(ServiceUnknown, NotVisible)
+call path=/p interface=org.freedesktop.DBus.Properties member=Get to=org.freedesktop.DBus signature=ss text=org.a.I text=Mute => Pass
+call path=/p interface=org.freedesktop.DBus.Properties member=Set signature=ssv text=org.a.I text=Mute variant=7 => Pass
+call path=/p member=Get to=org.freedesktop.DBus signature=ss text=org.a.I text=Volume => Ping(AccessDenied, BusMember)
 ";
 
 /// Members of the bus, and the verdicts on a call of each of which the text is a hidden name, a seen one, one that may be
@@ -243,6 +386,31 @@ fn told_rule(alloc: Global, row: &str) -> Result<String, AllocError> {
     told(alloc, &nothing(alloc, words)?, &row)
 }
 
+fn told_property(alloc: Global, row: &str) -> Result<String, AllocError> {
+    let row = format!(in alloc; "{row} interface=org.freedesktop.DBus.Properties")?;
+    told_no_request(alloc, &row)
+}
+
+fn told_no_request(alloc: Global, row: &str) -> Result<String, AllocError> {
+    let words = "--see=org.a.C --property=org.a.C=org.a.I.Volume@/p/* --call=org.a.C=org.a.I.M \
+        --property=org.a.C=org.a.J.*";
+    let row = format!(in alloc; "{row} to=org.a.C")?;
+    told(alloc, &nothing(alloc, words)?, &row)
+}
+
+fn told_request(alloc: Global, row: &str) -> Result<String, AllocError> {
+    let (kind, words) = row.split_once(' ').unwrap_or((row, ""));
+    let row = format!(in alloc;
+        "{kind} path=/p interface=org.freedesktop.DBus.Properties member=Get to=org.a.T signature=ss text=org.a.I text=Volume"
+    )?;
+    told(alloc, &nothing(alloc, words)?, &row)
+}
+
+fn told_with_a_property(alloc: Global, row: &str) -> Result<String, AllocError> {
+    let known = everything_under(alloc, "--property=org.a.See=org.a.I.Volume")?;
+    told(alloc, &known, row)
+}
+
 fn told_other(alloc: Global, row: &str) -> Result<String, AllocError> {
     told(alloc, &everything(alloc)?, row)
 }
@@ -311,6 +479,23 @@ fn calls_are_judged_by_the_entries_of_their_name(rt: HostRuntime) -> Result<(), 
 #[test]
 fn rules_are_asked_of_path_interface_and_member(rt: HostRuntime) -> Result<(), Fail> {
     assert_eq!(rt; wrong_row(rt.alloc(), RULES, &told_rule)?, None);
+    Ok(())
+}
+
+#[test]
+fn property_rules_are_asked_of_path_and_body(rt: HostRuntime) -> Result<(), Fail> {
+    assert_eq!(rt; wrong_row(rt.alloc(), PROPERTIES, &told_property)?, None);
+    assert_eq!(rt; wrong_row(rt.alloc(), NO_REQUESTS, &told_no_request)?, None);
+    Ok(())
+}
+
+#[test]
+fn property_requests_are_judged_by_the_entries_of_their_name(rt: HostRuntime) -> Result<(), Fail> {
+    assert_eq!(rt; wrong_row(rt.alloc(), REQUESTS, &told_request)?, None);
+    assert_eq!(rt;
+        wrong_row(rt.alloc(), OWNERS_PROPERTIES, &told_with_a_property)?,
+        None
+    );
     Ok(())
 }
 

@@ -77,7 +77,7 @@ fn add_signature(fields: &mut Vec<u8>, signature: &str) -> Result<(), AllocError
     Ok(())
 }
 
-/// Adds the value that a word tells, if it tells one: a string, a number or an empty list.
+/// Adds the value that a word tells, if it tells one: a string, a number, a variant of a number or an empty list.
 fn add_value(body: &mut Vec<u8>, key: &str, value: &str) -> Result<(), AllocError> {
     match key {
         "text" => {
@@ -85,6 +85,11 @@ fn add_value(body: &mut Vec<u8>, key: &str, value: &str) -> Result<(), AllocErro
             add_string(body, value)
         }
         "number" => {
+            pad(body, 4)?;
+            body.extend_from_slice(&number(value.parse().unwrap_or(0)))
+        }
+        "variant" => {
+            body.extend_from_slice(b"\x01u\0")?;
             pad(body, 4)?;
             body.extend_from_slice(&number(value.parse().unwrap_or(0)))
         }

@@ -1,5 +1,5 @@
 -- The word of an entry that a word can give gives that entry again.
-use Rattle.std.proofs.Common.{◌≡◌, ℕ, suc, ◌+◌, Bool, true, false, cond, List, [], ◌∷◌, ◌++◌, length, take, drop, Some, None, Result, Ok, refl, sym, ap, ◌∙◌, arith, inl, inr}
+use Rattle.std.proofs.Common.{◌≡◌, ℕ, suc, ◌+◌, Bool, true, false, cond, List, [], ◌∷◌, ◌++◌, length, take, drop, Option, Some, None, Result, Ok, refl, sym, ap, ◌∙◌, arith, inl, inr}
 use Rattle.std.specs.Prelude.{codes, not, ◌==◌, ◌||◌, ◌&&◌, ◌⊎◌, nat_le}
 use Rattle.std.specs.List.{list_all, list_any, onto_first, before_first, after_first, position_or_len}
 use Rattle.std.proofs.lemmas.List.{take_at}
@@ -8,10 +8,11 @@ use Rattle.dbus_names.specs.Names.{are_joined, is_bus_byte, is_bus_element, is_s
 use Rattle.dbus_names.proofs.Texts.{elements-bytes}
 use Rattle.name_patterns.specs.Patterns.{Pattern, is_pattern, is_subtree_name, pattern_of, pattern_text}
 use Rattle.name_patterns.proofs.PatternLaws.{pattern_of-text}
+use Rattle.call_rules.specs.Properties.{PropertyRule, property_rule_of}
 use Rattle.call_rules.specs.Rules.{Rule, rule_of}
 use Rattle.policy_args.specs.declared.WordKind.TheVariants.{BadName, BadRule}
 use Rattle.policy_args.specs.declared.entry.Grant.{Grant}
-use Rattle.policy_args.specs.declared.entry.Grant.TheVariants.{See as to_see, Talk as to_talk, Own as to_own, Call as to_call, Broadcast as to_broadcast}
+use Rattle.policy_args.specs.declared.entry.Grant.TheVariants.{See as to_see, Talk as to_talk, Own as to_own, Call as to_call, Broadcast as to_broadcast, Property as to_property}
 use Rattle.policy_args.specs.declared.entry.Entry.{Entry}
 use Rattle.policy_args.specs.Policy.{InGrammar, entry_word}
 use Rattle.policy_args.specs.Words.{◌>>=◌, or_kind, name_entry, is_equals, rule_entry, entry_of}
@@ -108,25 +109,28 @@ then_ok r f x z e k = ap (λ (q : Result _ _). q >>= f) e ∙ k
 name_again : (p : Pattern) (grant : Grant) → is_pattern p ≡ true → name_entry grant (pattern_text p) ≡ Ok (record { pattern = p; grant = grant })
 name_again p grant e = then_ok _ (λ q. Ok (record { pattern = q; grant = grant })) p _ (ap (or_kind BadName) (pattern_of-text p e)) refl
 
-rule_again : (p : Pattern) (grant : Rule → Grant) (r : Rule) → is_pattern p ≡ true → rule_of r.text ≡ Some r → rule_entry grant (pattern_text p ++ 61 ∷ r.text) ≡ Ok (record { pattern = p; grant = grant r })
-rule_again p grant r e k =
-    let q = cut_at (pattern_text p) r.text (text_other p e) in
-    let text = pattern_text p ++ 61 ∷ r.text in
-    then_ok _ (λ x. or_kind BadRule (cond (list_any is_equals text) (rule_of (after_first is_equals text)) None) >>= λ y. Ok (record { pattern = x; grant = grant y })) p _
+rule_again : {R : Type 0} (read : List ℕ → Option R) (p : Pattern) (grant : R → Grant) (r : R) (rule : List ℕ) → is_pattern p ≡ true → read rule ≡ Some r →
+    rule_entry read grant (pattern_text p ++ 61 ∷ rule) ≡ Ok (record { pattern = p; grant = grant r })
+rule_again read p grant r rule e k =
+    let q = cut_at (pattern_text p) rule (text_other p e) in
+    let text = pattern_text p ++ 61 ∷ rule in
+    then_ok _ (λ x. or_kind BadRule (cond (list_any is_equals text) (read (after_first is_equals text)) None) >>= λ y. Ok (record { pattern = x; grant = grant y })) p _
     (ap (λ (t : List ℕ). or_kind BadName (pattern_of t)) q.before ∙ ap (or_kind BadName) (pattern_of-text p e))
     (then_ok _ (λ y. Ok (record { pattern = p; grant = grant y })) r _
-    (ap (λ (b : Bool). or_kind BadRule (cond b (rule_of (after_first is_equals text)) None)) q.stands ∙ ap (λ (t : List ℕ). or_kind BadRule (rule_of t)) q.after ∙ ap (or_kind BadRule) k) refl)
+    (ap (λ (b : Bool). or_kind BadRule (cond b (read (after_first is_equals text)) None)) q.stands ∙ ap (λ (t : List ℕ). or_kind BadRule (read t)) q.after ∙ ap (or_kind BadRule) k) refl)
 
 -- with entry_word-entry_of: words give one entry exactly where they are equal byte for byte
 pub entry_of-entry_word : (e : Entry) → InGrammar e → entry_of (entry_word e) ≡ Ok e
-entry_of-entry_word e g = by_word e.grant g.rule
+entry_of-entry_word e g = by_word e.grant g.rule g.property_rule
   where
     of : Grant → Entry
     of grant = record { pattern = e.pattern; grant = grant }
 
-    by_word : (grant : Grant) → ((r : Rule) → (grant ≡ to_call r) ⊎ (grant ≡ to_broadcast r) → rule_of r.text ≡ Some r) → entry_of (entry_word (of grant)) ≡ Ok (of grant)
-    by_word to_see h = name_again e.pattern to_see g.pattern
-    by_word to_talk h = name_again e.pattern to_talk g.pattern
-    by_word to_own h = name_again e.pattern to_own g.pattern
-    by_word (to_call r) h = rule_again e.pattern to_call r g.pattern (h r (inl refl))
-    by_word (to_broadcast r) h = rule_again e.pattern to_broadcast r g.pattern (h r (inr refl))
+    by_word : (grant : Grant) → ((r : Rule) → (grant ≡ to_call r) ⊎ (grant ≡ to_broadcast r) → rule_of r.text ≡ Some r) →
+        ((r : PropertyRule) → grant ≡ to_property r → property_rule_of r.text ≡ Some r) → entry_of (entry_word (of grant)) ≡ Ok (of grant)
+    by_word to_see h k = name_again e.pattern to_see g.pattern
+    by_word to_talk h k = name_again e.pattern to_talk g.pattern
+    by_word to_own h k = name_again e.pattern to_own g.pattern
+    by_word (to_call r) h k = rule_again rule_of e.pattern to_call r r.text g.pattern (h r (inl refl))
+    by_word (to_broadcast r) h k = rule_again rule_of e.pattern to_broadcast r r.text g.pattern (h r (inr refl))
+    by_word (to_property r) h k = rule_again property_rule_of e.pattern to_property r r.text g.pattern (k r refl)

@@ -7,18 +7,22 @@ use Rattle.dbus_names.specs.Texts.{behind}
 use Rattle.dbus_names.proofs.Texts.{behind_is}
 use Rattle.name_patterns.specs.Patterns.{Pattern, pattern_of, pattern_text}
 use Rattle.name_patterns.proofs.PatternLaws.{pattern_of-is}
+use Rattle.call_rules.specs.Properties.{PropertyRule, property_rule_of, property_rule_in, of_interface}
 use Rattle.call_rules.specs.Rules.{Rule, rule_of}
 use Rattle.call_rules.proofs.RuleLaws.{rule_of-text}
 use Rattle.policy_args.specs.declared.WordKind.{WordKind}
 use Rattle.policy_args.specs.declared.WordKind.TheVariants.{BadName, BadRule}
 use Rattle.policy_args.specs.declared.entry.Grant.{Grant}
-use Rattle.policy_args.specs.declared.entry.Grant.TheVariants.{See as to_see, Talk as to_talk, Own as to_own, Call as to_call, Broadcast as to_broadcast}
+use Rattle.policy_args.specs.declared.entry.Grant.TheVariants.{See as to_see, Talk as to_talk, Own as to_own, Call as to_call, Broadcast as to_broadcast, Property as to_property}
 use Rattle.policy_args.specs.declared.entry.Entry.{Entry}
 use Rattle.policy_args.specs.Policy.{entry_word}
 use Rattle.policy_args.specs.Words.{◌>>=◌, or_kind, name_entry, is_equals, rule_entry, where_front, entry_of}
 
 abbrev ok : {A : Type 0} → A → Result A WordKind
 ok x = Ok x
+
+abbrev some : {A : Type 0} → A → Option A
+some x = Some x
 
 -- a text with '=' is what stands before it, '=', and what follows it
 cut_at_equals : (text : List ℕ) → list_any is_equals text ≡ true → before_first is_equals text ++ 61 ∷ after_first is_equals text ≡ text
@@ -48,6 +52,9 @@ result_bind (Err d) f y e k = absurd cc
 ok_is : {A : Type 0} (x y : A) → ok x ≡ ok y → x ≡ y
 ok_is x y e = cc
 
+some_is : {A : Type 0} (x y : A) → some x ≡ some y → x ≡ y
+some_is x y e = cc
+
 or_kind_is : {A : Type 0} (kind : WordKind) (o : Option A) (x : A) → or_kind kind o ≡ Ok x → o ≡ Some x
 or_kind_is kind None x e = absurd cc
 or_kind_is kind (Some y) x e = ap (λ z. Some z) (ok_is y x e)
@@ -58,19 +65,31 @@ name_entry_is grant front h name e r =
     result_bind (or_kind BadName (pattern_of name)) (λ p. Ok (record { pattern = p; grant = grant })) e r (λ p ep e1.
     ap entry_word (sym (ok_is (record { pattern = p; grant = grant }) e e1)) ∙ h p ∙ ap (λ (t : List ℕ). front ++ t) (pattern_of-is name p (or_kind_is BadName (pattern_of name) p ep)))
 
+-- a rule of properties keeps the text that says it
+property_rule_of-text : (text : List ℕ) (r : PropertyRule) → property_rule_of text ≡ Some r → r.text ≡ text
+property_rule_of-text text r e = go (rule_of text) refl e
+  where
+    kept : (rule : Rule) → rule.text ≡ text → (i : Option (List ℕ)) → of_interface rule i ≡ Some r → r.text ≡ text
+    kept rule same None e = absurd cc
+    kept rule same (Some i) e = ap (λ (q : PropertyRule). q.text) (sym (some_is (record { text = rule.text; interface = i; property = rule.member; path = rule.path; below = rule.below }) r e)) ∙ same
+
+    go : (o : Option Rule) → rule_of text ≡ o → property_rule_in o ≡ Some r → r.text ≡ text
+    go None is e = absurd cc
+    go (Some rule) is e = kept rule (rule_of-text text rule is) rule.interface e
+
 -- NAME=RULE
-rule_entry_is : (grant : Rule → Grant) (front : List ℕ) (h : (p : Pattern) (r : Rule) → entry_word (record { pattern = p; grant = grant r }) ≡ front ++ (pattern_text p ++ 61 ∷ r.text)) (text : List ℕ) (e : Entry) → rule_entry grant text ≡ Ok e → entry_word e ≡ front ++ text
-rule_entry_is grant front h text e k =
-    result_bind (or_kind BadName (pattern_of (before_first is_equals text))) (λ p. or_kind BadRule (cond (list_any is_equals text) (rule_of (after_first is_equals text)) None) >>= λ r. Ok (record { pattern = p; grant = grant r })) e k (λ p ep k1.
-    result_bind (or_kind BadRule (cond (list_any is_equals text) (rule_of (after_first is_equals text)) None)) (λ r. Ok (record { pattern = p; grant = grant r })) e k1 (λ r er k2.
+rule_entry_is : {R : Type 0} (read : List ℕ → Option R) (text_of : R → List ℕ) (spelled : (text : List ℕ) (r : R) → read text ≡ Some r → text_of r ≡ text) (grant : R → Grant) (front : List ℕ) (h : (p : Pattern) (r : R) → entry_word (record { pattern = p; grant = grant r }) ≡ front ++ (pattern_text p ++ 61 ∷ text_of r)) (text : List ℕ) (e : Entry) → rule_entry read grant text ≡ Ok e → entry_word e ≡ front ++ text
+rule_entry_is read text_of spelled grant front h text e k =
+    result_bind (or_kind BadName (pattern_of (before_first is_equals text))) (λ p. or_kind BadRule (cond (list_any is_equals text) (read (after_first is_equals text)) None) >>= λ r. Ok (record { pattern = p; grant = grant r })) e k (λ p ep k1.
+    result_bind (or_kind BadRule (cond (list_any is_equals text) (read (after_first is_equals text)) None)) (λ r. Ok (record { pattern = p; grant = grant r })) e k1 (λ r er k2.
     let name : pattern_text p ≡ before_first is_equals text = pattern_of-is (before_first is_equals text) p (or_kind_is BadName (pattern_of (before_first is_equals text)) p ep) in
-    let rule = found (list_any is_equals text) refl r (or_kind_is BadRule (cond (list_any is_equals text) (rule_of (after_first is_equals text)) None) r er) in
+    let rule = found (list_any is_equals text) refl r (or_kind_is BadRule (cond (list_any is_equals text) (read (after_first is_equals text)) None) r er) in
     ap entry_word (sym (ok_is (record { pattern = p; grant = grant r }) e k2)) ∙ h p r
-    ∙ ap (λ (t : List ℕ). front ++ (t ++ 61 ∷ r.text)) name ∙ ap (λ (t : List ℕ). front ++ (before_first is_equals text ++ 61 ∷ t)) rule.1
+    ∙ ap (λ (t : List ℕ). front ++ (t ++ 61 ∷ text_of r)) name ∙ ap (λ (t : List ℕ). front ++ (before_first is_equals text ++ 61 ∷ t)) rule.1
     ∙ ap (λ (t : List ℕ). front ++ t) (cut_at_equals text rule.0)))
   where
-    found : (b : Bool) → list_any is_equals text ≡ b → (r : Rule) → cond b (rule_of (after_first is_equals text)) None ≡ Some r → (list_any is_equals text ≡ true) × (r.text ≡ after_first is_equals text)
-    found true q r m = (q, rule_of-text (after_first is_equals text) r m)
+    found : (b : Bool) → list_any is_equals text ≡ b → (r : _) → cond b (read (after_first is_equals text)) None ≡ Some r → (list_any is_equals text ≡ true) × (text_of r ≡ after_first is_equals text)
+    found true q r m = (q, spelled (after_first is_equals text) r m)
     found false q r m = absurd cc
 
 -- one front of the table
@@ -87,6 +106,7 @@ entry_word-entry_of w e k =
     front_is (codes "--see=") w (name_entry to_see) _ e (λ t r. name_entry_is to_see (codes "--see=") (λ p. refl) t e r)
     (front_is (codes "--talk=") w (name_entry to_talk) _ e (λ t r. name_entry_is to_talk (codes "--talk=") (λ p. refl) t e r)
     (front_is (codes "--own=") w (name_entry to_own) _ e (λ t r. name_entry_is to_own (codes "--own=") (λ p. refl) t e r)
-    (front_is (codes "--call=") w (rule_entry to_call) _ e (λ t r. rule_entry_is to_call (codes "--call=") (λ p r. refl) t e r)
-    (front_is (codes "--broadcast=") w (rule_entry to_broadcast) _ e (λ t r. rule_entry_is to_broadcast (codes "--broadcast=") (λ p r. refl) t e r)
-    (λ m. absurd cc))))) k
+    (front_is (codes "--call=") w (rule_entry rule_of to_call) _ e (λ t r. rule_entry_is rule_of (λ r. r.text) rule_of-text to_call (codes "--call=") (λ p r. refl) t e r)
+    (front_is (codes "--broadcast=") w (rule_entry rule_of to_broadcast) _ e (λ t r. rule_entry_is rule_of (λ r. r.text) rule_of-text to_broadcast (codes "--broadcast=") (λ p r. refl) t e r)
+    (front_is (codes "--property=") w (rule_entry property_rule_of to_property) _ e (λ t r. rule_entry_is property_rule_of (λ r. r.text) property_rule_of-text to_property (codes "--property=") (λ p r. refl) t e r)
+    (λ m. absurd cc)))))) k

@@ -2,42 +2,58 @@
 use Rattle.std.proofs.Common.{◌≡◌, ℕ, suc, ◌+◌, Bool, true, false, not, cond, ◌||◌, List, [], ◌∷◌, length, Option, Some, None, Result, Ok, Err, refl, ap, sym, ◌∙◌, arith}
 use Rattle.std.specs.List.{list_any, before_first, after_first, position_or_len}
 use Rattle.name_patterns.specs.Patterns.{Pattern, pattern_of}
-use Rattle.call_rules.specs.Rules.{Rule, rule_of}
+use Rattle.call_rules.specs.declared.BadRule.{BadRule as RuleRefusal}
+use Rattle.call_rules.specs.declared.BadRule.TheVariants.{Form, Memory as NoRoom}
 use Rattle.policy_args.specs.declared.entry.Grant.{Grant}
 use Rattle.policy_args.specs.declared.entry.Entry.{Entry}
 use Rattle.policy_args.specs.declared.WordKind.{WordKind}
 use Rattle.policy_args.specs.declared.WordKind.TheVariants.{BadName, BadRule}
 use Rattle.policy_args.specs.declared.refusals.WordRefusal.{WordRefusal}
 use Rattle.policy_args.specs.declared.refusals.WordRefusal.TheVariants.{Bad, Memory}
-use Rattle.policy_args.specs.Gives.{StepFails}
+use Rattle.policy_args.specs.Gives.{StepFails, refusal_of_rule}
 use Rattle.policy_args.specs.Words.{◌>>=◌, or_kind, is_equals, rule_entry, where_front}
-use Rattle.policy_args.specs.Steps.{name_and_rule, rule_behind, rule_in}
+use Rattle.policy_args.specs.Steps.{name_and_rule, rule_behind}
 
-rule_step : (b : Bool) (text : List ℕ) → or_kind BadRule (cond b (rule_of text) None) ≡ rule_in (cond b (Some text) None)
-rule_step true text = refl
-rule_step false text = refl
+abbrev both_ok : Pattern → List ℕ → Result (Pattern × List ℕ) WordKind
+both_ok p rule = Ok (p, rule)
 
-abbrev entry_ok : (Rule → Grant) → Pattern → Rule → Result Entry WordKind
-entry_ok grant p r = Ok (record { pattern = p; grant = grant r })
+module _ {R : Type 0} (read : List ℕ → Option R) (grant : R → Grant) where
+  abbrev entry_ok : Pattern → R → Result Entry WordKind
+  entry_ok p r = Ok (record { pattern = p; grant = grant r })
 
-abbrev both_ok : Pattern → Rule → Result (Pattern × Rule) WordKind
-both_ok p r = Ok (p, r)
+  -- the entry of a NAME and the text of a RULE
+  abbrev with_rule : Pattern × List ℕ → Result Entry WordKind
+  with_rule x = or_kind BadRule (read x.1) >>= λ r. entry_ok x.0 r
 
-named : (grant : Rule → Grant) (p : Result Pattern WordKind) (r : Result Rule WordKind) →
-    (p >>= λ p. r >>= λ r. entry_ok grant p r) ≡ ((p >>= λ p. r >>= λ r. both_ok p r) >>= λ x. entry_ok grant x.0 x.1)
-named grant (Ok p) (Ok r) = refl
-named grant (Ok p) (Err k) = refl
-named grant (Err k) r = refl
+  parts_step : (p : Result Pattern WordKind) (b : Bool) (rule : List ℕ) →
+      (p >>= λ p. or_kind BadRule (cond b (read rule) None) >>= λ r. entry_ok p r)
+      ≡ ((p >>= λ p. or_kind BadRule (cond b (Some rule) None) >>= λ rule. both_ok p rule) >>= with_rule)
+  parts_step (Ok p) true rule = refl
+  parts_step (Ok p) false rule = refl
+  parts_step (Err k) b rule = refl
 
--- the entry of NAME=RULE, by its two parts
-pub rule_entry-parts : (grant : Rule → Grant) (text : List ℕ) → rule_entry grant text ≡ (name_and_rule text >>= λ x. Ok (record { pattern = x.0; grant = grant x.1 }))
-rule_entry-parts grant text =
-    ap (λ r. or_kind BadName (pattern_of (before_first is_equals text)) >>= λ p. r >>= λ r. Ok (record { pattern = p; grant = grant r })) (rule_step (list_any is_equals text) (after_first is_equals text))
-    ∙ named grant (or_kind BadName (pattern_of (before_first is_equals text))) (rule_in (rule_behind text))
+  -- the entry of NAME=RULE, by its two parts
+  rule_entry-parts : (text : List ℕ) → rule_entry read grant text ≡ (name_and_rule text >>= with_rule)
+  rule_entry-parts text = parts_step (or_kind BadName (pattern_of (before_first is_equals text))) (list_any is_equals text) (after_first is_equals text)
 
-pub rule_entry-fails : (grant : Rule → Grant) (text : List ℕ) (refusal : WordRefusal) → StepFails refusal (name_and_rule text) → StepFails refusal (rule_entry grant text)
-rule_entry-fails grant text Memory h = tt
-rule_entry-fails grant text (Bad kind) h = rule_entry-parts grant text ∙ ap (λ (p : Result (Pattern × Rule) WordKind). p >>= λ x. Ok (record { pattern = x.0; grant = grant x.1 })) h
+  pub rule_entry-fails : (text : List ℕ) (refusal : WordRefusal) → StepFails refusal (name_and_rule text) → StepFails refusal (rule_entry read grant text)
+  rule_entry-fails text Memory h = tt
+  rule_entry-fails text (Bad kind) h = rule_entry-parts text ∙ ap (λ (x : Result (Pattern × List ℕ) WordKind). x >>= with_rule) h
+
+  by_rule : (text : List ℕ) (p : Pattern) (rule : List ℕ) (found : Option R) → name_and_rule text ≡ Ok (p, rule) → read rule ≡ found →
+      rule_entry read grant text ≡ (or_kind BadRule found >>= λ r. entry_ok p r)
+  by_rule text p rule found e k =
+      rule_entry-parts text ∙ ap (λ (x : Result (Pattern × List ℕ) WordKind). x >>= with_rule) e
+      ∙ ap (λ (o : Option R). or_kind BadRule o >>= λ r. entry_ok p r) k
+
+  pub rule_entry-reads : (text : List ℕ) (p : Pattern) (rule : List ℕ) (r : R) → name_and_rule text ≡ Ok (p, rule) → read rule ≡ Some r → rule_entry read grant text ≡ Ok (record { pattern = p; grant = grant r })
+  rule_entry-reads text p rule r e k = by_rule text p rule (Some r) e k
+
+  -- a RULE that was not read
+  pub rule_entry-lacks : (text : List ℕ) (p : Pattern) (rule : List ℕ) (refusal : RuleRefusal) → name_and_rule text ≡ Ok (p, rule) → (refusal ≡ Form → read rule ≡ None) →
+      StepFails (refusal_of_rule refusal) (rule_entry read grant text)
+  rule_entry-lacks text p rule Form e k = by_rule text p rule None e (k refl)
+  rule_entry-lacks text p rule NoRoom e k = tt
 
 -- a text without '=' has no rule
 no-equals : (text : List ℕ) → position_or_len is_equals text ≡ length text → list_any is_equals text ≡ false
@@ -54,6 +70,3 @@ no-rule text e = ap (λ b. cond b (Some (after_first is_equals text)) None) (sym
 -- the word doesn't have this front
 pub next_front : {A : Type 0} (front : Option (List ℕ)) (reading : List ℕ → Result A WordKind) (other read : Result A WordKind) → None ≡ front → other ≡ read → where_front front reading other ≡ read
 next_front front reading other read none e = ap (λ f. where_front f reading other) (sym none) ∙ e
-
-pub rule_entry-reads : (grant : Rule → Grant) (text : List ℕ) (p : Pattern) (r : Rule) → name_and_rule text ≡ Ok (p, r) → rule_entry grant text ≡ Ok (record { pattern = p; grant = grant r })
-rule_entry-reads grant text p r e = rule_entry-parts grant text ∙ ap (λ (x : Result (Pattern × Rule) WordKind). x >>= λ x. entry_ok grant x.0 x.1) e

@@ -6,7 +6,7 @@ use Rattle.policy_args.specs.declared.Level.{Level}
 use Rattle.policy_args.specs.declared.Level.TheVariants.{None as NoLevel, See, Talk, Own}
 use Rattle.policy_args.specs.declared.entry.Entry.{Entry}
 use Rattle.policy_args.specs.declared.entry.Grant.{Grant}
-use Rattle.policy_args.specs.declared.entry.Grant.TheVariants.{See as to_see, Talk as to_talk, Own as to_own, Call as to_call, Broadcast as to_broadcast}
+use Rattle.policy_args.specs.declared.entry.Grant.TheVariants.{See as to_see, Talk as to_talk, Own as to_own, Call as to_call, Broadcast as to_broadcast, Property as to_property}
 use Rattle.policy_args.specs.Policy.{Policy, at_least, given_by, granted, greater, level}
 use Rattle.dbus_names.specs.Names.{is_bus}
 
@@ -69,6 +69,7 @@ grant_seen to_talk = refl
 grant_seen to_own = refl
 grant_seen (to_call rule) = refl
 grant_seen (to_broadcast rule) = refl
+grant_seen (to_property rule) = refl
 
 pub seen_left : (a b : Level) → at_least See a ≡ true → at_least See (greater a b) ≡ true
 seen_left NoLevel b h = absurd cc

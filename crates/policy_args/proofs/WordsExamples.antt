@@ -4,12 +4,13 @@ use Rattle.std.specs.Char.{encode_utf8}
 use Rattle.std.specs.Str.{chars, is_utf8}
 use Rattle.call_rules.specs.Rules.{Rule}
 use Rattle.policy_args.specs.declared.BadWord.{BadWord}
+use Rattle.policy_args.specs.declared.Level.TheVariants.{None as NoLevel, See}
 use Rattle.policy_args.specs.declared.WordKind.{WordKind}
 use Rattle.policy_args.specs.declared.WordKind.TheVariants.{BadAddress, BadName, BadNumber, BadRule, NoPath, OptionBeforeAddress, UnknownOption}
 use Rattle.policy_args.specs.declared.entry.Entry.{Entry}
-use Rattle.policy_args.specs.declared.entry.Grant.TheVariants.{See as to_see, Talk as to_talk, Own as to_own, Call as to_call, Broadcast as to_broadcast}
+use Rattle.policy_args.specs.declared.entry.Grant.TheVariants.{See as to_see, Talk as to_talk, Own as to_own, Call as to_call, Broadcast as to_broadcast, Property as to_property}
 use Rattle.policy_args.specs.Addresses.{bus_path}
-use Rattle.policy_args.specs.Policy.{policy_of, policy_with}
+use Rattle.policy_args.specs.Policy.{level, policy_of, policy_with}
 use Rattle.policy_args.specs.ProxyLine.{line_of, sessions_of}
 use Rattle.policy_args.specs.Words.{entry_of, options_of, words_in}
 
@@ -41,6 +42,28 @@ entries : map entry_of (codes "--see=org.a.*" ∷ codes "--talk=org.a.T" ∷ cod
     ≡ Ok see_a ∷ Ok talk_T ∷ Ok own_org ∷ Ok (call_C (codes "*")) ∷ Ok broadcast_B ∷ []
 unfolding see_a talk_T own_org call_C broadcast_B any
 entries = refl
+
+-- one property at one path
+property_C : Entry
+property_C = record {
+  pattern = record { name = codes "org.a.C"; exact = true };
+  grant = to_property (record { text = codes "org.a.I.Volume@/p"; interface = codes "org.a.I"; property = Some (codes "Volume"); path = Some (codes "/p"); below = false });
+}
+
+properties : map entry_of (codes "--property=org.a.C=org.a.I.Volume@/p" ∷ codes "--property=org.a.C=Volume" ∷ codes "--property=1=org.a.I.V" ∷ codes "--property=org.a.C" ∷ codes "--property=org.a.C=*" ∷ [])
+    ≡ Ok property_C ∷ Err BadRule ∷ Err BadName ∷ Err BadRule ∷ Err BadRule ∷ []
+unfolding property_C
+properties = refl
+
+-- their names are seen
+properties_seen : map (level (policy_of (property_C ∷ []))) (codes "org.a.C" ∷ codes "org.a.D" ∷ []) ≡ See ∷ NoLevel ∷ []
+unfolding property_C level
+properties_seen = refl
+
+beside_a_call : options_of (codes "--call=org.a.C=*" ∷ codes "--property=org.a.C=org.a.I.Volume@/p" ∷ codes "--call=org.a.C=*" ∷ codes "--property=org.a.C=org.a.I.Volume@/p" ∷ [])
+    ≡ Ok (record { filter = false; log = false; policy = policy_of (call_C (codes "*") ∷ property_C ∷ []) })
+unfolding options_of call_C any property_C
+beside_a_call = refl
 
 -- NAME is looked at first, whatever follows
 no_entries : map entry_of (codes "--call=org.a.C" ∷ codes "--call=org=x" ∷ codes "--call=org.a.C=Foo" ∷ codes "--see=org" ∷ codes "--talk=*" ∷ codes "--own=:1.5" ∷ codes "--sessions=1" ∷ codes "--filter" ∷ [])

@@ -1,7 +1,10 @@
 -- What reading words answers, unless memory runs out.
 use Rattle.std.specs.Prelude.{◌≡◌, ℕ, Result, Ok, Err}
+use Rattle.call_rules.specs.declared.BadRule.{BadRule as RuleRefusal}
+use Rattle.call_rules.specs.declared.BadRule.TheVariants.{Form, Memory as NoRoom}
 use Rattle.policy_args.specs.declared.BadWord.{BadWord}
 use Rattle.policy_args.specs.declared.WordKind.{WordKind}
+use Rattle.policy_args.specs.declared.WordKind.TheVariants.{BadRule}
 use Rattle.policy_args.specs.declared.refusals.LineRefusal.{LineRefusal}
 use Rattle.policy_args.specs.declared.refusals.LineRefusal.TheVariants.{Bad, Memory}
 use Rattle.policy_args.specs.declared.refusals.WordRefusal.{WordRefusal}
@@ -24,6 +27,11 @@ StepFails (BadKind kind) read = read ≡ Err kind
 abbrev pub StepGives : {X Y : Type 0} → (X → Y) → Result X WordRefusal → Result Y WordKind → Type 0
 StepGives view (Ok x) read = read ≡ Ok (view x)
 StepGives view (Err e) read = StepFails e read
+
+-- what a word's refusal is, by the refusal of its rule
+abbrev pub refusal_of_rule : RuleRefusal → WordRefusal
+refusal_of_rule Form = BadKind BadRule
+refusal_of_rule NoRoom = NoMemory
 
 -- what a word's refusal is at its index
 abbrev pub refusal_at : ℕ → WordRefusal → LineRefusal

@@ -3,11 +3,12 @@ use Rattle.std.specs.Prelude.{◌≡◌, ◌⊎◌, ℕ, zero, suc, Bool, true, 
 use Rattle.std.specs.List.{list_any}
 use Rattle.dbus_names.specs.Names.{is_bus}
 use Rattle.name_patterns.specs.Patterns.{Pattern, covers, pattern_text, is_pattern}
+use Rattle.call_rules.specs.Properties.{PropertyRule, property_rule_of}
 use Rattle.call_rules.specs.Rules.{Rule, rule_of}
 use Rattle.policy_args.specs.declared.Level.{Level}
 use Rattle.policy_args.specs.declared.Level.TheVariants.{None as NoLevel, See, Talk, Own}
 use Rattle.policy_args.specs.declared.entry.Grant.{Grant}
-use Rattle.policy_args.specs.declared.entry.Grant.TheVariants.{See as to_see, Talk as to_talk, Own as to_own, Call as to_call, Broadcast as to_broadcast}
+use Rattle.policy_args.specs.declared.entry.Grant.TheVariants.{See as to_see, Talk as to_talk, Own as to_own, Call as to_call, Broadcast as to_broadcast, Property as to_property}
 use Rattle.policy_args.specs.declared.entry.Entry.{Entry}
 
 -- ---- levels
@@ -38,6 +39,7 @@ given_by to_talk = Talk
 given_by to_own = Own
 given_by (to_call r) = See
 given_by (to_broadcast r) = See
+given_by (to_property r) = See
 
 -- the word that gives the entry
 abbrev pub entry_word_by : List ℕ → Grant → List ℕ
@@ -46,6 +48,7 @@ entry_word_by name to_talk = codes "--talk=" ++ name
 entry_word_by name to_own = codes "--own=" ++ name
 entry_word_by name (to_call r) = codes "--call=" ++ name ++ 61 ∷ r.text
 entry_word_by name (to_broadcast r) = codes "--broadcast=" ++ name ++ 61 ∷ r.text
+entry_word_by name (to_property r) = codes "--property=" ++ name ++ 61 ∷ r.text
 
 abbrev pub entry_word : Entry → List ℕ
 entry_word e = entry_word_by (pattern_text e.pattern) e.grant
@@ -54,6 +57,7 @@ entry_word e = entry_word_by (pattern_text e.pattern) e.grant
 pub record InGrammar (e : Entry) : Type 0 where
   pub pattern : is_pattern e.pattern ≡ true
   pub rule : (r : Rule) → (e.grant ≡ to_call r) ⊎ (e.grant ≡ to_broadcast r) → rule_of r.text ≡ Some r
+  pub property_rule : (r : PropertyRule) → e.grant ≡ to_property r → property_rule_of r.text ≡ Some r
 
 abbrev pub is_given : List Entry → Entry → Bool
 is_given entries e = list_any (λ other. bytes_eq (entry_word other) (entry_word e)) entries

@@ -3,7 +3,6 @@ use Rattle.std.specs.Prelude.{ℕ, suc, ◌==◌, Bool, nat_lt, List, [], length
 use Rattle.std.specs.List.{list_any, before_first, after_first}
 use Rattle.std.specs.Str.{is_utf8}
 use Rattle.name_patterns.specs.Patterns.{Pattern, pattern_of}
-use Rattle.call_rules.specs.Rules.{Rule, rule_of}
 use Rattle.dbus_names.specs.Names.{parts_at}
 use Rattle.policy_args.specs.Policy.{Policy, with_entry}
 use Rattle.policy_args.specs.Words.{◌>>=◌, is_equals, or_kind}
@@ -24,14 +23,10 @@ name_before text = before_first is_equals text
 abbrev pub rule_behind : List ℕ → Option (List ℕ)
 rule_behind text = if list_any is_equals text then Some (after_first is_equals text) else None
 
-abbrev pub rule_in : Option (List ℕ) → Result Rule WordKind
-rule_in None = Err BadRule
-rule_in (Some text) = or_kind BadRule (rule_of text)
-
--- NAME=RULE
-abbrev pub name_and_rule : List ℕ → Result (Pattern × Rule) WordKind
+-- NAME=RULE: NAME, and the text of RULE
+abbrev pub name_and_rule : List ℕ → Result (Pattern × List ℕ) WordKind
 name_and_rule text =
-    or_kind BadName (pattern_of (name_before text)) >>= λ p. rule_in (rule_behind text) >>= λ r. Ok (p, r)
+    or_kind BadName (pattern_of (name_before text)) >>= λ p. or_kind BadRule (rule_behind text) >>= λ rule. Ok (p, rule)
 
 -- what stands before the first place of a byte, or all
 abbrev pub front_at : ℕ → List ℕ → List ℕ

@@ -5,10 +5,11 @@ use Rattle.std.specs.Str.{is_utf8}
 use Rattle.dbus_names.specs.Names.{parts_at}
 pub use Rattle.dbus_names.specs.Texts.{behind}
 use Rattle.name_patterns.specs.Patterns.{pattern_of}
-use Rattle.call_rules.specs.Rules.{Rule, rule_of}
+use Rattle.call_rules.specs.Properties.{property_rule_of}
+use Rattle.call_rules.specs.Rules.{rule_of}
 use Rattle.policy_args.specs.Policy.{with_entry, Policy, policy_of}
 use Rattle.policy_args.specs.declared.entry.Grant.{Grant}
-use Rattle.policy_args.specs.declared.entry.Grant.TheVariants.{See as to_see, Talk as to_talk, Own as to_own, Call as to_call, Broadcast as to_broadcast}
+use Rattle.policy_args.specs.declared.entry.Grant.TheVariants.{See as to_see, Talk as to_talk, Own as to_own, Call as to_call, Broadcast as to_broadcast, Property as to_property}
 use Rattle.policy_args.specs.declared.entry.Entry.{Entry}
 use Rattle.policy_args.specs.declared.WordKind.{WordKind}
 use Rattle.policy_args.specs.declared.WordKind.TheVariants.{UnknownOption, BadName, BadRule, TooMany}
@@ -51,11 +52,11 @@ name_entry grant name = or_kind BadName (pattern_of name) >>= λ p. Ok (record {
 abbrev pub is_equals : ℕ → Bool
 is_equals c = c == 61
 
--- NAME=RULE: NAME ends at the first '=', and is looked at first
-abbrev pub rule_entry : (Rule → Grant) → List ℕ → Result Entry WordKind
-rule_entry grant text = do
+-- NAME=RULE, where `read` gives the rule that a text says: NAME ends at the first '=', and is looked at first
+abbrev pub rule_entry : {R : Type 0} → (List ℕ → Option R) → (R → Grant) → List ℕ → Result Entry WordKind
+rule_entry read grant text = do
   p ← or_kind BadName (pattern_of (before_first is_equals text))
-  r ← or_kind BadRule (if list_any is_equals text then rule_of (after_first is_equals text) else None)
+  r ← or_kind BadRule (if list_any is_equals text then read (after_first is_equals text) else None)
   Ok (record { pattern = p; grant = grant r })
 
 abbrev pub where_front : {A : Type 0} → Option (List ℕ) → (List ℕ → Result A WordKind) → Result A WordKind → Result A WordKind
@@ -73,8 +74,9 @@ entry_of w = first_front (
     (codes "--see=", name_entry to_see)
     ∷ (codes "--talk=", name_entry to_talk)
     ∷ (codes "--own=", name_entry to_own)
-    ∷ (codes "--call=", rule_entry to_call)
-    ∷ (codes "--broadcast=", rule_entry to_broadcast)
+    ∷ (codes "--call=", rule_entry rule_of to_call)
+    ∷ (codes "--broadcast=", rule_entry rule_of to_broadcast)
+    ∷ (codes "--property=", rule_entry property_rule_of to_property)
     ∷ []) w
 
 -- there are at most 65,535 entries

@@ -1,14 +1,16 @@
 //! The entries of a policy, and how a word gives one.
 ghost use Rattle.std.specs.Prelude.{◌≡◌, option_map};
+ghost use Rattle.call_rules.specs.Properties.{property_rule_of};
+ghost use Rattle.call_rules.specs.Rules.{rule_of};
 ghost use Rattle.policy_args.specs.Gives.{StepGives};
 ghost use Rattle.policy_args.specs.Policy.{given_by};
-ghost use Rattle.policy_args.specs.Steps.{name_and_rule, name_before, rule_behind, rule_in};
+ghost use Rattle.policy_args.specs.Steps.{name_and_rule, name_before, rule_behind};
 ghost use Rattle.policy_args.specs.Words.{behind as behind_front, entry_of, name_entry, rule_entry};
-ghost use Rattle.policy_args.specs.declared.entry.Grant.TheVariants.{Call as to_call, Broadcast as to_broadcast};
+ghost use Rattle.policy_args.specs.declared.entry.Grant.TheVariants.{Call as to_call, Broadcast as to_broadcast, Property as to_property};
 
 use crate::refusals::WordRefusal;
 use crate::{Level, WordKind};
-use call_rules::{BadRule, Rule};
+use call_rules::{PropertyRule, Rule};
 use name_patterns::{BadPattern, Pattern};
 use std::alloc::Global;
 
@@ -26,6 +28,8 @@ pub enum Grant {
     Call(Rule),
     /// `--broadcast=NAME=RULE`: they are seen, and their broadcasts that the rule matches come.
     Broadcast(Rule),
+    /// `--property=NAME=RULE`: they are seen, and the properties that the rule matches may be read and set.
+    Property(PropertyRule),
 }
 
 impl Grant {
@@ -34,7 +38,7 @@ impl Grant {
         ensures { result ≡ given_by self.now }
     {
         match self {
-            Grant::See | Grant::Call(_) | Grant::Broadcast(_) => Level::See,
+            Grant::See | Grant::Call(_) | Grant::Broadcast(_) | Grant::Property(_) => Level::See,
             Grant::Talk => Level::Talk,
             Grant::Own => Level::Own,
         }
@@ -69,6 +73,9 @@ pub(crate) fn read_entry(alloc: Global, word: &str) -> Result<Entry, WordRefusal
     if let Some(text) = behind("--broadcast=", word) {
         return broadcast(alloc, text);
     }
+    if let Some(text) = behind("--property=", word) {
+        return property(alloc, text);
+    }
     Err(WordRefusal::Bad(WordKind::UnknownOption))
 }
 
@@ -92,33 +99,43 @@ fn of_name(alloc: Global, name: &str, grant: Grant) -> Result<Entry, WordRefusal
 
 // The entry of `--call=`, by what follows that.
 fn call(alloc: Global, text: &str) -> Result<Entry, WordRefusal>
-    ensures { StepGives (λ e. e) result (rule_entry to_call text.now) }
+    ensures { StepGives (λ e. e) result (rule_entry rule_of to_call text.now) }
 {
-    match split(alloc, text) {
-        Ok((pattern, rule)) => Ok(Entry {
-            pattern,
-            grant: Grant::Call(rule),
-        }),
-        Err(refusal) => Err(refusal),
-    }
+    let (pattern, text) = match split(alloc, text) {
+        Ok(parts) => parts,
+        Err(refusal) => return Err(refusal),
+    };
+    let grant = Grant::Call(Rule::read(alloc, text)?);
+    Ok(Entry { pattern, grant })
 }
 
 // The entry of `--broadcast=`, by what follows that.
 fn broadcast(alloc: Global, text: &str) -> Result<Entry, WordRefusal>
-    ensures { StepGives (λ e. e) result (rule_entry to_broadcast text.now) }
+    ensures { StepGives (λ e. e) result (rule_entry rule_of to_broadcast text.now) }
 {
-    match split(alloc, text) {
-        Ok((pattern, rule)) => Ok(Entry {
-            pattern,
-            grant: Grant::Broadcast(rule),
-        }),
-        Err(refusal) => Err(refusal),
-    }
+    let (pattern, text) = match split(alloc, text) {
+        Ok(parts) => parts,
+        Err(refusal) => return Err(refusal),
+    };
+    let grant = Grant::Broadcast(Rule::read(alloc, text)?);
+    Ok(Entry { pattern, grant })
 }
 
-// NAME=RULE; a bad NAME is told whatever follows it.
-fn split(alloc: Global, text: &str) -> Result<(Pattern, Rule), WordRefusal>
-    ensures { StepGives (λ p. p) result (name_and_rule text.now) }
+// The entry of `--property=`, by what follows that.
+fn property(alloc: Global, text: &str) -> Result<Entry, WordRefusal>
+    ensures { StepGives (λ e. e) result (rule_entry property_rule_of to_property text.now) }
+{
+    let (pattern, text) = match split(alloc, text) {
+        Ok(parts) => parts,
+        Err(refusal) => return Err(refusal),
+    };
+    let grant = Grant::Property(PropertyRule::read(alloc, text)?);
+    Ok(Entry { pattern, grant })
+}
+
+// NAME, and the text of RULE. A bad NAME is told whatever follows it.
+fn split(alloc: Global, text: &str) -> Result<(Pattern, &str), WordRefusal>
+    ensures { StepGives (λ p. (p.0, p.1.now)) result (name_and_rule text.now) }
 {
     let (name, rule) = cut(text);
     let pattern = match Pattern::read(alloc, name) {
@@ -126,9 +143,9 @@ fn split(alloc: Global, text: &str) -> Result<(Pattern, Rule), WordRefusal>
         Err(BadPattern::Form) => return Err(WordRefusal::Bad(WordKind::BadName)),
         Err(BadPattern::Memory) => return Err(WordRefusal::Memory),
     };
-    match read_rule(alloc, rule) {
-        Ok(rule) => Ok((pattern, rule)),
-        Err(refusal) => Err(refusal),
+    match rule {
+        Some(rule) => Ok((pattern, rule)),
+        None => Err(WordRefusal::Bad(WordKind::BadRule)),
     }
 }
 
@@ -140,19 +157,5 @@ fn cut(text: &str) -> (&str, Option<&str>)
     match text.split_once('=') {
         Some((name, rule)) => (name, Some(rule)),
         None => (text, None),
-    }
-}
-
-// RULE, where there is one.
-fn read_rule(alloc: Global, text: Option<&str>) -> Result<Rule, WordRefusal>
-    ensures { StepGives (λ r. r) result (rule_in (option_map (λ t. t.now) text.entry)) }
-{
-    match text {
-        Some(text) => match Rule::read(alloc, text) {
-            Ok(rule) => Ok(rule),
-            Err(BadRule::Form) => Err(WordRefusal::Bad(WordKind::BadRule)),
-            Err(BadRule::Memory) => Err(WordRefusal::Memory),
-        },
-        None => Err(WordRefusal::Bad(WordKind::BadRule)),
     }
 }

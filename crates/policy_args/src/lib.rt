@@ -80,8 +80,8 @@ pub enum WordKind {
     /// Specification, "Valid Names").
     #[error("the option's name is no bus name that it takes")]
     BadName,
-    /// An option's rule is none (xdg-dbus-proxy(1), `--call`).
-    #[error("the option's rule is no rule of calls")]
+    /// An option's rule is missing, or none that the option takes (xdg-dbus-proxy(1), `--call`).
+    #[error("the option's rule is no rule that it takes")]
     BadRule,
     /// A bus address is none (D-Bus Specification, "Server Addresses").
     #[error("the word is no bus address with the path of a socket")]

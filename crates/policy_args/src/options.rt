@@ -64,11 +64,12 @@ impl Options {
 ///
 /// `--filter` asks for the filter, and `--log` for a line of the log for each message. With `--sloppy-names` owner changes of
 /// all unique names are shown, and with `--known-fields` messages of the client with a header field of an unknown code are
-/// refused. Each other word gives an entry: `--see=NAME`, `--talk=NAME` and `--own=NAME` a level, `--call=NAME=RULE` and `--broadcast=NAME=RULE` the level `See` and what a
-/// rule matches. NAME is a well-known bus name or `N.*`, and before a RULE it ends at the first `=`;
-/// any other is a `BadName`, and then a missing or wrong RULE is a `BadRule`. A word that is none of
-/// these is an `UnknownOption`. A word that is given again adds nothing, and the word that would
-/// give entry 65,536 is one of `TooMany`.
+/// refused. Each other word gives an entry: `--see=NAME`, `--talk=NAME` and `--own=NAME` a level, and `--call=NAME=RULE`,
+/// `--broadcast=NAME=RULE` and `--property=NAME=RULE` the level `See` and what a rule matches. The first two take the RULE
+/// `[METHOD][@PATH]`, and `--property`, an option of this program, takes `INTERFACE.PROPERTY[@PATH]`: those properties may be
+/// read and set. NAME is a well-known bus name or `N.*`, and before a RULE it ends at the first `=`; any other is a `BadName`,
+/// and then a missing or wrong RULE is a `BadRule`. A word that is none of these is an `UnknownOption`. A word that is given
+/// again adds nothing, and the word that would give entry 65,536 is one of `TooMany`.
 pub fn read_options(alloc: Global, words: &[String]) -> Result<Options, LineRefusal>
     ensures { Gives options_seen result (options_of (map (λ w. string_bytes w) words.now)) }
 {

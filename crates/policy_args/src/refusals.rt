@@ -3,6 +3,7 @@ ghost use Rattle.std.specs.Prelude.{◌≡◌};
 ghost use Rattle.policy_args.specs.Gives.{refusal_at};
 
 use crate::{BadWord, WordKind};
+use call_rules::BadRule;
 use std::alloc::{AllocError, AllocFailed};
 use thiserror::Error;
 
@@ -54,6 +55,19 @@ impl WordRefusal {
         match self {
             WordRefusal::Bad(kind) => LineRefusal::Bad(BadWord { index, kind }),
             WordRefusal::Memory => LineRefusal::Memory,
+        }
+    }
+}
+
+impl From<BadRule> for WordRefusal {
+    ghost use Rattle.policy_args.specs.Gives.{refusal_of_rule};
+
+    ghost from_gives = { λ error refusal. refusal ≡ refusal_of_rule error };
+
+    fn from(error: BadRule) -> WordRefusal {
+        match error {
+            BadRule::Form => WordRefusal::Bad(WordKind::BadRule),
+            BadRule::Memory => WordRefusal::Memory,
         }
     }
 }

@@ -27,12 +27,20 @@ const OPTIONS: &str = "\
 --call=org.c.*=org.c.I.M@/p/* => false false 1
 --broadcast=org.b.B= => false false 1
 --broadcast=org.b.*=@/p => false false 1
+--property=org.a.P=org.a.I.Volume => false false 1
+--property=org.a.P=org.a.I.* => false false 1
+--property=org.a.*=org.a.I.Volume@/p => false false 1
+--property=org.a.P=org.a.I.*@/p/* => false false 1
+--property=org.a.P=org.a.I.Volume@/* => false false 1
 --filter --talk=org.a.T --talk=org.a.T => true false 1
 --talk=org.b.T --talk=org.a.T --filter --talk=org.b.T => true false 2
 --call=org.a.C= --call=org.a.C=* => false false 2
 --see=org.a.T --talk=org.a.T --see=org.a.T => false false 2
 --call=org.a.C=* --broadcast=org.a.C=* --call=org.a.C=* => false false 2
 --talk=org.a.T --talk=org.a.T.* --talk=org.a.t => false false 3
+--property=org.a.P=org.a.I.V --property=org.a.P=org.a.I.V => false false 1
+--property=org.a.P=org.a.I.V --property=org.a.P=org.a.I.W --property=org.a.P=org.a.I.V => false false 2
+--call=org.a.P=org.a.I.V --property=org.a.P=org.a.I.V --broadcast=org.a.P=org.a.I.V => false false 3
 --see=org => BadName 0
 --talk=org => BadName 0
 --talk=* => BadName 0
@@ -45,12 +53,27 @@ const OPTIONS: &str = "\
 --call=org=* => BadName 0
 --call= => BadName 0
 --broadcast==* => BadName 0
+--property= => BadName 0
+--property=org => BadName 0
+--property=org=x => BadName 0
+--property=1=org.a.I.V => BadName 0
+--property=:1.5=org.a.I.V => BadName 0
+--property==org.a.I.V => BadName 0
 --call=org.a.C => BadRule 0
 --call=org.a.C=Foo => BadRule 0
 --call=org.a.C==* => BadRule 0
 --call=org.a.C=*@p => BadRule 0
 --broadcast=org.a.B => BadRule 0
 --broadcast=org.a.B=Foo => BadRule 0
+--property=org.a.P => BadRule 0
+--property=org.a.P= => BadRule 0
+--property=org.a.P=Volume => BadRule 0
+--property=org.a.P=a.Volume => BadRule 0
+--property=org.a.P=* => BadRule 0
+--property=org.a.P=@/p => BadRule 0
+--property=org.a.P=*@/p => BadRule 0
+--property=org.a.P=org.a.I.Volume@ => BadRule 0
+--property=org.a.P==org.a.I.Volume => BadRule 0
 --filter= => UnknownOption 0
 --Filter => UnknownOption 0
 --log= => UnknownOption 0
@@ -61,7 +84,9 @@ const OPTIONS: &str = "\
 --sloppy => UnknownOption 0
 --known-fields --talk=org.a.T --known-fields => false false 1
 --known-fields=x => UnknownOption 0
---property=org.a.P=org.a.I.P => UnknownOption 0
+--property => UnknownOption 0
+--properties=org.a.P=org.a.I.P => UnknownOption 0
+--Property=org.a.P=org.a.I.P => UnknownOption 0
 --sessions=1 => UnknownOption 0
 --talk => UnknownOption 0
 talk=org.a.T => UnknownOption 0
@@ -70,6 +95,7 @@ org.a.T => UnknownOption 0
 --filter  => UnknownOption 1
 --talk=org.a.T --talk=org => BadName 1
 --filter --see=org.a.S --call=org.a.C => BadRule 2
+--filter --property=org.a.P=org.a.I.V --property=org.a.P => BadRule 2
 --filter --talk=org.a.T --colour --talk=org => UnknownOption 2
 ";
 
@@ -102,6 +128,9 @@ org.a.T --own=org.a.T --see=org.a.T => Own
 org.a.T --see=org.a.T --own=org.a.T --talk=org.a.T => Own
 org.b.B --talk=org.b.* --call=org.b.B=* => Talk
 org.b.B --broadcast=org.b.B=* => See
+org.p.P --property=org.p.*=org.p.I.* => See
+org.q.P --property=org.p.*=org.p.I.* => None
+org.p.P --property=org.p.P=org.p.I.V --talk=org.p.P --call=org.p.P=* => Talk
 ";
 
 /// Words of a policy file, and of each entry its word, the name, whether that is exact, the option, the rule and the level.
@@ -110,6 +139,8 @@ const ENTRIES: &str = "\
 --see=org.a.* --talk=org.a.T --see=org.a.* --own=org.o.O => --see=org.a.* org.a false see  See|--talk=org.a.T org.a.T true talk  Talk|--own=org.o.O org.o.O true own  Own|
 --call=org.c.C=* --talk=org.a.T --broadcast=org.b.*=org.b.I.S@/p => --call=org.c.C=* org.c.C true call * See|--talk=org.a.T org.a.T true talk  Talk|--broadcast=org.b.*=org.b.I.S@/p org.b false broadcast org.b.I.S@/p See|
 --call=org.c.C= => --call=org.c.C= org.c.C true call  See|
+--property=org.p.*=org.p.I.V@/p/* => --property=org.p.*=org.p.I.V@/p/* org.p false property org.p.I.V@/p/* See|
+--property=org.p.P=org.p.I.V --call=org.p.P=org.p.I.V --property=org.p.P=org.p.I.* --property=org.p.P=org.p.I.V => --property=org.p.P=org.p.I.V org.p.P true property org.p.I.V See|--call=org.p.P=org.p.I.V org.p.P true call org.p.I.V See|--property=org.p.P=org.p.I.* org.p.P true property org.p.I.* See|
 ";
 
 /// How many words of different names, and one word more, and whether messages are filtered, whether they are
@@ -315,6 +346,7 @@ fn told_grant(grant: &Grant) -> (&str, &str) {
         Grant::Own => ("own", ""),
         Grant::Call(rule) => ("call", rule.text()),
         Grant::Broadcast(rule) => ("broadcast", rule.text()),
+        Grant::Property(rule) => ("property", rule.text()),
     }
 }
 

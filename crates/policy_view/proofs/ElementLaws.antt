@@ -8,9 +8,8 @@ use Rattle.dbus_header.specs.Message.{Message, Valid, spell, reply_serial, text_
 use Rattle.dbus_header.proofs.ReplyLaws.{spell-with_reply_serial}
 use Rattle.dbus_names.specs.Texts.{Text}
 use Rattle.policy_args.specs.Levels.{level_of}
-use Rattle.policy_args.specs.Policy.{Policy, at_least}
+use Rattle.policy_args.specs.Policy.{Policy}
 use Rattle.policy_args.specs.declared.Level.{Level}
-use Rattle.policy_args.specs.declared.Level.TheVariants.{See}
 use Rattle.policy_view.specs.Elements.{TellThePart, element_of, elements, given_of}
 use Rattle.policy_view.specs.History.{Event, end_of, history}
 use Rattle.policy_view.specs.Knowledge.{Knowledge, knowledge}

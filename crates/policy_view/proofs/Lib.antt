@@ -13,6 +13,7 @@ pub mod Filtered
 pub mod Unfiltered
 pub mod Worlds
 pub mod VisibleExamples
+mod PropertyExamples
 pub mod CutNames
 pub mod Sound
 pub mod ElementLaws

@@ -183,3 +183,7 @@ followed_by_all policy before (item ∷ items) = followed_by_all policy (followe
 unfoldable pub history : Policy → Mode → List Event → History
 history policy mode [] = []
 history policy mode (event ∷ events) = followed_by_all policy (history policy mode events) (arrived mode events event)
+
+-- the first so many items of a history: those that came before the others
+abbrev pub first_items : ℕ → History → History
+first_items n items = drop (length items - n) items

@@ -9,6 +9,7 @@ use Rattle.policy_view.specs.Past.{Msg, History, due, judged, past}
 use Rattle.policy_view.specs.History.{Event, end_of, history, lines, raw, stream}
 use Rattle.policy_view.specs.Outputs.{bus_bytes, client_bytes, seen_in, sent}
 use Rattle.policy_view.specs.Notes.{notes, numbered}
+use Rattle.policy_view.specs.Elements.{elements}
 use Rattle.policy_view.specs.Visible.{part}
 use Rattle.policy_view.specs.declared.Mode.{Mode}
 use Rattle.policy_view.specs.declared.Side.TheVariants.{Client, Bus}
@@ -16,12 +17,14 @@ use Rattle.policy_view.specs.declared.Side.TheVariants.{Client, Bus}
 abbrev pub IsPrefixOf : {A : Type 0} → List A → List A → Type 0
 IsPrefixOf {A = A} xs ys = (rest : List A) × (xs ++ rest ≡ ys)
 
--- with more events, items only come before the others, and the bytes for either side and the notes only grow at their end
+-- With more events, items only come before the others, and the bytes for either side, the notes and the elements only grow at their
+-- end. So a history that stopped is the first of any that goes on from there.
 pub record OnlyGrows (policy : Policy) (mode : Mode) (more events : List Event) : Type 0 where
   pub items : (added : History) × (history policy mode (more ++ events) ≡ added ++ history policy mode events)
   pub to_bus : IsPrefixOf (bus_bytes policy (history policy mode events)) (bus_bytes policy (history policy mode (more ++ events)))
   pub to_client : IsPrefixOf (client_bytes policy (history policy mode events)) (client_bytes policy (history policy mode (more ++ events)))
   pub noted : IsPrefixOf (notes policy (history policy mode events)) (notes policy (history policy mode (more ++ events)))
+  pub watched : IsPrefixOf (elements policy (history policy mode events)) (elements policy (history policy mode (more ++ events)))
 
 -- the same bytes for either side, the same notes, all that the items told, and the same End
 pub record GivesTheSame (policy : Policy) (one other : History) : Type 0 where

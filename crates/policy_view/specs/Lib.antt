@@ -1,4 +1,5 @@
 pub mod Texts
+pub mod Properties
 pub mod Own
 pub mod Sent
 pub mod Knowledge

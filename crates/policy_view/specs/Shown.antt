@@ -7,7 +7,7 @@ use Rattle.dbus_header.specs.Message.{Message, path, interface, member, destinat
 use Rattle.policy_args.specs.Policy.{Policy, at_least}
 use Rattle.dbus_names.specs.Names.{bus_name, is_unique}
 use Rattle.policy_args.specs.declared.entry.Grant.{Grant}
-use Rattle.policy_args.specs.declared.entry.Grant.TheVariants.{See as to_see, Talk as to_talk, Own as to_own, Call as to_call, Broadcast as to_broadcast}
+use Rattle.policy_args.specs.declared.entry.Grant.TheVariants.{See as to_see, Talk as to_talk, Own as to_own, Call as to_call, Broadcast as to_broadcast, Property as to_property}
 use Rattle.policy_args.specs.Levels.{level_of}
 use Rattle.policy_view.specs.Own.{answer_in_place}
 use Rattle.policy_view.specs.Sent.{Past, answered}
@@ -77,6 +77,7 @@ broadcast_matches m to_talk = false
 broadcast_matches m to_own = false
 broadcast_matches m (to_call rule) = false
 broadcast_matches m (to_broadcast rule) = matches rule (path m) (interface m) (member m)
+broadcast_matches m (to_property rule) = false
 
 abbrev pub may_broadcast : Policy → Knowledge → Message → Option Text → Bool
 may_broadcast policy known m None = false

@@ -2,11 +2,12 @@
 use Rattle.std.specs.Prelude.{ℕ, nat_lt, Bool, true, false, ◌&&◌, ◌||◌, List, [], ◌∷◌, if◌then◌else◌, Option, Some, None, codes, find}
 use Rattle.std.specs.Str.{bytes_eq}
 use Rattle.std.specs.List.{list_any}
+use Rattle.policy_view.specs.Properties.{PropertyRequest, permits, properties_interface, property_request}
 use Rattle.policy_view.specs.Texts.{is_one_of, stands_in, matches}
 use Rattle.dbus_names.specs.Texts.{Text}
 use Rattle.dbus_header.specs.Message.{Message, path, interface, member, destination, reply_serial, first_text, has_unknown_field}
 use Rattle.policy_args.specs.declared.entry.Grant.{Grant}
-use Rattle.policy_args.specs.declared.entry.Grant.TheVariants.{See as to_see, Talk as to_talk, Own as to_own, Call as to_call, Broadcast as to_broadcast}
+use Rattle.policy_args.specs.declared.entry.Grant.TheVariants.{See as to_see, Talk as to_talk, Own as to_own, Call as to_call, Broadcast as to_broadcast, Property as to_property}
 use Rattle.policy_args.specs.declared.entry.Entry.{Entry}
 use Rattle.policy_args.specs.Policy.{Policy, at_least, entry_at}
 use Rattle.dbus_names.specs.Names.{is_bus, is_unique}
@@ -35,7 +36,7 @@ pub data ClientRole : Type 0 where
 
 abbrev pub standard_interfaces : List Text
 standard_interfaces =
-    codes "org.freedesktop.DBus.Peer" ∷ codes "org.freedesktop.DBus.Properties"
+    codes "org.freedesktop.DBus.Peer" ∷ properties_interface
     ∷ codes "org.freedesktop.DBus.Introspectable" ∷ []
 
 abbrev pub role_of_bus_call : Option Text → ClientRole
@@ -73,13 +74,14 @@ abbrev pub first_or_0 : List ℕ → ℕ
 first_or_0 [] = 0
 first_or_0 (n ∷ ns) = n
 
--- a Call rule of the entry matches a call of this path, interface and member
-abbrev pub call_rule_matches : Option Text → Option Text → Option Text → Grant → Bool
-call_rule_matches path interface member to_see = false
-call_rule_matches path interface member to_talk = false
-call_rule_matches path interface member to_own = false
-call_rule_matches path interface member (to_call rule) = matches rule path interface member
-call_rule_matches path interface member (to_broadcast rule) = false
+-- the entry's rule lets a call of this path, interface and member pass, or a call that is this property request
+abbrev pub lets_pass : Option Text → Option Text → Option Text → Option PropertyRequest → Grant → Bool
+lets_pass path interface member request to_see = false
+lets_pass path interface member request to_talk = false
+lets_pass path interface member request to_own = false
+lets_pass path interface member request (to_call rule) = matches rule path interface member
+lets_pass path interface member request (to_broadcast rule) = false
+lets_pass path interface member request (to_property rule) = permits rule path request
 
 -- the entry has a rule on calls
 abbrev pub rules_calls : Grant → Bool
@@ -88,6 +90,7 @@ rules_calls to_talk = false
 rules_calls to_own = false
 rules_calls (to_call rule) = true
 rules_calls (to_broadcast rule) = false
+rules_calls (to_property rule) = true
 
 -- the entry of that number passes the test
 abbrev pub passes : (Grant → Bool) → Option Entry → Bool
@@ -104,7 +107,7 @@ on_ruled_call m None numbers = refused m AccessDenied (OnlySee (first_or_0 numbe
 
 abbrev pub on_seen_call : Policy → Message → List ℕ → Verdict
 on_seen_call policy m numbers =
-    if list_any (entry_passes policy (call_rule_matches (path m) (interface m) (member m))) numbers then Pass
+    if list_any (entry_passes policy (lets_pass (path m) (interface m) (member m) (property_request m))) numbers then Pass
     else on_ruled_call m (find (entry_passes policy rules_calls) numbers) numbers
 
 abbrev pub not_visible : Message → Text → Verdict

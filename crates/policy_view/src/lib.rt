@@ -52,7 +52,7 @@ pub enum Reason {
     NotVisible,
     /// The policy only lets the name be seen.
     OnlySee(u32),
-    /// No Call rule of the name matches.
+    /// No Call or Property rule of the name matches.
     NoRule(u32),
     /// The bus's member isn't one that is let through.
     BusMember,
@@ -173,7 +173,7 @@ pub enum End {
     LogFault,
 }
 
-/// With more events, what either side was given stands, and only more follows it.
+/// With more events, what either side was given stands, and only more follows it; so it is of the items, the notes, and the elements.
 pub fn bytes_only_grow()
     ensures { (policy : Policy) (mode : SessionMode) (more events : List Event) → OnlyGrows policy mode more events }
 {}

@@ -23,6 +23,24 @@ const SEEN_LINES: &[u8] =
     b"1 c 1 call serial=1 reply=- from=- dest=org.a.S path=/p iface=org.a.I member=M ping OnlySee 1 AccessDenied\n\
 entry 1 --see=org.a.S\n";
 
+/// A recording of a call that gets the property org.a.I.Mute of org.a.C.
+const GET: &[u8] = b"DBPR\x01\0\
+\0\x85\0\0\0l\x01\0\x01\x15\0\0\0\x01\0\0\0\x60\0\0\0\
+\x01\x01o\0\x02\0\0\0/p\0\0\0\0\0\0\
+\x02\x01s\0\x1f\0\0\0org.freedesktop.DBus.Properties\0\
+\x03\x01s\0\x03\0\0\0Get\0\0\0\0\0\
+\x06\x01s\0\x07\0\0\0org.a.C\0\
+\x08\x01g\0\x02ss\0\
+\x07\0\0\0org.a.I\0\x04\0\0\0Mute\0";
+
+/// A policy under which requests of another property pass.
+const VOLUME: &[u8] = b"--filter\0--property=org.a.C=org.a.I.Volume@/p";
+
+/// What is said of that call: it is answered with an error, since the entry doesn't match it.
+const GET_LINES: &[u8] =
+    b"1 c 1 call serial=1 reply=- from=- dest=org.a.C path=/p iface=org.freedesktop.DBus.Properties member=Get ping NoRule 1 AccessDenied\n\
+entry 1 --property=org.a.C=org.a.I.Volume@/p\n";
+
 /// A number, and the status, how many bytes are written, and the line, for a recording of one message.
 const NUMBERS: &str = "\
 0 => 9 0 error: no such message
@@ -74,9 +92,11 @@ fn told_files<R: Threads + Sync>(rt: &R, alloc: Global, files: &str) -> Result<S
 
 #[test]
 fn a_message_is_explained_with_the_entry_of_its_decision(rt: HostRuntime) -> Result<(), Fail> {
-    let ended = explained(&rt, rt.alloc(), SEE, SEEN, "1", 200)?;
-    assert_eq!(rt; (ended.code, ended.err.bytes.len()), (0, 0));
-    assert_eq!(rt; ended.out.bytes.as_slice(), SEEN_LINES);
+    for (policy, recording, lines) in [(SEE, SEEN, SEEN_LINES), (VOLUME, GET, GET_LINES)] {
+        let ended = explained(&rt, rt.alloc(), policy, recording, "1", 200)?;
+        assert_eq!(rt; (ended.code, ended.err.bytes.len()), (0, 0));
+        assert_eq!(rt; ended.out.bytes.as_slice(), lines);
+    }
     Ok(())
 }
 

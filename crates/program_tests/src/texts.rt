@@ -8,7 +8,7 @@ use std::thread::Threads;
 use tool_words::{explain_words, replay_words, sample_words, twin_words};
 
 /// Each option of a policy file, as the help shows it, and a word of it.
-const OPTIONS: [(&str, &str); 9] = [
+const OPTIONS: [(&str, &str); 10] = [
     ("--filter", "--filter"),
     ("--log", "--log"),
     ("--see=NAME", "--see=org.a.B"),
@@ -16,6 +16,10 @@ const OPTIONS: [(&str, &str); 9] = [
     ("--own=NAME", "--own=org.a.B"),
     ("--call=NAME=RULE", "--call=org.a.B=org.a.I.*@/p"),
     ("--broadcast=NAME=RULE", "--broadcast=org.a.B=*"),
+    (
+        "--property=NAME=PROP",
+        "--property=org.a.B=org.a.I.Volume@/p",
+    ),
     ("--sloppy-names", "--sloppy-names"),
     ("--known-fields", "--known-fields"),
 ];

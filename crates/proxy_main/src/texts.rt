@@ -23,9 +23,11 @@ The options of a block, and those in the file POLICY, where each is ended by a N
   --own=NAME             it may be owned, too
   --call=NAME=RULE       it is seen, and calls that match RULE pass
   --broadcast=NAME=RULE  it is seen, and its signals that match RULE are shown
+  --property=NAME=PROP   it is seen, and the properties that match PROP may be read and set
   --sloppy-names         owner changes of all unique names are shown
   --known-fields         messages of the client with header fields of unknown codes are refused
-NAME is a well-known bus name, or N.* for N and all names below it. RULE is [METHOD][@PATH].
+NAME is a well-known bus name, or N.* for N and all names below it. RULE is [METHOD][@PATH],
+and PROP is INTERFACE.PROPERTY[@PATH].
 Among the words of blocks alone:
   --sessions=N           N clients are served in all, and then the program ends
   --args-file=FILE       stands for the words of FILE, each ended by a NUL

@@ -2,7 +2,7 @@
 use crate::cases::assert_cases;
 
 /// Calls, pings in place of refused calls, and the answers of the bus.
-const CALLS: [&str; 9] = [
+const CALLS: [&str; 11] = [
     // Replies reach their own calls of a serial that is used twice, each once.
     "\
 policy --filter --talk=org.a.T
@@ -49,6 +49,34 @@ to_bus ping 4
 to_client denied 80 4
 to_client denied 81 3
 to_client return 82 reply=2 destination=:1.40 sender=:1.7
+",
+    // Property rules decide the requests of properties.
+    "\
+policy --filter --property=org.a.C=org.a.I.Volume@/p
+client call 1 path=/p interface=org.freedesktop.DBus.Properties member=Get destination=org.a.C | ss org.a.I Volume
+client call 2 path=/p interface=org.freedesktop.DBus.Properties member=Get destination=org.a.C | ss org.a.I Mute
+client call 3 path=/p interface=org.freedesktop.DBus.Properties member=GetAll destination=org.a.C | s org.a.I
+client call 4 path=/p interface=org.freedesktop.DBus.Properties member=Set destination=org.a.C | ssv org.a.I Volume 1
+bus return 80 reply=3 destination=:1.40 sender=org.freedesktop.DBus
+bus return 81 reply=1 destination=:1.40 sender=:1.7 | v 50
+bus return 82 reply=2 destination=:1.40 sender=org.freedesktop.DBus
+bus return 83 reply=4 destination=:1.40 sender=:1.7
+to_bus call 1 path=/p interface=org.freedesktop.DBus.Properties member=Get destination=org.a.C | ss org.a.I Volume
+to_bus ping 2
+to_bus ping 3
+to_bus call 4 path=/p interface=org.freedesktop.DBus.Properties member=Set destination=org.a.C | ssv org.a.I Volume 1
+to_client denied 80 3
+to_client return 81 reply=1 destination=:1.40 sender=:1.7 | v 50
+to_client denied 82 2
+to_client return 83 reply=4 destination=:1.40 sender=:1.7
+",
+    // The body of a request is read in the order of its message.
+    "\
+policy --filter --property=org.a.C=org.a.I.Volume@/p
+client bytes B%01~%01~~~%17%01%02%03%04~~~`%01%01o~~~~%02/p~~~~~~%02%01s~~~~%1Forg.freedesktop.DBus.Properties~%03%01s~~~~%03Get~~~~~%06%01s~~~~%07org.a.C~%08%01g~%02ss~~~~%07org.a.I~~~~%06Volume~
+client bytes B%01~%01~~~%15%01%02%03%05~~~`%01%01o~~~~%02/p~~~~~~%02%01s~~~~%1Forg.freedesktop.DBus.Properties~%03%01s~~~~%03Get~~~~~%06%01s~~~~%07org.a.C~%08%01g~%02ss~~~~%07org.a.I~~~~%04Mute~
+to_bus bytes B%01~%01~~~%17~~~%01~~~`%01%01o~~~~%02/p~~~~~~%02%01s~~~~%1Forg.freedesktop.DBus.Properties~%03%01s~~~~%03Get~~~~~%06%01s~~~~%07org.a.C~%08%01g~%02ss~~~~%07org.a.I~~~~%06Volume~
+to_bus ping 2
 ",
     // The greatest level decides a call.
     "\

@@ -2,7 +2,7 @@
 use crate::cases::assert_cases;
 
 /// Sessions with a log, and without one.
-const LOGS: [&str; 7] = [
+const LOGS: [&str; 8] = [
     // A header field of an unknown code is refused if the policy says so.
     "\
 policy --filter --log --known-fields --talk=org.a.T
@@ -17,6 +17,16 @@ log 1 c 2 signal serial=11 reply=- from=- dest=- path=/x iface=org.a.I member=S 
 policy --filter --log
 client call_without_reply 10 path=/x interface=org.h.I member=M destination=org.h.X
 log 1 c 1 call serial=10 reply=- from=- dest=org.h.X path=/x iface=org.h.I member=M drop NotVisible 0
+",
+    // Requests of properties that pass and that are refused.
+    "\
+policy --filter --log --property=org.a.C=org.a.I.Volume@/p
+client call 10 path=/p interface=org.freedesktop.DBus.Properties member=Get destination=org.a.C | ss org.a.I Volume
+client call 11 path=/p interface=org.freedesktop.DBus.Properties member=Set destination=org.a.C | ssv org.a.I Mute 1
+to_bus call 1 path=/p interface=org.freedesktop.DBus.Properties member=Get destination=org.a.C | ss org.a.I Volume
+to_bus ping 2
+log 1 c 1 call serial=10 reply=- from=- dest=org.a.C path=/p iface=org.freedesktop.DBus.Properties member=Get pass
+log 1 c 2 call serial=11 reply=- from=- dest=org.a.C path=/p iface=org.freedesktop.DBus.Properties member=Set ping NoRule 1 AccessDenied
 ",
     // Messages of both sides, of every kind of decision.
     "\

@@ -2,7 +2,7 @@
 use std::alloc::{AllocError, Global};
 
 /// The types that values may have here.
-const TYPES: [&str; 6] = ["a{sv}", "as", "u", "b", "s", "o"];
+const TYPES: [&str; 7] = ["a{sv}", "as", "u", "b", "s", "o", "v"];
 
 /// Adds the values of a signature, which spaces part.
 pub fn add_values(
@@ -30,8 +30,8 @@ fn first_type(types: &str) -> (&str, &str) {
     ("", "")
 }
 
-/// Adds a value of a type. `''` is the text without a byte, `as` has texts between brackets, which commas part, and `a{sv}`
-/// has no entry.
+/// Adds a value of a type. `''` is the text without a byte, `as` has texts between brackets, which commas part, `a{sv}` has
+/// no entry, and `v` has a number.
 fn add_value(
     alloc: Global,
     body: &mut Vec<u8>,
@@ -43,6 +43,7 @@ fn add_value(
         "as" => add_list(body, &strings(alloc, value)?),
         "u" | "b" => add_number(body, value),
         "s" | "o" => add_string(body, value),
+        "v" => add_variant(body, value),
         _ => Ok(()),
     }
 }
@@ -50,6 +51,12 @@ fn add_value(
 fn add_no_entries(body: &mut Vec<u8>) -> Result<(), AllocError> {
     add_number(body, "0")?;
     pad_to_eight(body)
+}
+
+/// Adds a variant of a `u`.
+fn add_variant(body: &mut Vec<u8>, value: &str) -> Result<(), AllocError> {
+    body.extend_from_slice(b"\x01u\0")?;
+    add_number(body, value)
 }
 
 fn add_list(body: &mut Vec<u8>, strings: &[u8]) -> Result<(), AllocError> {

@@ -14,7 +14,7 @@ use Rattle.policy_args.specs.declared.Level.{Level}
 use Rattle.policy_args.specs.declared.Level.TheVariants.{None as Hidden, See, Talk, Own}
 use Rattle.policy_args.specs.declared.entry.Entry.{Entry}
 use Rattle.policy_args.specs.declared.entry.Grant.{Grant}
-use Rattle.policy_args.specs.declared.entry.Grant.TheVariants.{See as to_see, Talk as to_talk, Own as to_own, Call as to_call, Broadcast as to_broadcast}
+use Rattle.policy_args.specs.declared.entry.Grant.TheVariants.{See as to_see, Talk as to_talk, Own as to_own, Call as to_call, Broadcast as to_broadcast, Property as to_property}
 use Rattle.policy_args.specs.declared.fact.Fact.{Fact}
 use Rattle.policy_args.specs.declared.fact.Fact.TheVariants.{Owned, SelfId, Met}
 use Rattle.policy_args.proofs.PolicyLevels.{greater-assoc}
@@ -64,6 +64,7 @@ given-more to_talk e = cc
 given-more to_own e = cc
 given-more (to_call r) e = cc
 given-more (to_broadcast r) e = cc
+given-more (to_property r) e = cc
 
 -- ---- a name to which the policy gives no level
 

@@ -4,6 +4,7 @@ use Rattle.std.specs.Prelude.{◌||◌, find}
 use Rattle.std.specs.List.{list_any}
 use Rattle.dbus_header.specs.Contents.{Contents}
 use Rattle.policy_args.specs.Policy.{Policy}
+use Rattle.policy_view.specs.Properties.{PropertyRequest}
 use Rattle.policy_view.specs.Verdicts.{entry_passes, rules_calls}
 use Rattle.policy_view.specs.declared.Verdict.{Verdict}
 use Rattle.policy_view.specs.declared.Verdict.TheVariants.{Pass}
@@ -12,9 +13,9 @@ use Rattle.verdicts.specs.Entries.{first_of, judged_from, lowest_with}
 use Rattle.verdicts.specs.declared.entries.Lowest.{Lowest}
 
 -- the verdict by the numbers of the entries from here on, and the lowest ones of those before
-abbrev by_numbers : Policy → Contents → List ℕ → Lowest → Verdict
-by_numbers policy x ns lowest =
-    cond (list_any (entry_passes policy (allows x)) ns) Pass (unruled_by x.flags (first_of lowest.any (first_in ns)) (first_of lowest.call (find (entry_passes policy rules_calls) ns)))
+abbrev by_numbers : Policy → Contents → Option PropertyRequest → List ℕ → Lowest → Verdict
+by_numbers policy x request ns lowest =
+    cond (list_any (entry_passes policy (allows x request)) ns) Pass (unruled_by x.flags (first_of lowest.any (first_in ns)) (first_of lowest.ruled (find (entry_passes policy rules_calls) ns)))
 
 none-behind : (a : Option ℕ) → a ≡ first_of a None
 none-behind None = refl
@@ -24,27 +25,27 @@ first-stays : (a b : Option ℕ) (n : ℕ) → first_of (first_of a (Some n)) b 
 first-stays None b n = refl
 first-stays (Some m) b n = refl
 
-call-stays : (calls : Bool) (a b : Option ℕ) (n : ℕ) → first_of (cond calls (first_of a (Some n)) a) b ≡ first_of a (cond calls (Some n) b)
-call-stays true None b n = refl
-call-stays true (Some m) b n = refl
-call-stays false a b n = refl
+ruled-stays : (ruled : Bool) (a b : Option ℕ) (n : ℕ) → first_of (cond ruled (first_of a (Some n)) a) b ≡ first_of a (cond ruled (Some n) b)
+ruled-stays true None b n = refl
+ruled-stays true (Some m) b n = refl
+ruled-stays false a b n = refl
 
-from-numbers : (policy : Policy) (x : Contents) (ns : List ℕ) (lowest : Lowest) → judged_from policy x ns lowest ≡ by_numbers policy x ns lowest
-from-numbers policy x [] lowest =
-    ap (λ a. unruled_by x.flags a lowest.call) (none-behind lowest.any) ∙ ap (unruled_by x.flags (first_of lowest.any None)) (none-behind lowest.call)
-from-numbers policy x (n ∷ ns) lowest = by (entry_passes policy (allows x) n) (from-numbers policy x ns (lowest_with policy n lowest))
+from-numbers : (policy : Policy) (x : Contents) (request : Option PropertyRequest) (ns : List ℕ) (lowest : Lowest) → judged_from policy x request ns lowest ≡ by_numbers policy x request ns lowest
+from-numbers policy x request [] lowest =
+    ap (λ a. unruled_by x.flags a lowest.ruled) (none-behind lowest.any) ∙ ap (unruled_by x.flags (first_of lowest.any None)) (none-behind lowest.ruled)
+from-numbers policy x request (n ∷ ns) lowest = by (entry_passes policy (allows x request) n) (from-numbers policy x request ns (lowest_with policy n lowest))
   where
-    by : (allowed : Bool) → judged_from policy x ns (lowest_with policy n lowest) ≡ by_numbers policy x ns (lowest_with policy n lowest) →
-        cond allowed Pass (judged_from policy x ns (lowest_with policy n lowest))
-        ≡ cond (allowed || list_any (entry_passes policy (allows x)) ns) Pass (unruled_by x.flags (first_of lowest.any (Some n)) (first_of lowest.call (cond (entry_passes policy rules_calls n) (Some n) (find (entry_passes policy rules_calls) ns))))
+    by : (allowed : Bool) → judged_from policy x request ns (lowest_with policy n lowest) ≡ by_numbers policy x request ns (lowest_with policy n lowest) →
+        cond allowed Pass (judged_from policy x request ns (lowest_with policy n lowest))
+        ≡ cond (allowed || list_any (entry_passes policy (allows x request)) ns) Pass (unruled_by x.flags (first_of lowest.any (Some n)) (first_of lowest.ruled (cond (entry_passes policy rules_calls n) (Some n) (find (entry_passes policy rules_calls) ns))))
     by true later = refl
     by false later =
         later
-        ∙ ap (λ a. cond (list_any (entry_passes policy (allows x)) ns) Pass (unruled_by x.flags a (first_of (lowest_with policy n lowest).call (find (entry_passes policy rules_calls) ns))))
+        ∙ ap (λ a. cond (list_any (entry_passes policy (allows x request)) ns) Pass (unruled_by x.flags a (first_of (lowest_with policy n lowest).ruled (find (entry_passes policy rules_calls) ns))))
         (first-stays lowest.any (first_in ns) n)
-        ∙ ap (λ a. cond (list_any (entry_passes policy (allows x)) ns) Pass (unruled_by x.flags (first_of lowest.any (Some n)) a))
-        (call-stays (entry_passes policy rules_calls n) lowest.call (find (entry_passes policy rules_calls) ns) n)
+        ∙ ap (λ a. cond (list_any (entry_passes policy (allows x request)) ns) Pass (unruled_by x.flags (first_of lowest.any (Some n)) a))
+        (ruled-stays (entry_passes policy rules_calls n) lowest.ruled (find (entry_passes policy rules_calls) ns) n)
 
 -- from the first number on
-pub from-first : (policy : Policy) (x : Contents) (ns numbers : List ℕ) → ns ≡ numbers → judged_from policy x ns (record { any = None; call = None }) ≡ seen_call_by policy x numbers
-from-first policy x ns numbers same = from-numbers policy x ns (record { any = None; call = None }) ∙ ap (seen_call_by policy x) same
+pub from-first : (policy : Policy) (x : Contents) (request : Option PropertyRequest) (ns numbers : List ℕ) → ns ≡ numbers → judged_from policy x request ns (record { any = None; ruled = None }) ≡ seen_call_by policy x request numbers
+from-first policy x request ns numbers same = from-numbers policy x request ns (record { any = None; ruled = None }) ∙ ap (seen_call_by policy x request) same

@@ -12,6 +12,7 @@ use Rattle.policy_args.specs.declared.Level.{Level}
 use Rattle.policy_args.specs.declared.Level.TheVariants.{None as Hidden, See, Talk, Own}
 use Rattle.policy_view.specs.Knowledge.{Knowledge, knowledge}
 use Rattle.policy_view.specs.Past.{judged}
+use Rattle.policy_view.specs.Properties.{property_request}
 use Rattle.policy_view.specs.Sent.{Past}
 use Rattle.policy_view.specs.Verdicts.{ClientRole, OfUnknownType, Reply, Broadcast, SignalTo, StandardBusCall, OtherBusCall, BusCall, CallTo, Demand, Free, OnText, Unlisted, TextDemand, NoEavesdrop, SeenOwner, SeenName, Startable, Ownable, client_role, client_role_at, demand_of, entry_passes, has_refused_field, on_argument, on_bus_call, on_call, on_ruled_call, on_seen_call, on_start, on_text, on_unknown_field, role_of_call, role_of_signal, rules_calls, text_or_empty, verdict, verdict_at}
 use Rattle.policy_view.specs.declared.Verdict.{Verdict}
@@ -19,6 +20,7 @@ use Rattle.policy_view.specs.declared.Verdict.TheVariants.{Pass, Drop}
 use Rattle.policy_view.specs.declared.Reason.TheVariants.{UnknownField}
 use Rattle.dbus_header.specs.declared.Instead.TheVariants.{AccessDenied}
 use Rattle.verdicts.specs.Judging.{allows, argument_by, bus_call_by, call_by, first_in, first_text_in, refused_by, role_by, seen_call_by, start_by, text_by, unknown_field_by, unruled_by, verdict_by}
+use Rattle.verdicts.specs.Properties.{property_request_in}
 use Rattle.verdicts.specs.Roles.{client_role_of}
 
 -- ---- the role
@@ -60,22 +62,22 @@ bus-row known m Free = refl
 bus-row known m (OnText demand) = argument-row known m demand (first_text m)
 bus-row known m Unlisted = refl
 
-seen-row : (policy : Policy) (m : Message) (numbers : List ℕ) → seen_call_by policy (contents_of m) numbers ≡ on_seen_call policy m numbers
+seen-row : (policy : Policy) (m : Message) (numbers : List ℕ) → seen_call_by policy (contents_of m) (property_request m) numbers ≡ on_seen_call policy m numbers
 seen-row policy m numbers =
-    ap (cond (list_any (entry_passes policy (allows (contents_of m))) numbers) Pass) (by (find (entry_passes policy rules_calls) numbers) numbers)
+    ap (cond (list_any (entry_passes policy (allows (contents_of m) (property_request m))) numbers) Pass) (by (find (entry_passes policy rules_calls) numbers) numbers)
   where
     by : (call : Option ℕ) (ns : List ℕ) → unruled_by m.flags (first_in ns) call ≡ on_ruled_call m call ns
     by (Some n) ns = refl
     by None [] = refl
     by None (n ∷ ns) = refl
 
-call-row : (policy : Policy) (m : Message) (name : Text) (numbers : List ℕ) (level : Level) → call_by policy (contents_of m) name numbers level ≡ on_call policy m name numbers level
+call-row : (policy : Policy) (m : Message) (name : Text) (numbers : List ℕ) (level : Level) → call_by policy (contents_of m) (property_request m) name numbers level ≡ on_call policy m name numbers level
 call-row policy m name numbers Hidden = refl
 call-row policy m name numbers See = seen-row policy m numbers
 call-row policy m name numbers Talk = refl
 call-row policy m name numbers Own = refl
 
-pub role-row : (policy : Policy) (known : Knowledge) (m : Message) (role : ClientRole) → role_by policy known (contents_of m) (first_text m) role ≡ verdict_at policy known m role
+pub role-row : (policy : Policy) (known : Knowledge) (m : Message) (role : ClientRole) → role_by policy known (contents_of m) (first_text m) (property_request m) role ≡ verdict_at policy known m role
 role-row policy known m OfUnknownType = refl
 role-row policy known m Reply = refl
 role-row policy known m Broadcast = refl
@@ -98,7 +100,7 @@ field-row m = by (m.kind == 1) (m.kind == 2) (m.kind == 3) (m.kind == 4)
     by false false false true = refl
     by false false false false = refl
 
-verdict-row : (policy : Policy) (known : Knowledge) (m : Message) → verdict_by policy known (contents_of m) (first_text m) (client_role_of (contents_of m)) ≡ verdict policy known m
+verdict-row : (policy : Policy) (known : Knowledge) (m : Message) → verdict_by policy known (contents_of m) (first_text m) (property_request m) (client_role_of (contents_of m)) ≡ verdict policy known m
 unfolding verdict
 verdict-row policy known m =
     ap₂ (cond (has_refused_field policy m)) (field-row m)
@@ -107,12 +109,12 @@ verdict-row policy known m =
 -- ---- a message that was read
 
 pub is-verdict : (policy : Policy) (known : Knowledge) (bytes : List ℕ) (q : Contents) (role : ClientRole) (given : Verdict) → option_map contents_of (message_of bytes) ≡ Some q →
-    role ≡ client_role_of q → given ≡ verdict_by policy known q (first_text_in bytes) role → (m : Message) → message_of bytes ≡ Some m → given ≡ verdict policy known m
+    role ≡ client_role_of q → given ≡ verdict_by policy known q (first_text_in bytes) (property_request_in bytes) role → (m : Message) → message_of bytes ≡ Some m → given ≡ verdict policy known m
 is-verdict policy known bytes q role given read role_is is m at =
     is
-    ∙ ap (verdict_by policy known q (first_text_in bytes)) role_is
-    ∙ ap (λ (c : Contents). verdict_by policy known c (first_text_in bytes) (client_role_of c)) (sym (same-contents bytes q m at read))
-    ∙ ap (λ o. verdict_by policy known (contents_of m) (option_and_then first_text o) (client_role_of (contents_of m))) at
+    ∙ ap (verdict_by policy known q (first_text_in bytes) (property_request_in bytes)) role_is
+    ∙ ap (λ (c : Contents). verdict_by policy known c (first_text_in bytes) (property_request_in bytes) (client_role_of c)) (sym (same-contents bytes q m at read))
+    ∙ ap (λ o. verdict_by policy known (contents_of m) (option_and_then first_text o) (option_and_then property_request o) (client_role_of (contents_of m))) at
     ∙ verdict-row policy known m
 
 -- where what is kept is what a past told

@@ -11,7 +11,7 @@ use Rattle.dbus_names.specs.Texts.{Text}
 use Rattle.policy_args.specs.Policy.{Policy, at_least}
 use Rattle.policy_args.specs.declared.Level.TheVariants.{Talk}
 use Rattle.policy_args.specs.declared.entry.Grant.{Grant}
-use Rattle.policy_args.specs.declared.entry.Grant.TheVariants.{See as to_see, Talk as to_talk, Own as to_own, Call as to_call, Broadcast as to_broadcast}
+use Rattle.policy_args.specs.declared.entry.Grant.TheVariants.{See as to_see, Talk as to_talk, Own as to_own, Call as to_call, Broadcast as to_broadcast, Property as to_property}
 use Rattle.policy_view.specs.Knowledge.{Knowledge, knowledge}
 use Rattle.policy_view.specs.Past.{role as role_in}
 use Rattle.policy_view.specs.Sent.{Past}
@@ -55,6 +55,7 @@ same-rules m to_talk = refl
 same-rules m to_own = refl
 same-rules m (to_call rule) = refl
 same-rules m (to_broadcast rule) = refl
+same-rules m (to_property rule) = refl
 
 broadcast-row : (policy : Policy) (known : Knowledge) (m : Message) (name : Option Text) → may_announce policy known.level known.entries (contents_of m) name ≡ may_broadcast policy known m name
 broadcast-row policy known m None = refl

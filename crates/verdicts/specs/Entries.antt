@@ -2,6 +2,7 @@
 use Rattle.std.specs.Prelude.{ℕ, List, [], ◌∷◌, if◌then◌else◌, Option, Some, None}
 use Rattle.dbus_header.specs.Contents.{Contents}
 use Rattle.policy_args.specs.Policy.{Policy}
+use Rattle.policy_view.specs.Properties.{PropertyRequest}
 use Rattle.policy_view.specs.Verdicts.{entry_passes, rules_calls}
 use Rattle.policy_view.specs.declared.Verdict.{Verdict}
 use Rattle.policy_view.specs.declared.Verdict.TheVariants.{Pass}
@@ -17,10 +18,10 @@ first_of (Some n) other = Some n
 abbrev pub lowest_with : Policy → ℕ → Lowest → Lowest
 lowest_with policy n lowest = record {
   any = first_of lowest.any (Some n);
-  call = if entry_passes policy rules_calls n then first_of lowest.call (Some n) else lowest.call;
+  ruled = if entry_passes policy rules_calls n then first_of lowest.ruled (Some n) else lowest.ruled;
 }
 
 -- the verdict by the entries with these numbers, and the lowest ones of those before
-abbrev pub judged_from : Policy → Contents → List ℕ → Lowest → Verdict
-judged_from policy x [] lowest = unruled_by x.flags lowest.any lowest.call
-judged_from policy x (n ∷ ns) lowest = if entry_passes policy (allows x) n then Pass else judged_from policy x ns (lowest_with policy n lowest)
+abbrev pub judged_from : Policy → Contents → Option PropertyRequest → List ℕ → Lowest → Verdict
+judged_from policy x request [] lowest = unruled_by x.flags lowest.any lowest.ruled
+judged_from policy x request (n ∷ ns) lowest = if entry_passes policy (allows x request) n then Pass else judged_from policy x request ns (lowest_with policy n lowest)

@@ -13,9 +13,10 @@ use Rattle.policy_args.specs.declared.Level.{Level}
 use Rattle.policy_args.specs.declared.Level.TheVariants.{None as Hidden, See, Talk, Own}
 use Rattle.policy_args.specs.declared.entry.Grant.{Grant}
 use Rattle.policy_view.specs.Knowledge.{Knowledge}
+use Rattle.policy_view.specs.Properties.{PropertyRequest}
 use Rattle.policy_view.specs.Sent.{Exchange}
 use Rattle.policy_view.specs.Texts.{stands_in}
-use Rattle.policy_view.specs.Verdicts.{ClientRole, OfUnknownType, Reply, Broadcast, SignalTo, StandardBusCall, OtherBusCall, BusCall, CallTo, Demand, Free, OnText, Unlisted, TextDemand, NoEavesdrop, SeenOwner, SeenName, Startable, Ownable, call_rule_matches, demand_of, entry_passes, number_or_0, on_signal, rules_calls, text_or_empty}
+use Rattle.policy_view.specs.Verdicts.{ClientRole, OfUnknownType, Reply, Broadcast, SignalTo, StandardBusCall, OtherBusCall, BusCall, CallTo, Demand, Free, OnText, Unlisted, TextDemand, NoEavesdrop, SeenOwner, SeenName, Startable, Ownable, demand_of, entry_passes, lets_pass, number_or_0, on_signal, rules_calls, text_or_empty}
 use Rattle.policy_view.specs.declared.Reason.{Reason}
 use Rattle.policy_view.specs.declared.Reason.TheVariants.{NotVisible, OnlySee, NoRule, BusMember, BusInterface, ArgNotVisible, ArgNotTalk, ArgNotOwn, Eavesdrop, NotOutstanding, UnknownType, BadArgument, UnknownField}
 use Rattle.policy_view.specs.declared.Verdict.{Verdict}
@@ -31,34 +32,34 @@ refused_by flags what reason = if expects_reply_by flags then Ping what reason e
 
 -- ---- calls to others
 
--- a Call rule matches the call
-abbrev pub allows : Contents → Grant → Bool
-allows x = call_rule_matches x.parts.path x.parts.interface x.parts.member
+-- the entry's rule lets the call pass
+abbrev pub allows : Contents → Option PropertyRequest → Grant → Bool
+allows x = lets_pass x.parts.path x.parts.interface x.parts.member
 
 -- the first number, where there is one
 abbrev pub first_in : List ℕ → Option ℕ
 first_in [] = None
 first_in (n ∷ ns) = Some n
 
--- no rule matches, by the lowest numbers of any entry and of one with a Call rule
+-- no rule matches, by the lowest numbers of any entry and of one with a rule on calls
 abbrev pub unruled_by : ℕ → Option ℕ → Option ℕ → Verdict
 unruled_by flags first (Some n) = refused_by flags AccessDenied (NoRule n)
 unruled_by flags first None = refused_by flags AccessDenied (OnlySee (number_or_0 first))
 
-abbrev pub seen_call_by : Policy → Contents → List ℕ → Verdict
-seen_call_by policy x numbers =
-    if list_any (entry_passes policy (allows x)) numbers then Pass
+abbrev pub seen_call_by : Policy → Contents → Option PropertyRequest → List ℕ → Verdict
+seen_call_by policy x request numbers =
+    if list_any (entry_passes policy (allows x request)) numbers then Pass
     else unruled_by x.flags (first_in numbers) (find (entry_passes policy rules_calls) numbers)
 
 abbrev pub hidden_call_by : ℕ → Text → Verdict
 hidden_call_by flags name =
     refused_by flags (if is_unique name || forbids_auto_start_by flags then NameHasNoOwner else ServiceUnknown) NotVisible
 
-abbrev pub call_by : Policy → Contents → Text → List ℕ → Level → Verdict
-call_by policy x name numbers Hidden = hidden_call_by x.flags name
-call_by policy x name numbers See = seen_call_by policy x numbers
-call_by policy x name numbers Talk = Pass
-call_by policy x name numbers Own = Pass
+abbrev pub call_by : Policy → Contents → Option PropertyRequest → Text → List ℕ → Level → Verdict
+call_by policy x request name numbers Hidden = hidden_call_by x.flags name
+call_by policy x request name numbers See = seen_call_by policy x request numbers
+call_by policy x request name numbers Talk = Pass
+call_by policy x request name numbers Own = Pass
 
 -- ---- calls to the bus
 
@@ -99,15 +100,15 @@ reply_of x = record { peer = x.parts.destination; number = number_or_0 x.parts.r
 abbrev pub reply_by : Bool → Verdict
 reply_by is_owed = if is_owed then Pass else Drop NotOutstanding
 
-abbrev pub role_by : Policy → Knowledge → Contents → Option Text → ClientRole → Verdict
-role_by policy known x first OfUnknownType = Drop UnknownType
-role_by policy known x first Reply = reply_by (nat_lt 0 (known.owed (reply_of x)))
-role_by policy known x first Broadcast = Pass
-role_by policy known x first (SignalTo name) = on_signal (known.entries name) (known.level name)
-role_by policy known x first StandardBusCall = Pass
-role_by policy known x first OtherBusCall = refused_by x.flags AccessDenied BusInterface
-role_by policy known x first BusCall = bus_call_by known.level x.flags first (demand_of (text_or_empty x.parts.member))
-role_by policy known x first (CallTo name) = call_by policy x name (known.entries name) (known.level name)
+abbrev pub role_by : Policy → Knowledge → Contents → Option Text → Option PropertyRequest → ClientRole → Verdict
+role_by policy known x first request OfUnknownType = Drop UnknownType
+role_by policy known x first request Reply = reply_by (nat_lt 0 (known.owed (reply_of x)))
+role_by policy known x first request Broadcast = Pass
+role_by policy known x first request (SignalTo name) = on_signal (known.entries name) (known.level name)
+role_by policy known x first request StandardBusCall = Pass
+role_by policy known x first request OtherBusCall = refused_by x.flags AccessDenied BusInterface
+role_by policy known x first request BusCall = bus_call_by known.level x.flags first (demand_of (text_or_empty x.parts.member))
+role_by policy known x first request (CallTo name) = call_by policy x request name (known.entries name) (known.level name)
 
 -- ---- fields of unknown codes
 
@@ -115,5 +116,5 @@ role_by policy known x first (CallTo name) = call_by policy x name (known.entrie
 abbrev pub unknown_field_by : Contents → Verdict
 unknown_field_by x = if x.kind == 1 then refused_by x.flags AccessDenied UnknownField else Drop UnknownField
 
-abbrev pub verdict_by : Policy → Knowledge → Contents → Option Text → ClientRole → Verdict
-verdict_by policy known x first role = if policy.known_fields && x.unknown_field then unknown_field_by x else role_by policy known x first role
+abbrev pub verdict_by : Policy → Knowledge → Contents → Option Text → Option PropertyRequest → ClientRole → Verdict
+verdict_by policy known x first request role = if policy.known_fields && x.unknown_field then unknown_field_by x else role_by policy known x first request role

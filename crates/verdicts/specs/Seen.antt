@@ -1,6 +1,10 @@
--- What the code's roles and demands are seen as.
+-- What the code's roles, demands and property requests are seen as.
+use Rattle.std.specs.Prelude.{Option, option_map}
+use Rattle.dbus_header.specs.Seen.{text_seen}
+use Rattle.policy_view.specs.Properties.{PropertyRequest}
 use Rattle.policy_view.specs.Verdicts.{ClientRole, OfUnknownType, Reply, Broadcast, SignalTo, StandardBusCall, OtherBusCall, BusCall, CallTo, TextDemand, NoEavesdrop, SeenOwner, SeenName, Startable, Ownable, Demand, Free, OnText, Unlisted}
 use Rattle.policy_view.specs.Shown.{BusRole, NoRole, Unexpected, MatchAnswer, OwnerAnswer, NamesAnswer, PingAnswer, NameList, HelloAnswer, OtherAnswer, CallIn, OwnerChange, SignalIn, BroadcastIn}
+use Rattle.verdicts.specs.declared.properties.PropertyRequest.{PropertyRequest as PropertyRequestRead}
 use Rattle.verdicts.specs.declared.roles.ClientRole.{ClientRole as ClientRoleRead}
 use Rattle.verdicts.specs.declared.roles.ClientRole.TheVariants as client
 use Rattle.verdicts.specs.declared.roles.BusRole.{BusRole as BusRoleRead}
@@ -31,6 +35,12 @@ abbrev pub demand_seen : DemandRead → Demand
 demand_seen member.Free = Free
 demand_seen (member.OnText demand) = OnText (text_demand_seen demand)
 demand_seen member.Unlisted = Unlisted
+
+abbrev pub property_request_seen : PropertyRequestRead → PropertyRequest
+property_request_seen request = record { interface = request.interface.now; property = text_seen request.property }
+
+abbrev pub request_seen : Option PropertyRequestRead → Option PropertyRequest
+request_seen request = option_map property_request_seen request
 
 abbrev pub bus_role_seen : BusRoleRead → BusRole
 bus_role_seen bus.NoRole = NoRole

@@ -9,7 +9,7 @@ use Rattle.policy_args.specs.Policy.{Policy, at_least}
 use Rattle.policy_args.specs.declared.Level.{Level}
 use Rattle.policy_args.specs.declared.Level.TheVariants.{See, Talk}
 use Rattle.policy_args.specs.declared.entry.Grant.{Grant}
-use Rattle.policy_args.specs.declared.entry.Grant.TheVariants.{See as to_see, Talk as to_talk, Own as to_own, Call as to_call, Broadcast as to_broadcast}
+use Rattle.policy_args.specs.declared.entry.Grant.TheVariants.{See as to_see, Talk as to_talk, Own as to_own, Call as to_call, Broadcast as to_broadcast, Property as to_property}
 use Rattle.policy_view.specs.Shown.{BusRole, NoRole, Unexpected, MatchAnswer, OwnerAnswer, NamesAnswer, PingAnswer, NameList, HelloAnswer, OtherAnswer, CallIn, OwnerChange, SignalIn, BroadcastIn}
 use Rattle.policy_view.specs.Texts.{matches}
 use Rattle.policy_view.specs.Verdicts.{entry_passes}
@@ -32,6 +32,7 @@ announces x to_talk = false
 announces x to_own = false
 announces x (to_call rule) = false
 announces x (to_broadcast rule) = matches rule x.parts.path x.parts.interface x.parts.member
+announces x (to_property rule) = false
 
 abbrev pub may_announce : Policy → (Text → Level) → (Text → List ℕ) → Contents → Option Text → Bool
 may_announce policy level entries x None = false

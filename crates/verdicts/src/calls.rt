@@ -6,6 +6,7 @@ ghost use Rattle.policy_view.specs.Verdicts.{first_or_0, on_signal};
 ghost use Rattle.unique_names.specs.Taught.{kept_level, kept_numbers};
 ghost use Rattle.verdicts.specs.Judging.{call_by, first_text_in, hidden_call_by, refused_by, reply_by, reply_of, role_by, unknown_field_by, verdict_by};
 ghost use Rattle.verdicts.specs.Kept.{kept, owed_by, owed_to};
+ghost use Rattle.verdicts.specs.Properties.{property_request_in};
 ghost use Rattle.verdicts.specs.Seen.{client_role_seen};
 
 use crate::bus_members::judge_bus_call;
@@ -26,7 +27,7 @@ pub(crate) fn judge_message(
     message: &Message<'_>,
     role: ClientRole<'_>,
 ) -> Verdict
-    ensures { result ≡ verdict_by policy.now (kept policy.now tracker.now ledger.now.owed) (message_seen message.now) (first_text_in message.now.bytes.now) (client_role_seen role.entry) }
+    ensures { result ≡ verdict_by policy.now (kept policy.now tracker.now ledger.now.owed) (message_seen message.now) (first_text_in message.now.bytes.now) (property_request_in message.now.bytes.now) (client_role_seen role.entry) }
 {
     if policy.known_fields() && message.has_unknown_field {
         return refuse_field(message);
@@ -53,7 +54,7 @@ fn judge_as(
     message: &Message<'_>,
     role: ClientRole<'_>,
 ) -> Verdict
-    ensures { result ≡ role_by policy.now (kept policy.now tracker.now ledger.now.owed) (message_seen message.now) (first_text_in message.now.bytes.now) (client_role_seen role.entry) }
+    ensures { result ≡ role_by policy.now (kept policy.now tracker.now ledger.now.owed) (message_seen message.now) (first_text_in message.now.bytes.now) (property_request_in message.now.bytes.now) (client_role_seen role.entry) }
 {
     match role {
         ClientRole::OfUnknownType => Verdict::Drop(Reason::UnknownType),
@@ -130,7 +131,7 @@ fn judge_call(
     name: BusName<'_>,
     known: LookedUp<'_>,
 ) -> Verdict
-    ensures { result ≡ call_by policy.now (message_seen message.now) name.entry.text.now (kept_numbers known.entry.policy.now known.entry.tracker.now known.entry.name.now) (kept_level known.entry.policy.now known.entry.tracker.now known.entry.name.now) }
+    ensures { result ≡ call_by policy.now (message_seen message.now) (property_request_in message.now.bytes.now) name.entry.text.now (kept_numbers known.entry.policy.now known.entry.tracker.now known.entry.name.now) (kept_level known.entry.policy.now known.entry.tracker.now known.entry.name.now) }
 {
     match known.level() {
         Level::None => judge_hidden(message, name),

@@ -5,12 +5,15 @@ ghost use Rattle.std.specs.Option.{option_copied};
 ghost use Rattle.dbus_header.specs.Read.{message_seen};
 ghost use Rattle.policy_args.specs.Policy.{entry_at};
 ghost use Rattle.policy_view.specs.Texts.{matches as rule_matches};
-ghost use Rattle.policy_view.specs.Verdicts.{entry_passes, rules_calls};
+ghost use Rattle.policy_view.specs.Verdicts.{entry_passes, rules_calls as grant_rules_calls};
 ghost use Rattle.verdicts.specs.Entries.{lowest_with};
 ghost use Rattle.verdicts.specs.Judging.{allows as grant_allows, seen_call_by, unruled_by};
+ghost use Rattle.verdicts.specs.Properties.{property_request_in};
+ghost use Rattle.verdicts.specs.Seen.{request_seen};
 ghost use Rattle.verdicts.specs.Showing.{announces as grant_announces};
 
 use crate::calls::refused;
+use crate::properties::{PropertyRequest, permits, property_request};
 use call_rules::Rule;
 use dbus_header::{Instead, Message};
 use policy_args::{Entry, Grant, Policy};
@@ -22,8 +25,8 @@ use unique_names::Entries;
 struct Lowest {
     /// That of any entry.
     any: Option<u32>,
-    /// That of an entry with a Call rule.
-    call: Option<u32>,
+    /// That of an entry with a Call or a Property rule.
+    ruled: Option<u32>,
 }
 
 impl Lowest {
@@ -33,26 +36,38 @@ impl Lowest {
     {
         Lowest {
             any: self.any.or(Some(number)),
-            call: if has_call_rule(policy, number) {
-                self.call.or(Some(number))
+            ruled: if rules_calls(policy, number) {
+                self.ruled.or(Some(number))
             } else {
-                self.call
+                self.ruled
             },
         }
     }
 }
 
-/// The verdict on a call of a name that is only seen, by the numbers of its entries: one whose Call rule matches lets it
-/// pass.
+/// The verdict on a call of a name that is only seen, by the numbers of its entries: one whose Call rule matches it lets it
+/// pass, and one whose Property rule matches the property request that it is.
 pub(crate) fn judge_seen(policy: &Policy, message: &Message<'_>, numbers: Entries<'_>) -> Verdict
-    ensures { result ≡ seen_call_by policy.now (message_seen message.now) numbers.entry }
+    ensures { result ≡ seen_call_by policy.now (message_seen message.now) (property_request_in message.now.bytes.now) numbers.entry }
+{
+    judge_by_rules(policy, message, property_request(message), numbers)
+}
+
+// The verdict on such a call, by the property request that it is.
+fn judge_by_rules(
+    policy: &Policy,
+    message: &Message<'_>,
+    request: Option<PropertyRequest<'_>>,
+    numbers: Entries<'_>,
+) -> Verdict
+    ensures { result ≡ seen_call_by policy.now (message_seen message.now) (request_seen request.entry) numbers.entry }
 {
     let mut lowest = Lowest {
         any: None,
-        call: None,
+        ruled: None,
     };
     for number in numbers {
-        if allows(policy, number, message) {
+        if allows(policy, number, message, request) {
             return Verdict::Pass;
         }
         lowest = lowest.with(policy, number);
@@ -62,9 +77,9 @@ pub(crate) fn judge_seen(policy: &Policy, message: &Message<'_>, numbers: Entrie
 
 // Refuses a call that no rule matches.
 fn refuse(message: &Message<'_>, lowest: Lowest) -> Verdict
-    ensures { result ≡ unruled_by message.now.flags lowest.any lowest.call }
+    ensures { result ≡ unruled_by message.now.flags lowest.any lowest.ruled }
 {
-    let reason = match lowest.call {
+    let reason = match lowest.ruled {
         Some(number) => Reason::NoRule(number),
         None => Reason::OnlySee(lowest.any.unwrap_or(0)),
     };
@@ -94,39 +109,45 @@ fn entry(policy: &Policy, number: u32) -> Option<&Entry>
     }
 }
 
-// Whether the entry of a number has a Call rule that matches the call.
-fn allows(policy: &Policy, number: u32, message: &Message<'_>) -> bool
-    ensures { result ≡ entry_passes policy.now (grant_allows (message_seen message.now)) number }
+// Whether the entry of a number has a rule that lets the call pass.
+fn allows(
+    policy: &Policy,
+    number: u32,
+    message: &Message<'_>,
+    request: Option<PropertyRequest<'_>>,
+) -> bool
+    ensures { result ≡ entry_passes policy.now (grant_allows (message_seen message.now) (request_seen request.entry)) number }
 {
     match entry(policy, number) {
         None => false,
-        Some(entry) => is_allowing(&entry.grant, message),
+        Some(entry) => is_allowing(&entry.grant, message, request),
     }
 }
 
-fn is_allowing(grant: &Grant, message: &Message<'_>) -> bool
-    ensures { result ≡ grant_allows (message_seen message.now) grant.now }
+fn is_allowing(grant: &Grant, message: &Message<'_>, request: Option<PropertyRequest<'_>>) -> bool
+    ensures { result ≡ grant_allows (message_seen message.now) (request_seen request.entry) grant.now }
 {
     match grant {
         Grant::Call(rule) => is_matched(rule, message),
+        Grant::Property(rule) => permits(rule, message.path, request),
         Grant::See | Grant::Talk | Grant::Own | Grant::Broadcast(_) => false,
     }
 }
 
-// Whether it has a Call rule.
-fn has_call_rule(policy: &Policy, number: u32) -> bool
-    ensures { result ≡ entry_passes policy.now rules_calls number }
+// Whether it has a rule on calls.
+fn rules_calls(policy: &Policy, number: u32) -> bool
+    ensures { result ≡ entry_passes policy.now grant_rules_calls number }
 {
     match entry(policy, number) {
         None => false,
-        Some(entry) => is_call(&entry.grant),
+        Some(entry) => is_ruling_calls(&entry.grant),
     }
 }
 
-fn is_call(grant: &Grant) -> bool
-    ensures { result ≡ rules_calls grant.now }
+fn is_ruling_calls(grant: &Grant) -> bool
+    ensures { result ≡ grant_rules_calls grant.now }
 {
-    matches!(grant, Grant::Call(_))
+    matches!(grant, Grant::Call(_) | Grant::Property(_))
 }
 
 // Whether it has a Broadcast rule that matches the signal.
@@ -144,7 +165,7 @@ fn is_announcing(grant: &Grant, message: &Message<'_>) -> bool
 {
     match grant {
         Grant::Broadcast(rule) => is_matched(rule, message),
-        Grant::See | Grant::Talk | Grant::Own | Grant::Call(_) => false,
+        Grant::See | Grant::Talk | Grant::Own | Grant::Call(_) | Grant::Property(_) => false,
     }
 }
 

@@ -19,6 +19,7 @@ ghost use Rattle.verdicts.specs.Kept.{StandFor, kept};
 mod bus_members;
 mod calls;
 mod entries;
+mod properties;
 mod roles;
 mod showing;
 
@@ -35,7 +36,9 @@ use unique_names::Tracker;
 /// A message of a type above 4 is dropped. A return or an error passes where it is owed. A signal passes without
 /// DESTINATION, and to a name that may be talked to. A call of the bus passes by an interface that each object has; by the
 /// bus's own, or by none, it is judged by its member and the level of its first text; by any other it is refused. Another
-/// call passes to a name that may be talked to, and to one that is only seen where a Call rule of its entries matches.
+/// call passes to a name that may be talked to, and to one that is only seen where a Call rule of its entries matches it,
+/// or where it is a property request that a Property rule of them matches: Get, Set or GetAll of the interface of properties
+/// with the signature that the member has (D-Bus Specification, "org.freedesktop.DBus.Properties").
 ///
 /// Under a policy that lets known header fields alone pass, a call that has another is refused, and any other message that
 /// has one is dropped, whatever they are.

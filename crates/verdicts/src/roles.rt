@@ -9,6 +9,7 @@ ghost use Rattle.policy_view.specs.Verdicts.{role_of_bus_call as bus_call_role, 
 ghost use Rattle.verdicts.specs.Roles.{bus_role_of, client_role_of, is_owner_change_of, signal_role_of};
 ghost use Rattle.verdicts.specs.Seen.{bus_role_seen, client_role_seen};
 
+use crate::properties::PROPERTIES_INTERFACE;
 use dbus_header::{ERROR, Instead, METHOD_CALL, METHOD_RETURN, Message, SIGNAL};
 use dbus_names::{BUS_NAME, BusName, Name, is_bus};
 use dbus_values::Order;
@@ -120,7 +121,7 @@ fn is_standard(interface: &str) -> bool
     ensures { result ≡ is_one_of interface.now standard_interfaces }
 {
     interface == "org.freedesktop.DBus.Peer"
-        || interface == "org.freedesktop.DBus.Properties"
+        || interface == PROPERTIES_INTERFACE
         || interface == "org.freedesktop.DBus.Introspectable"
 }
 
@@ -205,7 +206,8 @@ pub fn is_owner_change(message: &Message<'_>) -> bool
         && is_text(message.member, "NameOwnerChanged")
 }
 
-fn is_text(text: Option<&str>, wanted: &str) -> bool
+/// Whether the text is this one.
+pub(crate) fn is_text(text: Option<&str>, wanted: &str) -> bool
     ensures { result ≡ text_is (text_seen text.entry) wanted.now }
 {
     match text {
