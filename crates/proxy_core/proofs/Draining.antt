@@ -1,5 +1,5 @@
 -- Lines and messages taken from the front of a stream, one and then many; bytes that go on as they came.
-use Rattle.std.proofs.Common.{ℕ, zero, suc, ◌≡◌, ◌+◌, ◌-◌, ◌*◌, ◌≤◌, ◌<◌, Bool, true, false, cond, List, [], ◌∷◌, ◌++◌, length, take, Option, Some, None, refl, ap, ◌∙◌, sym, subst, arith, length-append, inl, inr}
+use Rattle.std.proofs.Common.{ℕ, zero, suc, ◌≡◌, ◌+◌, ◌-◌, ◌*◌, ◌≤◌, ◌<◌, Bool, true, false, cond, List, [], ◌∷◌, ◌++◌, length, take, Option, Some, None, refl, ap, ap₂, ◌∙◌, sym, subst, arith, length-append, inl, inr}
 use Rattle.std.specs.Prelude.{◌==◌, is_none, is_some, nat_lt, not}
 use Rattle.dbus_names.specs.Names.{is_empty}
 use Rattle.dbus_header.specs.Message.{Message, spell}
@@ -13,10 +13,10 @@ use Rattle.policy_view.specs.declared.Side.TheVariants.{Client, Bus}
 use Rattle.policy_view.specs.declared.End.{End}
 use Rattle.policy_view.specs.declared.End.TheVariants.{Memory}
 use Rattle.proxy_core.specs.Streams.{StreamView, Phase, InLines, InMessages, pushed}
-use Rattle.proxy_core.specs.Sessions.{SessionView, stream_of, IsFront}
+use Rattle.proxy_core.specs.Sessions.{SessionView, stream_of}
 use Rattle.proxy_core.specs.Messages.{ended_by, with_watched_message, KeepsSides}
-use Rattle.proxy_core.specs.Steps.{with_stream, with_left, with_fault, and_runs, with_front, with_raw, raw_step, step_at, step_of, more_if, drained, with_more, with_bytes, end_unless, closed_if, room_of, with_piece, Grows, TookMessage, IsRefused, Took, Stepped, Did, own_to_come, weight, IsLight}
-use Rattle.proxy_core.proofs.Keeping.{waits, grows_as, grows_none, grows_then, bus_grows, client_grows, watched_kept}
+use Rattle.proxy_core.specs.Steps.{with_stream, with_left, with_fault, and_runs, with_front, with_raw, raw_step, step_at, step_of, more_if, drained, with_more, with_bytes, end_unless, closed_if, room_of, with_piece, with_pushed, Grows, KeepsWaiting, TookMessage, IsStopped, WentOn, IsRefused, Took, Stepped, Did, own_to_come, weight, IsLight}
+use Rattle.proxy_core.proofs.Keeping.{grows_as, grows_none, grows_then, bus_grows, client_grows, watched_kept}
 use Rattle.proxy_core.proofs.Weights.{watched_light}
 use Rattle.proxy_core.proofs.LineSteps.{line_grows, line_runs, did_light}
 
@@ -28,10 +28,6 @@ left_of side view = (stream_of side view).left
 same_left : (side : Side) (view : SessionView) → with_left side (left_of side view) view ≡ view
 same_left Client view = refl
 same_left Bus view = refl
-
-left_ended : (side : Side) (left : List ℕ) (view : SessionView) → (with_left side left view).ended ≡ view.ended
-left_ended Client left view = refl
-left_ended Bus left view = refl
 
 left_mode : (side : Side) (left : List ℕ) (view : SessionView) → (with_left side left view).mode ≡ view.mode
 left_mode Client left view = refl
@@ -45,33 +41,44 @@ left_grows : (side : Side) (left : List ℕ) (view new : SessionView) → Grows 
 left_grows Client left view new g = grows_as g refl refl
 left_grows Bus left view new g = grows_as g refl refl
 
-grows_left : (side : Side) (left : List ℕ) (view new : SessionView) → Grows view new → Grows (with_left side left view) new
-grows_left Client left view new g = grows_as g refl refl
-grows_left Bus left view new g = grows_as g refl refl
+-- ---- memory that was refused
 
--- what waits is as it was
-same_waits : (old new : SessionView) → KeepsSides old new → waits new ≡ waits old
-same_waits old new k = cc (k.bus_side, k.client_side, k.notes, k.visible)
+sides_wait : (old new : SessionView) → KeepsSides old new → KeepsWaiting old new
+sides_wait old new k = record {
+  mode = k.mode;
+  bus_side = k.bus_side;
+  client_side = k.client_side;
+  notes = k.notes;
+  numbered = k.numbered;
+  watches = k.watches;
+  visible = k.visible;
+}
 
-kept_grows : (old new expected : SessionView) → KeepsSides old new → Grows old expected → Grows new expected
-kept_grows old new expected k g = grows_as g (same_waits old new k) refl
+-- of a view in which the same waits
+waits_as : (old mid new : SessionView) → KeepsWaiting mid new → KeepsWaiting old mid → KeepsWaiting old new
+waits_as old mid new k l = record {
+  mode = k.mode ∙ l.mode;
+  bus_side = k.bus_side ∙ l.bus_side;
+  client_side = k.client_side ∙ l.client_side;
+  notes = k.notes ∙ l.notes;
+  numbered = k.numbered ∙ l.numbered;
+  watches = k.watches ∙ l.watches;
+  visible = k.visible ∙ l.visible;
+}
 
-grows_kept : (old new : SessionView) → KeepsSides old new → Grows old new
-grows_kept old new k = grows_as (grows_none old) refl (same_waits old new k)
+left_waits : (side : Side) (left : List ℕ) (view : SessionView) → KeepsWaiting view (with_left side left view)
+left_waits Client left view = record { mode = refl; bus_side = refl; client_side = refl; notes = refl; numbered = refl; watches = refl; visible = refl }
+left_waits Bus left view = record { mode = refl; bus_side = refl; client_side = refl; notes = refl; numbered = refl; watches = refl; visible = refl }
 
--- memory was refused in the midst of what was to be
-refused_in : (expected old new : SessionView) → old.ended ≡ None → new.ended ≡ Some Memory → new.mode ≡ old.mode → new.watches ≡ old.watches → Grows old new → Grows new expected → IsRefused expected old new
-refused_in expected old new runs ended mode watches grows most =
-    record { running = runs; ended = ended; mode = mode; grows = grows; for_bus = most.for_bus; for_client = most.for_client; noted = most.noted; watches = watches; watched = most.watched }
+ended_waits : (end : End) (view : SessionView) → KeepsWaiting view (ended_by end view)
+ended_waits end view = record { mode = refl; bus_side = refl; client_side = refl; notes = refl; numbered = refl; watches = refl; visible = refl }
 
-refused_grows : (expected old new : SessionView) → IsRefused expected old new → Grows new expected
-refused_grows expected old new r = record { for_bus = r.for_bus; for_client = r.for_client; noted = r.noted; watched = r.watched }
+waiting_grows : (old new : SessionView) → KeepsWaiting old new → Grows old new
+waiting_grows old new k = grows_as (grows_none old) refl (cc (k.bus_side, k.client_side, k.notes, k.visible))
 
--- and before anything was done
-refused_first : (expected old new : SessionView) → old.ended ≡ None → new ≡ ended_by Memory old → Grows old expected → IsRefused expected old new
-refused_first expected old new runs is grows =
-    refused_in expected old new runs (ap (λ (v : SessionView). v.ended) is) (ap (λ (v : SessionView). v.mode) is) (ap (λ (v : SessionView). v.watches) is)
-    (subst (λ (v : SessionView). Grows old v) (sym is) (grows_as (grows_none old) refl refl)) (grows_as grows (ap waits is) refl)
+-- before anything was done
+stopped_first : (old new : SessionView) → old.ended ≡ None → new ≡ ended_by Memory old → IsStopped old new
+stopped_first old new runs is = record { running = runs; ended = ap (λ (v : SessionView). v.ended) is; kept = subst (λ (v : SessionView). KeepsWaiting old v) (sym is) (ended_waits Memory old) }
 
 -- a message's bytes are no longer left
 left_weighs : (policy : Policy) (side : Side) (left : List ℕ) (n : ℕ) (view : SessionView) → length (left_of side view) ≡ n + length left → weight policy (with_left side left view) + 19 * n ≡ weight policy view
@@ -106,6 +113,17 @@ raw_weighs policy Bus view = by _ _ _ _ _ _ (length-append view.client_side view
   where
     by : (client_then bus client left other own : ℕ) → client_then ≡ client + left → bus + client_then + 19 * (other + 0) + own ≤ bus + client + 19 * (other + left) + own
     by client_then bus client left other own e = omega arith
+
+-- with nothing left less weighs
+left_lighter : (policy : Policy) (side : Side) (view : SessionView) → weight policy (with_left side [] view) ≤ weight policy view
+left_lighter policy Client view = by _ _ _ _
+  where
+    by : (sides left other own : ℕ) → sides + 19 * (0 + other) + own ≤ sides + 19 * (left + other) + own
+    by sides left other own = omega arith
+left_lighter policy Bus view = by _ _ _ _
+  where
+    by : (sides left other own : ℕ) → sides + 19 * (other + 0) + own ≤ sides + 19 * (other + left) + own
+    by sides left other own = omega arith
 
 -- ---- the message in front
 
@@ -176,11 +194,11 @@ module _ (policy : Policy) (side : Side) where
       inl (new_is ∙ ap (λ (x : SessionView × Bool). x.0) (sym (step_is old m left p t.in_front)), ap (λ (v : SessionView). is_none v.ended) new_is ∙ ap (λ (x : SessionView × Bool). x.1) (sym (step_is old m left p t.in_front)))
   whole_step old mid new frame left m runs p t is (inr refused) =
       inr (
-        refused_in (step_of policy side old).0 old new runs refused.ended (refused.kept.mode ∙ ap (λ (v : SessionView). v.mode) is ∙ left_mode side left old)
-            (refused.kept.watches ∙ ap (λ (v : SessionView). v.watches) is ∙ left_watches side left old)
-            (left_grows side left old new (subst (λ (v : SessionView). Grows v new) is (grows_kept mid new refused.kept)))
-            (kept_grows mid new (step_of policy side old).0 refused.kept
-            (subst (λ (v : SessionView). Grows v (step_of policy side old).0) (sym is) (grows_left side left old (step_of policy side old).0 (step_grows old)))),
+        record {
+          running = runs;
+          ended = refused.ended;
+          kept = waits_as old mid new (sides_wait mid new refused.kept) (subst (λ (v : SessionView). KeepsWaiting old v) (sym is) (left_waits side left old));
+        },
         ap is_none refused.ended,
       )
 
@@ -225,8 +243,7 @@ module _ (policy : Policy) (side : Side) where
   -- ---- memory that was refused before anything was done
 
   pub refused_step : (old mid new : SessionView) → old.ended ≡ None → mid ≡ old → new ≡ ended_by Memory mid → Stepped (step_of policy side old) old new false
-  refused_step old mid new runs same e =
-      inr (refused_first (step_of policy side old).0 old new runs (e ∙ ap (ended_by Memory) same) (step_grows old), refl)
+  refused_step old mid new runs same e = inr (stopped_first old new runs (e ∙ ap (ended_by Memory) same), refl)
 
   -- ---- one message after the other
 
@@ -245,7 +262,7 @@ module _ (policy : Policy) (side : Side) where
   pub record GoesOn (n : ℕ) (view new : SessionView) : Type 0 where
     pub same : drained policy side (n - 1) new ≡ drained policy side n view
     pub runs : new.ended ≡ None
-    pub grows : Grows view new
+    pub step_is : step_of policy side view ≡ (new, true)
 
   pub goes_on : (n : ℕ) (view new : SessionView) (more : Bool) → 0 < n → view.ended ≡ None → Stepped (step_of policy side view) view new more → more ≡ true → GoesOn n view new
   goes_on zero view new more pos runs s e = absurd (omega (arith, pos))
@@ -255,25 +272,50 @@ module _ (policy : Policy) (side : Side) where
       record {
         same = ap (λ (k : ℕ). drained policy side k new) less ∙ ap (drained policy side n) done.0 ∙ ap (λ (b : Bool). more_if ((step_of policy side view).0, b) (drained policy side n)) (sym goes);
         runs = ap (λ (v : SessionView). v.ended) done.0 ∙ step_runs view runs goes;
-        grows = subst (λ (v : SessionView). Grows view v) (sym done.0) (step_grows view);
+        step_is = ap₂ (λ (v : SessionView) (b : Bool). (v, b)) (sym done.0) goes;
       }
   goes_on (suc n) view new more pos runs (inr refused) e = absurd (let h : true ≡ false = sym e ∙ refused.1 in cc)
 
   -- where it doesn't
-  pub stops : (n : ℕ) (first view new : SessionView) (expected : SessionView) (more : Bool) → 0 < n → first.ended ≡ None → view.mode ≡ first.mode → view.watches ≡ first.watches → Grows first view → drained policy side n view ≡ expected
-      → Stepped (step_of policy side view) view new more → more ≡ false → Took expected first new
-  stops zero first view new expected more pos runs mode watches grows is s e = absurd (omega (arith, pos))
-  stops (suc n) first view new expected more pos runs mode watches grows is (inl done) e =
+  pub stops : (n : ℕ) (first view new : SessionView) (expected : SessionView) (more : Bool) → 0 < n → (k : ℕ) × WentOn policy side k first view → drained policy side n view ≡ expected
+      → Stepped (step_of policy side view) view new more → more ≡ false → Took policy side expected first new
+  stops zero first view new expected more pos went is s e = absurd (omega (arith, pos))
+  stops (suc n) first view new expected more pos went is (inl done) e =
       let halts : (step_of policy side view).1 ≡ false = sym done.1 ∙ e in
       inl (done.0 ∙ ap (λ (b : Bool). more_if ((step_of policy side view).0, b) (drained policy side n)) (sym halts) ∙ is)
-  stops (suc n) first view new expected more pos runs mode watches grows is (inr refused) e =
-      let whole : SessionView = drained policy side (suc n) view in
-      inr (refused_in expected first new runs refused.0.ended (refused.0.mode ∙ mode) (refused.0.watches ∙ watches) (grows_then first view new grows refused.0.grows)
-      (subst (λ (v : SessionView). Grows new v) is (grows_then new (step_of policy side view).0 whole (refused_grows (step_of policy side view).0 view new refused.0) (later (step_of policy side view).1))))
-    where
-      later : (b : Bool) → Grows (step_of policy side view).0 (more_if ((step_of policy side view).0, b) (drained policy side n))
-      later true = drained_grows n (step_of policy side view).0
-      later false = grows_none (step_of policy side view).0
+  stops (suc n) first view new expected more pos went is (inr refused) e = inr (record { steps = went.0; mid = view; went = went.1; stopped = refused.0 })
+
+  -- more of them
+  went_on : (n : ℕ) (first mid view : SessionView) → (k : ℕ) × WentOn policy side k first mid → WentOn policy side n mid view → (k : ℕ) × WentOn policy side k first view
+  went_on zero first mid view before is = (before.0, subst (λ (v : SessionView). WentOn policy side before.0 first v) (sym is) before.1)
+  went_on (suc n) first mid view before (last, went, step) = let w = went_on n first mid last before went in (suc w.0, (last, w.1, step))
+
+  pub took_on : (first view new expected whole : SessionView) → (k : ℕ) × WentOn policy side k first view → expected ≡ whole → Took policy side expected view new → Took policy side whole first new
+  took_on first view new expected whole before is (inl done) = inl (done ∙ is)
+  took_on first view new expected whole before is (inr r) =
+      let w = went_on r.steps first view r.mid before r.went in
+      inr (record { steps = w.0; mid = r.mid; went = w.1; stopped = r.stopped })
+
+  -- what waits after these starts with what waited
+  pub went_grows : (n : ℕ) (first view : SessionView) → WentOn policy side n first view → Grows first view
+  went_grows zero first view is = subst (λ (v : SessionView). Grows first v) (sym is) (grows_none first)
+  went_grows (suc n) first view (mid, went, is) =
+      grows_then first mid view (went_grows n first mid went) (subst (λ (x : SessionView × Bool). Grows mid x.0) is (step_grows mid))
+
+  refused_grows : (first new : SessionView) → IsRefused policy side first new → Grows first new
+  refused_grows first new r = grows_then first r.mid new (went_grows r.steps first r.mid r.went) (waiting_grows r.mid new r.stopped.kept)
+
+  -- the first of them, and then the others
+  went_front : (n : ℕ) (first view : SessionView) → WentOn policy side (suc n) first view → (next : SessionView) × (step_of policy side first ≡ (next, true)) × WentOn policy side n next view
+  went_front zero first view (mid, is, step) = (view, ap (step_of policy side) (sym is) ∙ step, refl)
+  went_front (suc n) first view (mid, went, step) = let f = went_front n first mid went in (f.0, f.1, (mid, f.2, step))
+
+  -- as many steps, one after the other
+  pub went_drained : (n : ℕ) (first view : SessionView) → WentOn policy side n first view → drained policy side n first ≡ view
+  went_drained zero first view is = sym is
+  went_drained (suc n) first view went =
+      let f = went_front n first view went in
+      ap (λ (x : SessionView × Bool). more_if x (drained policy side n)) f.1 ∙ went_drained n f.0 view f.2
 
 -- ---- all that is left goes on
 
@@ -290,13 +332,7 @@ module _ (policy : Policy) (side : Side) (old mid new : SessionView) (bytes : Li
         record {
           running = runs;
           ended = cut.0.ended;
-          mode = cut.0.mode ∙ ap (λ (v : SessionView). v.mode) mid_is ∙ left_mode side [] old;
-          grows = left_grows side [] old new (subst (λ (v : SessionView). Grows v new) mid_is cut.0.grows);
-          for_bus = subst (λ (v : SessionView). IsFront new.bus_side v.bus_side) target_is cut.0.for_bus;
-          for_client = subst (λ (v : SessionView). IsFront new.client_side v.client_side) target_is cut.0.for_client;
-          noted = subst (λ (v : SessionView). IsFront new.notes v.notes) target_is cut.0.noted;
-          watches = cut.0.watches ∙ ap (λ (v : SessionView). v.watches) mid_is ∙ left_watches side [] old;
-          watched = subst (λ (v : SessionView). IsFront new.visible v.visible) target_is cut.0.watched;
+          kept = waits_as old mid new cut.0.kept (subst (λ (v : SessionView). KeepsWaiting old v) (sym mid_is) (left_waits side [] old));
         },
         refl,
       )
@@ -307,9 +343,7 @@ module _ (policy : Policy) (side : Side) (old mid new : SessionView) (bytes : Li
       (raw_mode side ∙ ap (λ (v : SessionView). v.mode) mid_is ∙ left_mode side [] old)
       (ap (λ (v : SessionView). v.watches) mid_is ∙ left_watches side [] old)
       (raw_watches side ∙ ap (λ (v : SessionView). v.watches) mid_is ∙ left_watches side [] old)
-      (ap length (raw_client side))
-      (ap length (raw_bus side))
-      (raw_greeted side)
+      (subst (λ (v : SessionView). weight policy v ≤ weight policy old) (sym mid_is) (left_lighter policy side old))
       (subst (λ (v : SessionView). weight policy v ≤ weight policy old) (sym target_is) (raw_weighs policy side old))
     where
       raw_mode : (s : Side) → (with_raw s bytes mid).mode ≡ mid.mode
@@ -319,18 +353,6 @@ module _ (policy : Policy) (side : Side) (old mid new : SessionView) (bytes : Li
       raw_watches : (s : Side) → (with_raw s bytes mid).watches ≡ mid.watches
       raw_watches Client = refl
       raw_watches Bus = refl
-
-      raw_client : (s : Side) → (with_raw s bytes mid).client.left ≡ mid.client.left
-      raw_client Client = refl
-      raw_client Bus = refl
-
-      raw_bus : (s : Side) → (with_raw s bytes mid).bus.left ≡ mid.bus.left
-      raw_bus Client = refl
-      raw_bus Bus = refl
-
-      raw_greeted : (s : Side) → (with_raw s bytes mid).greeted ≡ mid.greeted
-      raw_greeted Client = refl
-      raw_greeted Bus = refl
 
 -- ---- whether the session runs
 
@@ -375,42 +397,49 @@ not_empty_by : (bytes : List ℕ) → (length bytes == 0) ≡ false → is_empty
 not_empty_by [] e = absurd cc
 not_empty_by (byte ∷ bytes) e = refl
 
--- from what stood before
-pub took_from : (expected other old mid new : SessionView) → expected ≡ other → mid.ended ≡ old.ended → mid.mode ≡ old.mode → mid.watches ≡ old.watches → (Grows mid new → Grows old new) → Took expected mid new → Took other old new
-took_from expected other old mid new is runs mode watches grows (inl done) = inl (done ∙ is)
-took_from expected other old mid new is runs mode watches grows (inr refused) =
-    inr (refused_in other old new (sym runs ∙ refused.running) refused.ended (refused.mode ∙ mode) (refused.watches ∙ watches) (grows refused.grows) (subst (λ (v : SessionView). Grows new v) is (refused_grows expected mid new refused)))
-
 module _ (policy : Policy) (side : Side) (bytes : List ℕ) where
   more_grows : (view : SessionView) → Grows view (with_more policy side bytes view)
   more_grows view =
-      let behind : SessionView = with_stream side (pushed bytes (stream_of side view)) view in
-      pushed_grows side (pushed bytes (stream_of side view)) view (with_more policy side bytes view) (drained_grows policy side (length (left_of side view ++ bytes) + 2) behind)
+      pushed_grows side (pushed bytes (stream_of side view)) view (with_more policy side bytes view) (drained_grows policy side (length (left_of side view ++ bytes) + 2) (with_pushed side bytes view))
 
   bytes_grow : (none : Bool) (view : SessionView) → Grows view (cond none view (with_more policy side bytes view))
   bytes_grow true view = grows_none view
   bytes_grow false view = more_grows view
 
   -- memory was refused before anything was looked at
-  pub bytes_refused : (old mid new : SessionView) → old.ended ≡ None → mid ≡ old → new ≡ ended_by Memory mid → Took (with_bytes policy side bytes old) old new
-  bytes_refused old mid new runs same e =
-      inr (refused_first (with_bytes policy side bytes old) old new runs (e ∙ ap (ended_by Memory) same) (bytes_grow (is_empty bytes) old))
+  pub bytes_refused : (old mid new : SessionView) → old.ended ≡ None → mid ≡ old → new ≡ ended_by Memory mid → Took policy side (with_bytes policy side bytes old) (with_pushed side bytes old) new
+  bytes_refused old mid new runs same e = inr (record {
+    steps = 0;
+    mid = with_pushed side bytes old;
+    went = refl;
+    stopped = record {
+      running = pushed_ended side (pushed bytes (stream_of side old)) old ∙ runs;
+      ended = ap (λ (v : SessionView). v.ended) e;
+      kept = subst (λ (v : SessionView). KeepsWaiting (with_pushed side bytes old) v) (sym (e ∙ ap (ended_by Memory) same)) (unpushed side (pushed bytes (stream_of side old)) old);
+    };
+  })
+    where
+      unpushed : (s : Side) (x : StreamView) (v : SessionView) → KeepsWaiting (with_stream s x v) (ended_by Memory v)
+      unpushed Client x v = record { mode = refl; bus_side = refl; client_side = refl; notes = refl; numbered = refl; watches = refl; visible = refl }
+      unpushed Bus x v = record { mode = refl; bus_side = refl; client_side = refl; notes = refl; numbered = refl; watches = refl; visible = refl }
 
   -- and those that came are taken
-  pub bytes_taken : (old mid new : SessionView) (most : ℕ) → (length bytes == 0) ≡ false → mid ≡ with_stream side (pushed bytes (stream_of side old)) old → most ≡ length (left_of side mid) + 2
-      → Took (drained policy side most mid) mid new → Took (with_bytes policy side bytes old) old new
-  bytes_taken old mid new most some is enough took =
-      let first : SessionView = with_stream side (pushed bytes (stream_of side old)) old in
-      let most_is : most ≡ length (left_of side old ++ bytes) + 2 = enough ∙ ap (λ (v : SessionView). length (left_of side v) + 2) is ∙ ap (λ (xs : List ℕ). length xs + 2) (pushed_left side (pushed bytes (stream_of side old)) old) in
-      let all : drained policy side most mid ≡ with_bytes policy side bytes old =
-      ap (λ (v : SessionView). drained policy side most v) is
-      ∙ ap (λ (n : ℕ). drained policy side n first) most_is
-      ∙ ap (λ (b : Bool). cond b old (with_more policy side bytes old)) (sym (not_empty_by bytes some)) in
-      took_from (drained policy side most mid) (with_bytes policy side bytes old) old mid new all (ap (λ (v : SessionView). v.ended) is ∙ pushed_ended side (pushed bytes (stream_of side old)) old)
-      (ap (λ (v : SessionView). v.mode) is ∙ pushed_mode side (pushed bytes (stream_of side old)) old)
-      (ap (λ (v : SessionView). v.watches) is ∙ pushed_watches side (pushed bytes (stream_of side old)) old)
-      (λ grows. pushed_grows side (pushed bytes (stream_of side old)) old new (subst (λ (v : SessionView). Grows v new) is grows))
-      took
+  pub bytes_taken : (old mid new : SessionView) (most : ℕ) → (length bytes == 0) ≡ false → mid ≡ with_pushed side bytes old → most ≡ length (left_of side mid) + 2
+      → Took policy side (drained policy side most mid) mid new → Took policy side (with_bytes policy side bytes old) (with_pushed side bytes old) new
+  bytes_taken old mid new most some is enough took = by took
+    where
+      most_is : most ≡ length (left_of side old ++ bytes) + 2
+      most_is = enough ∙ ap (λ (v : SessionView). length (left_of side v) + 2) is ∙ ap (λ (xs : List ℕ). length xs + 2) (pushed_left side (pushed bytes (stream_of side old)) old)
+
+      all : drained policy side most mid ≡ with_bytes policy side bytes old
+      all =
+          ap (λ (v : SessionView). drained policy side most v) is
+          ∙ ap (λ (n : ℕ). drained policy side n (with_pushed side bytes old)) most_is
+          ∙ ap (λ (b : Bool). cond b old (with_more policy side bytes old)) (sym (not_empty_by bytes some))
+
+      by : Took policy side (drained policy side most mid) mid new → Took policy side (with_bytes policy side bytes old) (with_pushed side bytes old) new
+      by (inl done) = inl (done ∙ all)
+      by (inr refused) = inr (subst (λ (v : SessionView). IsRefused policy side v new) is refused)
 
 -- ---- a piece
 
@@ -423,12 +452,14 @@ closed_grows true side old view g = unless_grows view.ended (finished side) old 
 closed_grows false side old view g = g
 
 -- it only adds to what waits, also where memory was refused in its midst
-pub piece_grows : (policy : Policy) (side : Side) (piece : List ℕ) (old new : SessionView) → Took (with_piece policy side piece old) old new → Grows old new
+pub piece_grows : (policy : Policy) (side : Side) (piece : List ℕ) (old new : SessionView) → Took policy side (with_piece policy side piece old) (with_pushed side (take (room_of side old) piece) old) new → Grows old new
 piece_grows policy side piece old new (inl done) =
     let bytes : List ℕ = take (room_of side old) piece in
     subst (λ (v : SessionView). Grows old v) (sym done)
     (closed_grows (nat_lt (room_of side old) (length piece)) side old (with_bytes policy side bytes old) (bytes_grow policy side bytes (is_empty bytes) old))
-piece_grows policy side piece old new (inr refused) = refused.grows
+piece_grows policy side piece old new (inr refused) =
+    pushed_grows side (pushed (take (room_of side old) piece) (stream_of side old)) old new
+    (refused_grows policy side (with_pushed side (take (room_of side old) piece) old) new refused)
 
 pub light_same : (policy : Policy) (view : SessionView) → IsLight policy 0 view view
 light_same policy view = record { mode = refl; watches = refl; weighs = no_more _ _ (19 * 0) refl }

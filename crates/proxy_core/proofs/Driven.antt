@@ -197,6 +197,18 @@ pub record Final (policy : Policy) (taken : Taken) (mode : Mode) (side : Side) (
   pub sound : new.ended ≡ None → fault mode side events ≡ None
   pub bytes : new.ended ≡ None → AreBytes (stream_of side new).left
 
+-- in the midst of it, where the session runs: of these items it holds the first
+pub record Midst (policy : Policy) (taken : Taken) (mode : Mode) (side : Side) (gone : List ℕ) (events : List Event) (items : History) (given : List Item) (new : SessionView) : Type 0 where
+  pub first : List Item
+  pub more : List Item
+  pub parts : new_in given (reached mode side gone events) ≡ first ++ more
+  pub holds : Holds policy new (followed_by_all policy items first) taken
+
+-- after as many steps as there are, or after fewer
+abbrev pub LastOf : Bool → Policy → Taken → Mode → Side → List ℕ → List Event → History → List Item → SessionView → Type 0
+LastOf true policy taken mode side gone events items given new = Final policy taken mode side gone events items given new
+LastOf false policy taken mode side gone events items given new = new.ended ≡ None → Midst policy taken mode side gone events items given new
+
 -- what is known of the client's stream, where the bus's is taken
 pub record KnowsClient (mode : Mode) (events : List Event) (s : StreamView) : Type 0 where
   pub lines : mode.auth ≡ true → s.lines ≡ asked (stream Client events)
@@ -214,35 +226,47 @@ phase_weight InMessages = 0
 abbrev pub weight : StreamView → ℕ
 weight s = length s.left + phase_weight s.phase
 
-module _ (policy : Policy) (taken : Taken) (mode : Mode) (side : Side) (gone : List ℕ) (events : List Event) where
+module _ (whole : Bool) (policy : Policy) (taken : Taken) (mode : Mode) (side : Side) (gone : List ℕ) (events : List Event) where
   abbrev Last : History → List Item → SessionView → Type 0
-  Last items given new = Final policy taken mode side gone events items given new
+  Last items given new = LastOf whole policy taken mode side gone events items given new
+
+  none_first : (view : SessionView) (items : History) (given : List Item) → Holds policy view items taken → Midst policy taken mode side gone events items given view
+  unfolding followed_by_all
+  none_first view items given h = record { first = []; more = new_in given (reached mode side gone events); parts = refl; holds = h }
 
   -- nothing more stands in front
   pub none_last : (view : SessionView) (items : History) (given : List Item) → Holds policy view items taken → Stops mode side gone events given None
       → StandsAt mode side events (stream_of side view).phase (stream_of side view).left → (mode.auth ≡ true → (stream_of side view).lines ≡ lines_in side mode events) → AreBytes (stream_of side view).left → Last items given view
   unfolding followed_by_all
-  none_last view items given h stop stands counts are = record {
-    holds = subst (λ (xs : List Item). Holds policy view (followed_by_all policy items xs) taken)
-        (sym (ap (λ (xs : List Item). new_in given xs ++ fault_end side (fault mode side events)) stop.found_is ∙ ap (λ (xs : List Item). xs ++ fault_end side (fault mode side events)) (new_none given) ∙ ap (fault_end side) stop.fault_is)) h;
-    stands = λ r. stands;
-    counts = λ r. counts;
-    sound = λ r. stop.fault_is;
-    bytes = λ r. are;
-  }
+  none_last view items given h stop stands counts are = by whole
+    where
+      by : (w : Bool) → LastOf w policy taken mode side gone events items given view
+      by true = record {
+        holds = subst (λ (xs : List Item). Holds policy view (followed_by_all policy items xs) taken)
+            (sym (ap (λ (xs : List Item). new_in given xs ++ fault_end side (fault mode side events)) stop.found_is ∙ ap (λ (xs : List Item). xs ++ fault_end side (fault mode side events)) (new_none given) ∙ ap (fault_end side) stop.fault_is)) h;
+        stands = λ r. stands;
+        counts = λ r. counts;
+        sound = λ r. stop.fault_is;
+        bytes = λ r. are;
+      }
+      by false = λ r. none_first view items given h
 
   -- a fault stands in front
   fault_last : (view : SessionView) (items : History) (given : List Item) (f : Fault) → view.ended ≡ None → Holds policy view items taken → Stops mode side gone events given (Some f) → Last items given (ended_by (malformed side f) view)
   unfolding followed_by_all
-  fault_last view items given f runs h stop = record {
-    holds = subst (λ (xs : List Item). Holds policy (ended_by (malformed side f) view) (followed_by_all policy items xs) taken)
-        (sym (ap (λ (xs : List Item). new_in given xs ++ fault_end side (fault mode side events)) stop.found_is ∙ ap (λ (xs : List Item). xs ++ fault_end side (fault mode side events)) (new_none given) ∙ ap (fault_end side) stop.fault_is))
-        (end_followed policy view items taken (malformed side f) runs h);
-    stands = λ r. absurd cc;
-    counts = λ r. absurd cc;
-    sound = λ r. absurd cc;
-    bytes = λ r. absurd cc;
-  }
+  fault_last view items given f runs h stop = by whole
+    where
+      by : (w : Bool) → LastOf w policy taken mode side gone events items given (ended_by (malformed side f) view)
+      by true = record {
+        holds = subst (λ (xs : List Item). Holds policy (ended_by (malformed side f) view) (followed_by_all policy items xs) taken)
+            (sym (ap (λ (xs : List Item). new_in given xs ++ fault_end side (fault mode side events)) stop.found_is ∙ ap (λ (xs : List Item). xs ++ fault_end side (fault mode side events)) (new_none given) ∙ ap (fault_end side) stop.fault_is))
+            (end_followed policy view items taken (malformed side f) runs h);
+        stands = λ r. absurd cc;
+        counts = λ r. absurd cc;
+        sound = λ r. absurd cc;
+        bytes = λ r. absurd cc;
+      }
+      by false = λ r. absurd cc
 
   new_item : (given : List Item) (item : Item) → Begins (given ++ item ∷ []) (reached mode side gone events) → new_in given (reached mode side gone events) ≡ item ∷ new_in (given ++ item ∷ []) (reached mode side gone events)
   new_item given item (more, e) =
@@ -252,28 +276,35 @@ module _ (policy : Policy) (taken : Taken) (mode : Mode) (side : Side) (gone : L
   -- an item is taken, and then the others
   item_last : (items : History) (given : List Item) (item : Item) (new : SessionView) → Begins (given ++ item ∷ []) (reached mode side gone events) → Last (followed_by policy items item) (given ++ item ∷ []) new → Last items given new
   unfolding followed_by_all
-  item_last items given item new begin f = record {
-    holds = subst (λ (xs : List Item). Holds policy new (followed_by_all policy items (xs ++ fault_end side (fault mode side events))) taken) (sym (new_item given item begin)) f.holds;
-    stands = f.stands;
-    counts = f.counts;
-    sound = f.sound;
-    bytes = f.bytes;
-  }
+  item_last items given item new begin f = by whole f
+    where
+      by : (w : Bool) → LastOf w policy taken mode side gone events (followed_by policy items item) (given ++ item ∷ []) new → LastOf w policy taken mode side gone events items given new
+      by true f = record {
+        holds = subst (λ (xs : List Item). Holds policy new (followed_by_all policy items (xs ++ fault_end side (fault mode side events))) taken) (sym (new_item given item begin)) f.holds;
+        stands = f.stands;
+        counts = f.counts;
+        sound = f.sound;
+        bytes = f.bytes;
+      }
+      by false f = λ r. let m = f r in record { first = item ∷ m.first; more = m.more; parts = new_item given item begin ∙ ap (λ (xs : List Item). item ∷ xs) m.parts; holds = m.holds }
 
   -- where the session ended, the others have no effect
   ended_last : (items : History) (given : List Item) (item : Item) (new : SessionView) (end : End) → Begins (given ++ item ∷ []) (reached mode side gone events) → new.ended ≡ Some end → Holds policy new (followed_by policy items item) taken → Last items given new
-  ended_last items given item new end begin e h =
-      item_last items given item new begin (record {
+  ended_last items given item new end begin e h = item_last items given item new begin (by whole)
+    where
+      by : (w : Bool) → LastOf w policy taken mode side gone events (followed_by policy items item) (given ++ item ∷ []) new
+      by true = record {
         holds = subst (λ (i : History). Holds policy new i taken) (sym (ignored policy (followed_by policy items item) (new_in (given ++ item ∷ []) (reached mode side gone events) ++ fault_end side (fault mode side events)) end (sym h.end_is ∙ e))) h;
         stands = λ r. absurd (let none : Some end ≡ None = sym e ∙ r in cc);
         counts = λ r. absurd (let none : Some end ≡ None = sym e ∙ r in cc);
         sound = λ r. absurd (let none : Some end ≡ None = sym e ∙ r in cc);
         bytes = λ r. absurd (let none : Some end ≡ None = sym e ∙ r in cc);
-      })
+      }
+      by false = λ r. absurd (let none : Some end ≡ None = sym e ∙ r in cc)
 
-abbrev Others : Policy → Taken → Mode → Side → List ℕ → List Event → ℕ → Type 0
-Others policy taken mode side gone events n = (view : SessionView) (items : History) (given : List Item) → weight (stream_of side view) < n → view.ended ≡ None → view.mode ≡ mode → Goes mode side gone events (stream_of side view) given
-    → Holds policy view items taken → AreBytes (stream_of side view).left → KnowsOther mode side events view → Final policy taken mode side gone events items given (drained policy side n view)
+abbrev Others : Bool → Policy → Taken → Mode → Side → List ℕ → List Event → ℕ → Type 0
+Others whole policy taken mode side gone events n = (view : SessionView) (items : History) (given : List Item) → (whole ≡ true → weight (stream_of side view) < n) → view.ended ≡ None → view.mode ≡ mode → Goes mode side gone events (stream_of side view) given
+    → Holds policy view items taken → AreBytes (stream_of side view).left → KnowsOther mode side events view → LastOf whole policy taken mode side gone events items given (drained policy side n view)
 
 -- ---- the client's lines
 
@@ -289,10 +320,10 @@ asks_other place l e pos = asks_by place l false e ∙ ap (λ (x : Bool). cond (
 asks_begin : (place : ℕ) (l : List ℕ) → is_begin l ≡ true → asks place l ≡ 0
 asks_begin place l e = asks_by place l true e ∙ ap (λ (x : Bool). cond x 0 1) (or-true (place == 0))
 
-module _ (policy : Policy) (taken : Taken) (mode : Mode) (gone : List ℕ) (events : List Event) (n : ℕ) (view : SessionView) (place : ℕ) (items : History) (given : List Item) (runs : view.ended ≡ None) (moded : view.mode ≡ mode) (at : view.client.phase ≡ InLines place None)
-    (g : GoesInLines mode Client gone events view.client place None given) (h : Holds policy view items taken) (are : AreBytes view.client.left) (short : length view.client.left + 1 < suc n) (others : Others policy taken mode Client gone events n) where
+module _ (whole : Bool) (policy : Policy) (taken : Taken) (mode : Mode) (gone : List ℕ) (events : List Event) (n : ℕ) (view : SessionView) (place : ℕ) (items : History) (given : List Item) (runs : view.ended ≡ None) (moded : view.mode ≡ mode) (at : view.client.phase ≡ InLines place None)
+    (g : GoesInLines mode Client gone events view.client place None given) (h : Holds policy view items taken) (are : AreBytes view.client.left) (short : whole ≡ true → length view.client.left + 1 < suc n) (others : Others whole policy taken mode Client gone events n) where
   abbrev ClientLast : SessionView → Type 0
-  ClientLast new = Final policy taken mode Client gone events items given new
+  ClientLast new = LastOf whole policy taken mode Client gone events items given new
 
   client_line_last : (l : List ℕ) → ClientGoes (stream Client events) g.given place view.client.left l → ClientLast (drained policy Client n (with_client_line place l view))
   client_line_last l c = by (is_begin l) refl
@@ -310,8 +341,8 @@ module _ (policy : Policy) (taken : Taken) (mode : Mode) (gone : List ℕ) (even
           let is : with_client_line place l view ≡ v = ap (λ (b : Bool). record view { bus_side = view.bus_side ++ for_bus l; client = begun_if b (behind_line place l (asks place l) view.client); visible = visible_with_line Client l view }) e in
           let goes = client_line_goes mode gone events view.client place given g l (asks place l) c e (asks_first place l e) (asks_other place l e) in
           subst (λ (x : SessionView). ClientLast (drained policy Client n x)) (sym is)
-          (item_last policy taken mode Client gone events items given (Line Client l) (drained policy Client n v) (begins mode Client gone events (InLines (place + length l) None) s (given ++ Line Client l ∷ []) goes)
-          (others v (followed_by policy items (Line Client l)) (given ++ Line Client l ∷ []) (omega (arith, rest_short, short)) runs moded goes (client_line_holds policy view items taken l s runs h) rest_bytes tt))
+          (item_last whole policy taken mode Client gone events items given (Line Client l) (drained policy Client n v) (begins mode Client gone events (InLines (place + length l) None) s (given ++ Line Client l ∷ []) goes)
+          (others v (followed_by policy items (Line Client l)) (given ++ Line Client l ∷ []) (λ w. let s = short w in omega (arith, rest_short, s)) runs moded goes (client_line_holds policy view items taken l s runs h) rest_bytes tt))
       by true e =
           let s : StreamView = record view.client { phase = InMessages; left = (behind place view.client.left l).left; lines = view.client.lines + 0 } in
           let v : SessionView = record view { bus_side = view.bus_side ++ for_bus l; client = s; visible = visible_with_line Client l view } in
@@ -320,23 +351,23 @@ module _ (policy : Policy) (taken : Taken) (mode : Mode) (gone : List ℕ) (even
           ∙ ap (λ (k : ℕ). record view { bus_side = view.bus_side ++ for_bus l; client = in_messages (behind_line place l k view.client); visible = visible_with_line Client l view }) (asks_begin place l e) in
           let goes = begin_goes mode gone events view.client place given g l c e in
           subst (λ (x : SessionView). ClientLast (drained policy Client n x)) (sym is)
-          (item_last policy taken mode Client gone events items given (Line Client l) (drained policy Client n v) (begins mode Client gone events InMessages s (given ++ Line Client l ∷ []) goes)
-          (others v (followed_by policy items (Line Client l)) (given ++ Line Client l ∷ []) (omega (arith, rest_short, short)) runs moded goes (client_line_holds policy view items taken l s runs h) rest_bytes tt))
+          (item_last whole policy taken mode Client gone events items given (Line Client l) (drained policy Client n v) (begins mode Client gone events InMessages s (given ++ Line Client l ∷ []) goes)
+          (others v (followed_by policy items (Line Client l)) (given ++ Line Client l ∷ []) (λ w. let s = short w in omega (arith, rest_short, s)) runs moded goes (client_line_holds policy view items taken l s runs h) rest_bytes tt))
 
   client_lines_last : (ls : List (List ℕ)) (o : Option LineFault) → (client_ahead (sound_at place view.client.left)).lines ≡ ls → (client_ahead (sound_at place view.client.left)).fault ≡ o → ClientLast (more_if (with_lines Client place ls o view) (drained policy Client n))
   client_lines_last [] None e f =
       let t = client_stands mode gone events view.client place given g e f in
-      none_last policy taken mode Client gone events view items given h (client_stops mode gone events view.client place given g e None f) (subst (λ (p : Phase). StandsAt mode Client events p view.client.left) (sym at) t.0) (λ a. t.1) are
+      none_last whole policy taken mode Client gone events view items given h (client_stops mode gone events view.client place given g e None f) (subst (λ (p : Phase). StandsAt mode Client events p view.client.left) (sym at) t.0) (λ a. t.1) are
   client_lines_last [] (Some x) e f =
-      fault_last policy taken mode Client gone events (with_stream Client (record view.client { phase = InLines place (Some x) }) view) items given (OfLine x) runs (stream_holds policy view items taken Client (record view.client { phase = InLines place (Some x) }) h) (client_stops mode gone events view.client place given g e (Some x) f)
+      fault_last whole policy taken mode Client gone events (with_stream Client (record view.client { phase = InLines place (Some x) }) view) items given (OfLine x) runs (stream_holds policy view items taken Client (record view.client { phase = InLines place (Some x) }) h) (client_stops mode gone events view.client place given g e (Some x) f)
   client_lines_last (l ∷ ls) o e f = client_line_last l (client_goes (stream Client events) g.given place view.client.left l ls g.follows e)
 
 -- ---- the bus's lines
 
-module _ (policy : Policy) (taken : Taken) (mode : Mode) (gone : List ℕ) (events : List Event) (n : ℕ) (view : SessionView) (place : ℕ) (items : History) (given : List Item) (runs : view.ended ≡ None) (moded : view.mode ≡ mode) (at : view.bus.phase ≡ InLines place None)
-    (g : GoesInLines mode Bus gone events view.bus place None given) (h : Holds policy view items taken) (are : AreBytes view.bus.left) (short : length view.bus.left + 1 < suc n) (knows : KnowsClient mode events view.client) (others : Others policy taken mode Bus gone events n) where
+module _ (whole : Bool) (policy : Policy) (taken : Taken) (mode : Mode) (gone : List ℕ) (events : List Event) (n : ℕ) (view : SessionView) (place : ℕ) (items : History) (given : List Item) (runs : view.ended ≡ None) (moded : view.mode ≡ mode) (at : view.bus.phase ≡ InLines place None)
+    (g : GoesInLines mode Bus gone events view.bus place None given) (h : Holds policy view items taken) (are : AreBytes view.bus.left) (short : whole ≡ true → length view.bus.left + 1 < suc n) (knows : KnowsClient mode events view.client) (others : Others whole policy taken mode Bus gone events n) where
   abbrev BusLast : SessionView → Type 0
-  BusLast new = Final policy taken mode Bus gone events items given new
+  BusLast new = LastOf whole policy taken mode Bus gone events items given new
 
   abbrev all_asked : ℕ
   all_asked = asked (stream Client events)
@@ -351,17 +382,17 @@ module _ (policy : Policy) (taken : Taken) (mode : Mode) (gone : List ℕ) (even
       let goes = bus_line_goes mode gone events view.bus place given g l c in
       let parts : length view.bus.left ≡ length l + length (behind place view.bus.left l).left = ap length c.parts ∙ length-append l (behind place view.bus.left l).left in
       let some = c.some in
-      item_last policy taken mode Bus gone events items given (Line Bus l) (drained policy Bus n v) (begins mode Bus gone events (InLines (place + length l) None) s (given ++ Line Bus l ∷ []) goes)
-      (others v (followed_by policy items (Line Bus l)) (given ++ Line Bus l ∷ []) (omega (arith, parts, some, short)) runs moded goes (bus_line_holds policy view items taken l s runs h)
+      item_last whole policy taken mode Bus gone events items given (Line Bus l) (drained policy Bus n v) (begins mode Bus gone events (InLines (place + length l) None) s (given ++ Line Bus l ∷ []) goes)
+      (others v (followed_by policy items (Line Bus l)) (given ++ Line Bus l ∷ []) (λ w. let s = short w in omega (arith, parts, some, s)) runs moded goes (bus_line_holds policy view items taken l s runs h)
       (AreBytes-behind l (behind place view.bus.left l).left (subst AreBytes c.parts are)) knows)
 
   bus_lines_last : 0 < all_asked - length g.given → (ls : List (List ℕ)) (o : Option LineFault) → (bus_ahead (sound_at place view.bus.left)).lines ≡ ls → (bus_ahead (sound_at place view.bus.left)).fault ≡ o
       → BusLast (more_if (with_lines Bus place ls o view) (drained policy Bus n))
   bus_lines_last pos [] None e f =
       let t = bus_stands mode gone events view.bus place given g pos e f in
-      none_last policy taken mode Bus gone events view items given h (bus_stops mode gone events view.bus place given g pos e None f) (subst (λ (p : Phase). StandsAt mode Bus events p view.bus.left) (sym at) t.0) (λ a. t.1) are
+      none_last whole policy taken mode Bus gone events view items given h (bus_stops mode gone events view.bus place given g pos e None f) (subst (λ (p : Phase). StandsAt mode Bus events p view.bus.left) (sym at) t.0) (λ a. t.1) are
   bus_lines_last pos [] (Some x) e f =
-      fault_last policy taken mode Bus gone events (with_stream Bus (record view.bus { phase = InLines place (Some x) }) view) items given (OfLine x) runs (stream_holds policy view items taken Bus (record view.bus { phase = InLines place (Some x) }) h) (bus_stops mode gone events view.bus place given g pos e (Some x) f)
+      fault_last whole policy taken mode Bus gone events (with_stream Bus (record view.bus { phase = InLines place (Some x) }) view) items given (OfLine x) runs (stream_holds policy view items taken Bus (record view.bus { phase = InLines place (Some x) }) h) (bus_stops mode gone events view.bus place given g pos e (Some x) f)
   bus_lines_last pos (l ∷ ls) o e f = bus_line_last l (bus_goes (stream Bus events) g.given all_asked (begins_in (stream Client events)) place view.bus.left g.counts.1 g.follows l ls pos e)
 
   -- all lines were answered
@@ -369,14 +400,14 @@ module _ (policy : Policy) (taken : Taken) (mode : Mode) (gone : List ℕ) (even
       → BusLast (more_if (cond begun (record view { bus = in_messages view.bus }, true) (with_line_fault Bus place (cond (is_empty left) None (Some (record { kind = EarlyBus; at = place }))) view, false)) (drained policy Bus n))
   all_answered_last none true b left l =
       let v : SessionView = record view { bus = in_messages view.bus } in
-      others v items given (omega (arith, short)) runs moded (done_goes mode gone events view.bus place given g none (sym (knows.begun g.auth) ∙ b)) (stream_holds policy view items taken Bus (in_messages view.bus) h) are knows
+      others v items given (λ w. let s = short w in omega (arith, s)) runs moded (done_goes mode gone events view.bus place given g none (sym (knows.begun g.auth) ∙ b)) (stream_holds policy view items taken Bus (in_messages view.bus) h) are knows
   all_answered_last none false b [] l =
       let t = none_stops mode gone events view.bus place given g none (sym (knows.begun g.auth) ∙ b) l in
-      none_last policy taken mode Bus gone events view items given h t.0 (subst (λ (p : Phase). StandsAt mode Bus events p view.bus.left) (sym at) t.1) (λ a. t.2) are
+      none_last whole policy taken mode Bus gone events view items given h t.0 (subst (λ (p : Phase). StandsAt mode Bus events p view.bus.left) (sym at) t.1) (λ a. t.2) are
   all_answered_last none false b (x ∷ xs) l =
       let some : 0 < length view.bus.left = subst (λ (w : List ℕ). 0 < length w) (sym l) (omega arith) in
       let f : LineFault = record { kind = EarlyBus; at = place } in
-      fault_last policy taken mode Bus gone events (with_stream Bus (record view.bus { phase = InLines place (Some f) }) view) items given (OfLine f) runs (stream_holds policy view items taken Bus (record view.bus { phase = InLines place (Some f) }) h)
+      fault_last whole policy taken mode Bus gone events (with_stream Bus (record view.bus { phase = InLines place (Some f) }) view) items given (OfLine f) runs (stream_holds policy view items taken Bus (record view.bus { phase = InLines place (Some f) }) h)
       (early_stops mode gone events view.bus place given g none (sym (knows.begun g.auth) ∙ b) some)
 
   bus_step_last : BusLast (more_if (line_step Bus place view) (drained policy Bus n))
@@ -399,11 +430,11 @@ pub stream_runs : (s : Side) (x : StreamView) (v : SessionView) → (with_stream
 stream_runs Client x v = refl
 stream_runs Bus x v = refl
 
-module _ (policy : Policy) (taken : Taken) (steps : Steps policy taken) (mode : Mode) (side : Side) (gone : List ℕ) (events : List Event) (n : ℕ) (view : SessionView) (items : History) (given : List Item) (runs : view.ended ≡ None) (moded : view.mode ≡ mode) (at : (stream_of side view).phase ≡ InMessages)
-    (g : GoesInMessages mode side events (stream_of side view) given) (h : Holds policy view items taken) (are : AreBytes (stream_of side view).left) (short : length (stream_of side view).left < suc n) (knows : KnowsOther mode side events view) (lines_sound : line_fault mode side events ≡ None)
-    (others : Others policy taken mode side gone events n) where
+module _ (whole : Bool) (policy : Policy) (taken : Taken) (steps : Steps policy taken) (mode : Mode) (side : Side) (gone : List ℕ) (events : List Event) (n : ℕ) (view : SessionView) (items : History) (given : List Item) (runs : view.ended ≡ None) (moded : view.mode ≡ mode) (at : (stream_of side view).phase ≡ InMessages)
+    (g : GoesInMessages mode side events (stream_of side view) given) (h : Holds policy view items taken) (are : AreBytes (stream_of side view).left) (short : whole ≡ true → length (stream_of side view).left < suc n) (knows : KnowsOther mode side events view) (lines_sound : line_fault mode side events ≡ None)
+    (others : Others whole policy taken mode side gone events n) where
   abbrev MessageLast : SessionView → Type 0
-  MessageLast new = Final policy taken mode side gone events items given new
+  MessageLast new = LastOf whole policy taken mode side gone events items given new
 
   abbrev left_now : List ℕ
   left_now = (stream_of side view).left
@@ -439,24 +470,24 @@ module _ (policy : Policy) (taken : Taken) (steps : Steps policy taken) (mode : 
       by : (o : Option End) → (behind_message m left).ended ≡ o → (s : StreamView) → GoesInMessages mode side events (record (stream_of side view) { left = left }) (given ++ Msg side m ∷ []) → Holds policy (behind_message m left) (followed_by policy items (Msg side m)) taken
           → IsKept (with_left side left view) (behind_message m left) → stream_of side (behind_message m left) ≡ record (stream_of side view) { left = left } → Begins (given ++ Msg side m ∷ []) (reached mode side gone events) → length left < length left_now → AreBytes left
           → MessageLast (more_if (behind_message m left, is_none o) (drained policy side n))
-      by (Some end) ended s goes held kept same begin less behind = ended_last policy taken mode side gone events items given (Msg side m) (behind_message m left) end begin ended held
+      by (Some end) ended s goes held kept same begin less behind = ended_last whole policy taken mode side gone events items given (Msg side m) (behind_message m left) end begin ended held
       by None ended s goes held kept same begin less behind =
           let now : StreamView = record (stream_of side view) { left = left } in
           let goes_now : Goes mode side gone events now (given ++ Msg side m ∷ []) = subst (λ (p : Phase). GoesAt mode side gone events p now (given ++ Msg side m ∷ [])) (sym at) (inl goes) in
-          let light : weight now < n = subst (λ (p : Phase). length left + phase_weight p < n) (sym at) (omega (arith, less, short)) in
-          item_last policy taken mode side gone events items given (Msg side m) (drained policy side n (behind_message m left)) begin
-          (others (behind_message m left) (followed_by policy items (Msg side m)) (given ++ Msg side m ∷ []) (subst (λ (x : StreamView). weight x < n) (sym same) light) ended (kept.mode ∙ mode_behind side left view ∙ moded)
+          let light : whole ≡ true → weight now < n = λ w. let fits = short w in subst (λ (p : Phase). length left + phase_weight p < n) (sym at) (omega (arith, less, fits)) in
+          item_last whole policy taken mode side gone events items given (Msg side m) (drained policy side n (behind_message m left)) begin
+          (others (behind_message m left) (followed_by policy items (Msg side m)) (given ++ Msg side m ∷ []) (λ w. subst (λ (x : StreamView). weight x < n) (sym same) (light w)) ended (kept.mode ∙ mode_behind side left view ∙ moded)
           (subst (λ (x : StreamView). Goes mode side gone events x (given ++ Msg side m ∷ [])) (sym same) goes_now) held (subst (λ (x : StreamView). AreBytes x.left) (sym same) behind)
           (kept_other side now view (behind_message m left) kept knows))
 
   no_message_last : front left_now ≡ None → (f : Option Malformed) → message_fault left_now ≡ f → MessageLast (with_fault side f view)
   no_message_last e None f =
       let stop = messages_stop mode side gone events (stream_of side view) given g lines_sound e in
-      none_last policy taken mode side gone events view items given h (record { found_is = stop.found_is; fault_is = stop.fault_is ∙ ap fault_of f })
+      none_last whole policy taken mode side gone events view items given h (record { found_is = stop.found_is; fault_is = stop.fault_is ∙ ap fault_of f })
       (subst (λ (p : Phase). StandsAt mode side events p left_now) (sym at) (messages_stand mode side gone events (stream_of side view) given g e)) g.counts are
   no_message_last e (Some x) f =
       let stop = messages_stop mode side gone events (stream_of side view) given g lines_sound e in
-      fault_last policy taken mode side gone events view items given (OfMessage x) runs h (record { found_is = stop.found_is; fault_is = stop.fault_is ∙ ap fault_of f })
+      fault_last whole policy taken mode side gone events view items given (OfMessage x) runs h (record { found_is = stop.found_is; fault_is = stop.fault_is ∙ ap fault_of f })
 
   messages_last : (o : Option (Message × List ℕ)) → front left_now ≡ o → MessageLast (more_if (with_front policy side o view) (drained policy side n))
   messages_last None e = no_message_last e (message_fault left_now) refl
@@ -464,7 +495,7 @@ module _ (policy : Policy) (taken : Taken) (steps : Steps policy taken) (mode : 
 
 -- ---- where messages aren't filtered
 
-module _ (policy : Policy) (taken : Taken) (mode : Mode) (side : Side) (gone : List ℕ) (events : List Event) (view : SessionView) (items : History) (given : List Item) (runs : view.ended ≡ None) (at : (stream_of side view).phase ≡ InMessages)
+module _ (whole : Bool) (policy : Policy) (taken : Taken) (mode : Mode) (side : Side) (gone : List ℕ) (events : List Event) (view : SessionView) (items : History) (given : List Item) (runs : view.ended ≡ None) (at : (stream_of side view).phase ≡ InMessages)
     (g : GoesRaw mode side gone events (stream_of side view) given) (h : Holds policy view items taken) (lines_sound : line_fault mode side events ≡ None) where
   abbrev bytes_left : List ℕ
   bytes_left = (stream_of side view).left
@@ -490,17 +521,31 @@ module _ (policy : Policy) (taken : Taken) (mode : Mode) (side : Side) (gone : L
       ∙ ap (λ (o : Option Fault). raw_item side (stream_of side view).left ++ fault_end side o) stop.fault_is
       ∙ append-nil (raw_item side (stream_of side view).left)
 
-  raw_last : Final policy taken mode side gone events items given (raw_step side view).0
-  raw_last = record {
-    holds = subst (λ (xs : List Item). Holds policy (raw_step side view).0 (followed_by_all policy items xs) taken) (sym new_raw)
-        (raw_item_holds policy without_left items taken side bytes_left (stream_runs side (record (stream_of side view) { left = [] }) view ∙ runs) (stream_holds policy view items taken side (record (stream_of side view) { left = [] }) h));
-    stands = λ r.
-        subst (λ (x : StreamView). StandsAt mode side events x.phase x.left) (sym stream_is)
-        (subst (λ (p : Phase). StandsAt mode side events p []) (sym at) (raw_stands mode side gone events (stream_of side view) given g));
-    counts = λ r a. ap (λ (x : StreamView). x.lines) stream_is ∙ g.counts a;
-    sound = λ r. (raw_stops mode side gone events (stream_of side view) given g lines_sound).fault_is;
-    bytes = λ r. subst (λ (x : StreamView). AreBytes x.left) (sym stream_is) none_are;
-  }
+  raw_holds_all : Holds policy (raw_step side view).0 (followed_by_all policy items (raw_item side bytes_left)) taken
+  raw_holds_all = raw_item_holds policy without_left items taken side bytes_left (stream_runs side (record (stream_of side view) { left = [] }) view ∙ runs) (stream_holds policy view items taken side (record (stream_of side view) { left = [] }) h)
+
+  no_fault : fault mode side events ≡ None
+  no_fault = (raw_stops mode side gone events (stream_of side view) given g lines_sound).fault_is
+
+  raw_last : LastOf whole policy taken mode side gone events items given (raw_step side view).0
+  raw_last = by whole
+    where
+      by : (w : Bool) → LastOf w policy taken mode side gone events items given (raw_step side view).0
+      by true = record {
+        holds = subst (λ (xs : List Item). Holds policy (raw_step side view).0 (followed_by_all policy items xs) taken) (sym new_raw) raw_holds_all;
+        stands = λ r.
+            subst (λ (x : StreamView). StandsAt mode side events x.phase x.left) (sym stream_is)
+            (subst (λ (p : Phase). StandsAt mode side events p []) (sym at) (raw_stands mode side gone events (stream_of side view) given g));
+        counts = λ r a. ap (λ (x : StreamView). x.lines) stream_is ∙ g.counts a;
+        sound = λ r. no_fault;
+        bytes = λ r. subst (λ (x : StreamView). AreBytes x.left) (sym stream_is) none_are;
+      }
+      by false = λ r. record {
+        first = raw_item side bytes_left;
+        more = [];
+        parts = sym (append-nil (new_in given (reached mode side gone events))) ∙ ap (λ (o : Option Fault). new_in given (reached mode side gone events) ++ fault_end side o) (sym no_fault) ∙ new_raw ∙ sym (append-nil (raw_item side bytes_left));
+        holds = raw_holds_all;
+      }
 
 -- ---- all of it
 
@@ -532,29 +577,33 @@ lines_are_sound mode Bus events bytes is all = by mode.auth refl is all
         seen false k e = absurd cc
         seen true k e = ap fault_of_line (no_bus_fault (asked (stream Client events)) (stream Bus events) (all refl))
 
-module _ (policy : Policy) (taken : Taken) (steps : Steps policy taken) (mode : Mode) (gone : List ℕ) (events : List Event) where
+module _ (whole : Bool) (policy : Policy) (taken : Taken) (steps : Steps policy taken) (mode : Mode) (gone : List ℕ) (events : List Event) where
   -- messages, or bytes at which nobody looks
-  behind_last : (side : Side) (n : ℕ) (view : SessionView) (items : History) (given : List Item) → view.ended ≡ None → view.mode ≡ mode → (stream_of side view).phase ≡ InMessages → length (stream_of side view).left < suc n
+  behind_last : (side : Side) (n : ℕ) (view : SessionView) (items : History) (given : List Item) → view.ended ≡ None → view.mode ≡ mode → (stream_of side view).phase ≡ InMessages → (whole ≡ true → length (stream_of side view).left < suc n)
       → GoesInMessages mode side events (stream_of side view) given ⊎ GoesRaw mode side gone events (stream_of side view) given → Holds policy view items taken → AreBytes (stream_of side view).left → KnowsOther mode side events view
-      → Others policy taken mode side gone events n → (filter : Bool) → mode.filter ≡ filter
-      → Final policy taken mode side gone events items given (more_if (cond filter (with_front policy side (front (stream_of side view).left) view) (raw_step side view)) (drained policy side n))
+      → Others whole policy taken mode side gone events n → (filter : Bool) → mode.filter ≡ filter
+      → LastOf whole policy taken mode side gone events items given (more_if (cond filter (with_front policy side (front (stream_of side view).left) view) (raw_step side view)) (drained policy side n))
   behind_last side n view items given runs moded at short (inl g) h are knows others true f =
-      messages_last policy taken steps mode side gone events n view items given runs moded at g h are short knows (lines_are_sound mode side events g.bytes g.content_is g.all) others (front (stream_of side view).left) refl
+      messages_last whole policy taken steps mode side gone events n view items given runs moded at g h are short knows (lines_are_sound mode side events g.bytes g.content_is g.all) others (front (stream_of side view).left) refl
   behind_last side n view items given runs moded at short (inr g) h are knows others true f = absurd (let e : true ≡ false = sym f ∙ g.unfiltered in cc)
   behind_last side n view items given runs moded at short (inl g) h are knows others false f = absurd (let e : false ≡ true = sym f ∙ g.filters in cc)
   behind_last side n view items given runs moded at short (inr g) h are knows others false f =
-      raw_last policy taken mode side gone events view items given runs at g h (lines_are_sound mode side events g.bytes g.content_is g.all)
+      raw_last whole policy taken mode side gone events view items given runs at g h (lines_are_sound mode side events g.bytes g.content_is g.all)
 
-  at_last : (side : Side) (n : ℕ) (view : SessionView) (items : History) (given : List Item) → view.ended ≡ None → view.mode ≡ mode → (p : Phase) → (stream_of side view).phase ≡ p → length (stream_of side view).left + phase_weight p < suc n
-      → GoesAt mode side gone events p (stream_of side view) given → Holds policy view items taken → AreBytes (stream_of side view).left → KnowsOther mode side events view → Others policy taken mode side gone events n
-      → Final policy taken mode side gone events items given (more_if (step_at policy side p view) (drained policy side n))
+  at_last : (side : Side) (n : ℕ) (view : SessionView) (items : History) (given : List Item) → view.ended ≡ None → view.mode ≡ mode → (p : Phase) → (stream_of side view).phase ≡ p → (whole ≡ true → length (stream_of side view).left + phase_weight p < suc n)
+      → GoesAt mode side gone events p (stream_of side view) given → Holds policy view items taken → AreBytes (stream_of side view).left → KnowsOther mode side events view → Others whole policy taken mode side gone events n
+      → LastOf whole policy taken mode side gone events items given (more_if (step_at policy side p view) (drained policy side n))
   at_last Client n view items given runs moded (InLines place None) at short g h are knows others =
-      client_lines_last policy taken mode gone events n view place items given runs moded at g h are short others (client_ahead (sound_at place view.client.left)).lines (client_ahead (sound_at place view.client.left)).fault refl refl
-  at_last Bus n view items given runs moded (InLines place None) at short g h are knows others = bus_step_last policy taken mode gone events n view place items given runs moded at g h are short knows others
+      client_lines_last whole policy taken mode gone events n view place items given runs moded at g h are short others (client_ahead (sound_at place view.client.left)).lines (client_ahead (sound_at place view.client.left)).fault refl refl
+  at_last Bus n view items given runs moded (InLines place None) at short g h are knows others = bus_step_last whole policy taken mode gone events n view place items given runs moded at g h are short knows others
   at_last side n view items given runs moded (InLines place (Some f)) at short g h are knows others = absurd (let e : Some f ≡ None = g.quiet in cc)
   at_last side n view items given runs moded InMessages at short g h are knows others =
-      behind_last side n view items given runs moded at (omega (arith, short)) g h are knows others view.mode.filter (ap (λ (m : Mode). m.filter) (sym moded))
+      behind_last side n view items given runs moded at (λ w. let s = short w in omega (arith, s)) g h are knows others view.mode.filter (ap (λ (m : Mode). m.filter) (sym moded))
 
-  pub drained_last : (side : Side) (n : ℕ) → Others policy taken mode side gone events n
-  drained_last side zero view items given short runs moded g h are knows = absurd (omega (arith, short))
+  pub drained_last : (side : Side) (n : ℕ) → Others whole policy taken mode side gone events n
+  drained_last side zero view items given short runs moded g h are knows = by whole short
+    where
+      by : (w : Bool) → (w ≡ true → weight (stream_of side view) < 0) → LastOf w policy taken mode side gone events items given view
+      by true short = absurd (let none = short refl in omega (arith, none))
+      by false short = λ r. none_first false policy taken mode side gone events view items given h
   drained_last side (suc n) view items given short runs moded g h are knows = at_last side n view items given runs moded (stream_of side view).phase refl short g h are knows (drained_last side n)

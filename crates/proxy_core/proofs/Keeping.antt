@@ -11,7 +11,6 @@ use Rattle.policy_view.specs.Verdicts.{client_role, verdict}
 use Rattle.policy_view.specs.Notes.{Note}
 use Rattle.policy_view.specs.declared.Decision.{Decision}
 use Rattle.policy_view.specs.declared.visible.Visible.{Visible as Element}
-use Rattle.policy_view.specs.declared.End.{End}
 use Rattle.policy_view.specs.declared.End.TheVariants.{SerialsSpent}
 use Rattle.policy_view.specs.declared.Showing.{Showing}
 use Rattle.policy_view.specs.declared.Side.{Side}
@@ -19,7 +18,7 @@ use Rattle.policy_view.specs.declared.Side.TheVariants.{Client, Bus}
 use Rattle.policy_view.specs.declared.Verdict.{Verdict}
 use Rattle.unique_names.specs.Taught.{kept_level}
 use Rattle.verdicts.specs.Kept.{expected_at}
-use Rattle.proxy_core.specs.Sessions.{SessionView, IsFront}
+use Rattle.proxy_core.specs.Sessions.{SessionView, IsFront, is_memory}
 use Rattle.proxy_core.specs.Messages.{decision_in, elements_in, ended_by, if_watched, known, sending, unless_ended, with_elements, with_message, with_note, with_note_on, with_noted_message, with_replied, with_role, with_sent, with_shown, with_told, with_used, with_verdict, with_watched_message, KeepsSides}
 use Rattle.proxy_core.specs.Steps.{Grows}
 
@@ -79,19 +78,20 @@ elements_grow old new elements g = record {
 
 -- ---- a message
 
--- the same mode and streams, and what waits stands behind what waited before
+-- the same mode and streams, and what waits stands behind what waited before; an End that it brings isn't that of refused memory
 pub record IsKept (old new : SessionView) : Type 0 where
   pub mode : new.mode ≡ old.mode
   pub watches : new.watches ≡ old.watches
   pub client : new.client ≡ old.client
   pub bus : new.bus ≡ old.bus
   pub grows : Grows old new
+  pub remembers : is_memory old.ended ≡ false → is_memory new.ended ≡ false
 
 pub itself : (view : SessionView) → IsKept view view
-itself view = record { mode = refl; watches = refl; client = refl; bus = refl; grows = grows_none view }
+itself view = record { mode = refl; watches = refl; client = refl; bus = refl; grows = grows_none view; remembers = λ f. f }
 
-pub ended_kept : (end : End) (view : SessionView) → IsKept view (ended_by end view)
-ended_kept end view = record { mode = refl; watches = refl; client = refl; bus = refl; grows = grows_as (grows_none view) refl refl }
+spent_kept : (view : SessionView) → IsKept view (ended_by SerialsSpent view)
+spent_kept view = record { mode = refl; watches = refl; client = refl; bus = refl; grows = grows_as (grows_none view) refl refl; remembers = λ f. refl }
 
 either : (old x y : SessionView) (b : Bool) → IsKept old x → IsKept old y → IsKept old (cond b x y)
 either old x y true k l = k
@@ -106,17 +106,18 @@ sent_kept due old new k = record {
   client = k.client;
   bus = k.bus;
   grows = grows_then old new (with_sent due new) k.grows (grows_as (bus_grows new (spelled_from (new.sent + 1) due)) refl refl);
+  remembers = k.remembers;
 }
 
 pub sending_kept : (due : List Sent) (view new : SessionView) → IsKept view new → IsKept view (sending due view new)
 sending_kept [] view new k = k
 sending_kept (s ∷ due) view new k =
-    either view _ _ (nat_le (view.sent + length (s ∷ due)) most_sent) (sent_kept (s ∷ due) view new k) (ended_kept SerialsSpent view)
+    either view _ _ (nat_le (view.sent + length (s ∷ due)) most_sent) (sent_kept (s ∷ due) view new k) (spent_kept view)
 
 -- ---- what a message does
 
 replied_kept : (replied : List Exchange) (view : SessionView) → IsKept view (with_replied replied view)
-replied_kept replied view = record { mode = refl; watches = refl; client = refl; bus = refl; grows = grows_as (grows_none view) refl refl }
+replied_kept replied view = record { mode = refl; watches = refl; client = refl; bus = refl; grows = grows_as (grows_none view) refl refl; remembers = λ f. f }
 
 module _ (policy : Policy) (m : Message) where
   verdict_kept : (v : Verdict) (view : SessionView) → IsKept view (with_verdict policy m v view)
@@ -129,6 +130,7 @@ module _ (policy : Policy) (m : Message) where
     client = refl;
     bus = refl;
     grows = grows_as (client_grows view (flat_map spell (seen_as (kept_level policy view.ids) m showing))) refl refl;
+    remembers = λ f. f;
   }
 
   role_kept : (role : BusRole) (view : SessionView) → IsKept view (with_role policy m role view)
@@ -137,7 +139,7 @@ module _ (policy : Policy) (m : Message) where
       (told_kept role (showing_at policy (known policy view) m role) view)
 
   used_kept : (view new : SessionView) → IsKept (with_used m view) new → IsKept view new
-  used_kept view new k = record { mode = k.mode; watches = k.watches; client = k.client; bus = k.bus; grows = grows_as k.grows refl refl }
+  used_kept view new k = record { mode = k.mode; watches = k.watches; client = k.client; bus = k.bus; grows = grows_as k.grows refl refl; remembers = k.remembers }
 
 -- ---- notes and elements
 
@@ -155,8 +157,8 @@ abbrev kept_in : SessionView → Kept
 kept_in view = record { notes = view.notes; numbered = view.numbered; watches = view.watches; visible = view.visible }
 
 -- where that stood outside while memory was refused, and was put back, what waits and the streams are what they were
-pub sides_kept : (old mid after new : SessionView) (out put : Kept) → mid ≡ with_kept out old → new ≡ with_kept put after → KeepsSides mid after → put.notes ≡ old.notes → put.watches ≡ old.watches → put.visible ≡ old.visible → KeepsSides old new
-sides_kept old mid after new out put outside inside kept notes watches visible = record {
+pub sides_kept : (old mid after new : SessionView) (out put : Kept) → mid ≡ with_kept out old → new ≡ with_kept put after → KeepsSides mid after → put.notes ≡ old.notes → put.numbered ≡ old.numbered → put.watches ≡ old.watches → put.visible ≡ old.visible → KeepsSides old new
+sides_kept old mid after new out put outside inside kept notes numbered watches visible = record {
   mode = same (λ v. v.mode) refl refl kept.mode;
   client = same (λ v. v.client) refl refl kept.client;
   bus = same (λ v. v.bus) refl refl kept.bus;
@@ -164,6 +166,7 @@ sides_kept old mid after new out put outside inside kept notes watches visible =
   client_side = same (λ v. v.client_side) refl refl kept.client_side;
   greeted = same (λ v. v.greeted) refl refl kept.greeted;
   notes = ap (λ (v : SessionView). v.notes) inside ∙ notes;
+  numbered = ap (λ (v : SessionView). v.numbered) inside ∙ numbered;
   watches = ap (λ (v : SessionView). v.watches) inside ∙ watches;
   visible = ap (λ (v : SessionView). v.visible) inside ∙ visible;
 }
@@ -254,6 +257,7 @@ noted_kept policy side m view = by (with_message policy side m view) (message_ke
           bus = k.bus;
           grows = grows_then view new (with_note side m decision new) k.grows
               (record { for_bus = front_all new.bus_side; for_client = front_all new.client_side; noted = front_more new.notes _; watched = front_all new.visible });
+          remembers = k.remembers;
         })
         k
 
@@ -271,4 +275,5 @@ watched_kept policy side m view =
       client = k.client;
       bus = k.bus;
       grows = elements_grow view new (unless_ended new.ended (elements_in policy side m view)) k.grows;
+      remembers = k.remembers;
     }

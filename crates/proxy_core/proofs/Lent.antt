@@ -117,6 +117,7 @@ sides_left Client first left old mid k = record {
   client_side = k.client_side;
   greeted = k.greeted;
   notes = k.notes;
+  numbered = k.numbered;
   watches = k.watches;
   visible = k.visible;
 }
@@ -128,6 +129,7 @@ sides_left Bus first left old mid k = record {
   client_side = k.client_side;
   greeted = k.greeted;
   notes = k.notes;
+  numbered = k.numbered;
   watches = k.watches;
   visible = k.visible;
 }
@@ -264,9 +266,9 @@ module _ (policy : Policy) (side : Side) (old out mid new : SessionView) (left r
   put_back P p = subst (λ (v : SessionView). P v new) whole_is (subst (λ (v : SessionView). P (with_left side left out) v) (sym put) p)
 
 pub took_whole : (policy : Policy) (side : Side) (most : ℕ) (old out mid new : SessionView) (left rest : List ℕ) → left ≡ left_of side old → out ≡ with_left side [] old → new ≡ with_left side rest mid
-    → Took (drained policy side most (with_left side left out)) (with_left side left out) (with_left side rest mid) → Took (drained policy side most old) old new
+    → Took policy side (drained policy side most (with_left side left out)) (with_left side left out) (with_left side rest mid) → Took policy side (drained policy side most old) old new
 took_whole policy side most old out mid new left rest is outside put took =
-    put_back policy side old out mid new left rest is outside put (λ (a b : SessionView). Took (drained policy side most a) a b) took
+    put_back policy side old out mid new left rest is outside put (λ (a b : SessionView). Took policy side (drained policy side most a) a b) took
 
 pub light_whole : (policy : Policy) (side : Side) (old out mid new : SessionView) (left rest : List ℕ) → left ≡ left_of side old → out ≡ with_left side [] old → new ≡ with_left side rest mid
     → IsLight policy 0 (with_left side left out) (with_left side rest mid) → IsLight policy 0 old new

@@ -1,6 +1,7 @@
 pub mod Untouched
 pub mod StreamPieces
 pub mod Standing
+pub mod Fronts
 pub mod Driven
 pub mod Going
 pub mod LineCuts

@@ -17,8 +17,8 @@ use Rattle.policy_view.specs.declared.visible.Visible.TheVariants as element
 use Rattle.policy_view.specs.declared.Side.{Side}
 use Rattle.policy_view.specs.declared.Side.TheVariants.{Client, Bus}
 use Rattle.proxy_core.specs.Streams.{StreamView, InLines, watch_at, GaveLine}
-use Rattle.proxy_core.specs.Sessions.{SessionView, IsFront}
-use Rattle.proxy_core.specs.Steps.{behind_line, in_messages, with_line_fault, with_lines, with_cut, unanswered, has_begun, with_all_answered, step_at, Grows, Stepped, Did, own_to_come, weight, IsLight}
+use Rattle.proxy_core.specs.Sessions.{SessionView}
+use Rattle.proxy_core.specs.Steps.{behind_line, in_messages, with_line_fault, with_lines, with_cut, unanswered, has_begun, with_all_answered, step_at, Grows, Did, own_to_come, weight, IsLight}
 use Rattle.proxy_core.proofs.Keeping.{grows_as, grows_none, grows_then, bus_grows, client_grows, elements_grow}
 
 -- ---- what waits behind a line starts with what waited before
@@ -81,43 +81,21 @@ stream_behind s place n l w parts is =
 
 -- ---- what was done with a line
 
-module _ (expected : SessionView × Bool) (old mid new target : SessionView) (goes : Bool) (runs : old.ended ≡ None) (is : target ≡ expected.0) (more : expected.1 ≡ true) (mode : mid.mode ≡ old.mode) (watches : mid.watches ≡ old.watches) (grows : Grows old mid) where
-  pub did_step : Did target mid new goes → Stepped expected old new goes
-  did_step (inl done) = inl (done.0 ∙ is, done.1 ∙ sym more)
-  did_step (inr cut) = inr (
-    record {
-      running = runs;
-      ended = cut.0.ended;
-      mode = cut.0.mode ∙ mode;
-      grows = grows_then old mid new grows cut.0.grows;
-      for_bus = subst (λ (v : SessionView). IsFront new.bus_side v.bus_side) is cut.0.for_bus;
-      for_client = subst (λ (v : SessionView). IsFront new.client_side v.client_side) is cut.0.for_client;
-      noted = subst (λ (v : SessionView). IsFront new.notes v.notes) is cut.0.noted;
-      watches = cut.0.watches ∙ watches;
-      watched = subst (λ (v : SessionView). IsFront new.visible v.visible) is cut.0.watched;
-    },
-    cut.1,
-  )
-
-front_short : (xs ys : List ℕ) → IsFront xs ys → length xs ≤ length ys
-front_short xs ys f = let h : length xs + length f.rest ≡ length ys = sym (length-append xs f.rest) ∙ ap length f.is in omega (arith, h)
-
 pub did_light : (policy : Policy) (old mid new target : SessionView) (goes : Bool) → Did target mid new goes → mid.mode ≡ old.mode → target.mode ≡ old.mode → mid.watches ≡ old.watches → target.watches ≡ old.watches
-    → length target.client.left ≡ length mid.client.left → length target.bus.left ≡ length mid.bus.left → target.greeted ≡ mid.greeted
-    → weight policy target ≤ weight policy old → IsLight policy 0 old new
-did_light policy old mid new target goes (inl done) mode mode_is watches watches_is client bus greeted less =
-    subst (λ (v : SessionView). IsLight policy 0 old v) (sym done.0) (record { mode = mode_is; watches = watches_is; weighs = no_heavier _ _ less })
+    → weight policy mid ≤ weight policy old → weight policy target ≤ weight policy old → IsLight policy 0 old new
+did_light policy old mid new target goes (inl done) mode mode_is watches watches_is less light =
+    subst (λ (v : SessionView). IsLight policy 0 old v) (sym done.0) (record { mode = mode_is; watches = watches_is; weighs = no_heavier _ _ light })
   where
     no_heavier : (new old : ℕ) → new ≤ old → new ≤ old + 19 * 0
     no_heavier new old h = omega arith
-did_light policy old mid new target goes (inr cut) mode mode_is watches watches_is client bus greeted less = record {
-  mode = cut.0.mode ∙ mode;
-  watches = cut.0.watches ∙ watches;
-  weighs = by (front_short new.bus_side target.bus_side cut.0.for_bus) (front_short new.client_side target.client_side cut.0.for_client) cut.0.client cut.0.bus client bus (ap (own_to_come policy) (cut.0.greeted ∙ sym greeted)) less;
+did_light policy old mid new target goes (inr cut) mode mode_is watches watches_is less light = record {
+  mode = cut.0.kept.mode ∙ mode;
+  watches = cut.0.kept.watches ∙ watches;
+  weighs = by (ap length cut.0.kept.bus_side) (ap length cut.0.kept.client_side) cut.0.client cut.0.bus (ap (own_to_come policy) cut.0.greeted) less;
 }
   where
-    by : {b s l m o b' s' l' m' o' l'' m'' w : ℕ} → b ≤ b' → s ≤ s' → l ≤ l'' → m ≤ m'' → l' ≡ l'' → m' ≡ m'' → o ≡ o' → b' + s' + 19 * (l' + m') + o' ≤ w → b + s + 19 * (l + m) + o ≤ w + 19 * 0
-    by b s l m l' m' o w = omega arith
+    by : {b s l m o b' s' l' m' o' w : ℕ} → b ≡ b' → s ≡ s' → l ≤ l' → m ≤ m' → o ≡ o' → b' + s' + 19 * (l' + m') + o' ≤ w → b + s + 19 * (l + m) + o ≤ w + 19 * 0
+    by b s l m o w = omega arith
 
 -- ---- how long what the bus is sent for a line is
 
@@ -162,8 +140,11 @@ module _ (policy : Policy) where
       let b : length target.bus.left ≡ length view.bus.left = ap length bus in
       let less : weight policy target ≤ weight policy view =
       by (length view.bus_side) (length l) (ap length out ∙ length-append view.bus_side (for_bus l)) (for_bus_within l) (ap length shown) (ap length parts ∙ length-append l s.left) c b (ap (own_to_come policy) greeted) in
-      subst (λ (v : SessionView). IsLight policy 0 v new) same (did_light policy view (record view { client = s }) new target goes did refl mode refl watches c b greeted less)
+      subst (λ (v : SessionView). IsLight policy 0 v new) same (did_light policy view (record view { client = s }) new target goes did refl mode refl watches (shorter (length l) (length s.left) _ _ _ (ap length parts ∙ length-append l s.left)) less)
     where
+      shorter : {l' : ℕ} (k r m sides own : ℕ) → l' ≡ k + r → sides + 19 * (r + m) + own ≤ sides + 19 * (l' + m) + own
+      shorter k r m sides own e = omega arith
+
       by : {b n s l m o s' l' r m' o' : ℕ} (b' k : ℕ) → b ≡ b' + n → n ≤ 19 * k → s ≡ s' → l' ≡ k + r → l ≡ r → m ≡ m' → o ≡ o' → b + s + 19 * (l + m) + o ≤ b' + s' + 19 * (l' + m') + o'
       by b' k b n s l l' m o = omega arith
 
@@ -175,8 +156,11 @@ module _ (policy : Policy) where
       let b : length target.bus.left ≡ length s.left = ap length bus in
       let less : weight policy target ≤ weight policy view =
       by (length view.client_side) (length l) (ap length shown) (ap length out ∙ length-append view.client_side l) (ap length parts ∙ length-append l s.left) c b (ap (own_to_come policy) greeted) in
-      subst (λ (v : SessionView). IsLight policy 0 v new) same (did_light policy view (record view { bus = s }) new target goes did refl mode refl watches c b greeted less)
+      subst (λ (v : SessionView). IsLight policy 0 v new) same (did_light policy view (record view { bus = s }) new target goes did refl mode refl watches (shorter (length l) (length s.left) _ _ _ (ap length parts ∙ length-append l s.left)) less)
     where
+      shorter : {m' : ℕ} (k r l sides own : ℕ) → m' ≡ k + r → sides + 19 * (l + r) + own ≤ sides + 19 * (l + m') + own
+      shorter k r l sides own e = omega arith
+
       by : {b s l m o b' l' r m' o' : ℕ} (s' k : ℕ) → b ≡ b' → s ≡ s' + k → m' ≡ k + r → l ≡ l' → m ≡ r → o ≡ o' → b + s + 19 * (l + m) + o ≤ b' + s' + 19 * (l' + m') + o'
       by s' k b s m l r o = omega arith
 

@@ -100,7 +100,7 @@ module _ (policy : Policy) (side : Side) (m : Message) (old : SessionView) where
     running = runs;
     ended = ap (λ (v : SessionView). v.ended) is ∙ refused.ended;
     kept = sides_kept old mid after new (record { notes = []; numbered = old.numbered; watches = old.watches; visible = old.visible })
-        (record { notes = old.notes; numbered = after.numbered; watches = after.watches; visible = after.visible }) out is refused.kept refl
+        (record { notes = old.notes; numbered = after.numbered; watches = after.watches; visible = after.visible }) out is refused.kept refl (refused.kept.numbered ∙ ap (λ (v : SessionView). v.numbered) out)
         (refused.kept.watches ∙ ap (λ (v : SessionView). v.watches) out) (refused.kept.visible ∙ ap (λ (v : SessionView). v.visible) out);
   })
 

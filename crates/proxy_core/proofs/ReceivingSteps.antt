@@ -401,6 +401,7 @@ took_used m expected other old mid new is same (inr refused) = inr (record {
     client_side = refused.kept.client_side ∙ ap (λ (v : SessionView). v.client_side) is;
     greeted = refused.kept.greeted ∙ ap (λ (v : SessionView). v.greeted) is;
     notes = refused.kept.notes ∙ ap (λ (v : SessionView). v.notes) is;
+    numbered = refused.kept.numbered ∙ ap (λ (v : SessionView). v.numbered) is;
     watches = refused.kept.watches ∙ ap (λ (v : SessionView). v.watches) is;
     visible = refused.kept.visible ∙ ap (λ (v : SessionView). v.visible) is;
   };
@@ -421,6 +422,7 @@ took_or_ends (Err e) goes expected old mid new runs ok err on off = inr (record 
     client_side = ap (λ (v : SessionView). v.client_side) off.1 ∙ err.client_side;
     greeted = ap (λ (v : SessionView). v.greeted) off.1 ∙ err.greeted;
     notes = ap (λ (v : SessionView). v.notes) off.1 ∙ err.notes;
+    numbered = ap (λ (v : SessionView). v.numbered) off.1 ∙ err.numbered;
     watches = ap (λ (v : SessionView). v.watches) off.1 ∙ err.watches;
     visible = ap (λ (v : SessionView). v.visible) off.1 ∙ err.visible;
   };

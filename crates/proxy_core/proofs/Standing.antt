@@ -1,6 +1,6 @@
 -- A session that stands for events, and one event more.
-use Rattle.std.proofs.Common.{ℕ, zero, suc, ◌≡◌, ◌+◌, ◌-◌, ◌<◌, ◌≤◌, Bool, true, false, cond, List, [], ◌∷◌, ◌++◌, length, take, flat_map, Option, Some, None, refl, ap, ◌∙◌, sym, subst, arith, append-nil, append_assoc, length-append, inl, inr}
-use Rattle.std.specs.Prelude.{nat_lt, min}
+use Rattle.std.proofs.Common.{ℕ, zero, suc, ◌≡◌, ◌+◌, ◌-◌, ◌<◌, ◌≤◌, Bool, true, false, cond, List, [], ◌∷◌, ◌++◌, length, take, Option, Some, None, refl, ap, ◌∙◌, sym, subst, arith, append-nil, append_assoc, length-append, inl, inr}
+use Rattle.std.specs.Prelude.{nat_lt, min, IsTrue}
 use Rattle.std.specs.FinMap.{empty, get-empty}
 use Rattle.std.specs.Cmp.Lexicographic.{slice_cmp}
 use Rattle.std.specs.Ordering.{nat_cmp}
@@ -15,39 +15,38 @@ use Rattle.sasl_watch.proofs.Followed.{client-starts, bus-starts}
 use Rattle.policy_args.specs.Policy.{Policy}
 use Rattle.policy_view.specs.Sent.{Exchange, answered, call_at, nothing_before, owed}
 use Rattle.policy_view.specs.Past.{Item, Ended, History, past}
-use Rattle.policy_view.specs.History.{Event, Bytes, Finished, Stopped, longest_stream, whole_stream, stream, lines, content, found, raw, raw_item, fault, taken_of, is_over, end_if, fault_end, new_in, finished, arrived, end_of, followed_by, followed_by_all, history}
-use Rattle.policy_view.specs.Elements.{elements, given_of}
-use Rattle.policy_view.specs.Notes.{Note, notes, notes_made, numbered}
-use Rattle.policy_view.specs.Visible.{part, visible_of}
+use Rattle.policy_view.specs.History.{Event, Bytes, Finished, Stopped, longest_stream, whole_stream, stream, lines, content, found, raw, raw_item, fault, taken_of, is_over, end_if, fault_end, new_in, finished, first_items, arrived, end_of, followed_by, followed_by_all, history}
+use Rattle.policy_view.specs.Elements.{elements}
+use Rattle.policy_view.specs.Notes.{Note, notes_made, numbered}
+use Rattle.policy_view.specs.Visible.{part}
 use Rattle.policy_view.specs.declared.visible.Visible.{Visible as Element}
-use Rattle.policy_view.proofs.ElementLaws.{elements_step}
-use Rattle.policy_view.specs.Laws.{IsPrefixOf}
 use Rattle.policy_view.specs.Outputs.{bus_bytes, client_bytes}
 use Rattle.policy_view.specs.declared.Mode.{Mode}
 use Rattle.policy_view.specs.declared.End.{End}
-use Rattle.policy_view.specs.declared.End.TheVariants.{Memory}
+use Rattle.policy_view.specs.declared.End.TheVariants.{ClientMalformed, BusMalformed, ClientEnd, BusEnd, SerialsSpent, Memory, ClientRead, ClientWrite, BusRead, BusWrite, BusConnect, LogFault}
 use Rattle.policy_view.specs.declared.Side.{Side}
 use Rattle.policy_view.specs.declared.Side.TheVariants.{Client, Bus}
-use Rattle.policy_view.proofs.Growth.{only_grows}
+use Rattle.policy_view.proofs.Growth.{IsGrown, first_all, first_of_more, grown_by_all, only_grows}
 use Rattle.policy_view.proofs.PastLaws.{ended_is_final}
 use Rattle.policy_view.proofs.Streams.{stream_more, apart, grows, found_by, raw_by}
 use Rattle.policy_view.proofs.CutLaws.{all_append, new_last}
 use Rattle.proxy_core.specs.Streams.{StreamView, Phase, InLines, InMessages, new_stream, pushed}
-use Rattle.proxy_core.specs.Sessions.{SessionView, Taken, Holds, Follows, FollowsStream, StandsAt, lines_in, rest_of, StandsFor, Closes, IsFront, at_start, elements_given, nothing, watching_at_start, watching_mode, stream_of, is_memory, nothing_expected}
+use Rattle.proxy_core.specs.Sessions.{SessionView, Taken, Holds, Follows, FollowsStream, StandsAt, lines_in, rest_of, HoldsFirst, StandsFor, Closes, at_start, elements_given, nothing, watching_at_start, watching_mode, stream_of, is_memory, nothing_expected}
 use Rattle.dbus_names.specs.Texts.{Text}
 use Rattle.reply_ledger.proofs.Counting.{none-count}
 use Rattle.unique_names.proofs.Learned.{start-taught}
 use Rattle.verdicts.specs.Kept.{expected_at, owed_by, owed_to}
 use Rattle.verdicts.proofs.KnowledgeLaws.{CoversNoUniqueName}
 use Rattle.proxy_core.specs.Messages.{ended_by}
-use Rattle.proxy_core.specs.Steps.{with_stream, drained, end_unless, closed_if, room_of, with_piece, IsRefused, Took}
+use Rattle.proxy_core.specs.Steps.{with_stream, drained, end_unless, closed_if, room_of, with_piece, with_pushed, IsRefused, IsStopped, Took, WentOn}
+use Rattle.proxy_core.proofs.Draining.{went_drained}
 use Rattle.policy_view.proofs.Closings.{closes_at}
 use Rattle.proxy_core.proofs.Watching.{watched_holds}
 use Rattle.proxy_core.proofs.Going.{Goes, reached}
-use Rattle.proxy_core.proofs.Driven.{Steps, Final, KnowsOther, phase_weight, weight, none_last, drained_last, end_followed, end_ignored, new_none, stream_holds, same_stream, stream_runs}
+use Rattle.proxy_core.proofs.Driven.{Steps, Final, LastOf, Midst, KnowsOther, phase_weight, weight, none_last, drained_last, end_followed, end_ignored, new_none, stream_holds, same_stream, stream_runs}
 use Rattle.dbus_header.specs.Malformed.{front}
-use Rattle.proxy_core.proofs.Placing.{knows_still}
-use Rattle.proxy_core.proofs.Untouched.{other, Untouched, untouched_all, untouched_then, ended_untouched, drained_untouched}
+use Rattle.proxy_core.proofs.Placing.{ended_holds, knows_still}
+use Rattle.proxy_core.proofs.Untouched.{other, Untouched, untouched_all, untouched_then, ended_untouched, finished_remembers, drained_untouched}
 use Rattle.proxy_core.proofs.StreamPieces.{other_follows, own_follows, knows_other, piece_goes, both_streams, same_follows}
 
 -- ---- the start
@@ -92,10 +91,8 @@ none_to (Some s) n = none-count empty s n (get-empty (slice_cmp nat_cmp) s)
 pub start_stands : (policy : Policy) (mode : Mode) → StandsFor policy (at_start mode) [] nothing
 unfolding history bus_bytes client_bytes past nothing_before owed answered call_at numbered
 start_stands policy mode = record {
-  bus_front = record { rest = []; is = refl };
-  client_front = record { rest = []; is = refl };
-  notes_front = record { rest = []; is = none_noted mode.notes };
-  visible_front = record { rest = []; is = refl };
+  refused = λ e. absurd cc;
+  held = omega arith;
   holds = λ e. record {
     for_bus = refl;
     for_client = refl;
@@ -126,10 +123,8 @@ unfolding history elements part
 watching_stands policy auth =
     let s = start_stands policy (watching_mode auth) in
     record {
-      bus_front = s.bus_front;
-      client_front = s.client_front;
-      notes_front = s.notes_front;
-      visible_front = record { rest = []; is = refl };
+      refused = λ e. absurd cc;
+      held = omega arith;
       holds = λ e. let h = s.holds e in record {
         for_bus = h.for_bus;
         for_client = h.for_client;
@@ -157,6 +152,48 @@ closed_holds policy view items taken side true h = by view.ended refl
     by (Some end) e =
         subst (λ (o : Option End). Holds policy (end_unless o (finished side) view) (followed_by policy items (Ended (finished side))) taken) (sym e)
         (subst (λ (i : History). Holds policy view i taken) (sym (end_ignored policy items (Ended (finished side)) end (sym h.end_is ∙ e))) h)
+
+-- memory was refused, and nothing changed that waits
+stopped_holds : (policy : Policy) (mid new : SessionView) (items : History) (taken : Taken) → IsStopped mid new → Holds policy mid items taken → Holds policy new (Ended Memory ∷ items) taken
+stopped_holds policy mid new items taken stopped h =
+    let k = stopped.kept in
+    let e = ended_holds policy mid items taken Memory h in
+    record {
+      for_bus = ap (λ (w : List ℕ). taken.bus_side ++ w) k.bus_side ∙ e.for_bus;
+      for_client = ap (λ (w : List ℕ). taken.client_side ++ w) k.client_side ∙ e.for_client;
+      end_is = stopped.ended;
+      noted = ap (λ (ns : List Note). taken.notes ++ ns) k.notes ∙ e.noted ∙ ap (λ (m : Mode). notes_made m policy (Ended Memory ∷ items)) (sym k.mode);
+      count = λ n. k.numbered ∙ e.count (subst (λ (m : Mode). IsTrue m.notes) k.mode n);
+      watched = ap (λ (es : List Element). taken.visible ++ es) k.visible ∙ e.watched ∙ ap (λ (w : Bool). elements_given w policy (Ended Memory ∷ items)) (sym k.watches);
+      knows = λ r. absurd (let none : Some Memory ≡ None = sym stopped.ended ∙ r in cc);
+    }
+
+-- an End that stops a session
+all_before : (policy : Policy) (view : SessionView) (before now : History) (taken : Taken) (end : End) → is_memory (Some end) ≡ true → Holds policy view before taken → taken.held ≤ length before → IsGrown before now →
+    HoldsFirst policy (ended_by end view) now taken (length before)
+all_before policy view before now taken Memory e h held grown = record {
+  before = held;
+  within = omega (arith, length-append grown.0 before, ap length grown.1);
+  holds = subst (λ (i : History). Holds policy (ended_by Memory view) (Ended Memory ∷ i) taken) (sym (first_all grown.0 before) ∙ ap (first_items (length before)) (sym grown.1)) (ended_holds policy view before taken Memory h);
+}
+all_before policy view before now taken (ClientMalformed fault) e h held grown = absurd cc
+all_before policy view before now taken (BusMalformed fault) e h held grown = absurd cc
+all_before policy view before now taken ClientEnd e h held grown = absurd cc
+all_before policy view before now taken BusEnd e h held grown = absurd cc
+all_before policy view before now taken SerialsSpent e h held grown = absurd cc
+all_before policy view before now taken ClientRead e h held grown = absurd cc
+all_before policy view before now taken ClientWrite e h held grown = absurd cc
+all_before policy view before now taken BusRead e h held grown = absurd cc
+all_before policy view before now taken BusWrite e h held grown = absurd cc
+all_before policy view before now taken BusConnect e h held grown = absurd cc
+all_before policy view before now taken LogFault e h held grown = absurd cc
+
+-- one event more
+held_more : (policy : Policy) (mode : Mode) (event : Event) (events : List Event) (taken : Taken) → taken.held ≤ length (history policy mode events) → taken.held ≤ length (history policy mode (event ∷ events))
+held_more policy mode event events taken le =
+    let grown = (only_grows policy mode (event ∷ []) events).items in
+    let longer : length (history policy mode (event ∷ events)) ≡ length grown.0 + length (history policy mode events) = ap length grown.1 ∙ length-append grown.0 (history policy mode events) in
+    omega (arith, le, longer)
 
 over_room : (longest s p : ℕ) → s ≤ longest → nat_lt longest (s + p) ≡ nat_lt (longest - s) p
 over_room longest s p h = grind (arith, nat_tests, h)
@@ -280,7 +317,7 @@ module _ (policy : Policy) (view : SessionView) (events : List Event) (taken : T
       ∙ ap (λ (xs : List ℕ). found view.mode side events ++ raw_item side xs) (new_none (raw view.mode side events))
       ∙ append-nil (found view.mode side events) in
       taken_all view
-      (none_last policy taken view.mode side (raw view.mode side events) (Bytes side piece ∷ events) view (history policy view.mode events) (found view.mode side events) holds (record { found_is = reached_is; fault_is = f.sound }) f.stands f.counts f.bytes)
+      (none_last true policy taken view.mode side (raw view.mode side events) (Bytes side piece ∷ events) view (history policy view.mode events) (found view.mode side events) holds (record { found_is = reached_is; fault_is = f.sound }) f.stands f.counts f.bytes)
 
   -- bytes behind what is left
   abbrev behind_left : StreamView
@@ -309,8 +346,8 @@ module _ (policy : Policy) (view : SessionView) (events : List Event) (taken : T
       let same = same_stream side behind_left view in
       let l = light (stream_of side view).phase in
       taken_all (drained policy side most pushed_view)
-      (drained_last policy taken steps view.mode (raw view.mode side events) (Bytes side piece ∷ events) side most pushed_view (history policy view.mode events) (found view.mode side events)
-      (subst (λ (x : StreamView). weight x < most) (sym same) (omega (arith, l)))
+      (drained_last true policy taken steps view.mode (raw view.mode side events) (Bytes side piece ∷ events) side most pushed_view (history policy view.mode events) (found view.mode side events)
+      (λ w. subst (λ (x : StreamView). weight x < most) (sym same) (omega (arith, l)))
       (stream_runs side behind_left view ∙ runs)
       (pushed_runs_in side behind_left view)
       (subst (λ (x : StreamView). Goes view.mode side (raw view.mode side events) (Bytes side piece ∷ events) x (found view.mode side events)) (sym same) (piece_goes view.mode side events piece (take (room_of side view) piece) (stream_of side view) own taken_is))
@@ -327,12 +364,12 @@ module _ (policy : Policy) (view : SessionView) (events : List Event) (taken : T
 
   -- ---- what the piece left as it was
 
-  unless_untouched : (o : Option End) (end : End) (old v : SessionView) → Untouched side old v → Untouched side old (end_unless o end v)
-  unless_untouched None end old v u = untouched_then side old v (ended_by end v) u (ended_untouched side end v)
-  unless_untouched (Some e) end old v u = u
+  unless_untouched : (o : Option End) (old v : SessionView) → Untouched side old v → Untouched side old (end_unless o (finished side) v)
+  unless_untouched None old v u = untouched_then side old v (ended_by (finished side) v) u (ended_untouched side (finished side) v (finished_remembers side))
+  unless_untouched (Some e) old v u = u
 
   closed_untouched : (b : Bool) (old v : SessionView) → Untouched side old v → Untouched side old (closed_if b side v)
-  closed_untouched true old v u = unless_untouched v.ended (finished side) old v u
+  closed_untouched true old v u = unless_untouched v.ended old v u
   closed_untouched false old v u = u
 
   -- the mode, whether it watches, the other side's stream, and where the session runs the count of what came
@@ -340,6 +377,7 @@ module _ (policy : Policy) (view : SessionView) (events : List Event) (taken : T
     pub mode : new.mode ≡ view.mode
     pub watches : new.watches ≡ view.watches
     pub other_is : stream_of (other side) new ≡ stream_of (other side) view
+    pub remembers : is_memory new.ended ≡ false
     pub came : new.ended ≡ None → (stream_of side new).came ≡ length (stream side (Bytes side piece ∷ events))
 
   came_with : length (stream side events) + length (take (room_of side view) piece) ≡ length (stream side (Bytes side piece ∷ events))
@@ -373,7 +411,7 @@ module _ (policy : Policy) (view : SessionView) (events : List Event) (taken : T
       let u = closed_untouched over view view (untouched_all side view) in
       let empty : length (take (room_of side view) piece) ≡ 0 = ap length (empty_is (take (room_of side view) piece) none) in
       let with : (stream_of side view).came ≡ length (stream side (Bytes side piece ∷ events)) = own.came ∙ plus_none (length (stream side events)) (length (take (room_of side view) piece)) empty ∙ came_with in
-      record { mode = u.mode; watches = u.watches; other_is = u.other_is; came = λ r. u.came ∙ with }
+      record { mode = u.mode; watches = u.watches; other_is = u.other_is; remembers = u.remembers (ap is_memory runs); came = λ r. u.came ∙ with }
     where
       plus_none : (n k : ℕ) → k ≡ 0 → n ≡ n + k
       plus_none n k e = omega (arith, e)
@@ -383,6 +421,7 @@ module _ (policy : Policy) (view : SessionView) (events : List Event) (taken : T
         mode = u.mode ∙ pushed_mode side behind_left view;
         watches = u.watches ∙ pushed_watches side behind_left view;
         other_is = u.other_is ∙ pushed_other side behind_left view;
+        remembers = u.remembers (ap is_memory (stream_runs side behind_left view ∙ runs));
         came = λ r. u.came ∙ pushed_came side behind_left view ∙ ap (λ (n : ℕ). n + length (take (room_of side view) piece)) own.came ∙ came_with;
       }
 
@@ -401,82 +440,107 @@ module _ (policy : Policy) (view : SessionView) (events : List Event) (taken : T
       let h : Holds policy new (history policy new.mode (Bytes side piece ∷ events)) taken =
       subst (λ (mode : Mode). Holds policy new (history policy mode (Bytes side piece ∷ events)) taken) (sym mode) piece_step.holds in
       record {
-        bus_front = record { rest = []; is = append-nil (taken.bus_side ++ new.bus_side) ∙ h.for_bus };
-        client_front = record { rest = []; is = append-nil (taken.client_side ++ new.client_side) ∙ h.for_client };
-        notes_front = record { rest = []; is = append-nil (taken.notes ++ new.notes) ∙ h.noted };
-        visible_front = record { rest = []; is = append-nil (taken.visible ++ new.visible) ∙ h.watched };
+        refused = λ e. absurd (let same : true ≡ false = sym e ∙ piece_leaves.remembers in cc);
         holds = λ e. h;
+        held = held_more policy new.mode (Bytes side piece) events taken (subst (λ (m : Mode). taken.held ≤ length (history policy m events)) (sym mode) stands.held);
         follows = λ e. follows_both side new mode (piece_step.follows e (piece_leaves.came e))
             (subst (λ (x : StreamView). FollowsStream view.mode (other side) (Bytes side piece ∷ events) x) (sym piece_leaves.other_is) (other_follows view.mode side events piece view refl follows));
       }
 
+  -- ---- memory that was refused in its midst
+
+  -- when so many lines and messages were taken, the session holds the first of the piece's items
+  midst : (n : ℕ) (mid : SessionView) → WentOn policy side n pushed_view mid → mid.ended ≡ None → Midst policy taken view.mode side (raw view.mode side events) (Bytes side piece ∷ events) (history policy view.mode events) (found view.mode side events) mid
+  midst n mid went running =
+      let same = same_stream side behind_left view in
+      subst (λ (v : SessionView). LastOf false policy taken view.mode side (raw view.mode side events) (Bytes side piece ∷ events) (history policy view.mode events) (found view.mode side events) v) (went_drained policy side n pushed_view mid went)
+      (drained_last false policy taken steps view.mode (raw view.mode side events) (Bytes side piece ∷ events) side n pushed_view (history policy view.mode events) (found view.mode side events)
+      (λ w. absurd cc)
+      (stream_runs side behind_left view ∙ runs)
+      (pushed_runs_in side behind_left view)
+      (subst (λ (x : StreamView). Goes view.mode side (raw view.mode side events) (Bytes side piece ∷ events) x (found view.mode side events)) (sym same) (piece_goes view.mode side events piece (take (room_of side view) piece) (stream_of side view) own taken_is))
+      (stream_holds policy view (history policy view.mode events) taken side behind_left holds)
+      (subst (λ (x : StreamView). AreBytes x.left) (sym same) (AreBytes-append (stream_of side view).left (take (room_of side view) piece) own.bytes (AreBytes-take (room_of side view) piece are)))
+      (still_knows side behind_left (knows_other view.mode side events piece view refl follows)))
+      running
+
+  mode_midst : (n : ℕ) (mid : SessionView) → WentOn policy side n pushed_view mid → mid.mode ≡ view.mode
+  mode_midst n mid went =
+      ap (λ (v : SessionView). v.mode) (sym (went_drained policy side n pushed_view mid went))
+      ∙ (drained_untouched policy side n pushed_view).mode ∙ pushed_mode side behind_left view
+
+  -- all its items, of which these are the first
+  all_items : (first more : List Item) → new_in (found view.mode side events) (reached view.mode side (raw view.mode side events) (Bytes side piece ∷ events)) ≡ first ++ more →
+      IsGrown (followed_by_all policy (history policy view.mode events) first) (history policy view.mode (Bytes side piece ∷ events))
+  unfolding history
+  all_items first more parts =
+      let fault_item = fault_end side (fault view.mode side (Bytes side piece ∷ events)) in
+      let close = end_if (is_over side events piece) (finished side) in
+      let grown = grown_by_all policy (followed_by_all policy (history policy view.mode events) first) (more ++ (fault_item ++ close)) in (
+        grown.0,
+        ap (followed_by_all policy (history policy view.mode events)) (brought_is ∙ ap (λ (xs : List Item). (xs ++ fault_item) ++ close) parts ∙ grouped first more fault_item close)
+            ∙ all_append policy (history policy view.mode events) first (more ++ (fault_item ++ close)) ∙ grown.1,
+      )
+    where
+      grouped : (a b c d : List Item) → ((a ++ b) ++ c) ++ d ≡ a ++ (b ++ (c ++ d))
+      grouped a b c d = append_assoc (a ++ b) c d ∙ append_assoc a b (c ++ d)
+
+  -- the session holds these, and then the End, and all that came before the piece is among them
+  refused_holds : (new : SessionView) → IsRefused policy side pushed_view new → (done : ℕ) × HoldsFirst policy new (history policy view.mode (Bytes side piece ∷ events)) taken done
+  refused_holds new r =
+      let m = midst r.steps r.mid r.went r.stopped.running in
+      let items_then : History = followed_by_all policy (history policy view.mode events) m.first in
+      let before = grown_by_all policy (history policy view.mode events) m.first in
+      let all = all_items m.first m.more m.parts in (
+        length items_then,
+        record {
+          before = omega (arith, stands.held, longer before);
+          within = longer all;
+          holds = subst (λ (i : History). Holds policy new (Ended Memory ∷ i) taken) (sym (first_all all.0 items_then) ∙ ap (first_items (length items_then)) (sym all.1)) (stopped_holds policy r.mid new items_then taken r.stopped m.holds);
+        },
+      )
+    where
+      longer : {one two : History} → IsGrown one two → length one ≤ length two
+      longer {one = one} {two = two} g = omega (arith, length-append g.0 one, ap length g.1)
+
+  pub refused_stands : (new : SessionView) → IsRefused policy side pushed_view new → StandsFor policy new (Bytes side piece ∷ events) taken
+  refused_stands new r =
+      let mode : new.mode ≡ view.mode = r.stopped.kept.mode ∙ mode_midst r.steps r.mid r.went in
+      let held = refused_holds new r in
+      record {
+        refused = λ e. (held.0, subst (λ (m : Mode). HoldsFirst policy new (history policy m (Bytes side piece ∷ events)) taken held.0) (sym mode) held.1);
+        held = held_more policy new.mode (Bytes side piece) events taken (subst (λ (m : Mode). taken.held ≤ length (history policy m events)) (sym mode) stands.held);
+        holds = λ e. absurd (let memory : true ≡ false = sym (ap is_memory r.stopped.ended) ∙ e in cc);
+        follows = λ e. absurd (let none : Some Memory ≡ None = sym r.stopped.ended ∙ e in cc);
+      }
+
 -- ---- what ended
-
-front_more : {A : Type 0} (front one two : List A) → IsFront front one → IsPrefixOf one two → IsFront front two
-front_more front one two f (more, e) = record { rest = f.rest ++ more; is = sym (append_assoc front f.rest more) ∙ ap (λ (w : List _). w ++ more) f.is ∙ e }
-
-made_more : (make : Bool) (one two : List Note) → IsPrefixOf one two → IsPrefixOf (cond make one []) (cond make two [])
-made_more true one two p = p
-made_more false one two p = ([], refl)
-
--- the elements of a history that has grown
-elements_grow : (policy : Policy) (before added : History) → IsPrefixOf (elements policy before) (elements policy (added ++ before))
-elements_grow policy before [] = ([], append-nil (elements policy before))
-elements_grow policy before (item ∷ added) =
-    let (rest, e) = elements_grow policy before added in
-    let more = flat_map given_of (visible_of policy (past policy (added ++ before)) item) in
-    (rest ++ more, sym (append_assoc (elements policy before) rest more) ∙ ap (λ (es : List Element). es ++ more) e ∙ sym (elements_step policy (added ++ before) item))
-
-given_grow : (watches : Bool) (policy : Policy) (before later : History) → (added : History) × (later ≡ added ++ before) → IsPrefixOf (elements_given watches policy before) (elements_given watches policy later)
-given_grow true policy before later (added, e) = subst (λ (h : History). IsPrefixOf (elements policy before) (elements policy h)) (sym e) (elements_grow policy before added)
-given_grow false policy before later grown = ([], refl)
 
 -- a session that has ended stands for whatever follows
 pub ended_stands : (policy : Policy) (view : SessionView) (events : List Event) (taken : Taken) (event : Event) (end : End) →
     view.ended ≡ Some end → StandsFor policy view events taken → StandsFor policy view (event ∷ events) taken
 ended_stands policy view events taken event end ended stands =
-    let grown = only_grows policy view.mode (event ∷ []) events in
+    let grown = (only_grows policy view.mode (event ∷ []) events).items in
     record {
-      bus_front = front_more (taken.bus_side ++ view.bus_side) (bus_bytes policy (history policy view.mode events)) (bus_bytes policy (history policy view.mode (event ∷ events))) stands.bus_front grown.to_bus;
-      client_front = front_more (taken.client_side ++ view.client_side) (client_bytes policy (history policy view.mode events)) (client_bytes policy (history policy view.mode (event ∷ events))) stands.client_front grown.to_client;
-      notes_front = front_more (taken.notes ++ view.notes) (notes_made view.mode policy (history policy view.mode events)) (notes_made view.mode policy (history policy view.mode (event ∷ events))) stands.notes_front
-          (made_more view.mode.notes (notes policy (history policy view.mode events)) (notes policy (history policy view.mode (event ∷ events))) grown.noted);
-      visible_front = front_more (taken.visible ++ view.visible) (elements_given view.watches policy (history policy view.mode events)) (elements_given view.watches policy (history policy view.mode (event ∷ events))) stands.visible_front
-          (given_grow view.watches policy (history policy view.mode events) (history policy view.mode (event ∷ events)) grown.items);
+      refused = λ e.
+          let r = stands.refused e in (
+            r.0,
+            record {
+              before = r.1.before;
+              within = omega (arith, r.1.within, length-append grown.0 (history policy view.mode events), ap length grown.1);
+              holds = subst (λ (i : History). Holds policy view (Ended Memory ∷ i) taken)
+                  (sym (ap (first_items r.0) grown.1 ∙ first_of_more r.0 grown.0 (history policy view.mode events) r.1.within)) r.1.holds;
+            },
+          );
       holds = λ e.
           let h = stands.holds e in
           let same : history policy view.mode (event ∷ events) ≡ history policy view.mode events = ended_is_final policy view.mode events event end (sym h.end_is ∙ ended) in
           subst (λ (i : History). Holds policy view i taken) (sym same) h;
+      held = held_more policy view.mode event events taken stands.held;
       follows = λ e. let none : Some end ≡ None = sym ended ∙ e in cc;
     }
 
--- and so does one that was refused memory in the midst of what was to be
-pub refused_stands : (policy : Policy) (expected old new : SessionView) (events : List Event) (taken : Taken) (event : Event) →
-    IsRefused expected old new → expected.mode ≡ old.mode → expected.watches ≡ old.watches → StandsFor policy expected (event ∷ events) taken → StandsFor policy new (event ∷ events) taken
-refused_stands policy expected old new events taken event refused same watching stands =
-    let mode : new.mode ≡ expected.mode = refused.mode ∙ sym same in
-    let for_bus = behind_taken taken.bus_side new.bus_side expected.bus_side (bus_bytes policy (history policy expected.mode (event ∷ events))) refused.for_bus stands.bus_front in
-    let for_client = behind_taken taken.client_side new.client_side expected.client_side (client_bytes policy (history policy expected.mode (event ∷ events))) refused.for_client stands.client_front in
-    let noted = behind_taken taken.notes new.notes expected.notes (notes_made expected.mode policy (history policy expected.mode (event ∷ events))) refused.noted stands.notes_front in
-    let watches : new.watches ≡ expected.watches = refused.watches ∙ sym watching in
-    let watched = behind_taken taken.visible new.visible expected.visible (elements_given expected.watches policy (history policy expected.mode (event ∷ events))) refused.watched stands.visible_front in
-    record {
-      bus_front = subst (λ (mode : Mode). IsFront (taken.bus_side ++ new.bus_side) (bus_bytes policy (history policy mode (event ∷ events)))) (sym mode) for_bus;
-      client_front = subst (λ (mode : Mode). IsFront (taken.client_side ++ new.client_side) (client_bytes policy (history policy mode (event ∷ events)))) (sym mode) for_client;
-      notes_front = subst (λ (mode : Mode). IsFront (taken.notes ++ new.notes) (notes_made mode policy (history policy mode (event ∷ events)))) (sym mode) noted;
-      visible_front = subst (λ (w : Bool). IsFront (taken.visible ++ new.visible) (elements_given w policy (history policy new.mode (event ∷ events)))) (sym watches)
-          (subst (λ (mode : Mode). IsFront (taken.visible ++ new.visible) (elements_given expected.watches policy (history policy mode (event ∷ events)))) (sym mode) watched);
-      holds = λ e. let memory : is_memory (Some Memory) ≡ false = sym (ap is_memory refused.ended) ∙ e in cc;
-      follows = λ e. let none : Some Memory ≡ None = sym refused.ended ∙ e in cc;
-    }
-  where
-    behind_taken : {A : Type 0} (taken waits all whole : List A) → IsFront waits all → IsFront (taken ++ all) whole → IsFront (taken ++ waits) whole
-    behind_taken taken waits all whole f g = record {
-      rest = f.rest ++ g.rest;
-      is = append_assoc taken waits (f.rest ++ g.rest) ∙ ap (λ (w : List _). taken ++ w) (sym (append_assoc waits f.rest g.rest) ∙ ap (λ (w : List _). w ++ g.rest) f.is) ∙ sym (append_assoc taken all g.rest) ∙ g.is;
-    }
-
--- an event that only brings an End, of a session that runs
+-- an event that only brings an End, of a session that runs: if it is that of refused memory, the session holds all items before it
 closed_stands : (policy : Policy) (view : SessionView) (events : List Event) (taken : Taken) (event : Event) (end : End) →
     arrived view.mode events event ≡ Ended end ∷ [] → view.ended ≡ None → StandsFor policy view events taken →
     StandsFor policy (ended_by end view) (event ∷ events) taken
@@ -486,10 +550,8 @@ closed_stands policy view events taken event end brings runs stands =
     subst (λ (items : List Item). Holds policy (ended_by end view) (followed_by_all policy (history policy view.mode events) items) taken) (sym brings)
     (end_followed policy view (history policy view.mode events) taken end runs (stands.holds (ap is_memory runs))) in
     record {
-      bus_front = record { rest = []; is = append-nil (taken.bus_side ++ view.bus_side) ∙ h.for_bus };
-      client_front = record { rest = []; is = append-nil (taken.client_side ++ view.client_side) ∙ h.for_client };
-      notes_front = record { rest = []; is = append-nil (taken.notes ++ view.notes) ∙ h.noted };
-      visible_front = record { rest = []; is = append-nil (taken.visible ++ view.visible) ∙ h.watched };
+      refused = λ e. (length (history policy view.mode events), all_before policy view (history policy view.mode events) (history policy view.mode (event ∷ events)) taken end e (stands.holds (ap is_memory runs)) stands.held (only_grows policy view.mode (event ∷ []) events).items);
+      held = held_more policy view.mode event events taken stands.held;
       holds = λ e. h;
       follows = λ e. cc;
     }
@@ -540,12 +602,28 @@ pub all_steps : (policy : Policy) → CoversNoUniqueName policy → (taken : Tak
 all_steps policy apart taken side view items m runs holds valid = watched_holds policy apart view items taken side m runs holds
 
 pub feed_stands : (policy : Policy) → CoversNoUniqueName policy → (old new : SessionView) (events : List Event) (taken : Taken) (side : Side) (piece : List ℕ) → old.ended ≡ None → AreBytes piece →
-    Took (with_piece policy side piece old) old new → StandsFor policy old events taken → StandsFor policy new (Bytes side piece ∷ events) taken
+    Took policy side (with_piece policy side piece old) (with_pushed side (take (room_of side old) piece) old) new → StandsFor policy old events taken → StandsFor policy new (Bytes side piece ∷ events) taken
 feed_stands policy apart old new events taken side piece runs are took stands =
     let steps = all_steps policy apart taken in
-    let expected = piece_stands policy old events taken steps side piece runs stands are in
     elim took [
-      | inl is ↦ subst (λ (v : SessionView). StandsFor policy v (Bytes side piece ∷ events) taken) (sym is) expected
-      | inr refused ↦ refused_stands policy (with_piece policy side piece old) old new events taken (Bytes side piece) refused
-          (piece_leaves policy old events taken steps side piece runs stands are).mode (piece_leaves policy old events taken steps side piece runs stands are).watches expected
+      | inl is ↦ subst (λ (v : SessionView). StandsFor policy v (Bytes side piece ∷ events) taken) (sym is) (piece_stands policy old events taken steps side piece runs stands are)
+      | inr refused ↦ refused_stands policy old events taken steps side piece runs stands are new refused
     ]
+
+-- a session that runs holds all items so far
+pub holds_all : (policy : Policy) (view : SessionView) (events : List Event) (taken : Taken) → view.ended ≡ None → StandsFor policy view events taken
+    → StandsFor policy view events (record taken { held = length (history policy view.mode events) })
+holds_all policy view events taken runs stands = record {
+  holds = λ e. let h = stands.holds e in record {
+    for_bus = h.for_bus;
+    for_client = h.for_client;
+    end_is = h.end_is;
+    noted = h.noted;
+    count = h.count;
+    watched = h.watched;
+    knows = h.knows;
+  };
+  refused = λ e. absurd (let same : true ≡ false = sym e ∙ ap is_memory runs in cc);
+  held = omega arith;
+  follows = stands.follows;
+}

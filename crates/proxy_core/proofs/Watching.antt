@@ -65,7 +65,7 @@ module _ (policy : Policy) (side : Side) (m : Message) (old : SessionView) where
     ended = ap (λ (v : SessionView). v.ended) is ∙ refused.ended;
     kept = sides_kept old mid after new (record { notes = old.notes; numbered = old.numbered; watches = false; visible = [] })
         (record { notes = after.notes; numbered = after.numbered; watches = true; visible = kept }) out is refused.kept
-        (refused.kept.notes ∙ ap (λ (v : SessionView). v.notes) out) (sym on)
+        (refused.kept.notes ∙ ap (λ (v : SessionView). v.notes) out) (refused.kept.numbered ∙ ap (λ (v : SessionView). v.numbered) out) (sym on)
         (kept_is ∙ ap (λ (o : Option End). old.visible ++ unless_ended o (elements_in policy side m mid)) refused.ended ∙ append-nil old.visible);
   })
 

@@ -250,5 +250,6 @@ pub record KeepsSides (old new : SessionView) : Type 0 where
   pub client_side : new.client_side ≡ old.client_side
   pub greeted : new.greeted ≡ old.greeted
   pub notes : new.notes ≡ old.notes
+  pub numbered : new.numbered ≡ old.numbered
   pub watches : new.watches ≡ old.watches
   pub visible : new.visible ≡ old.visible

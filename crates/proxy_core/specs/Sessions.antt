@@ -8,8 +8,8 @@ use Rattle.sasl_watch.specs.Watching.{Watch}
 use Rattle.sasl_watch.specs.Following.{ClientFollows, BusFollows}
 use Rattle.policy_args.specs.Policy.{Policy}
 use Rattle.policy_view.specs.Sent.{Past}
-use Rattle.policy_view.specs.Past.{History, has_greeted, past}
-use Rattle.policy_view.specs.History.{Event, stream, lines, content, bytes_in, fault, history, end_of, most_sent}
+use Rattle.policy_view.specs.Past.{Ended, History, has_greeted, past}
+use Rattle.policy_view.specs.History.{Event, stream, lines, content, bytes_in, fault, first_items, history, end_of, most_sent}
 use Rattle.policy_view.specs.Outputs.{bus_bytes, client_bytes}
 use Rattle.policy_view.specs.Elements.{elements}
 use Rattle.policy_view.specs.Notes.{Note, numbered, notes_made}
@@ -91,15 +91,16 @@ abbrev pub waits_for : Side → SessionView → List ℕ
 waits_for Client view = view.client_side
 waits_for Bus view = view.bus_side
 
--- what was taken from a session
+-- What was taken from a session; and a number of items that it held at some time, any that its history had by then.
 pub record Taken : Type 0 where
   pub bus_side : List ℕ
   pub client_side : List ℕ
   pub notes : List Note
   pub visible : List Element
+  pub held : ℕ
 
 abbrev pub nothing : Taken
-nothing = record { bus_side = []; client_side = []; notes = []; visible = [] }
+nothing = record { bus_side = []; client_side = []; notes = []; visible = []; held = 0 }
 
 -- ---- what it keeps of the past
 
@@ -203,14 +204,18 @@ pub record Follows (view : SessionView) (events : List Event) : Type 0 where
   pub client : FollowsStream view.mode Client events view.client
   pub bus : FollowsStream view.mode Bus events view.bus
 
--- A session stands for events: it holds their history. One that was refused memory holds a front of what that gives, of its
--- notes, and of the elements of its visible part.
+-- Memory was refused: the session holds the first `done` items of a history, and then that End. Of no later item it has any effect, and
+-- it holds all that it held before.
+pub record HoldsFirst (policy : Policy) (view : SessionView) (items : History) (taken : Taken) (done : ℕ) : Type 0 where
+  pub before : taken.held ≤ done
+  pub within : done ≤ length items
+  pub holds : Holds policy view (Ended Memory ∷ first_items done items) taken
+
+-- A session stands for events: it holds their history, or the first items of it if memory was refused.
 pub record StandsFor (policy : Policy) (view : SessionView) (events : List Event) (taken : Taken) : Type 0 where
-  pub bus_front : IsFront (taken.bus_side ++ view.bus_side) (bus_bytes policy (history policy view.mode events))
-  pub client_front : IsFront (taken.client_side ++ view.client_side) (client_bytes policy (history policy view.mode events))
-  pub notes_front : IsFront (taken.notes ++ view.notes) (notes_made view.mode policy (history policy view.mode events))
-  pub visible_front : IsFront (taken.visible ++ view.visible) (elements_given view.watches policy (history policy view.mode events))
   pub holds : is_memory view.ended ≡ false → Holds policy view (history policy view.mode events) taken
+  pub refused : is_memory view.ended ≡ true → (done : ℕ) × HoldsFirst policy view (history policy view.mode events) taken done
+  pub held : taken.held ≤ length (history policy view.mode events)
   pub follows : view.ended ≡ None → Follows view events
 
 -- An event that ends a running session is the one at which the history gets this End; memory that is refused is no part of the history.

@@ -154,10 +154,14 @@ drained policy side (suc n) view = more_if (step_of policy side view) (drained p
 
 -- ---- a piece
 
--- bytes come behind what is left of a side's stream; each line and message takes a byte at least, and the end of the lines none
+-- bytes come behind what is left of a side's stream
+abbrev pub with_pushed : Side → List ℕ → SessionView → SessionView
+with_pushed side bytes view = with_stream side (pushed bytes (stream_of side view)) view
+
+-- and are taken; each line and message takes a byte at least, and the end of the lines none
 abbrev pub with_more : Policy → Side → List ℕ → SessionView → SessionView
 with_more policy side bytes view =
-    drained policy side (length ((stream_of side view).left ++ bytes) + 2) (with_stream side (pushed bytes (stream_of side view)) view)
+    drained policy side (length ((stream_of side view).left ++ bytes) + 2) (with_pushed side bytes view)
 
 -- bytes of a side's stream that it still takes
 abbrev pub with_bytes : Policy → Side → List ℕ → SessionView → SessionView
@@ -191,6 +195,16 @@ pub record Grows (old new : SessionView) : Type 0 where
 
 -- ---- memory that was refused
 
+-- what waits for either side, the notes and the elements are what they were
+pub record KeepsWaiting (old new : SessionView) : Type 0 where
+  pub mode : new.mode ≡ old.mode
+  pub bus_side : new.bus_side ≡ old.bus_side
+  pub client_side : new.client_side ≡ old.client_side
+  pub notes : new.notes ≡ old.notes
+  pub numbered : new.numbered ≡ old.numbered
+  pub watches : new.watches ≡ old.watches
+  pub visible : new.visible ≡ old.visible
+
 -- at one message, which has no effect then
 pub record IsRefusedAtOnce (old new : SessionView) : Type 0 where
   pub running : old.ended ≡ None
@@ -200,41 +214,55 @@ pub record IsRefusedAtOnce (old new : SessionView) : Type 0 where
 abbrev pub TookMessage : SessionView → SessionView → SessionView → Type 0
 TookMessage expected old new = (new ≡ expected) ⊎ IsRefusedAtOnce old new
 
--- what waits, the notes, and the elements are the first of what was to be, and still start with what they were
-pub record IsRefused (expected old new : SessionView) : Type 0 where
-  pub running : old.ended ≡ None
+-- at one line, which has no effect then, or at the end of the lines
+pub record IsCutOff (old new : SessionView) : Type 0 where
   pub ended : new.ended ≡ Some Memory
-  pub mode : new.mode ≡ old.mode
-  pub grows : Grows old new
-  pub for_bus : IsFront new.bus_side expected.bus_side
-  pub for_client : IsFront new.client_side expected.client_side
-  pub noted : IsFront new.notes expected.notes
-  pub watches : new.watches ≡ old.watches
-  pub watched : IsFront new.visible expected.visible
-
--- it is what was to be, or memory was refused in its midst
-abbrev pub Took : SessionView → SessionView → SessionView → Type 0
-Took expected old new = (new ≡ expected) ⊎ IsRefused expected old new
-
-abbrev pub Stepped : SessionView × Bool → SessionView → SessionView → Bool → Type 0
-Stepped expected old new more = ((new ≡ expected.0) × (more ≡ expected.1)) ⊎ (IsRefused expected.0 old new × (more ≡ false))
-
--- at one line, which has no effect on what waits then, or at the end of the lines; neither has a note, and nothing that waited is lost
-pub record IsCutOff (expected old new : SessionView) : Type 0 where
-  pub ended : new.ended ≡ Some Memory
-  pub mode : new.mode ≡ old.mode
-  pub grows : Grows old new
-  pub for_bus : IsFront new.bus_side expected.bus_side
-  pub for_client : IsFront new.client_side expected.client_side
-  pub noted : IsFront new.notes expected.notes
-  pub watches : new.watches ≡ old.watches
-  pub watched : IsFront new.visible expected.visible
+  pub kept : KeepsWaiting old new
   pub client : length new.client.left ≤ length old.client.left
   pub bus : length new.bus.left ≤ length old.bus.left
   pub greeted : new.greeted ≡ old.greeted
 
 abbrev pub Did : SessionView → SessionView → SessionView → Bool → Type 0
-Did expected old new goes = ((new ≡ expected) × (goes ≡ true)) ⊎ (IsCutOff expected old new × (goes ≡ false))
+Did expected old new goes = ((new ≡ expected) × (goes ≡ true)) ⊎ (IsCutOff old new × (goes ≡ false))
+
+-- for a line: nothing changed that waits, but for the line, which may be among the elements
+pub record MayHaveKept (old new : SessionView) : Type 0 where
+  pub running : new.ended ≡ old.ended
+  pub mode : new.mode ≡ old.mode
+  pub bus_side : new.bus_side ≡ old.bus_side
+  pub client_side : new.client_side ≡ old.client_side
+  pub notes : new.notes ≡ old.notes
+  pub numbered : new.numbered ≡ old.numbered
+  pub watches : new.watches ≡ old.watches
+  pub visible : IsFront old.visible new.visible
+  pub client : length new.client.left ≤ length old.client.left
+  pub bus : new.bus ≡ old.bus
+  pub greeted : new.greeted ≡ old.greeted
+
+-- at what stands in front of a stream, which has no effect then on what waits
+pub record IsStopped (old new : SessionView) : Type 0 where
+  pub running : old.ended ≡ None
+  pub ended : new.ended ≡ Some Memory
+  pub kept : KeepsWaiting old new
+
+abbrev pub Stepped : SessionView × Bool → SessionView → SessionView → Bool → Type 0
+Stepped expected old new more = ((new ≡ expected.0) × (more ≡ expected.1)) ⊎ (IsStopped old new × (more ≡ false))
+
+-- so many lines and messages were taken one after the other, and after each more may follow
+abbrev pub WentOn : Policy → Side → ℕ → SessionView → SessionView → Type 0
+WentOn policy side zero old new = new ≡ old
+WentOn policy side (suc n) old new = (mid : SessionView) × WentOn policy side n old mid × (step_of policy side mid ≡ (new, true))
+
+-- After these, which had their whole effect: what stood in front then had none.
+pub record IsRefused (policy : Policy) (side : Side) (old new : SessionView) : Type 0 where
+  pub steps : ℕ
+  pub mid : SessionView
+  pub went : WentOn policy side steps old mid
+  pub stopped : IsStopped mid new
+
+-- it is what was to be, or memory was refused in its midst
+abbrev pub Took : Policy → Side → SessionView → SessionView → SessionView → Type 0
+Took policy side expected old new = (new ≡ expected) ⊎ IsRefused policy side old new
 
 -- ---- how much waits
 

@@ -10,7 +10,7 @@ ghost use Rattle.policy_args.specs.Policy.{Policy as PolicyValue};
 ghost use Rattle.proxy_core.specs.Streams.{InMessages, is_in_lines as in_lines, pushed};
 ghost use Rattle.proxy_core.specs.Sessions.{StandsFor, Closes, Taken, nothing, at_start, watching_at_start, stream_of, answer_of, is_from_outside, IsFront};
 ghost use Rattle.proxy_core.specs.Messages.{ended_by};
-ghost use Rattle.proxy_core.specs.Steps.{with_stream, with_left, step_of, drained, with_bytes, with_piece, Grows, Took, Stepped, IsLight, weight};
+ghost use Rattle.proxy_core.specs.Steps.{with_stream, with_left, step_of, drained, room_of, with_bytes, with_piece, with_pushed, Grows, Took, Stepped, IsLight, weight};
 
 mod fronts;
 mod lines;
@@ -332,7 +332,7 @@ impl Session {
     /// Takes lines and messages from the front of a side's stream, at most so many.
     fn drain(&mut self, policy: &Policy, side: Side, most: usize)
         requires { self.old.ended ≡ None }
-        ensures took { Took (drained policy.now side most self.old) self.old self.new }
+        ensures took { Took policy.now side (drained policy.now side most self.old) self.old self.new }
         ensures light { IsLight policy.now 0 self.old self.new }
     {
         let mut left = most;
@@ -375,7 +375,7 @@ impl Session {
     fn take_bytes(&mut self, policy: &Policy, side: Side, bytes: &[u8])
         requires running { self.old.ended ≡ None }
         requires room { (stream_of side self.old).came + length bytes.now ≤ longest_stream }
-        ensures took { Took (with_bytes policy.now side bytes.now self.old) self.old self.new }
+        ensures took { Took policy.now side (with_bytes policy.now side bytes.now self.old) (with_pushed side bytes.now self.old) self.new }
         ensures light { IsLight policy.now (length bytes.now) self.old self.new }
     {
         if bytes.is_empty() {
@@ -404,7 +404,7 @@ impl Session {
     /// Takes a piece of a side's stream, as far as the stream's limit.
     fn take_piece(&mut self, policy: &Policy, side: Side, piece: &[u8])
         requires { self.old.ended ≡ None }
-        ensures took { Took (with_piece policy.now side piece.now self.old) self.old self.new }
+        ensures took { Took policy.now side (with_piece policy.now side piece.now self.old) (with_pushed side (take (room_of side self.old) piece.now) self.old) self.new }
         ensures light { IsLight policy.now (length piece.now) self.old self.new }
     {
         let room = LONGEST_STREAM - self.came(side);

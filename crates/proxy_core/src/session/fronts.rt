@@ -112,7 +112,7 @@ impl Session {
         requires running { self.old.ended ≡ None }
         requires lent { IsLent side self.old }
         requires filtered { self.old.mode.filter ≡ true }
-        ensures took { Took (drained policy.now side most (with_left side messages.old self.old)) (with_left side messages.old self.old) (with_left side messages.new self.new) }
+        ensures took { Took policy.now side (drained policy.now side most (with_left side messages.old self.old)) (with_left side messages.old self.old) (with_left side messages.new self.new) }
         ensures light { IsLight policy.now 0 (with_left side messages.old self.old) (with_left side messages.new self.new) }
         ensures lent { IsLent side self.new }
     {
@@ -130,7 +130,7 @@ impl Session {
         requires running { self.old.ended ≡ None }
         requires messages { (stream_of side self.old).phase ≡ InMessages }
         requires filtered { self.old.mode.filter ≡ true }
-        ensures took { Took (drained policy.now side most self.old) self.old self.new }
+        ensures took { Took policy.now side (drained policy.now side most self.old) self.old self.new }
         ensures light { IsLight policy.now 0 self.old self.new }
     {
         let mut messages = self.lend_messages(side);

@@ -1,12 +1,13 @@
-//! What a session does with a line of the authentication protocol: each goes to the other side, whole.
-ghost use Rattle.std.specs.Prelude.{◌≡◌, ◌∷◌, ◌++◌, [], true, false, None, OnOk, OnErr};
+//! What a session does with a line of the authentication protocol: each goes to the other side, whole. A line that is refused memory
+//! has no effect.
+ghost use Rattle.std.specs.Prelude.{◌≡◌, ◌∷◌, ◌++◌, [], true, false, None, OnOk, OnErr, take};
 ghost use Rattle.sasl_watch.specs.Lines.{for_bus as for_the_bus};
 ghost use Rattle.policy_view.specs.declared.Side.TheVariants as Side;
 ghost use Rattle.policy_view.specs.declared.visible.Visible.TheVariants as element;
 ghost use Rattle.policy_view.specs.declared.End.TheVariants.{Memory};
 ghost use Rattle.proxy_core.specs.Streams.{is_in_lines as in_lines};
 ghost use Rattle.proxy_core.specs.Messages.{ended_by, with_elements};
-ghost use Rattle.proxy_core.specs.Steps.{step_of, in_messages, unanswered as unanswered_lines, has_begun as begun, Did, Stepped, IsLight};
+ghost use Rattle.proxy_core.specs.Steps.{step_of, in_messages, unanswered as unanswered_lines, has_begun as begun, Did, MayHaveKept, Stepped, IsLight};
 
 use super::Session;
 use bytes::Bytes;
@@ -28,22 +29,43 @@ impl Session {
         true
     }
 
+    /// Goes on where memory sufficed for a line. Where it was refused, the line is no longer kept, and the session ends.
+    fn goes_on_from(&mut self, kept: usize, done: Result<(), AllocError>) -> bool
+        ensures ok { OnOk done ((result ≡ true) × (self.new ≡ self.old)) }
+        ensures err { OnErr done ((result ≡ false) × (self.new ≡ ended_by Memory (record self.old { visible = take kept self.old.visible }))) }
+    {
+        if done.is_err() {
+            self.keep_first(kept);
+            self.end_with(End::Memory);
+            return false;
+        }
+        true
+    }
+
+    /// The client's NUL, kept, and put behind what waits for the bus.
+    fn put_nul(&mut self) -> Result<(), AllocError>
+        ensures ok { OnOk result (self.new ≡ with_elements (element.Line Side.Client (0 ∷ []) ∷ []) (record self.old { bus_side = self.old.bus_side ++ 0 ∷ [] })) }
+        ensures err { OnErr result (MayHaveKept self.old self.new) }
+    {
+        self.keep_line(Side::Client, b"\0")?;
+        self.to_bus.push_slice(b"\0")
+    }
+
     /// The client's NUL goes to the bus.
     fn send_nul(&mut self) -> bool
         ensures { Did (with_elements (element.Line Side.Client (0 ∷ []) ∷ []) (record self.old { bus_side = self.old.bus_side ++ 0 ∷ [] })) self.old self.new result }
     {
-        let done = self.to_bus.push_slice(b"\0");
-        if !self.goes_on(done) {
-            return false;
-        }
-        self.keep_line(Side::Client, b"\0")
+        let kept = self.kept();
+        let done = self.put_nul();
+        self.goes_on_from(kept, done)
     }
 
-    /// A line of the client as the bus is to have it, put behind what waits for the bus.
+    /// A line of the client, kept, and as the bus is to have it put behind what waits for the bus.
     fn put_line(&mut self, line: &Bytes) -> Result<(), AllocError>
-        ensures ok { OnOk result (self.new ≡ record self.old { bus_side = self.old.bus_side ++ for_the_bus line.now }) }
-        ensures err { OnErr result (self.new ≡ self.old) }
+        ensures ok { OnOk result (self.new ≡ with_elements (element.Line Side.Client line.now ∷ []) (record self.old { bus_side = self.old.bus_side ++ for_the_bus line.now })) }
+        ensures err { OnErr result (MayHaveKept self.old self.new) }
     {
+        self.keep_line(Side::Client, line.as_slice())?;
         let out = for_bus(self.alloc, line)?;
         self.to_bus.push(out)
     }
@@ -52,11 +74,23 @@ impl Session {
     fn send_line(&mut self, line: &Bytes) -> bool
         ensures { Did (with_elements (element.Line Side.Client line.now ∷ []) (record self.old { bus_side = self.old.bus_side ++ for_the_bus line.now })) self.old self.new result }
     {
+        let kept = self.kept();
         let done = self.put_line(line);
-        if !self.goes_on(done) {
-            return false;
-        }
-        self.keep_line(Side::Client, line.as_slice())
+        self.goes_on_from(kept, done)
+    }
+
+    /// BEGIN, kept and put behind what waits for the bus, and messages follow it. The line is given up before what follows it is made
+    /// the messages', so that these have one owner and aren't copied.
+    fn put_begin(&mut self, line: Bytes) -> Result<(), AllocError>
+        requires { in_lines self.old.client.phase ≡ true }
+        ensures ok { OnOk result (self.new ≡ with_elements (element.Line Side.Client line ∷ []) (record self.old { bus_side = self.old.bus_side ++ for_the_bus line; client = in_messages self.old.client })) }
+        ensures err { OnErr result (MayHaveKept self.old self.new) }
+    {
+        self.keep_line(Side::Client, line.as_slice())?;
+        let out = for_bus(self.alloc, &line)?;
+        drop(line);
+        self.client.begin_messages()?;
+        self.to_bus.push(out)
     }
 
     /// BEGIN goes to the bus, and messages follow it.
@@ -64,24 +98,27 @@ impl Session {
         requires { in_lines self.old.client.phase ≡ true }
         ensures { Did (with_elements (element.Line Side.Client line ∷ []) (record self.old { bus_side = self.old.bus_side ++ for_the_bus line; client = in_messages self.old.client })) self.old self.new result }
     {
-        let sent = self.send_line(&line);
-        drop(line);
-        if !sent {
-            return false;
-        }
-        let done = self.client.begin_messages();
-        self.goes_on(done)
+        let kept = self.kept();
+        let done = self.put_begin(line);
+        self.goes_on_from(kept, done)
+    }
+
+    /// A line of the bus, kept, and put behind what waits for the client.
+    fn put_bus_line(&mut self, line: &Bytes) -> Result<(), AllocError>
+        ensures ok { OnOk result (self.new ≡ with_elements (element.Line Side.Bus line.now ∷ []) (record self.old { client_side = self.old.client_side ++ line.now })) }
+        ensures err { OnErr result (MayHaveKept self.old self.new) }
+    {
+        self.keep_line(Side::Bus, line.as_slice())?;
+        self.to_client.push_slice(line.as_slice())
     }
 
     /// A line of the bus goes to the client.
     fn show_line(&mut self, line: &Bytes) -> bool
         ensures { Did (with_elements (element.Line Side.Bus line.now ∷ []) (record self.old { client_side = self.old.client_side ++ line.now })) self.old self.new result }
     {
-        let done = self.to_client.push_slice(line.as_slice());
-        if !self.goes_on(done) {
-            return false;
-        }
-        self.keep_line(Side::Bus, line.as_slice())
+        let kept = self.kept();
+        let done = self.put_bus_line(line);
+        self.goes_on_from(kept, done)
     }
 
     /// Messages follow the bus's lines.

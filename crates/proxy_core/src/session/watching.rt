@@ -1,10 +1,10 @@
 //! What is left of lines and messages in the visible part of a session's history, kept where the session watches.
-ghost use Rattle.std.specs.Prelude.{◌≡◌, ◌∷◌, ◌++◌, [], true, None, OnErr, OnOk};
+ghost use Rattle.std.specs.Prelude.{◌≡◌, ◌∷◌, ◌++◌, [], true, None, OnErr, OnOk, length, take};
 ghost use Rattle.policy_view.specs.Notes.{message_in};
 ghost use Rattle.policy_view.specs.declared.visible.Visible.TheVariants as element;
 ghost use Rattle.proxy_core.specs.Incoming.{incoming_message};
 ghost use Rattle.proxy_core.specs.Messages.{elements_in, unless_ended, with_elements, with_noted_message, with_watched_message};
-ghost use Rattle.proxy_core.specs.Steps.{Did, TookMessage};
+ghost use Rattle.proxy_core.specs.Steps.{TookMessage};
 
 use super::Session;
 use crate::elements::element;
@@ -16,15 +16,34 @@ use policy_view::{End, Side};
 use std::alloc::AllocError;
 
 impl Session {
-    /// A line of a side, as it came, is kept where the session watches.
-    pub(super) fn keep_line(&mut self, side: Side, line: &[u8]) -> bool
-        ensures { Did (with_elements (element.Line side line.now ∷ []) self.old) self.old self.new result }
+    /// How many elements are kept.
+    pub(super) fn kept(&self) -> usize
+        ensures { result ≡ length self.now.visible }
     {
-        let done = match &mut self.watch {
+        match &self.watch {
+            Some(watch) => watch.len(),
+            None => 0,
+        }
+    }
+
+    /// Keeps the first so many elements alone.
+    pub(super) fn keep_first(&mut self, n: usize)
+        ensures { self.new ≡ record self.old { visible = take n self.old.visible } }
+    {
+        if let Some(watch) = &mut self.watch {
+            watch.truncate_unless(false, n);
+        }
+    }
+
+    /// A line of a side, as it came, is kept where the session watches.
+    pub(super) fn keep_line(&mut self, side: Side, line: &[u8]) -> Result<(), AllocError>
+        ensures ok { OnOk result (self.new ≡ with_elements (element.Line side line.now ∷ []) self.old) }
+        ensures err { OnErr result (self.new ≡ self.old) }
+    {
+        match &mut self.watch {
             Some(watch) => watch.push_line(self.alloc, side, line),
             None => Ok(()),
-        };
-        self.goes_on(done)
+        }
     }
 
     /// What is left of a message of a side is kept.

@@ -1,12 +1,12 @@
-use Rattle.std.proofs.Common.{◌≡◌, None}
-use Rattle.proxy_core.specs.Steps.{drained, Grows, IsLight}
+use Rattle.std.proofs.Common.{◌≡◌, ℕ, None}
+use Rattle.proxy_core.specs.Steps.{drained, WentOn, IsLight}
 use Rattle.proxy_core.proofs.session.Session.drain.Given as goal
 
 abbrev pub invariant-loop-left : goal.invariant-loop-left
 invariant-loop-left l = record {
   same : drained l.policy l.side l.left l.self ≡ drained l.policy l.side l.most l.fn.self;
   runs : l.self.ended ≡ None;
-  grows : Grows l.fn.self l.self;
+  went : (n : ℕ) × WentOn l.policy l.side n l.fn.self l.self;
   light : IsLight l.policy 0 l.fn.self l.self;
 }
 

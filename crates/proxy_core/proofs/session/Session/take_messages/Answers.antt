@@ -1,18 +1,16 @@
-use Rattle.std.proofs.Common.{◌∙◌, refl}
+use Rattle.std.proofs.Common.{◌∙◌, refl, suc}
 use Rattle.proxy_core.specs.Steps.{with_left}
 use Rattle.proxy_core.proofs.Draining.{goes_on, light_then, light_same, stops}
-use Rattle.proxy_core.proofs.Keeping.{grows_none, grows_then}
 use Rattle.proxy_core.proofs.Lent.{ended_whole, lent_filters, lent_light, lent_step, runs_whole, stays_lent}
 use Rattle.proxy_core.proofs.session.Session.take_messages.Goals as goal
 
 pub loop-left-init : goal.loop-left-init
-loop-left-init c = record { same = refl; runs = c.requires.running; lent = c.requires.lent; filters = c.requires.filtered; grows = grows_none _; light = light_same c.args.policy.now _ }
+loop-left-init c = record { same = refl; runs = c.requires.running; lent = c.requires.lent; filters = c.requires.filtered; went = (0, refl); light = light_same c.args.policy.now _ }
 
 pub returns-then-not-take_first-clause-took : goal.returns-then-not-take_first-clause-took
 returns-then-not-take_first-clause-took c =
     stops c.args.policy.now c.args.side c.loop-left.left (with_left c.args.side c.args.messages.now c.args.self.now) (with_left c.args.side c.loop-left.messages c.loop-left.self)
-    (with_left c.args.side c.take_first.new.messages c.take_first.new.self) _ c.take_first.result c.loop-left-test.true (runs_whole c.args.side c.args.messages.now c.args.self.now c.requires.running)
-    c.loop-left.invariant.light.mode c.loop-left.invariant.light.watches c.loop-left.invariant.grows c.loop-left.invariant.same
+    (with_left c.args.side c.take_first.new.messages c.take_first.new.self) _ c.take_first.result c.loop-left-test.true c.loop-left.invariant.went c.loop-left.invariant.same
     (lent_step c.args.policy.now c.args.side c.loop-left.messages c.take_first.new.messages c.loop-left.self c.take_first.new.self c.take_first.result c.loop-left.invariant.lent c.loop-left.invariant.filters c.take_first.ensures c.loop-left.invariant.runs)
     c.if-not-take_first.true
 
@@ -36,7 +34,7 @@ loop-left-preserved c =
       runs = ended_whole c.args.side c.take_first.new.messages c.take_first.new.self next.runs;
       lent = stays_lent c.args.policy.now c.args.side c.loop-left.messages c.take_first.new.messages c.loop-left.self c.take_first.new.self c.take_first.result c.loop-left.invariant.lent c.take_first.ensures;
       filters = lent_filters c.args.policy.now c.args.side c.loop-left.messages c.take_first.new.messages c.loop-left.self c.take_first.new.self c.take_first.result c.loop-left.invariant.lent c.loop-left.invariant.filters c.take_first.ensures;
-      grows = grows_then _ _ _ c.loop-left.invariant.grows next.grows;
+      went = (suc c.loop-left.invariant.went.0, (with_left c.args.side c.loop-left.messages c.loop-left.self, c.loop-left.invariant.went.1, next.step_is));
       light = light_then c.args.policy.now _ _ _ c.loop-left.invariant.light
           (lent_light c.args.policy.now c.args.side c.loop-left.messages c.take_first.new.messages c.loop-left.self c.take_first.new.self c.take_first.result c.loop-left.invariant.lent c.loop-left.invariant.filters c.take_first.ensures);
     }

@@ -1,6 +1,6 @@
-use Rattle.std.proofs.Common.{◌≡◌, None, true}
+use Rattle.std.proofs.Common.{◌≡◌, ℕ, None, true}
 use Rattle.proxy_core.specs.Seen.{IsLent}
-use Rattle.proxy_core.specs.Steps.{drained, with_left, Grows, IsLight}
+use Rattle.proxy_core.specs.Steps.{drained, with_left, WentOn, IsLight}
 use Rattle.proxy_core.proofs.session.Session.take_messages.Given as goal
 
 abbrev pub invariant-loop-left : goal.invariant-loop-left
@@ -9,7 +9,7 @@ invariant-loop-left l = record {
   runs : l.self.ended ≡ None;
   lent : IsLent l.side l.self;
   filters : l.self.mode.filter ≡ true;
-  grows : Grows (with_left l.side l.fn.messages l.fn.self) (with_left l.side l.messages l.self);
+  went : (n : ℕ) × WentOn l.policy l.side n (with_left l.side l.fn.messages l.fn.self) (with_left l.side l.messages l.self);
   light : IsLight l.policy 0 (with_left l.side l.fn.messages l.fn.self) (with_left l.side l.messages l.self);
 }
 
