@@ -51,7 +51,7 @@ events_append n (entry ∷ second) first =
     ap (λ (l : List Event). events_by n entry ++ l) (events_append n second first) ∙ sym (append_assoc (events_by n entry) (events_of n second) (events_of n first))
 
 taken_by : List ℕ → List ℕ → Taken → Taken
-taken_by bus client taken = record { bus_side = taken.bus_side ++ bus; client_side = taken.client_side ++ client; notes = taken.notes; visible = taken.visible }
+taken_by bus client taken = record { bus_side = taken.bus_side ++ bus; client_side = taken.client_side ++ client; notes = taken.notes; visible = taken.visible; held = taken.held }
 
 taken_none : (n : ℕ) (added : Journal) (taken : Taken) → written (bus_link n) added ≡ [] → written (client_link n) added ≡ [] → more_taken n added taken ≡ taken
 taken_none n added taken b c = rw (b, c, append-nil taken.bus_side, append-nil taken.client_side) refl
@@ -72,7 +72,7 @@ moves_then policy n old mid new first second a b = record {
       let side : (link : Link) (bytes : List ℕ) → (bytes ++ written link first) ++ written link second ≡ bytes ++ written link (second ++ first) =
       λ link bytes. append_assoc bytes (written link first) (written link second) ∙ ap (λ (l : List ℕ). bytes ++ l) (sym (wrote_append link second first)) in
       let both : more_taken n second (more_taken n first taken) ≡ more_taken n (second ++ first) taken =
-      ap₂ (λ (x y : List ℕ). record { bus_side = x; client_side = y; notes = taken.notes; visible = taken.visible }) (side (bus_link n) taken.bus_side) (side (client_link n) taken.client_side) in
+      ap₂ (λ (x y : List ℕ). record { bus_side = x; client_side = y; notes = taken.notes; visible = taken.visible; held = taken.held }) (side (bus_link n) taken.bus_side) (side (client_link n) taken.client_side) in
       subst (λ (t : Taken). StandsFor policy new (events_of n (second ++ first) ++ events) t) both
       (subst (λ (es : List Event). StandsFor policy new es (more_taken n second (more_taken n first taken))) told done);
 }

@@ -5,6 +5,7 @@ pub mod Written
 pub mod Logged
 pub mod Joining
 pub mod Prefixes
+pub mod Refused
 pub mod Stopping
 pub mod Standing
 pub mod Served

@@ -1,5 +1,5 @@
 -- What follows for the links of sessions that serve a journal, and for a server that has served nothing.
-use Rattle.std.proofs.Common.{ℕ, ◌≡◌, ◌⊎◌, inl, inr, List, [], ◌++◌, Option, Some, None, Result, Ok, Err, refl, ap, ◌∙◌, sym, subst, length, nat_eq, slice_get, false}
+use Rattle.std.proofs.Common.{ℕ, ◌≡◌, ◌⊎◌, inl, inr, List, [], ◌++◌, Option, Some, None, Result, Ok, Err, refl, ap, ◌∙◌, sym, subst, append-nil, length, nat_eq, slice_get, true, false}
 use Rattle.std.specs.Global.{Box}
 use Rattle.std.specs.Map.{lookup}
 use Rattle.std.specs.Option.{option_map}
@@ -11,7 +11,8 @@ use Rattle.link_traits.specs.declared.links.Count.TheVariants.{Own as OfNet}
 use Rattle.link_traits.specs.declared.links.Call.TheVariants.{Listen as ListenCall}
 use Rattle.policy_args.specs.declared.line.Block.{Block}
 use Rattle.policy_view.specs.declared.Mode.{Mode}
-use Rattle.policy_view.specs.History.{history}
+use Rattle.policy_view.specs.History.{first_items, history}
+use Rattle.policy_view.specs.Past.{History}
 use Rattle.policy_view.specs.Outputs.{bus_bytes, client_bytes}
 use Rattle.proxy_core.specs.Sessions.{IsFront, is_memory}
 use Rattle.proxy_loop.specs.declared.serving.Running.{Running}
@@ -21,10 +22,11 @@ use Rattle.proxy_loop.specs.declared.turns.ServerEnd.TheVariants.{Listen, Wait, 
 use Rattle.proxy_loop.specs.Sessions.{events_of}
 use Rattle.proxy_loop.specs.Listening.{ListenDid}
 use Rattle.proxy_loop.specs.Tables.{Table, session_mode, table_of, IsEmpty, SoundTable, AllWished}
-use Rattle.proxy_loop.specs.Servers.{Fresh, Held, Stays, Serves, GoesOn, StandsUnder, LinksStand, QueuesStand, WithoutSessions}
+use Rattle.proxy_loop.specs.Servers.{Fresh, Held, Stays, Serves, GoesOn, StandsUnder, LinksStand, LinksHold, QueuesStand, WithoutSessions, items_under}
 use Rattle.proxy_loop.proofs.Holding.{rose_sooner}
 use Rattle.proxy_loop.proofs.Prefixes.{bus_prefix, client_prefix, bus_exact, client_exact}
 use Rattle.proxy_loop.proofs.NewSession.{same_block}
+use Rattle.proxy_loop.proofs.Refused.{held_first}
 use Rattle.proxy_loop.proofs.TurnLaws.{on_then, quiet_on}
 use Rattle.proxy_loop.proofs.Hearing.{heard_on}
 
@@ -54,26 +56,29 @@ module _ (blocks : List Block) (table : Table) (journal : Journal) (s : Serves b
   held_at : (n : ℕ) (running : Running) → table.at n ≡ Some running → Held blocks n running journal
   held_at n running at = subst (λ (o : Option Running). Stays blocks n o journal) at (s.each n)
 
-  bus_stands : (n : ℕ) (running : Running) (block : Block) → table.at n ≡ Some running → slice_get blocks running.block ≡ Some block → is_memory running.session.ended ≡ false →
-      written (bus_link n) journal ++ running.session.bus_side ≡ bus_bytes block.options.policy (history block.options.policy (session_mode block.options) (events_of n journal))
-  bus_stands n running block at is e =
-      let h : Held blocks n running journal = held_at n running at in
-      subst (λ (b : Block). written (bus_link n) journal ++ running.session.bus_side ≡ bus_bytes b.options.policy (history b.options.policy (session_mode b.options) (events_of n journal)))
-      (same_block blocks running.block h.block block h.at is)
-      (bus_exact h.block.options.policy n running.session journal e h.holds
-      ∙ ap (λ (m : Mode). bus_bytes h.block.options.policy (history h.block.options.policy m (events_of n journal))) h.mode)
+  -- under its block, which is that of its number
+  under : (n : ℕ) (running : Running) (block : Block) (h : Held blocks n running journal) → slice_get blocks running.block ≡ Some block → (items : History → History)
+      → LinksHold h.block.options.policy n running.session journal (items (history h.block.options.policy running.session.mode (events_of n journal)))
+      → LinksHold block.options.policy n running.session journal (items (items_under block n journal))
+  under n running block h is items links =
+      subst (λ (b : Block). LinksHold b.options.policy n running.session journal (items (items_under b n journal))) (same_block blocks running.block h.block block h.at is)
+      (subst (λ (m : Mode). LinksHold h.block.options.policy n running.session journal (items (history h.block.options.policy m (events_of n journal)))) h.mode links)
 
-  client_stands : (n : ℕ) (running : Running) (block : Block) → table.at n ≡ Some running → slice_get blocks running.block ≡ Some block → is_memory running.session.ended ≡ false →
-      written (client_link n) journal ++ running.session.client_side ≡ client_bytes block.options.policy (history block.options.policy (session_mode block.options) (events_of n journal))
-  client_stands n running block at is e =
+  all_stand : (n : ℕ) (running : Running) (block : Block) → table.at n ≡ Some running → slice_get blocks running.block ≡ Some block → is_memory running.session.ended ≡ false →
+      LinksHold block.options.policy n running.session journal (items_under block n journal)
+  all_stand n running block at is e =
       let h : Held blocks n running journal = held_at n running at in
-      subst (λ (b : Block). written (client_link n) journal ++ running.session.client_side ≡ client_bytes b.options.policy (history b.options.policy (session_mode b.options) (events_of n journal)))
-      (same_block blocks running.block h.block block h.at is)
-      (client_exact h.block.options.policy n running.session journal e h.holds
-      ∙ ap (λ (m : Mode). client_bytes h.block.options.policy (history h.block.options.policy m (events_of n journal))) h.mode)
+      under n running block h is (λ items. items) (record { bus = bus_exact h.block.options.policy n running.session journal e h.holds; client = client_exact h.block.options.policy n running.session journal e h.holds })
+
+  first_stand : (n : ℕ) (running : Running) (block : Block) → table.at n ≡ Some running → slice_get blocks running.block ≡ Some block → is_memory running.session.ended ≡ true →
+      (done : ℕ) × LinksHold block.options.policy n running.session journal (first_items done (items_under block n journal))
+  first_stand n running block at is e =
+      let h : Held blocks n running journal = held_at n running at in
+      let f = held_first h.block.options.policy n running.session journal h.holds.put h.holds.events h.holds.notes [] h.holds.told (history h.block.options.policy running.session.mode h.holds.events, sym (append-nil _)) refl h.holds.stands e in
+      (f.done, under n running block h is (first_items f.done) (record { bus = f.bus; client = f.client }))
 
   pub queues_stand : QueuesStand blocks table journal
-  queues_stand = record { bus = bus_stands; client = client_stands }
+  queues_stand = record { whole = all_stand; refused = first_stand }
 
 -- ---- a server that has served nothing
 

@@ -1,5 +1,6 @@
 -- What was taken of a session is a front of what the journal's events give.
-use Rattle.std.proofs.Common.{ℕ, ◌≡◌, Bool, true, false, if◌then◌else◌, List, [], ◌∷◌, ◌++◌, Option, Some, None, refl, ap, ◌∙◌, sym, subst, append-nil, append_assoc}
+use Rattle.std.proofs.Common.{ℕ, suc, ◌≡◌, ◌≤◌, ◌⊎◌, Bool, true, false, if◌then◌else◌, List, [], ◌∷◌, ◌++◌, Option, Some, None, refl, ap, ◌∙◌, sym, subst, append-nil, append_assoc, arith, inl, inr}
+use Rattle.std.proofs.lemmas.Bool.Decides.{nat_tests}
 use Rattle.std.specs.List.{list_all}
 use Rattle.std.specs.Prelude.{nat_le, length, ◌+◌}
 use Rattle.link_traits.specs.Journals.{Journal, written}
@@ -8,13 +9,14 @@ use Rattle.policy_args.specs.Policy.{Policy}
 use Rattle.policy_view.specs.declared.End.{End}
 use Rattle.policy_view.specs.declared.End.TheVariants.{SerialsSpent, LogFault}
 use Rattle.policy_view.specs.declared.Mode.{Mode}
-use Rattle.policy_view.specs.History.{Event, Bytes, Finished, Stopped, history, arrived, followed_by, followed_by_all, followed_unless, placed, end_of, most_sent}
-use Rattle.policy_view.specs.Notes.{notes, numbered}
-use Rattle.policy_view.specs.Outputs.{bus_bytes, client_bytes, to_bus, to_client}
+use Rattle.policy_view.specs.History.{Event, Bytes, Finished, Stopped, first_items, history, arrived, followed_by, followed_by_all, followed_unless, placed, end_of, most_sent}
+use Rattle.policy_view.specs.Outputs.{bus_bytes, client_bytes}
 use Rattle.policy_view.specs.Past.{Ended, History, past, due}
+use Rattle.policy_view.proofs.Growth.{first_all, first_of_more}
 use Rattle.policy_view.proofs.PastLaws.{ended_is_final}
 use Rattle.proxy_core.specs.Sessions.{SessionView, IsFront, is_memory}
-use Rattle.proxy_loop.specs.Sessions.{Holds, events_of, IsWithStop, is_stop}
+use Rattle.proxy_core.proofs.Fronts.{bus_ended, bus_front, client_ended, client_front}
+use Rattle.proxy_loop.specs.Sessions.{Holds, events_of, taken_of, IsWithStop, is_stop}
 
 front_then : {A : Type 0} (xs ys zs : List A) → IsFront xs ys → IsFront ys zs → IsFront xs zs
 front_then xs ys zs a b = record { rest = a.rest ++ b.rest; is = sym (append_assoc xs a.rest b.rest) ∙ ap (λ l. l ++ b.rest) a.is ∙ b.is }
@@ -40,6 +42,92 @@ module _ (policy : Policy) (mode : Mode) where
       let rest : history policy mode (later ++ Stopped end ∷ earlier) ≡ history policy mode (Stopped end ∷ earlier) = after_stop later earlier end in
       let over = stopped_end earlier end in
       ended_is_final policy mode (later ++ Stopped end ∷ earlier) event over.0 (ap end_of rest ∙ over.1) ∙ rest
+
+-- ---- the first items, where a stop was put in or not
+
+-- the same items, with an End after them or none
+abbrev pub IsSameButEnd : History → History → Type 0
+IsSameButEnd before now = (now ≡ before) ⊎ ((end : End) × (now ≡ Ended end ∷ before))
+
+module _ (policy : Policy) (mode : Mode) where
+  end_or_none : (last : Option End) (end : End) (items : History) → IsSameButEnd items (followed_unless last policy items (Ended end))
+  unfolding placed
+  end_or_none (Some e) end items = inl refl
+  end_or_none None end items = by (nat_le (length (past policy items).told.sent + length (due policy (past policy items) (Ended end))) most_sent)
+    where
+      by : (room : Bool) → IsSameButEnd items ((if room then Ended end else Ended SerialsSpent) ∷ items)
+      by true = inr (end, refl)
+      by false = inr (SerialsSpent, refl)
+
+  one_stop : (earlier : List Event) (end : End) → IsSameButEnd (history policy mode earlier) (history policy mode (Stopped end ∷ earlier))
+  unfolding history arrived followed_by_all followed_by
+  one_stop earlier end = end_or_none (end_of (history policy mode earlier)) end (history policy mode earlier)
+
+  pub stops_end : (later earlier : List Event) → list_all is_stop later ≡ true → IsSameButEnd (history policy mode earlier) (history policy mode (later ++ earlier))
+  stops_end [] earlier h = inl refl
+  stops_end (Stopped end ∷ later) earlier h = by (stops_end later earlier h)
+    where
+      by : IsSameButEnd (history policy mode earlier) (history policy mode (later ++ earlier)) → IsSameButEnd (history policy mode earlier) (history policy mode (Stopped end ∷ later ++ earlier))
+      by (inl same) = subst (λ (h : History). IsSameButEnd h (history policy mode (Stopped end ∷ later ++ earlier))) same (one_stop (later ++ earlier) end)
+      by (inr (e, is)) = inr (e, ended_is_final policy mode (later ++ earlier) (Stopped end) e (ap end_of is) ∙ is)
+  stops_end (Bytes side piece ∷ later) earlier h = cc
+  stops_end (Finished side ∷ later) earlier h = cc
+
+  -- what was recorded, and what the journal tells
+  pub base_of : (put : Bool) (events told : List Event) → IsWithStop put events told → (items : History) × IsSameButEnd items (history policy mode events) × IsSameButEnd items (history policy mode told)
+  base_of false events told e = (history policy mode events, inl refl, inl (ap (history policy mode) (sym e)))
+  base_of true events told s = (
+    history policy mode s.1,
+    subst (λ (es : List Event). IsSameButEnd (history policy mode s.1) (history policy mode es)) (sym s.3)
+        (subst (λ (h : History). IsSameButEnd (history policy mode s.1) h) (sym (after_stop policy mode s.0 s.1 LogFault)) (one_stop s.1 LogFault)),
+    subst (λ (es : List Event). IsSameButEnd (history policy mode s.1) (history policy mode es)) (sym s.2) (stops_end s.0 s.1 s.4),
+  )
+
+pub longer : (base now : History) → IsSameButEnd base now → length base ≤ length now
+longer base now (inl e) = omega (arith, ap length e)
+longer base now (inr (end, e)) = omega (arith, ap length e)
+
+pub same_first : (n : ℕ) (base now : History) → n ≤ length base → IsSameButEnd base now → first_items n now ≡ first_items n base
+same_first n base now le (inl e) = ap (first_items n) e
+same_first n base now le (inr (end, e)) = ap (first_items n) e ∙ first_of_more n (Ended end ∷ []) base le
+
+-- a number of items that both have
+pub record Common (base now : History) (done least : ℕ) : Type 0 where
+  pub count : ℕ
+  pub before : least ≤ count
+  pub within : count ≤ length base
+  pub is : IsSameButEnd (first_items count base) (first_items done now)
+
+pub common : (base now : History) (done least : ℕ) → least ≤ length base → least ≤ done → done ≤ length now → IsSameButEnd base now → Common base now done least
+common base now done least small le within (inl e) = record {
+  count = done;
+  before = le;
+  within = omega (arith, within, ap length e);
+  is = inl (ap (first_items done) e);
+}
+common base now done least small le within (inr (end, e)) = by (nat_le done (length base)) refl
+  where
+    len : length now ≡ suc (length base)
+    len = ap length e
+
+    by : (b : Bool) → nat_le done (length base) ≡ b → Common base now done least
+    by true fits =
+        let short : done ≤ length base = grind (arith, nat_tests, fits) in
+        record { count = done; before = le; within = short; is = inl (same_first done base now short (inr (end, e))) }
+    by false over =
+        let all : done ≡ suc (length base) = grind (arith, nat_tests, over, within, len) in
+        record {
+          count = length base;
+          before = small;
+          within = omega arith;
+          is = inr (
+            end,
+            ap (λ (k : ℕ). first_items k now) (all ∙ sym len) ∙ whole now ∙ e ∙ ap (λ (h : History). Ended end ∷ h) (sym (whole base)),
+          );
+        }
+      where
+        whole : (h : History) → first_items (length h) h ≡ h
+        whole h = first_all [] h
 
 -- what a history gives, which an End leaves as it is
 module _ {A : Type 0} (policy : Policy) (mode : Mode) (given : History → List A)
@@ -76,25 +164,17 @@ module _ {A : Type 0} (policy : Policy) (mode : Mode) (given : History → List 
       front_then taken (taken ++ waits) (given (history policy mode told)) (record { rest = waits; is = refl })
       (subst (λ (l : List A). IsFront (taken ++ waits) l) (same_given put events told s) front)
 
-bus_ended : (policy : Policy) (end : End) (items : History) → bus_bytes policy (Ended end ∷ items) ≡ bus_bytes policy items
-unfolding bus_bytes to_bus
-bus_ended policy end items = append-nil (bus_bytes policy items)
-
-client_ended : (policy : Policy) (end : End) (items : History) → client_bytes policy (Ended end ∷ items) ≡ client_bytes policy items
-unfolding client_bytes to_client
-client_ended policy end items = append-nil (client_bytes policy items)
-
 pub bus_prefix : (policy : Policy) (n : ℕ) (session : SessionView) (journal : Journal) → Holds policy n session journal →
     IsFront (written (bus_link n) journal) (bus_bytes policy (history policy session.mode (events_of n journal)))
 bus_prefix policy n session journal h =
     taken_front policy session.mode (bus_bytes policy) (bus_ended policy) h.put h.events (events_of n journal)
-    (written (bus_link n) journal) session.bus_side h.told h.stands.bus_front
+    (written (bus_link n) journal) session.bus_side h.told (bus_front policy session h.events (taken_of n h.notes journal) h.stands)
 
 pub client_prefix : (policy : Policy) (n : ℕ) (session : SessionView) (journal : Journal) → Holds policy n session journal →
     IsFront (written (client_link n) journal) (client_bytes policy (history policy session.mode (events_of n journal)))
 client_prefix policy n session journal h =
     taken_front policy session.mode (client_bytes policy) (client_ended policy) h.put h.events (events_of n journal)
-    (written (client_link n) journal) session.client_side h.told h.stands.client_front
+    (written (client_link n) journal) session.client_side h.told (client_front policy session h.events (taken_of n h.notes journal) h.stands)
 
 -- what was written to a link, and what waits for it, is all that the history of the journal's events gives
 pub bus_exact : (policy : Policy) (n : ℕ) (session : SessionView) (journal : Journal) → is_memory session.ended ≡ false → Holds policy n session journal →
@@ -108,7 +188,3 @@ pub client_exact : (policy : Policy) (n : ℕ) (session : SessionView) (journal 
 client_exact policy n session journal e h =
     (h.stands.holds e).for_client
     ∙ same_given policy session.mode (client_bytes policy) (client_ended policy) h.put h.events (events_of n journal) h.told
-
-pub notes_ended : (policy : Policy) (end : End) (items : History) → notes policy (Ended end ∷ items) ≡ notes policy items
-unfolding numbered
-notes_ended policy end items = refl

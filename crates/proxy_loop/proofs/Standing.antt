@@ -1,5 +1,5 @@
 -- A session that was served stands for the journal with what its turn added, and its log is exact.
-use Rattle.std.proofs.Common.{ℕ, ◌≡◌, ◌<◌, length, ◌⊎◌, inl, inr, Bool, true, false, ◌||◌, is_some, List, [], ◌∷◌, ◌++◌, Option, Some, None, if◌then◌else◌, refl, ap, ap₂, ◌∙◌, sym, subst, append-nil, append_assoc}
+use Rattle.std.proofs.Common.{ℕ, ◌≡◌, ◌≤◌, ◌<◌, length, ◌⊎◌, inl, inr, Bool, true, false, ◌||◌, is_some, List, [], ◌∷◌, ◌++◌, Option, Some, None, if◌then◌else◌, refl, ap, ap₂, ◌∙◌, sym, subst, append-nil, append_assoc}
 use Rattle.explain_log.specs.Lines.{log}
 use Rattle.link_traits.specs.Journals.{Journal, written}
 use Rattle.link_traits.specs.Views.{NetView}
@@ -15,17 +15,21 @@ use Rattle.policy_view.specs.Closings.{closing}
 use Rattle.policy_view.specs.History.{Event, Stopped, end_of, history}
 use Rattle.policy_view.specs.Notes.{Note, notes, notes_made}
 use Rattle.proxy_core.specs.Sessions.{SessionView, Taken, StandsFor, IsFront, is_memory}
+use Rattle.policy_view.proofs.Growth.{only_grows}
+use Rattle.proxy_core.proofs.Fronts.{notes_ended, notes_front}
+use Rattle.proxy_core.proofs.Standing.{holds_all}
 use Rattle.policy_view.proofs.Closings.{open_has_none, there_is_closing, closes_later}
 use Rattle.proxy_loop.specs.declared.serving.Running.{Running}
 use Rattle.proxy_loop.specs.Sinks.{SinkView}
 use Rattle.proxy_loop.specs.Sessions.{Holds, IsWithStop, events_of, taken_of}
 use Rattle.proxy_loop.specs.Works.{Moves, more_taken}
 use Rattle.proxy_loop.specs.Logging.{stop_events}
-use Rattle.proxy_loop.specs.Runs.{WrittenUnless, ReadsAndLogs, WhyCut, AreLines, Logged, ClosesIn, ServedStands, log_of}
+use Rattle.proxy_loop.specs.Runs.{WrittenUnless, ReadsAndLogs, HoldsFirstOf, WhyCut, AreLines, Logged, ClosesIn, ServedStands, log_of}
 use Rattle.proxy_loop.proofs.Holding.{wrote_append, events_append}
 use Rattle.proxy_loop.proofs.Stopping.{AllStops, stops_append, both_stop}
 use Rattle.proxy_loop.proofs.Logged.{log-append}
-use Rattle.proxy_loop.proofs.Prefixes.{taken_front, stops_given, notes_ended}
+use Rattle.proxy_loop.proofs.Prefixes.{taken_front, stops_given}
+use Rattle.proxy_loop.proofs.Refused.{HeldFirst, held_first}
 
 pub still_some : (old new : Option End) → ((end : End) → old ≡ Some end → new ≡ Some end) → is_some old ≡ true → is_some new ≡ true
 still_some None new h e = cc
@@ -57,7 +61,7 @@ holds_moved policy n old new added was moves kept mode stops h = record {
   over = λ e. still_some old.ended new.ended kept (h.over e);
   logs = λ e. ap (λ (m : Mode). m.notes) mode ∙ h.logs e;
   stands = subst (λ (t : Taken). StandsFor policy new (events_of n added ++ h.events) t)
-      (ap₂ (λ (x y : List ℕ). record { bus_side = x; client_side = y; notes = h.notes; visible = [] }) (sym (wrote_append (bus_link n) added was)) (sym (wrote_append (client_link n) added was)))
+      (ap₂ (λ (x y : List ℕ). record { bus_side = x; client_side = y; notes = h.notes; visible = []; held = 0 }) (sym (wrote_append (bus_link n) added was)) (sym (wrote_append (client_link n) added was)))
       (moves.each h.events (taken_of n h.notes was) h.stands);
 }
 
@@ -104,7 +108,7 @@ first_notes : (policy : Policy) (n : ℕ) (session : SessionView) (journal : Jou
 first_notes policy n session journal h k =
     taken_front policy session.mode (notes policy) (notes_ended policy) h.put h.events (events_of n journal)
     h.notes session.notes h.told
-    (subst (λ (l : List Note). IsFront (h.notes ++ session.notes) l) (made_all session.mode policy h.events k) h.stands.notes_front)
+    (subst (λ (l : List Note). IsFront (h.notes ++ session.notes) l) (made_all session.mode policy h.events k) (notes_front policy session h.events (taken_of n h.notes journal) h.stands))
 
 module _ (policy : Policy) (logs : Bool) (n : ℕ) (side : Side) (full : Bool) (s0 s1 s3 : SessionView) (r1 r2 : Running) (v1 v2 : NetView) (l0 l1 : SinkView)
     (reads : ReadsAndLogs policy logs n side (is_some s1.ended || full) r1 r2 v1 v2 l0 l1)
@@ -131,12 +135,17 @@ module _ (policy : Policy) (logs : Bool) (n : ℕ) (side : Side) (full : Bool) (
   words_now link = append_assoc (written link was) (written link early) (written link late)
       ∙ ap (λ (l : List ℕ). written link was ++ l) (sym (wrote_append link late early)) ∙ sym (wrote_append link (late ++ early) was)
 
-  stands_now : StandsFor policy s3 (events_of n late ++ (stop_events reads.failed ++ (events_of n early ++ h.events))) (taken_of n (h.notes ++ reads.taken) ((late ++ early) ++ was))
-  stands_now =
+  -- it stands on, and holds as many items as it held
+  stands_held : (held : ℕ) → StandsFor policy s0 h.events (record (taken_of n h.notes was) { held = held }) →
+      StandsFor policy s3 (events_of n late ++ (stop_events reads.failed ++ (events_of n early ++ h.events))) (record (taken_of n (h.notes ++ reads.taken) ((late ++ early) ++ was)) { held = held })
+  stands_held held stands =
       subst (λ (t : Taken). StandsFor policy s3 (events_of n late ++ (stop_events reads.failed ++ (events_of n early ++ h.events))) t)
-      (ap₂ (λ (x y : List ℕ). record { bus_side = x; client_side = y; notes = h.notes ++ reads.taken; visible = [] }) (words_now (bus_link n)) (words_now (client_link n)))
-      (after.each (stop_events reads.failed ++ (events_of n early ++ h.events)) (record (more_taken n early (taken_of n h.notes was)) { notes = h.notes ++ reads.taken })
-      (reads.stands policy (events_of n early ++ h.events) (more_taken n early (taken_of n h.notes was)) (before.each h.events (taken_of n h.notes was) h.stands)))
+      (ap₂ (λ (x y : List ℕ). record { bus_side = x; client_side = y; notes = h.notes ++ reads.taken; visible = []; held = held }) (words_now (bus_link n)) (words_now (client_link n)))
+      (after.each (stop_events reads.failed ++ (events_of n early ++ h.events)) (record (more_taken n early (record (taken_of n h.notes was) { held = held })) { notes = h.notes ++ reads.taken })
+      (reads.stands policy (events_of n early ++ h.events) (more_taken n early (record (taken_of n h.notes was) { held = held })) (before.each h.events (record (taken_of n h.notes was) { held = held }) stands)))
+
+  stands_now : StandsFor policy s3 (events_of n late ++ (stop_events reads.failed ++ (events_of n early ++ h.events))) (taken_of n (h.notes ++ reads.taken) ((late ++ early) ++ was))
+  stands_now = stands_held 0 h.stands
 
   holds_by : (failed : Bool) → reads.failed ≡ failed →
       (p : Bool) × IsWithStop p (events_of n late ++ (stop_events failed ++ (events_of n early ++ h.events))) (events_of n ((late ++ early) ++ was)) × (p ≡ true → is_some s3.ended ≡ true)
@@ -253,8 +262,39 @@ module _ (policy : Policy) (logs : Bool) (n : ℕ) (side : Side) (full : Bool) (
         ∙ ap (log n) (stops_given policy s3.mode (notes policy) (notes_ended policy) (events_of n (late ++ early)) (events_of n was)
         (both_stop n late early late_stops (early_stops e)))
 
+    -- memory was refused in this turn: the session holds the first items, and all from before the turn
+    held_now : s0.ended ≡ None → is_memory s3.ended ≡ true → HeldFirst policy n s3 ((late ++ early) ++ was) (h.notes ++ reads.taken) (length (history policy s3.mode h.events))
+    unfolding events_now
+    held_now ran memory =
+        let w = holds_by reads.failed refl in
+        let grown = (only_grows policy s3.mode (events_of n late ++ (stop_events reads.failed ++ events_of n early)) h.events).items in
+        held_first policy n s3 ((late ++ early) ++ was) w.0 events_now (h.notes ++ reads.taken) (history policy s3.mode h.events) w.1
+        (grown.0, ap (history policy s3.mode) (sym regrouped_now) ∙ grown.1)
+        (ap (λ (m : Mode). end_of (history policy m h.events)) mode ∙ sym (h.stands.holds (ap is_memory ran)).end_is ∙ ran)
+        (stands_held (length (history policy s3.mode h.events))
+        (subst (λ (m : Mode). StandsFor policy s0 h.events (record (taken_of n h.notes was) { held = length (history policy m h.events) })) (sym mode)
+        (holds_all policy s0 h.events (taken_of n h.notes was) ran h.stands))) memory
+
+    -- the log has its lines
+    first_logged : (ran : s0.ended ≡ None) → (memory : is_memory s3.ended ≡ true) → reads.rest ≡ [] → s3.notes ≡ [] → HoldsFirstOf policy n s3 was ((late ++ early) ++ was) reads.lines
+    first_logged ran memory whole none =
+        let f = held_now ran memory in
+        let same : h.events ≡ events_of n was = no_stop_in h.put h.events (events_of n was) (not_put h.put s0.ended h.over ran) h.told in
+        record {
+          memory = memory;
+          done = f.done;
+          before = subst (λ (es : List Event). length (history policy s3.mode es) ≤ f.done) same f.before;
+          within = f.within;
+          logged = ap (log n) (sym (f.noted keeps)) ∙ more_lines s3.notes
+              ∙ ap₂ (λ (xs : List ℕ) (ys : List Note). log n h.notes ++ (reads.lines ++ (xs ++ log n ys))) whole none
+              ∙ ap (λ (l : List ℕ). log n h.notes ++ l) (append-nil reads.lines)
+              ∙ ap (λ (l : List ℕ). l ++ reads.lines) (sym (all_before ran));
+          for_bus = f.bus;
+          for_client = f.client;
+        }
+
     cut_by : (failed : Bool) → reads.failed ≡ failed → s0.ended ≡ None →
-        (reads.rest ++ log n s3.notes ≡ []) ⊎ ((is_some s3.ended ≡ true) × WhyCut s3 l0 l1)
+        (reads.rest ++ log n s3.notes ≡ []) ⊎ ((is_some s3.ended ≡ true) × WhyCut policy n s3 was ((late ++ early) ++ was) reads.lines l0 l1)
     cut_by false e ran =
         let whole : reads.rest ≡ [] = subst (λ (b : Bool). WrittenUnless b reads.rest l0 l1) e reads.written in
         let none : s3.notes ≡ [] = same_after ∙ reads.all logged e (same_before ∙ none_before ran) in
@@ -279,9 +319,16 @@ module _ (policy : Policy) (logs : Bool) (n : ℕ) (side : Side) (full : Bool) (
           rest = reads.rest ++ log n first_now.rest;
           appends = reads.appends;
           is = all_after ∙ ap (λ (l : List ℕ). l ++ (reads.lines ++ (reads.rest ++ log n first_now.rest))) (sym (all_before e));
-          cut = inr (some_memory s3.ended m, inl m);
+          cut = inr (some_memory s3.ended m, why_by reads.failed refl);
           whole = whole_by reads.failed refl;
         }
+          where
+            why_by : (failed : Bool) → reads.failed ≡ failed → WhyCut policy n s3 was ((late ++ early) ++ was) reads.lines l0 l1
+            why_by false f =
+                let whole : reads.rest ≡ [] = subst (λ (b : Bool). WrittenUnless b reads.rest l0 l1) f reads.written in
+                let none : s3.notes ≡ [] = same_after ∙ reads.all logged f (same_before ∙ none_before e) in
+                inl (first_logged e m whole none)
+            why_by true f = inr (subst (λ (b : Bool). WrittenUnless b reads.rest l0 l1) f reads.written)
         by_memory false m = record {
           lines = reads.lines;
           rest = reads.rest ++ log n s3.notes;

@@ -275,7 +275,7 @@ module _ (blocks : List Block) (listener : ℕ) (block : Block) (n : ℕ) (old n
         over = λ e. cc;
         logs = λ e. cc;
         stands = subst (λ (t : Taken). StandsFor block.options.policy d.session [] t)
-            (ap₂ (λ (x y : List ℕ). record { bus_side = x; client_side = y; notes = []; visible = [] }) (sym (append-nil (written (bus_link n) was) ∙ none.1)) (sym (append-nil (written (client_link n) was) ∙ none.2)))
+            (ap₂ (λ (x y : List ℕ). record { bus_side = x; client_side = y; notes = []; visible = []; held = 0 }) (sym (append-nil (written (bus_link n) was) ∙ none.1)) (sym (append-nil (written (client_link n) was) ∙ none.2)))
             (d.fresh block at);
       }
 

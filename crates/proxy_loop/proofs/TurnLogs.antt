@@ -1,5 +1,6 @@
 -- What one turn adds to the log.
-use Rattle.std.proofs.Common.{ℕ, nat_lt, ◌≡◌, Bool, true, false, cond, List, ◌∷◌, ◌++◌, Option, Some, None, Result, Ok, Err, refl, ap, ◌∙◌, sym, subst, slice_get}
+use Rattle.std.proofs.Common.{ℕ, nat_lt, ◌≡◌, ◌⊎◌, Bool, true, false, cond, List, [], ◌∷◌, ◌++◌, Option, Some, None, Result, Ok, Err, refl, ap, ◌∙◌, sym, subst, slice_get, inl, inr}
+use Rattle.std.specs.Prelude.{is_some}
 use Rattle.link_traits.specs.Journals.{Journal}
 use Rattle.link_traits.specs.Views.{NetView}
 use Rattle.link_traits.specs.Entries.{ready as ReadyEntry}
@@ -16,7 +17,7 @@ use Rattle.proxy_loop.specs.declared.turns.ServerEnd.{ServerEnd}
 use Rattle.proxy_loop.specs.declared.turns.ServerEnd.TheVariants.{Listen, Wait, Memory}
 use Rattle.proxy_loop.specs.Sinks.{SinkView}
 use Rattle.proxy_loop.specs.Sessions.{Holds, events_of}
-use Rattle.proxy_loop.specs.Runs.{Logged, ServedStands, log_of}
+use Rattle.proxy_loop.specs.Runs.{Logged, ServedStands, WhyCut, log_of}
 use Rattle.proxy_loop.specs.Tables.{Table, unless_over, session_mode, SoundTable}
 use Rattle.proxy_loop.specs.Turns.{ServedDid, LinkDid, ListenerDid, ReadyDid, AfterWait, TurnDid}
 use Rattle.proxy_loop.specs.Servers.{Held, Stays, Serves, BlockLogs, LinkLogs, ReadyLogs, LogExact}
@@ -31,14 +32,32 @@ ready_log policy mode n ready was = refl
 
 logged_from : (policy : Policy) (n : ℕ) (session : SessionView) (ready : Ready) (was now : Journal) (first last : SinkView) →
     Logged policy n session (ReadyEntry ready ∷ was) now first last → Logged policy n session was now first last
+unfolding events_of
 logged_from policy n session ready was now first last l = record {
   lines = l.lines;
   rest = l.rest;
   appends = l.appends;
   is = l.is ∙ ap (λ (x : List ℕ). x ++ (l.lines ++ l.rest)) (ready_log policy session.mode n ready was);
-  cut = l.cut;
+  cut = cut_from l.cut;
   whole = l.whole;
 }
+  where
+    cut_from : (l.rest ≡ []) ⊎ ((is_some session.ended ≡ true) × WhyCut policy n session (ReadyEntry ready ∷ was) now l.lines first last)
+        → (l.rest ≡ []) ⊎ ((is_some session.ended ≡ true) × WhyCut policy n session was now l.lines first last)
+    cut_from (inl all) = inl all
+    cut_from (inr (ended, inl held)) = inr (
+      ended,
+      inl (record {
+        memory = held.memory;
+        done = held.done;
+        before = held.before;
+        within = held.within;
+        logged = held.logged ∙ ap (λ (x : List ℕ). x ++ l.lines) (ready_log policy session.mode n ready was);
+        for_bus = held.for_bus;
+        for_client = held.for_client;
+      }),
+    )
+    cut_from (inr (ended, inr rose)) = inr (ended, inr rose)
 
 -- what the log gets after a wait that answered `ready`
 module _ (blocks : List Block) (old new : Table) (between after : NetView) (first last : SinkView) (sound : SoundTable blocks old.at) (ready : Ready) (was now : Journal)

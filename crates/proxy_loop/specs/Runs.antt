@@ -16,8 +16,9 @@ use Rattle.policy_view.specs.declared.Mode.{Mode}
 use Rattle.policy_view.specs.declared.End.{End}
 use Rattle.policy_view.specs.declared.End.TheVariants.{LogFault}
 use Rattle.policy_view.specs.Closings.{closing}
-use Rattle.policy_view.specs.History.{Event, history}
+use Rattle.policy_view.specs.History.{Event, first_items, history}
 use Rattle.policy_view.specs.Notes.{Note, notes}
+use Rattle.policy_view.specs.Outputs.{bus_bytes, client_bytes}
 use Rattle.proxy_core.specs.Sessions.{SessionView, Taken, StandsFor, IsFront, is_memory}
 use Rattle.proxy_loop.specs.declared.serving.Running.{Running}
 use Rattle.proxy_loop.specs.Sinks.{SinkView, Appends}
@@ -174,10 +175,20 @@ pub record Served (n : ℕ) (side : Side) (old new : Running) (added : Journal) 
 unfoldable pub log_of : Policy → Mode → ℕ → Journal → List ℕ
 log_of policy mode n journal = log n (notes policy (history policy mode (events_of n journal)))
 
--- why lines weren't written: the session was refused memory while it was fed, and the notes of the messages after that with it; or the
--- sink failed
-abbrev pub WhyCut : SessionView → SinkView → SinkView → Type 0
-WhyCut session before after = (is_memory session.ended ≡ true) ⊎ Rose before.faults after.faults
+-- Memory was refused to the session in this turn: it holds the first `done` items of its history. All items from before the turn are among them.
+-- The log has the lines of these items and of no later one, and what was written to each link and then waits is what these items give.
+pub record HoldsFirstOf (policy : Policy) (n : ℕ) (new : SessionView) (first last : Journal) (lines : List ℕ) : Type 0 where
+  pub memory : is_memory new.ended ≡ true
+  pub done : ℕ
+  pub before : length (history policy new.mode (events_of n first)) ≤ done
+  pub within : done ≤ length (history policy new.mode (events_of n last))
+  pub logged : log n (notes policy (first_items done (history policy new.mode (events_of n last)))) ≡ log_of policy new.mode n first ++ lines
+  pub for_bus : written (bus_link n) last ++ new.bus_side ≡ bus_bytes policy (first_items done (history policy new.mode (events_of n last)))
+  pub for_client : written (client_link n) last ++ new.client_side ≡ client_bytes policy (first_items done (history policy new.mode (events_of n last)))
+
+-- why lines weren't written: memory was refused to the session, at a message that has no effect then, as the later ones; or the sink failed
+abbrev pub WhyCut : Policy → ℕ → SessionView → Journal → Journal → List ℕ → SinkView → SinkView → Type 0
+WhyCut policy n new first last lines before after = HoldsFirstOf policy n new first last lines ⊎ Rose before.faults after.faults
 
 -- lines of some notes, each of them whole
 abbrev pub AreLines : ℕ → List ℕ → Type 0
@@ -190,7 +201,7 @@ pub record Logged (policy : Policy) (n : ℕ) (new : SessionView) (first last : 
   pub rest : List ℕ
   pub appends : Appends before after lines
   pub is : log_of policy new.mode n last ≡ log_of policy new.mode n first ++ (lines ++ rest)
-  pub cut : (rest ≡ []) ⊎ ((is_some new.ended ≡ true) × WhyCut new before after)
+  pub cut : (rest ≡ []) ⊎ ((is_some new.ended ≡ true) × WhyCut policy n new first last lines before after)
   pub whole : Rose before.faults after.faults ⊎ AreLines n lines
 
 -- The session's events in the journal, with the stop that its log put in, if any, close with this End at an event that came after those

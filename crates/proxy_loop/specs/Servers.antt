@@ -7,9 +7,11 @@ use Rattle.link_traits.specs.Entries.{Entry, listened, ready, accepted, connecte
 use Rattle.link_traits.specs.declared.links.Ready.{Ready}
 use Rattle.link_traits.specs.declared.links.Ready.TheVariants.{Listener, Link as ReadyLink, Quiet, Failed as ReadyFailed}
 use Rattle.policy_args.specs.declared.line.Block.{Block}
-use Rattle.policy_view.specs.History.{history}
+use Rattle.policy_view.specs.History.{first_items, history}
 use Rattle.policy_view.specs.Outputs.{bus_bytes, client_bytes}
-use Rattle.proxy_core.specs.Sessions.{IsFront, is_memory}
+use Rattle.policy_view.specs.Past.{History}
+use Rattle.policy_args.specs.Policy.{Policy}
+use Rattle.proxy_core.specs.Sessions.{SessionView, IsFront, is_memory}
 use Rattle.proxy_loop.specs.declared.serving.Running.{Running}
 use Rattle.proxy_loop.specs.Sinks.{SinkView}
 use Rattle.proxy_loop.specs.Sessions.{Holds, events_of}
@@ -145,13 +147,21 @@ pub record StandsUnder (blocks : List Block) (n : ℕ) (journal : Journal) : Typ
   pub bus : IsFront (written (bus_link n) journal) (bus_bytes block.options.policy (history block.options.policy (session_mode block.options) (events_of n journal)))
   pub client : IsFront (written (client_link n) journal) (client_bytes block.options.policy (history block.options.policy (session_mode block.options) (events_of n journal)))
 
--- What was written to each link of a session that isn't over, and then what waits for it, is all of that side's bytes of the
--- history of its events, unless it was refused memory.
+-- What was written to each link of a session, and then what waits for it, is what the items give that side.
+pub record LinksHold (policy : Policy) (n : ℕ) (session : SessionView) (journal : Journal) (items : History) : Type 0 where
+  pub bus : written (bus_link n) journal ++ session.bus_side ≡ bus_bytes policy items
+  pub client : written (client_link n) journal ++ session.client_side ≡ client_bytes policy items
+
+-- the items of the session's history under its block
+abbrev pub items_under : Block → ℕ → Journal → History
+items_under block n journal = history block.options.policy (session_mode block.options) (events_of n journal)
+
+-- For each session that isn't over these are the items of its history; or the first of them if memory was refused to it.
 pub record QueuesStand (blocks : List Block) (table : Table) (journal : Journal) : Type 0 where
-  pub bus : (n : ℕ) (running : Running) (block : Block) → table.at n ≡ Some running → slice_get blocks running.block ≡ Some block → is_memory running.session.ended ≡ false →
-      written (bus_link n) journal ++ running.session.bus_side ≡ bus_bytes block.options.policy (history block.options.policy (session_mode block.options) (events_of n journal))
-  pub client : (n : ℕ) (running : Running) (block : Block) → table.at n ≡ Some running → slice_get blocks running.block ≡ Some block → is_memory running.session.ended ≡ false →
-      written (client_link n) journal ++ running.session.client_side ≡ client_bytes block.options.policy (history block.options.policy (session_mode block.options) (events_of n journal))
+  pub whole : (n : ℕ) (running : Running) (block : Block) → table.at n ≡ Some running → slice_get blocks running.block ≡ Some block → is_memory running.session.ended ≡ false →
+      LinksHold block.options.policy n running.session journal (items_under block n journal)
+  pub refused : (n : ℕ) (running : Running) (block : Block) → table.at n ≡ Some running → slice_get blocks running.block ≡ Some block → is_memory running.session.ended ≡ true →
+      (done : ℕ) × LinksHold block.options.policy n running.session journal (first_items done (items_under block n journal))
 
 -- of each number either nothing is told, or its session stands under its block
 pub record LinksStand (blocks : List Block) (journal : Journal) : Type 0 where

@@ -66,7 +66,7 @@ events_of n (entry ∷ before) = events_by n entry ++ events_of n before
 
 -- what was written to the links of session n, and notes that were taken
 abbrev pub taken_of : ℕ → List Note → Journal → Taken
-taken_of n notes journal = record { bus_side = written (bus_link n) journal; client_side = written (client_link n) journal; notes = notes; visible = [] }
+taken_of n notes journal = record { bus_side = written (bus_link n) journal; client_side = written (client_link n) journal; notes = notes; visible = []; held = 0 }
 
 -- an event that ends a session from outside
 abbrev pub is_stop : Event → Bool

@@ -181,6 +181,7 @@ more_taken n added taken = record {
   client_side = taken.client_side ++ written (client_link n) added;
   notes = taken.notes;
   visible = taken.visible;
+  held = taken.held;
 }
 
 -- these entries' events came to a session, and what they wrote was taken from it

@@ -1,5 +1,5 @@
 -- The log of a run, turn by turn.
-use Rattle.std.proofs.Common.{ℕ, nat_eq, ◌≡◌, ◌⊎◌, inl, inr, Bool, true, false, is_some, is_none, List, [], ◌∷◌, ◌++◌, Option, Some, None, if◌then◌else◌, refl, ap, sym, ◌∙◌, subst, append-nil}
+use Rattle.std.proofs.Common.{ℕ, nat_eq, ◌≡◌, ◌≤◌, ◌⊎◌, inl, inr, Bool, true, false, is_some, is_none, List, [], ◌∷◌, ◌++◌, Option, Some, None, if◌then◌else◌, refl, ap, sym, ◌∙◌, subst, append-nil, arith, length}
 use Rattle.std.proofs.lemmas.List.{append_cancel_left}
 use Rattle.link_traits.specs.Journals.{Journal}
 use Rattle.link_traits.specs.Told.{Rose}
@@ -11,25 +11,28 @@ use Rattle.link_traits.specs.declared.links.Side.{Side}
 use Rattle.policy_args.specs.Policy.{Policy}
 use Rattle.policy_args.specs.declared.line.Block.{Block}
 use Rattle.policy_view.specs.declared.Mode.{Mode}
-use Rattle.policy_view.specs.History.{Stopped, Finished, Event, history, arrived, finished, new_in}
+use Rattle.policy_view.specs.History.{Stopped, Finished, Event, first_items, history, arrived, finished, new_in}
 use Rattle.policy_view.specs.Notes.{notes}
+use Rattle.policy_view.specs.Past.{History}
 use Rattle.policy_view.proofs.CutLaws.{new_last}
 use Rattle.explain_log.specs.Lines.{log}
+use Rattle.proxy_core.proofs.Fronts.{notes_ended}
 use Rattle.proxy_loop.specs.Sinks.{SinkView, Appends}
 use Rattle.proxy_loop.specs.Sessions.{events_of, side_of}
 use Rattle.proxy_loop.specs.Kinds.{writes_of, all_are}
 use Rattle.proxy_loop.specs.Works.{ShutBoth}
 use Rattle.proxy_loop.specs.declared.serving.Running.{Running}
-use Rattle.proxy_loop.specs.Runs.{AreLines, log_of, is_over, WhyCut}
+use Rattle.proxy_loop.specs.Runs.{HoldsFirstOf, log_of, is_over, WhyCut}
 use Rattle.proxy_loop.specs.Tables.{Table, session_mode}
 use Rattle.proxy_loop.specs.Servers.{listener_of, BlockLogs, SessionLogged}
 use Rattle.proxy_loop.proofs.KindCases.{session_write_cases}
 use Rattle.proxy_loop.proofs.Holding.{events_append}
 use Rattle.proxy_loop.proofs.Joining.{all_implied}
 use Rattle.proxy_loop.proofs.Logged.{appends_none}
-use Rattle.proxy_loop.proofs.Prefixes.{stops_given, notes_ended}
+use Rattle.proxy_loop.proofs.Prefixes.{IsSameButEnd, common, stops_given}
+use Rattle.proxy_loop.proofs.Refused.{given_without_end}
 use Rattle.proxy_loop.proofs.Stopping.{AllStops, and_first, and_second}
-use Rattle.proxy_run.specs.Logs.{read_of, lines_under, lines_at, lines_of, block_at, is_cut, ReadLogs, IsWritten, LogOf}
+use Rattle.proxy_run.specs.Logs.{all_items, read_of, lines_under, lines_at, lines_of, block_at, is_cut, ReadLogs, IsWritten, LogOf}
 
 -- ---- entries that aren't reads
 
@@ -132,6 +135,7 @@ module _ (log_failed : Type 0) (blocks : List Block) (n : ℕ) (block : Block) (
       (under : block_at blocks (listener_of n early) ≡ Some block) (uncut : is_cut n before ≡ false) (l : LogOf log_failed blocks early before got)
       (sooner : log_of block.options.policy (session_mode block.options) n early ≡ log_of block.options.policy (session_mode block.options) n was)
       (later : log_of block.options.policy (session_mode block.options) n now ≡ log_of block.options.policy (session_mode block.options) n (Read link piece ∷ early))
+      (closes : IsSameButEnd (history block.options.policy (session_mode block.options) (events_of n (Read link piece ∷ early))) (history block.options.policy (session_mode block.options) (events_of n now)))
       (grow : (cut g : List ℕ) → LogOf log_failed blocks (Read link piece ∷ early) cut g → LogOf log_failed blocks now cut g) where
     due_is : lines_of blocks n (Read link piece) early ≡ lines_under block n (Read link piece) early
     due_is = ap (λ (o : Option Block). lines_at o n (Read link piece) early) under
@@ -143,22 +147,43 @@ module _ (log_failed : Type 0) (blocks : List Block) (n : ℕ) (block : Block) (
       lines = lines;
       rest = l;
       uncut = uncut;
-      written = subst (λ (due : List ℕ). IsWritten log_failed n due before cut lines) (sym due_is) written;
+      written = subst (λ (due : (History → History) → List ℕ). IsWritten log_failed n due before cut lines) (sym due_is) written;
       all = refl;
     }))
 
     logged_grows : block.options.log ≡ true → SessionLogged block n new was now first last → Grows log_failed blocks n new now before got first last
+    unfolding log_of
     logged_grows e d = by_cut d.logged.cut
       where
         grown : log_of block.options.policy (session_mode block.options) n now ≡ log_of block.options.policy (session_mode block.options) n was ++ (d.logged.lines ++ d.logged.rest)
         grown = subst (λ (m : Mode). log_of block.options.policy m n now ≡ log_of block.options.policy m n was ++ (d.logged.lines ++ d.logged.rest)) d.mode d.logged.is
 
-        due : lines_under block n (Read link piece) early ≡ d.logged.lines ++ d.logged.rest
-        due =
-            ap (λ (b : Bool). if b then new_in (log_of block.options.policy (session_mode block.options) n early) (log_of block.options.policy (session_mode block.options) n (Read link piece ∷ early)) else []) e
-            ∙ ap (λ (xs : List ℕ). new_in (log_of block.options.policy (session_mode block.options) n early) xs) (sym later ∙ grown)
-            ∙ ap (λ (xs : List ℕ). new_in xs (log_of block.options.policy (session_mode block.options) n was ++ (d.logged.lines ++ d.logged.rest))) sooner
-            ∙ new_last (log_of block.options.policy (session_mode block.options) n was) (d.logged.lines ++ d.logged.rest)
+        -- the lines of a part of the history that come after those from before
+        lines_from : (part : History → History) (lines : List ℕ) → log n (notes block.options.policy (part (history block.options.policy (session_mode block.options) (events_of n (Read link piece ∷ early)))))
+            ≡ log_of block.options.policy (session_mode block.options) n was ++ lines
+            → lines_under block n (Read link piece) early part ≡ lines
+        lines_from part lines is =
+            ap (λ (b : Bool). if b then new_in (log_of block.options.policy (session_mode block.options) n early)
+            (log n (notes block.options.policy (part (history block.options.policy (session_mode block.options) (events_of n (Read link piece ∷ early)))))) else []) e
+            ∙ ap (λ (xs : List ℕ). new_in (log_of block.options.policy (session_mode block.options) n early) xs) is
+            ∙ ap (λ (xs : List ℕ). new_in xs (log_of block.options.policy (session_mode block.options) n was ++ lines)) sooner
+            ∙ new_last (log_of block.options.policy (session_mode block.options) n was) lines
+
+        due : lines_under block n (Read link piece) early all_items ≡ d.logged.lines ++ d.logged.rest
+        due = lines_from all_items (d.logged.lines ++ d.logged.rest) (sym later ∙ grown)
+
+        -- where memory was refused to the session they are the lines of the first items
+        first_lines : HoldsFirstOf block.options.policy n d.served.session was now d.logged.lines → (done : ℕ) × (d.logged.lines ≡ lines_under block n (Read link piece) early (first_items done))
+        first_lines held =
+            let now_items : History = history block.options.policy (session_mode block.options) (events_of n now) in
+            let read_items : History = history block.options.policy (session_mode block.options) (events_of n (Read link piece ∷ early)) in
+            let within : held.done ≤ length now_items = subst (λ (m : Mode). held.done ≤ length (history block.options.policy m (events_of n now))) d.mode held.within in
+            let logged : log n (notes block.options.policy (first_items held.done now_items)) ≡ log_of block.options.policy (session_mode block.options) n was ++ d.logged.lines =
+            subst (λ (m : Mode). log n (notes block.options.policy (first_items held.done (history block.options.policy m (events_of n now)))) ≡ log_of block.options.policy m n was ++ d.logged.lines) d.mode held.logged in
+            let c = common read_items now_items held.done 0 (omega arith) (omega arith) within closes in
+            let same : notes block.options.policy (first_items held.done now_items) ≡ notes block.options.policy (first_items c.count read_items) =
+            given_without_end (notes block.options.policy) (notes_ended block.options.policy) (first_items c.count read_items) (first_items held.done now_items) c.is in
+            (c.count, sym (lines_from (first_items c.count) d.logged.lines (ap (log n) (sym same) ∙ logged)))
 
         ended : is_some d.served.session.ended ≡ true → (running : Running) → new.at n ≡ Some running → is_some running.session.ended ≡ true
         ended s running at = held_end (is_over d.served) running s (sym d.left ∙ at)
@@ -167,11 +192,12 @@ module _ (log_failed : Type 0) (blocks : List Block) (n : ℕ) (block : Block) (
             held_end true running s e = cc
             held_end false running s e = let same : d.served ≡ running = cc in subst (λ (r : Running). is_some r.session.ended ≡ true) same s
 
-        part : Rose first.faults last.faults ⊎ AreLines n d.logged.lines → log_failed ⊎ AreLines n d.logged.lines
-        part (inl rose) = inl (widen rose)
-        part (inr lines) = inr lines
+        part : WhyCut block.options.policy n d.served.session was now d.logged.lines first last
+            → log_failed ⊎ (done : ℕ) × (d.logged.lines ≡ lines_under block n (Read link piece) early (first_items done))
+        part (inl held) = inr (first_lines held)
+        part (inr rose) = inl (widen rose)
 
-        by_cut : (d.logged.rest ≡ []) ⊎ ((is_some d.served.session.ended ≡ true) × WhyCut d.served.session first last) → Grows log_failed blocks n new now before got first last
+        by_cut : (d.logged.rest ≡ []) ⊎ ((is_some d.served.session.ended ≡ true) × WhyCut block.options.policy n d.served.session was now d.logged.lines first last) → Grows log_failed blocks n new now before got first last
         by_cut (inl none) = record {
           cut = before;
           more = d.logged.lines;
@@ -182,7 +208,7 @@ module _ (log_failed : Type 0) (blocks : List Block) (n : ℕ) (block : Block) (
         by_cut (inr s) = record {
           cut = n ∷ before;
           more = d.logged.lines;
-          log = with_lines (n ∷ before) d.logged.lines (inr (record { rest = d.logged.rest; is = sym due }, part d.logged.whole, refl));
+          log = with_lines (n ∷ before) d.logged.lines (inr (record { rest = d.logged.rest; is = sym due }, part s.1, refl));
           appends = d.logged.appends;
           cuts = inr (refl, ended s.0);
         }
@@ -193,7 +219,8 @@ module _ (log_failed : Type 0) (blocks : List Block) (n : ℕ) (block : Block) (
       cut = before;
       more = [];
       log = with_lines before [] (inl (
-        sym (ap (λ (b : Bool). if b then new_in (log_of block.options.policy (session_mode block.options) n early) (log_of block.options.policy (session_mode block.options) n (Read link piece ∷ early)) else []) e),
+        sym (ap (λ (b : Bool). if b then new_in (log_of block.options.policy (session_mode block.options) n early)
+            (log n (notes block.options.policy (history block.options.policy (session_mode block.options) (events_of n (Read link piece ∷ early))))) else []) e),
         refl,
       ));
       appends = subst (λ (s : SinkView). Appends first s []) (sym d) (appends_none first);

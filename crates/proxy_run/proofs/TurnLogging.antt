@@ -11,7 +11,7 @@ use Rattle.link_traits.specs.declared.links.Side.{Side}
 use Rattle.link_traits.specs.declared.links.Got.{Got}
 use Rattle.link_traits.specs.declared.links.Got.TheVariants.{Bytes as GotBytes, Finished as GotFinished, NotReady as GotNotReady, Failed as GotFailed}
 use Rattle.policy_args.specs.declared.line.Block.{Block}
-use Rattle.policy_view.specs.History.{Stopped}
+use Rattle.policy_view.specs.History.{Event, Stopped, history}
 use Rattle.proxy_loop.specs.declared.serving.Running.{Running}
 use Rattle.proxy_loop.specs.Sinks.{SinkView}
 use Rattle.proxy_loop.specs.Sessions.{events_of, read_end}
@@ -20,7 +20,8 @@ use Rattle.proxy_loop.specs.Works.{link_at, is_full}
 use Rattle.proxy_loop.specs.Runs.{Served, ReadUnless, log_of}
 use Rattle.proxy_loop.specs.Tables.{Table, session_mode}
 use Rattle.proxy_loop.specs.Servers.{listener_of, BlockLogs}
-use Rattle.proxy_loop.proofs.Holding.{all_joined}
+use Rattle.proxy_loop.proofs.Holding.{all_joined, events_append}
+use Rattle.proxy_loop.proofs.Prefixes.{IsSameButEnd, stops_end}
 use Rattle.proxy_loop.proofs.Others.{listener_same, served_about}
 use Rattle.proxy_loop.proofs.Stopping.{AllStops, writes_stop, shuts_stop, both_stop, and_second}
 use Rattle.proxy_run.specs.Logs.{block_at, is_cut, LogOf}
@@ -81,6 +82,13 @@ module _ (log_failed : Type 0) (blocks : List Block) (n : ℕ) (block : Block) (
   unfolding Session
   later = ap Session split ∙ stops_log block.options.policy (session_mode block.options) n late (s.reads ++ early) late_stops
 
+  -- after the read only an End was put in
+  closes : IsSameButEnd (history block.options.policy (session_mode block.options) (events_of n (s.reads ++ early))) (history block.options.policy (session_mode block.options) (events_of n now))
+  closes =
+      subst (λ (es : List Event). IsSameButEnd (history block.options.policy (session_mode block.options) (events_of n (s.reads ++ early))) (history block.options.policy (session_mode block.options) es))
+      (sym (ap (events_of n) split ∙ events_append n late (s.reads ++ early)))
+      (stops_end block.options.policy (session_mode block.options) (events_of n late) (events_of n (s.reads ++ early)) late_stops)
+
   grow : (cut g : List ℕ) → LogOf log_failed blocks (s.reads ++ early) cut g → LogOf log_failed blocks now cut g
   grow cut g h = subst (λ (j : Journal). LogOf log_failed blocks j cut g) (sym split) (unread_log log_failed blocks late (s.reads ++ early) cut g late_unread h)
 
@@ -135,7 +143,9 @@ module _ (log_failed : Type 0) (blocks : List Block) (n : ℕ) (block : Block) (
   unfolding Session
   by_answer into (GotBytes k) e runs =
       read_grows log_failed blocks n block table was now before got first last widen early (link_at n side) (take k into) refl under_early (uncut runs) early_log sooner
-      (later ∙ ap (λ (j : Journal). Session (j ++ early)) e) (λ cut g h. grow cut g (subst (λ (j : Journal). LogOf log_failed blocks (j ++ early) cut g) (sym e) h)) block.options.log refl d
+      (later ∙ ap (λ (j : Journal). Session (j ++ early)) e)
+      (subst (λ (j : Journal). IsSameButEnd (history block.options.policy (session_mode block.options) (events_of n (j ++ early))) (history block.options.policy (session_mode block.options) (events_of n now))) e closes)
+      (λ cut g h. grow cut g (subst (λ (j : Journal). LogOf log_failed blocks (j ++ early) cut g) (sym e) h)) block.options.log refl d
   by_answer into GotFinished e runs = one_unread (Ended (link_at n side)) e (finished_log block.options.policy (session_mode block.options) n (link_at n side) early) refl
   by_answer into GotNotReady e runs =
       one_unread (NotReady (ReadCall (link_at n side))) e

@@ -5,10 +5,14 @@ use Rattle.link_traits.specs.Told.{Rose}
 use Rattle.link_traits.specs.Views.{NetView}
 use Rattle.link_traits.specs.Entries.{Entry, listened, ready, accepted, connected, read, finished, wrote, not_ready, failed, refused, shut}
 use Rattle.policy_args.specs.declared.line.Block.{Block}
-use Rattle.policy_view.specs.History.{new_in}
+use Rattle.policy_view.specs.History.{first_items, history, new_in}
+use Rattle.policy_view.specs.Notes.{notes}
+use Rattle.policy_view.specs.Past.{History}
+use Rattle.explain_log.specs.Lines.{log}
 use Rattle.proxy_core.specs.Sessions.{IsFront}
+use Rattle.proxy_loop.specs.Sessions.{events_of}
 use Rattle.proxy_loop.specs.Sinks.{SinkView, Appends}
-use Rattle.proxy_loop.specs.Runs.{AreLines, log_of}
+use Rattle.proxy_loop.specs.Runs.{log_of}
 use Rattle.proxy_loop.specs.Tables.{session_mode}
 use Rattle.proxy_loop.specs.Servers.{listener_of, WithoutSessions}
 
@@ -26,37 +30,42 @@ read_of (failed call) = None
 read_of (refused call) = None
 read_of (shut link) = None
 
--- the lines of the messages that an entry adds to a session's history, where its block has a log
-abbrev pub lines_under : Block → ℕ → Entry → Journal → List ℕ
-lines_under block n entry before =
+-- the lines of the messages that an entry adds to a part of a session's history, where its block has a log
+abbrev pub lines_under : Block → ℕ → Entry → Journal → (History → History) → List ℕ
+lines_under block n entry before part =
     if block.options.log
-    then new_in (log_of block.options.policy (session_mode block.options) n before) (log_of block.options.policy (session_mode block.options) n (entry ∷ before))
+    then new_in (log_of block.options.policy (session_mode block.options) n before)
+    (log n (notes block.options.policy (part (history block.options.policy (session_mode block.options) (events_of n (entry ∷ before))))))
     else []
 
-abbrev pub lines_at : Option Block → ℕ → Entry → Journal → List ℕ
-lines_at None n entry before = []
-lines_at (Some block) n entry before = lines_under block n entry before
+abbrev pub lines_at : Option Block → ℕ → Entry → Journal → (History → History) → List ℕ
+lines_at None n entry before part = []
+lines_at (Some block) n entry before part = lines_under block n entry before part
 
 abbrev pub block_at : List Block → Option ℕ → Option Block
 block_at blocks None = None
 block_at blocks (Some listener) = slice_get blocks listener
 
 -- under the block of the listener that accepted the session
-abbrev pub lines_of : List Block → ℕ → Entry → Journal → List ℕ
-lines_of blocks n entry before = lines_at (block_at blocks (listener_of n before)) n entry before
+abbrev pub lines_of : List Block → ℕ → Entry → Journal → (History → History) → List ℕ
+lines_of blocks n entry before part = lines_at (block_at blocks (listener_of n before)) n entry before part
+
+abbrev pub all_items : History → History
+all_items items = items
 
 -- a session is among those whose lines weren't all written
 abbrev pub is_cut : ℕ → List ℕ → Bool
 is_cut n [] = false
 is_cut n (m ∷ cut) = nat_eq m n || is_cut n cut
 
--- The lines of a read are written, or a part of them, and then the session is among those. Unless the log failed the part is of whole
--- lines.
-abbrev pub IsWritten : Type 0 → ℕ → List ℕ → List ℕ → List ℕ → List ℕ → Type 0
-IsWritten log_failed n due before cut lines = ((lines ≡ due) × (cut ≡ before)) ⊎ (IsFront lines due × (log_failed ⊎ AreLines n lines) × (cut ≡ n ∷ before))
+-- The lines of a read are written, or a part of them, and then the session is among those. Unless the log failed the part is the lines of the
+-- first items of its history: memory was refused to the session at the next one.
+abbrev pub IsWritten : Type 0 → ℕ → ((History → History) → List ℕ) → List ℕ → List ℕ → List ℕ → Type 0
+IsWritten log_failed n due before cut lines =
+    ((lines ≡ due all_items) × (cut ≡ before)) ⊎ (IsFront lines (due all_items) × (log_failed ⊎ (done : ℕ) × (lines ≡ due (first_items done))) × (cut ≡ n ∷ before))
 
 -- What a read of a session that isn't among those adds to the log. None is read of a session that is among them.
-pub record ReadLogs (log_failed : Type 0) (n : ℕ) (due : List ℕ) (Rest : List ℕ → List ℕ → Type 0) (cut got : List ℕ) : Type 0 where
+pub record ReadLogs (log_failed : Type 0) (n : ℕ) (due : (History → History) → List ℕ) (Rest : List ℕ → List ℕ → Type 0) (cut got : List ℕ) : Type 0 where
   pub before : List ℕ
   pub earlier : List ℕ
   pub lines : List ℕ
@@ -65,7 +74,7 @@ pub record ReadLogs (log_failed : Type 0) (n : ℕ) (due : List ℕ) (Rest : Lis
   pub written : IsWritten log_failed n due before cut lines
   pub all : got ≡ earlier ++ lines
 
-abbrev pub EntryLogs : Type 0 → Option ℕ → (ℕ → List ℕ) → (List ℕ → List ℕ → Type 0) → List ℕ → List ℕ → Type 0
+abbrev pub EntryLogs : Type 0 → Option ℕ → (ℕ → (History → History) → List ℕ) → (List ℕ → List ℕ → Type 0) → List ℕ → List ℕ → Type 0
 EntryLogs log_failed None due Rest cut got = Rest cut got
 EntryLogs log_failed (Some n) due Rest cut got = ReadLogs log_failed n (due n) Rest cut got
 

@@ -15,6 +15,7 @@ use Rattle.policy_view.specs.Visible.{Closed, part}
 use Rattle.policy_view.specs.declared.Mode.{Mode}
 use Rattle.policy_view.specs.declared.visible.Visible.{Visible as Element}
 use Rattle.proxy_core.specs.Sessions.{elements_given}
+use Rattle.proxy_core.proofs.Fronts.{visible_front}
 use Rattle.recording.specs.Recording.{Recording}
 use Rattle.replay.specs.Output.{events_of, history_of, mode_of, output_of_recording}
 use Rattle.replay.specs.Twins.{Compares, ComparesEnds, compared_under, part_of_recording}
@@ -92,7 +93,7 @@ fixed : (policy : Policy) (recording : Recording) (watched : Watched) (given : L
 fixed policy recording watched given None grow tell gave = fixed-none policy recording watched given gave
 fixed policy recording watched given (Some element) grow tell gave =
     let events = events_of (take watched.played recording.events) in
-    let front = gave.stands.visible_front in
+    let front = visible_front policy watched.session events gave.taken gave.stands in
     let rest = watched.session.visible ++ front.rest in
     fixed-some policy recording given rest element watched.played grow tell gave.bytes
     (sym (append_assoc given (element ∷ []) rest) ∙ sym (append_assoc (given ++ element ∷ []) watched.session.visible front.rest)
