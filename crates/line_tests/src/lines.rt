@@ -58,6 +58,15 @@ const LONG: &str = "\
 ~AUTH%0D%0A 20000 => LineTooLong 16390
 ";
 
+/// How many lines of the bus were asked for, and the same of its stream.
+const BUS_LONG: &str = "\
+1  16383 => 16383
+1  16384 => 16384
+1  16385 => LineTooLong 16383
+2 OK%0D%0A 16384 => 16384
+2 OK%0D%0A 20000 => LineTooLong 16387
+";
+
 /// Lines of the client, and what the bus is sent.
 const SENT: &str = "\
 NEGOTIATE_UNIX_FD%0D%0A => NO_UNIX_FD%0D%0A
@@ -283,6 +292,25 @@ fn last_in(alloc: Global, stream: &[u8], size: usize) -> Result<String, AllocErr
     told_last(alloc, &client_told(alloc, stream, size)?)
 }
 
+fn told_bus_long(alloc: Global, row: &str) -> Result<String, AllocError> {
+    let (asked, row) = row.split_once(' ').unwrap_or((row, ""));
+    let (before, len) = row.split_once(' ').unwrap_or((row, ""));
+    let stream = long_stream(alloc, before, len.parse().unwrap_or(0))?;
+    let asked = asked.parse().unwrap_or(0);
+    let bytes = bus_last_in(alloc, &stream, 1, asked)?;
+    let few = bus_last_in(alloc, &stream, 3, asked)?;
+    same(
+        alloc,
+        [bytes, few, bus_last_in(alloc, &stream, 100_000, asked)?],
+    )
+}
+
+fn bus_last_in(alloc: Global, stream: &[u8], size: usize, asked: u64) -> Result<String, AllocError>
+    requires { 0 < size }
+{
+    told_last(alloc, &bus_told(alloc, stream, size, asked, false)?)
+}
+
 /// How many bytes the last line has, or the fault behind it.
 fn told_last(alloc: Global, given: &Told) -> Result<String, AllocError> {
     let (lines, last, _) = given;
@@ -322,6 +350,7 @@ fn client_lines_are_cut(rt: HostRuntime) -> Result<(), Fail> {
 #[test]
 fn bus_lines_are_cut(rt: HostRuntime) -> Result<(), Fail> {
     assert_eq!(rt; wrong_row(rt.alloc(), BUS, &told_bus)?, None);
+    assert_eq!(rt; wrong_row(rt.alloc(), BUS_LONG, &told_bus_long)?, None);
     Ok(())
 }
 
