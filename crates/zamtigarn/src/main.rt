@@ -4,10 +4,26 @@
 //! runs a tool. A proxy line is served by `proxy_main::run` over Unix sockets. The program ends with the status that these answer.
 #![tactic(auto)]
 
+ghost use Rattle.std.specs.Prelude.{◌≡◌, ◌≢◌};
+ghost use Rattle.std.specs.IoError.{error_kind};
+
 use process_streams::{ProcessArguments, ProcessFault, StdSink, SystemDescriptors, fill_closed};
 use proxy_main::{DiskFiles, Start, SystemDisk, fault_status, run, start_process};
 use proxy_net::MioNet;
+use std::io::{self, ErrorKind};
 use std::process::ExitCode;
+
+/// Why there is no net: memory was refused, or the system gives none.
+fn without_net(error: &io::Error) -> ProcessFault
+    ensures memory { error_kind error.now ≡ ErrorKind.OutOfMemory → result ≡ ProcessFault.Memory }
+    ensures none { error_kind error.now ≢ ErrorKind.OutOfMemory → result ≡ ProcessFault.NoNet }
+{
+    if error.kind() == ErrorKind::OutOfMemory {
+        ProcessFault::Memory
+    } else {
+        ProcessFault::NoNet
+    }
+}
 
 fn main(rt: HostRuntime) -> ExitCode {
     let mut out = StdSink::new(rt.stdout(), &rt);
@@ -30,8 +46,8 @@ fn main(rt: HostRuntime) -> ExitCode {
 
     let mut net = match MioNet::new(&rt) {
         Ok(net) => net,
-        Err(_) => {
-            let status = fault_status(rt.alloc(), ProcessFault::NoNet, &mut err);
+        Err(error) => {
+            let status = fault_status(rt.alloc(), without_net(&error), &mut err);
             return ExitCode::from(status.code);
         }
     };
