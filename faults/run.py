@@ -2,6 +2,7 @@
 """Refuses memory at each place of a run, one place a run, and lets each system call of a served session fail, one a run.
 README.md says what is looked for."""
 import argparse
+import itertools
 import os
 import re
 import select
@@ -88,11 +89,10 @@ class Session:
         self.client = self.bus = None
 
     def begin(self):
+        """Whether the client is connected; its path may be there a moment before it is listened at."""
         link = socket.socket(socket.AF_UNIX)
-        link.settimeout(1)
-        try:
-            link.connect(self.path)
-        except OSError:
+        if not wait_until(lambda: link.connect_ex(self.path) == 0, 0.5):
+            link.close()
             return False
         self.client = Peer(link)
         return True
@@ -127,17 +127,25 @@ class Session:
             wanted = expected[number] if expected else None
             self.pump(patience, lambda: wanted is not None and self.got() == wanted)
             yield self.got()
+            # A piece that came behind one without its effect could be read before that one, and the log would have another order.
+            if wanted is not None and self.got() != wanted:
+                break
         self.client.link.close()
         self.client.over = True
         if self.bus:
             wait_until(lambda: (self.bus.take(), self.bus.over)[1], patience)
             self.bus.link.close()
+        # The link to the bus of a session that ended at once is no other session's.
+        link = connected(self.listener)
+        while link:
+            link.close()
+            link = connected(self.listener)
 
 
 class Run:
     """What became of one run of a proxy line."""
 
-    def __init__(self, program, words, plays, environment=None, inject=None, expected=None, patience=0.25):
+    def __init__(self, program, words, plays, environment=None, inject=None, expected=None, patience=0.5):
         with tempfile.TemporaryDirectory() as folder:
             path, trace = os.path.join(folder, "proxy"), os.path.join(folder, "trace")
             listener = listen_at(os.path.join(folder, "bus"))
@@ -154,10 +162,15 @@ class Run:
                     break
                 self.steps.append(list(session.play(expected[number] if expected else None, patience)))
                 self.got.append(session.got())
+            # A client that was let go before it was a session doesn't count, so that others come until so many were served.
+            for _ in plays:
+                if not wait_until(lambda: process.poll() is not None, 0.5):
+                    session = Session(listener, path, [])
+                    if session.begin():
+                        list(session.play(None, patience))
             try:
                 out, err = process.communicate(timeout=10)
             except subprocess.TimeoutExpired:
-                # Clients that were refused are replaced, so that a run that serves so many ends.
                 process.terminate()
                 out, err = process.communicate()
                 raise Wrong("the run doesn't end: " + err.decode(errors="replace"))
@@ -182,22 +195,35 @@ def check(run, clean):
         if not found:
             raise Wrong("status %d without its line: %r" % (run.status, lines))
         lines = lines[: found.start()]
-    for number in range(1, len(clean.got) + 1):
-        of_session = [line for line in lines.splitlines(True) if line.startswith("%d " % number)]
-        whole = [line for line in clean.err.splitlines(True) if line.startswith("%d " % number)]
-        if not is_front("".join(of_session), "".join(whole)):
-            raise Wrong("the log of session %d is no front: %r" % (number, of_session))
+    whole = logs(clean.err).values()
+    for log in logs(lines).values():
+        if not any(is_front(log, other) for other in whole):
+            raise Wrong("the log of a session is no front: %r" % log)
+
+
+def logs(lines):
+    """The lines of each session, without its number."""
+    found = {}
+    for line in lines.splitlines(True):
+        number, rest = line.split(" ", 1)
+        found[number] = found.get(number, "") + rest
+    return found
 
 
 def told(table, fault, run, clean):
     whole = all(got == other for got, other in zip(run.got, clean.got)) and len(run.got) == len(clean.got)
-    key = (fault, "status %d" % run.status, "all bytes" if whole else "a front")
-    table[key] = table.get(key, 0) + 1
+    tell(table, fault, run.status, whole)
+
+
+def tell(table, fault, status, whole):
+    counts = table.setdefault((fault, status), [0, 0])
+    counts[0 if whole else 1] += 1
 
 
 def show(table):
-    for (fault, status, bytes_are), runs in sorted(table.items()):
-        print("| %s | %d | %s | %s |" % (fault, runs, status, bytes_are))
+    print("| what fails | error | status | all bytes | a beginning |\n|---|---|---|---|---|")
+    for (fault, status), counts in sorted(table.items()):
+        print("| %s | %d | %d | %d |" % (fault, status, *counts))
 
 
 # ---- memory refused
@@ -227,8 +253,7 @@ def memory_of_replay(program, folder, table):
             good = run.returncode == 8 and not run.stdout and err.endswith("error: memory\n") and is_front(lines, clean.stderr.decode()) and (not lines or lines.endswith("\n"))
         if not good:
             raise Wrong("replay, growth %d: status %d, %r" % (number, run.returncode, err))
-        key = ("`replay`, the k-th growth of memory", "status %d" % run.returncode, "all bytes" if run.returncode == 0 else "none, and whole lines of the log")
-        table[key] = table.get(key, 0) + 1
+        tell(table, "a growth of memory in `replay` | refused", run.returncode, run.returncode == 0)
 
 
 def memory_of_sessions(program, folder, table):
@@ -237,13 +262,15 @@ def memory_of_sessions(program, folder, table):
     preload = {"LD_PRELOAD": os.path.join(folder, "refuse.so")}
     clean = Run(program, words, plays, dict(preload, REFUSE="0"))
     check(clean, clean)
-    for number in range(1, clean.growths + 1):
-        run = Run(program, words, plays, dict(preload, REFUSE=str(number)), expected=clean.steps, patience=0.05)
+    for number in itertools.count(1):
+        run = Run(program, words, plays, dict(preload, REFUSE=str(number)), expected=clean.steps, patience=1)
         try:
             check(run, clean)
         except Wrong as wrong:
             raise Wrong("two sessions, growth %d: %s" % (number, wrong))
-        told(table, "two sessions, the k-th growth of memory", run, clean)
+        if run.growths < number:
+            break
+        told(table, "a growth of memory in two sessions | refused", run, clean)
 
 
 # ---- system calls that fail
@@ -262,17 +289,19 @@ def failing_calls(program, table):
     # Faults before the program's own first call would be those of the loader.
     first = names.index("epoll_create1") if "epoll_create1" in names else 0
     for call in CALLS:
-        before, all_of_it = names[:first].count(call), names.count(call)
-        for number in range(before + 1, all_of_it + 1):
-            for error in ERRORS:
-                run = Run(program, words, plays, inject="inject=%s:error=%s:when=%d" % (call, error, number), expected=clean.steps, patience=0.05)
+        for error in ERRORS:
+            for number in itertools.count(names[:first].count(call) + 1):
+                run = Run(program, words, plays, inject="inject=%s:error=%s:when=%d" % (call, error, number), expected=clean.steps, patience=1)
                 try:
                     check(run, clean)
                     if len(run.calls) > 3 * len(clean.calls) + 100:
                         raise Wrong("it spins: %d system calls" % len(run.calls))
                 except Wrong as wrong:
                     raise Wrong("%s %d fails with %s: %s" % (call, number, error, wrong))
-                told(table, "the k-th `%s` fails with %s" % (call, error), run, clean)
+                # There were no more calls of the kind.
+                if not any("INJECTED" in line for line in run.calls):
+                    break
+                told(table, "`%s` | `%s`" % (call, error), run, clean)
 
 
 def main():

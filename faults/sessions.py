@@ -71,16 +71,14 @@ def with_no_options(body):
     return padded(padded(body, 4) + bytes(4), 8)
 
 
-# What either side sends, in order, each when what the pieces before it bring has come.
+# What either side sends, in order, each when what the pieces before it bring has come. Each brings something.
 PORTAL_SESSION = [
     (CLIENT, b"\0AUTH EXTERNAL\r\nDATA\r\nNEGOTIATE_UNIX_FD\r\nBEGIN\r\n"),
     (SERVER, b"DATA\r\nOK 0123456789abcdef0123456789abcdef\r\nERROR\r\n"),
     (CLIENT, bus_call(1, "Hello")),
     (SERVER, answer(1, 1, BUS, "s", texts(":1.40"))),
-    (SERVER, signal(2, BUS, ":1.40", "/org/freedesktop/DBus", BUS, "NameAcquired", "s", texts(":1.40"))),
-    (SERVER, answer(3, 2, BUS)),
-    (SERVER, answer(4, 3, BUS, "as", text_list([BUS, ":1.40", PORTAL, "org.kde.Secret", ":1.9"]))),
-    (SERVER, answer(5, 4, BUS, "s", texts(":1.9"))),
+    (SERVER, answer(3, 2, BUS) + answer(4, 3, BUS, "as", text_list([BUS, ":1.40", PORTAL, "org.kde.Secret", ":1.9"]))),
+    (SERVER, answer(5, 4, BUS, "s", texts(":1.9")) + signal(2, BUS, ":1.40", "/org/freedesktop/DBus", BUS, "NameAcquired", "s", texts(":1.40"))),
     (CLIENT, bus_call(2, "AddMatch", "type='signal',sender='org.freedesktop.portal.Desktop'")),
     (SERVER, answer(6, 5, BUS)),
     (CLIENT, call(3, PORTAL, DESKTOP, "org.freedesktop.portal.FileChooser", "OpenFile", "ssa{sv}", with_no_options(texts("", "Open")))),
