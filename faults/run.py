@@ -115,8 +115,11 @@ class Session:
     def got(self):
         return (self.bus.got if self.bus else b"", self.client.got)
 
+    def state(self):
+        return self.got() + (self.client.over,)
+
     def play(self, expected, patience):
-        """Gives each piece when what the pieces before it bring has come; `expected` are the bytes for either side after each piece."""
+        """Gives each piece when what the pieces before it bring has come; `expected` are the states after each piece."""
         for number, (side, data) in enumerate(self.pieces):
             if side == SERVER:
                 self.pump(patience, lambda: self.bus is not None)
@@ -125,10 +128,10 @@ class Session:
                 break
             peer.give(data)
             wanted = expected[number] if expected else None
-            self.pump(patience, lambda: wanted is not None and self.got() == wanted)
-            yield self.got()
+            self.pump(patience, lambda: wanted is not None and self.state() == wanted)
+            yield self.state()
             # A piece that came behind one without its effect could be read before that one, and the log would have another order.
-            if wanted is not None and self.got() != wanted:
+            if wanted is not None and self.state() != wanted:
                 break
         self.client.link.close()
         self.client.over = True
