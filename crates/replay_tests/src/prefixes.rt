@@ -2,8 +2,6 @@
 //!
 //! A stream that ends inside a line or inside a message isn't malformed: the session ends with the end of that side. Nothing
 //! of the unfinished line or message goes to the other side, but for the zero that precedes the client's first line.
-//!
-//! Each prefix of up to 200 bytes is tried, each longer one whose length is a multiple of 13, and the whole stream.
 use crate::cases::{Case, add_record, assert_cases, case_of, empty_recording};
 use crate::runs::replay;
 use std::alloc::{AllocError, Global};
@@ -79,9 +77,6 @@ log 1 b 19 signal serial=26 reply=- from=:1.9 dest=- path=/org/freedesktop/porta
 
 /// The room for the output of a replay.
 const ROOM: usize = 10_000;
-
-/// Each prefix of up to so many bytes is tried.
-const EACH_UP_TO: usize = 200;
 
 /// A side whose stream is cut: the kinds of its bytes and of its end in a recording, and the number of its end in an output.
 struct CutSide {
@@ -224,11 +219,6 @@ fn fault(given: &Given, shorter: &Given, whole: &Given, side: &CutSide) -> Optio
     }
 }
 
-/// Whether a prefix of some length is tried.
-fn is_tried(length: usize, most: usize) -> bool {
-    length <= EACH_UP_TO || length % 13 == 0 || length == most
-}
-
 /// The first prefix of a side's stream for which something wrong is given. All of the stream gives the other side all that it gets.
 fn wrong_prefix<R: Threads + Sync>(
     rt: &R,
@@ -240,11 +230,7 @@ fn wrong_prefix<R: Threads + Sync>(
     let Some(mut shorter) = cut_run(rt, alloc, case, side, 0)? else {
         return Ok(Some(format!(in alloc; "0 bytes: the run fails")?));
     };
-    let most = stream_length(case, side);
-    for length in 0..=most {
-        if !is_tried(length, most) {
-            continue;
-        }
+    for length in 0..=stream_length(case, side) {
         let Some(given) = cut_run(rt, alloc, case, side, length)? else {
             return Ok(Some(format!(in alloc; "{length} bytes: the run fails")?));
         };
