@@ -6,6 +6,7 @@ pub mod Levels
 pub mod Policy
 pub mod ProxyLine
 pub mod Reading
+pub mod Requests
 pub mod Seen
 pub mod Steps
 pub mod Words

@@ -17,6 +17,7 @@ mod options;
 mod patterns;
 mod policy;
 mod refusals;
+mod requests;
 mod words;
 
 pub use entry::{Entry, Grant};
@@ -26,6 +27,7 @@ pub use line::{Block, ProxyLine, read_line};
 pub use options::{Options, read_options};
 pub use policy::Policy;
 pub use refusals::LineRefusal;
+pub use requests::{Access, Asked};
 use thiserror::Error;
 pub use words::words_of;
 

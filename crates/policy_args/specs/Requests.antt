@@ -1,0 +1,101 @@
+-- What may be asked of a name, what a policy permits of it, and when a policy permits nothing that another doesn't.
+use Rattle.std.specs.Prelude.{◌≡◌, ℕ, Bool, true, false, not, ◌&&◌, ◌||◌, List, [], ◌∷◌, codes, Option, Some, None, bytes_eq}
+use Rattle.std.specs.List.{list_any}
+use Rattle.call_rules.specs.Properties.{PropertyRule, property_matches}
+use Rattle.call_rules.specs.Rules.{Rule, matches}
+use Rattle.dbus_names.specs.Names.{are_two_joined, is_bus, is_bus_element}
+use Rattle.dbus_names.specs.Texts.{Text}
+use Rattle.name_patterns.specs.Patterns.{covers}
+use Rattle.policy_args.specs.Policy.{Policy, at_least, level}
+use Rattle.policy_args.specs.declared.Level.TheVariants.{See, Talk, Own}
+use Rattle.policy_args.specs.declared.entry.Grant.{Grant}
+use Rattle.policy_args.specs.declared.entry.Grant.TheVariants.{See as to_see, Talk as to_talk, Own as to_own, Call as to_call, Broadcast as to_broadcast, Property as to_property}
+use Rattle.policy_args.specs.declared.entry.Entry.{Entry}
+use Rattle.policy_args.specs.declared.requests.Asked.{Asked}
+use Rattle.policy_args.specs.declared.requests.Asked.TheVariants.{Call, Signal, Own as OwnName, Owner, Broadcast, Property}
+use Rattle.policy_args.specs.declared.requests.Access.{Access}
+use Rattle.policy_args.specs.declared.requests.Access.TheVariants.{Get, Set, GetAll}
+
+-- ---- rules
+
+-- the grant's rule matches a call
+abbrev pub calls : Text → Option Text → Text → Grant → Bool
+calls path interface member to_see = false
+calls path interface member to_talk = false
+calls path interface member to_own = false
+calls path interface member (to_call rule) = matches rule path interface member
+calls path interface member (to_broadcast rule) = false
+calls path interface member (to_property rule) = false
+
+-- .. a broadcast
+abbrev pub broadcasts : Text → Text → Text → Grant → Bool
+broadcasts path interface member to_see = false
+broadcasts path interface member to_talk = false
+broadcasts path interface member to_own = false
+broadcasts path interface member (to_call rule) = false
+broadcasts path interface member (to_broadcast rule) = matches rule path (Some interface) member
+broadcasts path interface member (to_property rule) = false
+
+-- .. a request of a property, or of all properties of an interface if none is named
+abbrev pub accesses : Text → Text → Option Text → Grant → Bool
+accesses path interface property to_see = false
+accesses path interface property to_talk = false
+accesses path interface property to_own = false
+accesses path interface property (to_call rule) = false
+accesses path interface property (to_broadcast rule) = false
+accesses path interface property (to_property rule) = property_matches rule path interface property
+
+-- an entry that covers the name has a grant that passes the test
+abbrev pub has_entry : Policy → Text → (Grant → Bool) → Bool
+has_entry policy name test = list_any (λ (e : Entry). covers e.pattern name && test e.grant) policy.entries
+
+-- ---- requests of properties
+
+abbrev pub properties_interface : Text
+properties_interface = codes "org.freedesktop.DBus.Properties"
+
+-- the method that is called
+abbrev pub access_member : Access → Text
+access_member (Get property) = codes "Get"
+access_member (Set property) = codes "Set"
+access_member GetAll = codes "GetAll"
+
+-- the property that is named
+abbrev pub access_property : Access → Option Text
+access_property (Get property) = Some property
+access_property (Set property) = Some property
+access_property GetAll = None
+
+-- ---- what is permitted
+
+abbrev pub may_call : Policy → Text → Text → Option Text → Text → Bool
+may_call policy name path interface member = at_least Talk (level policy name) || has_entry policy name (calls path interface member)
+
+-- An entry that covers a name gives it at least the level See, so a rule that matches asks for no level beside it.
+unfoldable pub permits : Policy → Asked → Bool
+permits policy (Call name path interface member) = may_call policy name path interface member
+permits policy (Signal name) = at_least Talk (level policy name)
+permits policy (OwnName name) = at_least Own (level policy name)
+permits policy (Owner name) = at_least See (level policy name)
+permits policy (Broadcast name path interface member) = at_least Talk (level policy name) || has_entry policy name (broadcasts path interface member)
+permits policy (Property name path interface access) =
+    may_call policy name path (Some properties_interface) (access_member access) || has_entry policy name (accesses path interface (access_property access))
+
+-- ---- requests
+
+abbrev pub asked_name : Asked → Text
+asked_name (Call name path interface member) = name
+asked_name (Signal name) = name
+asked_name (OwnName name) = name
+asked_name (Owner name) = name
+asked_name (Broadcast name path interface member) = name
+asked_name (Property name path interface access) = name
+
+-- The name is of the grammar of well-known names, of any length, and isn't the bus's own: what is asked of the bus itself is judged by the
+-- members of the bus.
+abbrev pub is_request : Asked → Bool
+is_request asked = are_two_joined is_bus_element (asked_name asked) && not (is_bus (asked_name asked))
+
+-- everything that one policy permits the other permits
+abbrev pub Within : Policy → Policy → Type 0
+Within a b = (asked : Asked) → is_request asked ≡ true → permits a asked ≡ true → permits b asked ≡ true
