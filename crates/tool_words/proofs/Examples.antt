@@ -1,7 +1,7 @@
 -- Worked examples of the words that a command takes.
 use Rattle.std.proofs.Common.{◌≡◌, List, [], ◌∷◌, Option, Some, None, codes, map, refl}
 use Rattle.clap.specs.Words.{Text}
-use Rattle.tool_words.specs.Tools.{replay_places, explain_places, twin_places, sample_places, taken}
+use Rattle.tool_words.specs.Tools.{replay_places, explain_places, twin_places, sample_places, within_places, audit_places, suggest_places, more_recordings, taken, taken_with}
 use Rattle.tool_words.proofs.OnLiterals.{words_on_literals}
 
 abbrev replay : List Text → Option (List Text)
@@ -37,3 +37,27 @@ recordings = refl
 draws : taken (codes "sample") sample_places (codes "sample" ∷ codes "3" ∷ codes "1" ∷ []) ≡ Some (codes "3" ∷ codes "1" ∷ [])
 unfolding words_on_literals
 draws = refl
+
+policies : taken (codes "within") within_places (codes "within" ∷ codes "a" ∷ codes "b" ∷ []) ≡ Some (codes "a" ∷ codes "b" ∷ [])
+unfolding words_on_literals
+policies = refl
+
+-- one recording or more, up to 16
+abbrev audit : List Text → Option (List Text)
+audit words = taken_with (codes "audit") audit_places more_recordings (codes "audit" ∷ codes "p" ∷ words)
+
+abbrev same : List Text → List Text
+same words = codes "r" ∷ codes "r" ∷ codes "r" ∷ codes "r" ∷ codes "r" ∷ codes "r" ∷ codes "r" ∷ codes "r" ∷ words
+
+many_recordings : map audit ([] ∷ (codes "a" ∷ []) ∷ (codes "a" ∷ codes "b" ∷ codes "a" ∷ []) ∷ same (same []) ∷ same (same (codes "r" ∷ [])) ∷ (codes "-h" ∷ []) ∷ (codes "--" ∷ codes "-h" ∷ []) ∷ [])
+    ≡ None ∷ Some (codes "p" ∷ codes "a" ∷ []) ∷ Some (codes "p" ∷ codes "a" ∷ codes "b" ∷ codes "a" ∷ []) ∷ Some (codes "p" ∷ same (same [])) ∷ None ∷ None ∷ Some (codes "p" ∷ codes "-h" ∷ []) ∷ []
+unfolding words_on_literals
+many_recordings = refl
+
+abbrev suggest : List Text → Option (List Text)
+suggest words = taken_with (codes "suggest") suggest_places more_recordings (codes "suggest" ∷ words)
+
+recordings_alone : map suggest ([] ∷ (codes "a" ∷ []) ∷ (codes "a" ∷ codes "b" ∷ []) ∷ same (same []) ∷ same (same (codes "r" ∷ [])) ∷ [])
+    ≡ None ∷ Some (codes "a" ∷ []) ∷ Some (codes "a" ∷ codes "b" ∷ []) ∷ Some (same (same [])) ∷ None ∷ []
+unfolding words_on_literals
+recordings_alone = refl

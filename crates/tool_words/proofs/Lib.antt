@@ -4,3 +4,4 @@ mod Walking
 mod OneWordEach
 mod Examples
 pub mod OnLiterals
+mod Places

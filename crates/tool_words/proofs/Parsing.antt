@@ -2,11 +2,11 @@
 use Rattle.std.proofs.Common.{◌≡◌, ◌∙◌, ◌&&◌, Bool, true, false, IsTrue, ◌↔◌, List, [], ◌∷◌, Option, None, Result, Ok, Err, IfOk, ap, refl, sym, inl, inr, subst}
 use Rattle.std.proofs.lemmas.Bool.{true≢false, false≢true}
 use Rattle.std.proofs.lemmas.Result.{IfOk-weaker}
-use Rattle.clap.specs.Words.{App, Text, HasKind, HasMatchesOf, FailsBy, Kinds, fault_of, found_of, is_simple, is_simple_and_free, kind_of, matches_of, rows_of}
+use Rattle.clap.specs.Words.{App, Row, Text, HasKind, HasMatchesOf, FailsBy, Kinds, fault_of, found_of, is_simple, is_simple_and_free, kind_of, matches_of, rows_of}
 use Rattle.clap.specs.declared.error.Error.{Error}
 use Rattle.clap.specs.declared.error.kind.ErrorKind.TheVariants.{OutOfMemory}
 use Rattle.clap.specs.declared.parser.matches.ArgMatches.{ArgMatches}
-use Rattle.tool_words.specs.Tools.{Parses, command_of, taken, unless_faulty, words_at}
+use Rattle.tool_words.specs.Tools.{Parses, taken_by, unless_faulty}
 
 -- ---- what a parse gives
 
@@ -15,11 +15,11 @@ left_of true b both = refl
 left_of false b both = both
 
 -- what the parse of a simple command gives
-pub parsed : (name : Text) (places words : List Text) (command : App) (parse : Result ArgMatches Error) → command ≡ command_of name places
-    → is_simple_and_free (command_of name places) ≡ true
+pub parsed : (plain : App) (words : List Text) (command : App) (parse : Result ArgMatches Error) → command ≡ plain
+    → is_simple_and_free plain ≡ true
     → (is_simple_and_free command ≡ true → FailsBy (fault_of command words) parse)
-    → IfOk parse (HasMatchesOf command words) → Parses name places words parse
-parsed name places words command parse is simple fails finds =
+    → IfOk parse (HasMatchesOf command words) → Parses plain words parse
+parsed plain words command parse is simple fails finds =
     let same : is_simple_and_free command ≡ true = ap is_simple_and_free is ∙ simple in
     record {
       fails = subst (λ (a : App). FailsBy (fault_of a words) parse) is (fails same);
@@ -32,15 +32,13 @@ none_found [] found e (inr among) other = absurd among
 none_found (kind ∷ kinds) found e h other = refl
 
 -- where a parse fails for another cause than memory, the command doesn't take the words
-pub not_taken : (name : Text) (places words : List Text) (e : Error) (is_memory : Bool) → Parses name places words (Err e) → IsTrue is_memory ↔ (kind_of e ≡ OutOfMemory) → is_memory ≡ false
-    → None ≡ taken name places words
-unfolding taken
-not_taken name places words e true parse means is = absurd (true≢false is)
-not_taken name places words e false parse means is = none_found _ _ e parse.fails (λ memory. false≢true (means.1 memory))
+pub not_taken : (command : App) (found : List Row → Option (List Text)) (words : List Text) (e : Error) (is_memory : Bool) → Parses command words (Err e) → IsTrue is_memory ↔ (kind_of e ≡ OutOfMemory)
+    → is_memory ≡ false → None ≡ taken_by command found words
+not_taken command found words e true parse means is = absurd (true≢false is)
+not_taken command found words e false parse means is = none_found _ _ e parse.fails (λ memory. false≢true (means.1 memory))
 
 -- where a parse doesn't fail, the command takes the words, and they stand where it found them
-pub is_taken : (name : Text) (places words : List Text) (m : ArgMatches) (found : Option (List Text)) → Parses name places words (Ok m) → found ≡ words_at places (rows_of (found_of m))
-    → found ≡ taken name places words
-unfolding taken
-is_taken name places words m found parse is = is ∙ (ap (words_at places) parse.finds
-    ∙ ap (λ (kinds : Kinds). unless_faulty kinds (words_at places (matches_of (command_of name places) words))) (sym parse.fails))
+pub is_taken : (command : App) (found : List Row → Option (List Text)) (words : List Text) (m : ArgMatches) → Parses command words (Ok m)
+    → found (rows_of (found_of m)) ≡ taken_by command found words
+is_taken command found words m parse = ap found parse.finds
+    ∙ ap (λ (kinds : Kinds). unless_faulty kinds (found (matches_of command words))) (sym parse.fails)

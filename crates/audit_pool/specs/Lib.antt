@@ -1,0 +1,1 @@
+-- No definitions: what a job may answer is stated by the job.
