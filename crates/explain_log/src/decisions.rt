@@ -13,13 +13,13 @@ pub(crate) fn entry_number(decision: Decision) -> u32
     match decision {
         Decision::Judged(Verdict::Ping(_, reason))
         | Decision::Judged(Verdict::Drop(reason))
-        | Decision::Shown(Showing::Hide(reason)) => reason_number(reason),
+        | Decision::Shown(Showing::Hide(reason)) => reason_entry_number(reason),
         _ => 0,
     }
 }
 
 /// The number of the entry on which a reason rests, 0 where it rests on none.
-fn reason_number(reason: Reason) -> u32
+pub fn reason_entry_number(reason: Reason) -> u32
     ensures { result ≡ reason_entry reason }
 {
     match reason {
@@ -28,8 +28,8 @@ fn reason_number(reason: Reason) -> u32
     }
 }
 
-/// The name of a reason and a space.
-fn reason_word(reason: Reason) -> &'static str
+/// The name of a reason, and a space.
+pub fn reason_word(reason: Reason) -> &'static str
     ensures { result.now ≡ reason_name reason ++ codes " " }
 {
     match reason {
@@ -75,7 +75,12 @@ fn reason_pieces<'a>(
     ensures { flat_map (λ piece. piece.now) result ≡ word.now ++ reason_words reason ++ answer.now }
 {
     let name: &'a str = reason_word(reason);
-    [word, name, number.format(reason_number(reason)), answer]
+    [
+        word,
+        name,
+        number.format(reason_entry_number(reason)),
+        answer,
+    ]
 }
 
 /// A space and the verdict on a message of the client.

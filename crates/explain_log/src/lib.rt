@@ -18,6 +18,7 @@ ghost use Rattle.policy_view.specs.declared.Side.{Side};
 ghost use Rattle.explain_log.specs.Laws.{SpeakOf, TellsMessage};
 
 pub use buffer::{LONG, LineBuffer};
+pub use decisions::{reason_entry_number, reason_word};
 pub use lines::{entry_line, line, push_line};
 
 /// The line of a note tells the message that the note's frame spells.

@@ -4,7 +4,7 @@ use Rattle.policy_args.specs.declared.Level.{Level}
 use Rattle.policy_args.specs.declared.Level.TheVariants.{None as NoLevel, See, Talk, Own}
 use Rattle.policy_args.specs.declared.entry.Entry.{Entry}
 use Rattle.policy_args.specs.Policy.{given_by, greater}
-use Rattle.policy_args.specs.LevelIndex.{greatest}
+use Rattle.policy_args.specs.NameIndex.{greatest}
 use Rattle.policy_args.proofs.PolicyLevels.{greater-assoc}
 
 -- ---- levels

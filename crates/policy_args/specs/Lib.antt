@@ -1,8 +1,9 @@
 pub mod Addresses
+pub mod Covering
 pub mod Distinct
 pub mod Gives
-pub mod LevelIndex
 pub mod Levels
+pub mod NameIndex
 pub mod Policy
 pub mod ProxyLine
 pub mod Reading

@@ -1,12 +1,13 @@
 -- What may be asked of a name, what a policy permits of it, and when a policy permits nothing that another doesn't.
-use Rattle.std.specs.Prelude.{◌≡◌, ℕ, Bool, true, false, not, ◌&&◌, ◌||◌, List, [], ◌∷◌, codes, Option, Some, None, bytes_eq}
+use Rattle.std.specs.Prelude.{◌≡◌, Bool, true, false, not, ◌&&◌, ◌||◌, codes, Option, Some, None}
 use Rattle.std.specs.List.{list_any}
-use Rattle.call_rules.specs.Properties.{PropertyRule, property_matches}
-use Rattle.call_rules.specs.Rules.{Rule, matches}
+use Rattle.call_rules.specs.Properties.{property_matches}
+use Rattle.call_rules.specs.Rules.{matches}
 use Rattle.dbus_names.specs.Names.{are_two_joined, is_bus, is_bus_element}
 use Rattle.dbus_names.specs.Texts.{Text}
 use Rattle.name_patterns.specs.Patterns.{covers}
-use Rattle.policy_args.specs.Policy.{Policy, at_least, level}
+use Rattle.policy_args.specs.Policy.{Policy, at_least, given_by, level}
+use Rattle.policy_args.specs.declared.Level.{Level}
 use Rattle.policy_args.specs.declared.Level.TheVariants.{See, Talk, Own}
 use Rattle.policy_args.specs.declared.entry.Grant.{Grant}
 use Rattle.policy_args.specs.declared.entry.Grant.TheVariants.{See as to_see, Talk as to_talk, Own as to_own, Call as to_call, Broadcast as to_broadcast, Property as to_property}
@@ -80,6 +81,30 @@ permits policy (Owner name) = at_least See (level policy name)
 permits policy (Broadcast name path interface member) = at_least Talk (level policy name) || has_entry policy name (broadcasts path interface member)
 permits policy (Property name path interface access) =
     may_call policy name path (Some properties_interface) (access_member access) || has_entry policy name (accesses path interface (access_property access))
+
+-- ---- what one grant permits of the names that its entry covers
+
+-- the level that permits the request without a rule
+abbrev pub level_asked : Asked → Level
+level_asked (Call name path interface member) = Talk
+level_asked (Signal name) = Talk
+level_asked (OwnName name) = Own
+level_asked (Owner name) = See
+level_asked (Broadcast name path interface member) = Talk
+level_asked (Property name path interface access) = Talk
+
+-- the grant's rule matches the request, or the call by which it is made
+abbrev pub rule_matches : Asked → Grant → Bool
+rule_matches (Call name path interface member) grant = calls path interface member grant
+rule_matches (Signal name) grant = false
+rule_matches (OwnName name) grant = false
+rule_matches (Owner name) grant = false
+rule_matches (Broadcast name path interface member) grant = broadcasts path interface member grant
+rule_matches (Property name path interface access) grant =
+    calls path (Some properties_interface) (access_member access) grant || accesses path interface (access_property access) grant
+
+abbrev pub grant_permits : Grant → Asked → Bool
+grant_permits grant asked = at_least (level_asked asked) (given_by grant) || rule_matches asked grant
 
 -- ---- requests
 

@@ -4,15 +4,21 @@ ghost use Rattle.call_rules.specs.Properties.{property_rule_of};
 ghost use Rattle.call_rules.specs.Rules.{rule_of};
 ghost use Rattle.policy_args.specs.Gives.{StepGives};
 ghost use Rattle.policy_args.specs.Policy.{given_by};
+ghost use Rattle.policy_args.specs.Requests.{accesses, broadcasts, calls, grant_permits, rule_matches};
 ghost use Rattle.policy_args.specs.Steps.{name_and_rule, name_before, rule_behind};
 ghost use Rattle.policy_args.specs.Words.{behind as behind_front, entry_of, name_entry, rule_entry};
 ghost use Rattle.policy_args.specs.declared.entry.Grant.TheVariants.{Call as to_call, Broadcast as to_broadcast, Property as to_property};
 
 use crate::refusals::WordRefusal;
+use crate::requests::Asked;
 use crate::{Level, WordKind};
 use call_rules::{PropertyRule, Rule};
+use dbus_names::Name;
 use name_patterns::{BadPattern, Pattern};
 use std::alloc::Global;
+
+// The interface whose methods read and set properties (D-Bus Specification, "org.freedesktop.DBus.Properties").
+const PROPERTIES: &str = "org.freedesktop.DBus.Properties";
 
 /// What an entry lets be done with the names that its pattern covers (xdg-dbus-proxy(1),
 /// "Options").
@@ -42,6 +48,83 @@ impl Grant {
             Grant::Talk => Level::Talk,
             Grant::Own => Level::Own,
         }
+    }
+
+    /// Whether the grant permits, by itself, a request of a name that its entry covers.
+    pub fn permits(&self, asked: &Asked) -> bool
+        ensures { result ≡ grant_permits self.now asked.now }
+    {
+        self.level().is_at_least(asked.level()) || self.matches(asked)
+    }
+
+    // Whether the grant's rule matches a request, or the call by which it is made.
+    pub(crate) fn matches(&self, asked: &Asked) -> bool
+        ensures { result ≡ rule_matches asked.now self.now }
+    {
+        match asked {
+            Asked::Call {
+                path,
+                interface,
+                member,
+                ..
+            } => self.calls(path.as_str(), text_of(interface), member.as_str()),
+            Asked::Broadcast {
+                path,
+                interface,
+                member,
+                ..
+            } => self.broadcasts(path.as_str(), interface.as_str(), member.as_str()),
+            Asked::Property {
+                path,
+                interface,
+                access,
+                ..
+            } => {
+                self.calls(path.as_str(), Some(PROPERTIES), access.member())
+                    || self.accesses(path.as_str(), interface.as_str(), access.property())
+            }
+            Asked::Signal(_) | Asked::Own(_) | Asked::Owner(_) => false,
+        }
+    }
+
+    // Whether the grant's rule matches a call.
+    fn calls(&self, path: &str, interface: Option<&str>, member: &str) -> bool
+        ensures { result ≡ calls path.now (option_map (λ i. i.now) interface.entry) member.now self.now }
+    {
+        match self {
+            Grant::Call(rule) => rule.matches(path, interface, member),
+            _ => false,
+        }
+    }
+
+    // The same of a broadcast.
+    fn broadcasts(&self, path: &str, interface: &str, member: &str) -> bool
+        ensures { result ≡ broadcasts path.now interface.now member.now self.now }
+    {
+        match self {
+            Grant::Broadcast(rule) => rule.matches(path, Some(interface), member),
+            _ => false,
+        }
+    }
+
+    // The same of a request of a property, or of all properties of the interface if none is given.
+    fn accesses(&self, path: &str, interface: &str, property: Option<&str>) -> bool
+        ensures { result ≡ accesses path.now interface.now (option_map (λ p. p.now) property.entry) self.now }
+    {
+        match self {
+            Grant::Property(rule) => rule.matches(path, interface, property),
+            _ => false,
+        }
+    }
+}
+
+// The text of a name.
+fn text_of(name: &Option<Name>) -> Option<&str>
+    ensures { option_map (λ text. text.now) result ≡ name.now }
+{
+    match name {
+        Some(name) => Some(name.as_str()),
+        None => None,
     }
 }
 

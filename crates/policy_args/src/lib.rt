@@ -8,11 +8,12 @@ ghost use Rattle.std.specs.Prelude.{◌≡◌};
 ghost use Rattle.policy_args.specs.Policy.{at_least, greater};
 
 mod address;
+mod covering;
 mod entry;
 mod fact;
 mod laws;
-mod levels;
 mod line;
+mod name_index;
 mod options;
 mod patterns;
 mod policy;
@@ -20,9 +21,13 @@ mod refusals;
 mod requests;
 mod words;
 
+pub use covering::Covering;
 pub use entry::{Entry, Grant};
 pub use fact::Fact;
-pub use laws::{entries_have_one_word, words_give_their_entries};
+pub use laws::{
+    covering_numbers_find_entries, covering_numbers_have_entries, entries_have_one_word,
+    permits_by_entries, within_itself, within_through, words_give_their_entries,
+};
 pub use line::{Block, ProxyLine, read_line};
 pub use options::{Options, read_options};
 pub use policy::Policy;

@@ -3,14 +3,18 @@ ghost use Rattle.std.specs.Prelude.{◌≡◌, ◌≤◌, ◌-◌, ◌==◌, ℕ
 ghost use Rattle.std.specs.List.{list_any};
 ghost use Rattle.dbus_names.specs.Names.{is_unique};
 ghost use Rattle.name_patterns.specs.Patterns.{covers};
+ghost use Rattle.policy_args.specs.Covering.{AreCovering};
 ghost use Rattle.policy_args.specs.Gives.{StepGives};
 ghost use Rattle.policy_args.specs.Policy.{entry_word, granted as granted_by, level, patterns_of, policy_of};
+ghost use Rattle.policy_args.specs.Requests.{asked_name, has_entry, permits, rule_matches};
 ghost use Rattle.policy_args.specs.Steps.{with_one_more};
 
+use crate::covering::Covering;
 use crate::entry::Entry;
-use crate::levels::LevelIndex;
+use crate::name_index::NameIndex;
 use crate::patterns::Patterns;
 use crate::refusals::WordRefusal;
+use crate::requests::Asked;
 use crate::{Level, WordKind};
 use dbus_names::is_bus;
 use indexmap::IndexSet;
@@ -33,7 +37,7 @@ pub struct Policy {
     words: IndexSet<String>,
     entries: Vec<Entry>,
     patterns: Patterns,
-    levels: LevelIndex,
+    index: NameIndex,
     sloppy: bool,
     known_fields: bool,
 }
@@ -44,14 +48,14 @@ impl Model for Policy {
     ghost use Rattle.std.specs.List.{list_all};
     ghost use Rattle.name_patterns.specs.Patterns.{is_pattern};
     ghost use Rattle.policy_args.specs.Distinct.{AreOf};
-    ghost use Rattle.policy_args.specs.LevelIndex.{IsIndexOf};
+    ghost use Rattle.policy_args.specs.NameIndex.{IsIndexOf};
     ghost use Rattle.policy_args.specs.Policy.{Policy as PolicyValue, entry_word, policy_with};
 
     ghost Value = { PolicyValue };
 
     ghost view = { λ p. policy_with p.entries.items p.sloppy p.known_fields };
 
-    ghost invariant = { λ p. (map (λ k. string_bytes k) p.words.keys ≡ map entry_word p.entries.items) × (length p.entries.items ≤ 65535) × (AreOf p.entries.items p.patterns) × (list_all (λ e. is_pattern e.pattern) p.entries.items ≡ true) × (IsIndexOf p.entries.items p.levels) };
+    ghost invariant = { λ p. (map (λ k. string_bytes k) p.words.keys ≡ map entry_word p.entries.items) × (length p.entries.items ≤ 65535) × (AreOf p.entries.items p.patterns) × (list_all (λ e. is_pattern e.pattern) p.entries.items ≡ true) × (IsIndexOf p.entries.items p.index) };
 }
 
 impl Policy {
@@ -63,7 +67,7 @@ impl Policy {
             words: IndexSet::new(alloc),
             entries: Vec::new(alloc),
             patterns: Patterns::new(alloc),
-            levels: LevelIndex::new(alloc),
+            index: NameIndex::new(alloc),
             sloppy: false,
             known_fields: false,
         }
@@ -178,7 +182,7 @@ impl Policy {
         if self.entries.len() <= FEW_ENTRIES {
             self.granted_in_pass(name)
         } else {
-            self.levels.granted(name)
+            self.index.granted(name)
         }
     }
 
@@ -193,6 +197,32 @@ impl Policy {
             }
         }
         level
+    }
+
+    /// The numbers of all entries that cover the name, each once, in any order. It takes no memory.
+    pub fn covering<'a>(&'a self, name: &'a str) -> Covering<'a>
+        ensures { AreCovering self.entry.now.entries name.entry.now result }
+    {
+        Covering::new(&self.index, name)
+    }
+
+    /// Whether the policy permits a request. It takes no memory.
+    pub fn permits(&self, asked: &Asked) -> bool
+        ensures { result ≡ permits self.now asked.now }
+    {
+        self.level(asked.name()).is_at_least(asked.level()) || self.has_rule(asked)
+    }
+
+    // Whether an entry that covers the name has a rule that matches the request.
+    fn has_rule(&self, asked: &Asked) -> bool
+        ensures { result ≡ has_entry self.now (asked_name asked.now) (rule_matches asked.now) }
+    {
+        for number in self.covering(asked.name()) {
+            if self.entry(number).grant.matches(asked) {
+                return true;
+            }
+        }
+        false
     }
 
     /// No entry covers a unique name: what an entry names has elements of well-known names alone.
@@ -217,10 +247,10 @@ impl Policy {
         let word = String::from_str(alloc, word)?;
         self.entries.reserve(1)?;
         self.words.reserve(1)?;
-        self.levels.make_room(alloc, entry.pattern.name())?;
+        self.index.make_room(alloc, &entry.pattern)?;
         let number = self.entries.len() as u32 + 1;
         self.patterns.add(alloc, &entry.pattern, number)?;
-        self.levels.add(&entry);
+        self.index.add(&entry, number);
         match self.words.insert(word) {
             Ok(_) => {}
             Err(_) => unreachable!(),

@@ -1,4 +1,8 @@
 //! What may be asked of a name.
+ghost use Rattle.std.specs.Prelude.{◌≡◌, option_map};
+ghost use Rattle.policy_args.specs.Requests.{access_member, access_property, asked_name, level_asked};
+
+use crate::Level;
 use dbus_names::Name;
 
 /// How properties of an interface are asked for (D-Bus Specification, "org.freedesktop.DBus.Properties").
@@ -42,4 +46,57 @@ pub enum Asked {
         interface: Name,
         access: Access,
     },
+}
+
+impl Access {
+    // The method that is called.
+    pub(crate) fn member(&self) -> &str
+        ensures { result.now ≡ access_member self.now }
+    {
+        match self {
+            Access::Get(_) => "Get",
+            Access::Set(_) => "Set",
+            Access::GetAll => "GetAll",
+        }
+    }
+
+    // The property that is named.
+    pub(crate) fn property(&self) -> Option<&str>
+        ensures { option_map (λ p. p.now) result ≡ access_property self.now }
+    {
+        match self {
+            Access::Get(property) | Access::Set(property) => Some(property.as_str()),
+            Access::GetAll => None,
+        }
+    }
+}
+
+impl Asked {
+    /// The name of which it is asked.
+    pub fn name(&self) -> &str
+        ensures { result.now ≡ asked_name self.now }
+    {
+        match self {
+            Asked::Call { name, .. }
+            | Asked::Signal(name)
+            | Asked::Own(name)
+            | Asked::Owner(name)
+            | Asked::Broadcast { name, .. }
+            | Asked::Property { name, .. } => name.as_str(),
+        }
+    }
+
+    // The level that permits the request without a rule.
+    pub(crate) fn level(&self) -> Level
+        ensures { result ≡ level_asked self.now }
+    {
+        match self {
+            Asked::Call { .. }
+            | Asked::Signal(_)
+            | Asked::Broadcast { .. }
+            | Asked::Property { .. } => Level::Talk,
+            Asked::Own(_) => Level::Own,
+            Asked::Owner(_) => Level::See,
+        }
+    }
 }

@@ -2,7 +2,7 @@ use Rattle.std.proofs.Common.{◌≡◌, ◌+◌, List, ◌∷◌, ◌++◌, [],
 use Rattle.std.specs.String.{string_eq}
 use Rattle.indexmap.specs.IndexSet.{insert_key}
 use Rattle.policy_args.specs.Distinct.{AreOf, Distinct, noted, pattern_key}
-use Rattle.policy_args.specs.LevelIndex.{IsIndexOf}
+use Rattle.policy_args.specs.NameIndex.{IsIndexOf}
 use Rattle.policy_args.specs.declared.entry.Entry.{Entry}
 use Rattle.std.specs.List.{list_all}
 use Rattle.name_patterns.specs.Patterns.{is_pattern}
@@ -36,7 +36,7 @@ invariant_of-self-2 c =
           (subst (λ (es : List Entry). AreOf es (noted c.self.inside.patterns (pattern_key c.args.entry.pattern) (length entries + 1))) (sym pushed)
           (still-of entries c.args.entry c.self.inside.patterns c.self.invariant.2)),
       ap (list_all (λ e. is_pattern e.pattern)) pushed ∙ all-last (λ e. is_pattern e.pattern) entries c.args.entry c.self.invariant.3 c.in_ok-add.ensures.grammar,
-      subst (λ (es : List Entry). IsIndexOf es c.add-2.new.self) (sym pushed) (c.add-2.ensures entries (c.make_room.ensures.same entries c.self.invariant.4)),
+      subst (λ (es : List Entry). IsIndexOf es c.add-2.new.self) (sym pushed) (c.add-2.ensures entries (c.make_room.ensures.same entries c.self.invariant.4) (ap (λ n. n + 1) counted)),
     )
 
 pub returns-clause-exact : goal.returns-clause-exact

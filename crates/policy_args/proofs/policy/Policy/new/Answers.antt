@@ -3,7 +3,7 @@ use Rattle.std.specs.List.{list_all}
 use Rattle.name_patterns.specs.Patterns.{is_pattern}
 use Rattle.policy_args.specs.Policy.{entry_word, patterns_of}
 use Rattle.policy_args.specs.Distinct.{AreOf, no_patterns}
-use Rattle.policy_args.specs.LevelIndex.{IsIndexOf}
+use Rattle.policy_args.specs.NameIndex.{IsIndexOf}
 use Rattle.policy_args.specs.declared.entry.Entry.{Entry}
 use Rattle.policy_args.proofs.policy.Policy.new.Goals as goal
 

@@ -1,9 +1,9 @@
 use Rattle.std.proofs.Common.{◌≡◌, List, length}
 use Rattle.policy_args.specs.declared.entry.Entry.{Entry}
 use Rattle.policy_args.specs.Policy.{granted, greater}
-use Rattle.policy_args.specs.LevelIndex.{IsIndexOf, greatest}
-use Rattle.policy_args.proofs.LevelFronts.{is_below}
-use Rattle.policy_args.proofs.levels.LevelIndex.granted.Given as goal
+use Rattle.policy_args.specs.NameIndex.{IsIndexOf, greatest}
+use Rattle.policy_args.proofs.NameFronts.{is_below}
+use Rattle.policy_args.proofs.name_index.NameIndex.granted.Given as goal
 use denote.Shadow.{shadow}
 use denote.Text.{Utf8}
 

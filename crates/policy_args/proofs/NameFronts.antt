@@ -11,9 +11,9 @@ use Rattle.dbus_names.specs.Texts.{begins_with}
 use Rattle.name_patterns.specs.Patterns.{covers}
 use Rattle.policy_args.specs.declared.Level.{Level}
 use Rattle.policy_args.specs.declared.entry.Entry.{Entry}
-use Rattle.policy_args.specs.declared.levels.LevelIndex.{LevelIndex}
+use Rattle.policy_args.specs.declared.name_index.NameIndex.{NameIndex}
 use Rattle.policy_args.specs.Policy.{given_by, granted, greater}
-use Rattle.policy_args.specs.LevelIndex.{IsIndexOf, greatest, is_for_name, is_for_subtree, levels_at}
+use Rattle.policy_args.specs.NameIndex.{IsIndexOf, greatest, is_for_name, is_for_subtree, kept_at}
 use Rattle.policy_args.proofs.PolicyLevels.{greater-assoc}
 use Rattle.policy_args.proofs.LevelJoins.{greater-none, greatest-none, greatest-or, greatest-same}
 
@@ -23,7 +23,7 @@ use Rattle.policy_args.proofs.LevelJoins.{greater-none, greatest-none, greatest-
 pub record HasNoDot (text : List ℕ) : Type 0 where
   pub at : (i : ℕ) → i < length text → get_or text i 0 ≢ 46
 
-behind-first : (c : ℕ) (text : List ℕ) → HasNoDot (c ∷ text) → HasNoDot text
+pub behind-first : (c : ℕ) (text : List ℕ) → HasNoDot (c ∷ text) → HasNoDot text
 behind-first c text none = record { at = λ i within. none.at (suc i) (omega arith) }
 
 begins-no_dot : (front text : List ℕ) → HasNoDot text → begins_with (front ++ 46 ∷ []) text ≡ false
@@ -71,7 +71,7 @@ front-shorter text front cut = omega (arith, ap length cut.whole, length-append 
 abbrev pub is_below : List ℕ → Entry → Bool
 is_below name e = not e.pattern.exact && begins_with (e.pattern.name ++ 46 ∷ []) name
 
-covers-parts : (name : List ℕ) (e : Entry) → covers e.pattern name ≡ ((is_for_name name e || is_for_subtree name e) || is_below name e)
+pub covers-parts : (name : List ℕ) (e : Entry) → covers e.pattern name ≡ ((is_for_name name e || is_for_subtree name e) || is_below name e)
 covers-parts name e = by e.pattern.exact (bytes_eq name e.pattern.name) (begins_with (e.pattern.name ++ 46 ∷ []) name)
   where
     by : (exact same below : Bool) → (same || (not exact && below)) ≡ (((exact && same) || (not exact && same)) || (not exact && below))
@@ -97,11 +97,11 @@ granted-is (e ∷ es) name = ap (λ l. if covers e.pattern name then greater (gi
 pub granted-all : (es : List Entry) (text : List ℕ) (level : Level) → HasNoDot text → greater level (greatest (is_below text) es) ≡ level
 granted-all es text level none = ap (greater level) (greatest-none (is_below text) es (below-none text none)) ∙ greater-none level
 
-module _ (es : List Entry) (index : LevelIndex) (is : IsIndexOf es index) where
+module _ (es : List Entry) (index : NameIndex) (is : IsIndexOf es index) where
   -- the whole name
-  pub granted-whole : (name : List ℕ) → greater (greater (levels_at index name).exact (levels_at index name).subtree) (greatest (is_below name) es) ≡ granted es name
+  pub granted-whole : (name : List ℕ) → greater (greater (kept_at index name).levels.exact (kept_at index name).levels.subtree) (greatest (is_below name) es) ≡ granted es name
   granted-whole name =
-      ap (λ l. greater (greater l.exact l.subtree) (greatest (is_below name) es)) (is.says name)
+      ap (λ k. greater (greater k.levels.exact k.levels.subtree) (greatest (is_below name) es)) (is.says name)
       ∙ ap (λ l. greater l (greatest (is_below name) es)) (sym (greatest-or (is_for_name name) (is_for_subtree name) es))
       ∙ sym (greatest-or (λ e. is_for_name name e || is_for_subtree name e) (is_below name) es)
       ∙ sym (greatest-same (λ e. covers e.pattern name) (λ e. (is_for_name name e || is_for_subtree name e) || is_below name e) es (covers-parts name))
@@ -109,9 +109,9 @@ module _ (es : List Entry) (index : LevelIndex) (is : IsIndexOf es index) where
 
   -- one front more
   pub granted-front : (text front : List ℕ) (level : Level) → IsBeforeLastDot text front →
-      greater (greater level (levels_at index front).subtree) (greatest (is_below front) es) ≡ greater level (greatest (is_below text) es)
+      greater (greater level (kept_at index front).levels.subtree) (greatest (is_below front) es) ≡ greater level (greatest (is_below text) es)
   granted-front text front level cut =
-      greater-assoc level (levels_at index front).subtree (greatest (is_below front) es)
-      ∙ ap (λ l. greater level (greater l.subtree (greatest (is_below front) es))) (is.says front)
+      greater-assoc level (kept_at index front).levels.subtree (greatest (is_below front) es)
+      ∙ ap (λ k. greater level (greater k.levels.subtree (greatest (is_below front) es))) (is.says front)
       ∙ ap (greater level) (sym (greatest-or (is_for_subtree front) (is_below front) es)
       ∙ sym (greatest-same (is_below text) (λ e. is_for_subtree front e || is_below front e) es (below-cut text front cut)))

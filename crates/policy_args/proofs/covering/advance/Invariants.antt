@@ -1,0 +1,12 @@
+use Rattle.std.proofs.Common.{◌≡◌, ◌++◌, option_map}
+use Rattle.policy_args.specs.NameIndex.{numbers_below, texts_left}
+use Rattle.policy_args.specs.Steps.{bytes_left}
+use Rattle.policy_args.proofs.covering.advance.Given as goal
+
+abbrev pub invariant-loop-left : goal.invariant-loop-left
+invariant-loop-left l =
+    l.found ++ numbers_below l.index (texts_left (option_map (λ t. t.now) l.left))
+    ≡ l.fn.found ++ numbers_below l.index (texts_left (option_map (λ t. t.now) l.fn.left))
+
+abbrev pub decreases-loop-left : goal.decreases-loop-left
+decreases-loop-left l = bytes_left (option_map (λ t. t.now) l.left)
