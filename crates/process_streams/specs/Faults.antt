@@ -15,7 +15,9 @@ use Rattle.process_streams.specs.declared.faults.ProcessFault.TheVariants.{NotTe
 
 -- the name of a tool
 abbrev pub is_tool_name : List ℕ → Bool
-is_tool_name word = bytes_eq word (codes "replay") || bytes_eq word (codes "explain") || bytes_eq word (codes "twin") || bytes_eq word (codes "sample")
+is_tool_name word =
+    bytes_eq word (codes "replay") || bytes_eq word (codes "explain") || bytes_eq word (codes "twin") || bytes_eq word (codes "sample")
+    || bytes_eq word (codes "audit") || bytes_eq word (codes "within") || bytes_eq word (codes "suggest")
 
 -- whether the first of these words names a tool
 abbrev pub begins_tool : List (List ℕ) → Bool

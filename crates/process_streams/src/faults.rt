@@ -68,7 +68,10 @@ fn begins_tool(words: &[String]) -> bool
 pub fn is_tool_name(word: &str) -> bool
     ensures { result ≡ is_name word.now }
 {
-    word == "replay" || word == "explain" || word == "twin" || word == "sample"
+    matches!(
+        word,
+        "replay" | "explain" | "twin" | "sample" | "audit" | "within" | "suggest"
+    )
 }
 
 /// The line of a word of a proxy line that isn't UTF-8.

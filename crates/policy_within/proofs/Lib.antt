@@ -1,0 +1,15 @@
+pub mod Answers
+pub mod Apart
+pub mod Ascending
+pub mod Covers
+pub mod Entries
+pub mod EntryNumbers
+pub mod FreshWords
+pub mod Grants
+pub mod Lowest
+pub mod Prefixes
+pub mod RulePaths
+pub mod Rules
+pub mod Trees
+pub mod WithinExamples
+pub mod ZWordLaws

@@ -1,0 +1,5 @@
+pub mod Apart
+pub mod Elements
+pub mod Points
+pub mod Steps
+pub mod Within
