@@ -44,33 +44,34 @@ gave-played policy recording old session event n given next brings light stands 
 }
 
 -- all bytes that waited were taken
-pub none_waits : (old between new : SessionView) (n m : ℕ) → n ≡ length old.bus_side → m ≡ length between.client_side → between ≡ record old { bus_side = drop n old.bus_side } →
-    new ≡ record between { client_side = drop m between.client_side } → NothingWaits new
-none_waits old between new n m n_is m_is bus client =
-    record {
-      for_bus = ap (λ (v : SessionView). v.bus_side) (client ∙ ap (λ (v : SessionView). record v { client_side = drop m between.client_side }) bus) ∙ drop_all n old.bus_side (omega (arith, n_is));
-      for_client = ap (λ (v : SessionView). v.client_side) client ∙ drop_all m between.client_side (omega (arith, m_is));
-    }
+pub stands-let-go : (policy : Policy) (old between new : SessionView) (n m : ℕ) → n ≡ length old.bus_side → m ≡ length between.client_side → between ≡ record old { bus_side = drop n old.bus_side } →
+    ((events : List Event) (taken : Taken) → StandsFor policy old events taken → StandsFor policy between events (record taken { bus_side = taken.bus_side ++ take n old.bus_side })) →
+    ((events : List Event) (taken : Taken) → StandsFor policy between events taken → StandsFor policy new events (record taken { client_side = taken.client_side ++ take m between.client_side })) →
+    (events : List Event) (taken : Taken) → StandsFor policy old events taken →
+    StandsFor policy new events (record taken { bus_side = taken.bus_side ++ old.bus_side; client_side = taken.client_side ++ old.client_side })
+stands-let-go policy old between new n m n_is m_is bus by_bus by_client events taken stands =
+    let bus_all : take n old.bus_side ≡ old.bus_side = take_all n old.bus_side (omega (arith, n_is)) in
+    let client_all : take m between.client_side ≡ old.client_side = take_all m between.client_side (omega (arith, m_is)) ∙ ap (λ (v : SessionView). v.client_side) bus in
+    subst (λ t. StandsFor policy new events (record taken { bus_side = taken.bus_side ++ t; client_side = taken.client_side ++ old.client_side })) bus_all
+    (subst (λ t. StandsFor policy new events (record taken { bus_side = taken.bus_side ++ take n old.bus_side; client_side = taken.client_side ++ t })) client_all
+    (by_client _ _ (by_bus events taken stands)))
 
--- bytes for either side were taken
-pub gave-bus : (policy : Policy) (recording : Recording) (old : Watched) (session : SessionView) (n : ℕ) (given : List Element) → session ≡ record (old.session) { bus_side = drop n old.session.bus_side } →
-    ((events : List Event) (taken : Taken) → StandsFor policy old.session events taken → StandsFor policy session events (record taken { bus_side = taken.bus_side ++ take n old.session.bus_side })) →
-    Gave policy recording old given → Gave policy recording (record old { session = session }) given
-gave-bus policy recording old session n given view stands gave = record {
-  taken = record (gave.taken) { bus_side = gave.taken.bus_side ++ take n old.session.bus_side };
-  mode = ap (λ (v : SessionView). v.mode) view ∙ gave.mode;
-  watches = ap (λ (v : SessionView). v.watches) view ∙ gave.watches;
-  stands = stands _ gave.taken gave.stands;
-  bytes = gave.bytes;
-  visible = gave.visible;
-}
+pub view-let-go : (old between new : SessionView) (n m : ℕ) → n ≡ length old.bus_side → m ≡ length between.client_side → between ≡ record old { bus_side = drop n old.bus_side } →
+    new ≡ record between { client_side = drop m between.client_side } → new ≡ record old { bus_side = []; client_side = [] }
+view-let-go old between new n m n_is m_is bus client = client
+    ∙ ap (λ t. record between { client_side = t }) (drop_all m between.client_side (omega (arith, m_is)))
+    ∙ ap (λ (v : SessionView). record v { client_side = [] }) bus
+    ∙ ap (λ t. record old { bus_side = t; client_side = [] }) (drop_all n old.bus_side (omega (arith, n_is)))
 
-pub gave-client : (policy : Policy) (recording : Recording) (old : Watched) (session : SessionView) (n : ℕ) (given : List Element) →
-    session ≡ record (old.session) { client_side = drop n old.session.client_side } →
-    ((events : List Event) (taken : Taken) → StandsFor policy old.session events taken → StandsFor policy session events (record taken { client_side = taken.client_side ++ take n old.session.client_side })) →
+pub none_waits : (old new : SessionView) → new ≡ record old { bus_side = []; client_side = [] } → NothingWaits new
+none_waits old new view = record { for_bus = ap (λ (v : SessionView). v.bus_side) view; for_client = ap (λ (v : SessionView). v.client_side) view }
+
+pub gave-let-go : (policy : Policy) (recording : Recording) (old : Watched) (session : SessionView) (given : List Element) → session ≡ record (old.session) { bus_side = []; client_side = [] } →
+    ((events : List Event) (taken : Taken) → StandsFor policy old.session events taken →
+    StandsFor policy session events (record taken { bus_side = taken.bus_side ++ old.session.bus_side; client_side = taken.client_side ++ old.session.client_side })) →
     Gave policy recording old given → Gave policy recording (record old { session = session }) given
-gave-client policy recording old session n given view stands gave = record {
-  taken = record (gave.taken) { client_side = gave.taken.client_side ++ take n old.session.client_side };
+gave-let-go policy recording old session given view stands gave = record {
+  taken = record (gave.taken) { bus_side = gave.taken.bus_side ++ old.session.bus_side; client_side = gave.taken.client_side ++ old.session.client_side };
   mode = ap (λ (v : SessionView). v.mode) view ∙ gave.mode;
   watches = ap (λ (v : SessionView). v.watches) view ∙ gave.watches;
   stands = stands _ gave.taken gave.stands;

@@ -6,3 +6,4 @@ pub mod Explanations
 pub mod Parts
 pub mod Elements
 pub mod Twins
+pub mod NotesGiven

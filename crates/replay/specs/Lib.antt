@@ -4,3 +4,4 @@ pub mod Explained
 pub mod Twins
 pub mod Watching
 pub mod Logging
+pub mod PlayedNotes

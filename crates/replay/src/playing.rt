@@ -1,5 +1,5 @@
 //! Giving a session the events of a recording.
-ghost use Rattle.std.specs.Prelude.{◌≡◌, ◌≤◌, ◌<◌, ◌+◌, ◌*◌, ◌^◌, ◌∷◌, true, List, [], length, map, IfOk};
+ghost use Rattle.std.specs.Prelude.{◌≡◌, ◌≤◌, ◌<◌, ◌+◌, ◌*◌, ◌^◌, ◌∷◌, ◌++◌, true, false, None, List, [], length, map, IfOk, OnErr};
 ghost use Rattle.explain_log.specs.Lines.{log};
 ghost use Rattle.policy_args.specs.Policy.{Policy as PolicyValue};
 ghost use Rattle.policy_args.specs.Seen.{options_seen};
@@ -23,7 +23,7 @@ use std::alloc::{AllocError, Global};
 pub const MOST_BYTES: u64 = 1_335_229_682;
 
 /// A piece of a side's stream came.
-fn feed(session: &mut Session, policy: &Policy, side: Side, piece: &[u8])
+pub fn feed(session: &mut Session, policy: &Policy, side: Side, piece: &[u8])
     ensures bytes { BringsBytes (Bytes (side_of side) piece.now) }
     ensures stands { (events : List SessionEvent) (taken : Taken) → StandsFor policy.now session.old events taken → StandsFor policy.now session.new (Bytes (side_of side) piece.now ∷ events) taken }
     ensures light { IsLight policy.now (length piece.now) session.old session.new }
@@ -35,9 +35,10 @@ fn feed(session: &mut Session, policy: &Policy, side: Side, piece: &[u8])
 }
 
 /// A side's stream ended.
-fn finish(session: &mut Session, side: Side)
+pub fn finish(session: &mut Session, side: Side)
     ensures stands { (policy : PolicyValue) (events : List SessionEvent) (taken : Taken) → StandsFor policy session.old events taken → StandsFor policy session.new (Finished (side_of side) ∷ events) taken }
     ensures light { (policy : PolicyValue) → IsLight policy 0 session.old session.new }
+    ensures mode { session.new.mode ≡ session.old.mode }
 {
     let _ = match side {
         Side::Client => session.client_ended(),
@@ -67,6 +68,17 @@ fn play_events(session: &mut Session, policy: &Policy, events: &[Event])
     }
 }
 
+/// Lets go the bytes that wait for either side.
+pub fn let_go_bytes(session: &mut Session)
+    ensures view { session.new ≡ record session.old { bus_side = []; client_side = [] } }
+    ensures stands { (policy : PolicyValue) (events : List SessionEvent) (taken : Taken) → StandsFor policy session.old events taken → StandsFor policy session.new events (record taken { bus_side = taken.bus_side ++ session.old.bus_side; client_side = taken.client_side ++ session.old.client_side }) }
+{
+    let for_bus = session.bus_waits();
+    session.took_bus(for_bus as usize);
+    let for_client = session.client_waits();
+    session.took_client(for_client as usize);
+}
+
 /// Whether a session ended for want of memory.
 pub fn is_memory(ended: Option<End>) -> bool
     ensures { result ≡ ended_for_memory ended }
@@ -75,6 +87,17 @@ pub fn is_memory(ended: Option<End>) -> bool
         Some(End::Memory) => true,
         _ => false,
     }
+}
+
+/// Nothing more, unless the session ended for want of memory.
+pub fn none_unless_memory<T>(ended: Option<End>) -> Result<Option<T>, AllocError>
+    ensures ok { IfOk result (λ next. (next ≡ None) × (ended_for_memory ended ≡ false)) }
+    ensures err { OnErr result (ended_for_memory ended ≡ true) }
+{
+    if is_memory(ended) {
+        return Err(AllocError);
+    }
+    Ok(None)
 }
 
 /// The session of a recording, once all of its events were played; it makes notes where it is asked to, whatever the options say.

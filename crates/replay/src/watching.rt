@@ -1,13 +1,12 @@
 //! A recording of which the visible part is given element by element, as its events are played.
-ghost use Rattle.std.specs.Prelude.{◌≡◌, ◌<◌, ◌+◌, List, [], None, false, true, IfOk, IfNone, OnErr, length};
+ghost use Rattle.std.specs.Prelude.{◌≡◌, ◌<◌, ◌+◌, List, [], IfOk, IfNone, length};
 ghost use Rattle.policy_args.specs.Policy.{Policy as PolicyValue};
 ghost use Rattle.policy_view.specs.declared.visible.Visible.{Visible as Element};
-ghost use Rattle.proxy_core.specs.Sessions.{is_memory as ended_for_memory};
 ghost use Rattle.recording.specs.Recording.{Recording as RecordingValue};
 ghost use Rattle.recording.specs.Seen.{recording_seen};
 ghost use Rattle.replay.specs.Watching.{Gave, GaveNext, GaveWaiting, NothingWaits};
 
-use crate::playing::{is_memory, play_event};
+use crate::playing::{let_go_bytes, none_unless_memory, play_event};
 use policy_args::Policy;
 use policy_view::{End, Visible};
 use proxy_core::Session;
@@ -33,18 +32,6 @@ impl Watched {
         })
     }
 
-    /// Lets go the bytes that wait for either side.
-    fn let_go_bytes(&mut self)
-        ensures gave { (policy : PolicyValue) (recording : RecordingValue) (given : List Element) → Gave policy recording self.old given → Gave policy recording self.new given }
-        ensures played { self.new.played ≡ self.old.played }
-        ensures none { NothingWaits self.new.session }
-    {
-        let for_bus = self.session.bus_waits();
-        self.session.took_bus(for_bus as usize);
-        let for_client = self.session.client_waits();
-        self.session.took_client(for_client as usize);
-    }
-
     /// Plays the next event. No element of the visible part waits before, so none is held but what this event brings.
     fn play_next(&mut self, policy: &Policy, recording: &Recording)
         requires left { self.old.played < length recording.now.events.items }
@@ -55,7 +42,7 @@ impl Watched {
     {
         play_event(&mut self.session, policy, &recording.events[self.played]);
         self.played += 1;
-        self.let_go_bytes();
+        let_go_bytes(&mut self.session);
     }
 
     /// The next element that waits.
@@ -93,15 +80,4 @@ impl Watched {
     {
         self.session.ended()
     }
-}
-
-/// No element, unless the session ended for want of memory.
-fn none_unless_memory(ended: Option<End>) -> Result<Option<Visible>, AllocError>
-    ensures ok { IfOk result (λ next. (next ≡ None) × (ended_for_memory ended ≡ false)) }
-    ensures err { OnErr result (ended_for_memory ended ≡ true) }
-{
-    if is_memory(ended) {
-        return Err(AllocError);
-    }
-    Ok(None)
 }
