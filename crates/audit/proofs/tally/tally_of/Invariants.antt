@@ -1,0 +1,14 @@
+use Rattle.std.proofs.Common.{List}
+use Rattle.policy_args.specs.Seen.{options_seen}
+use Rattle.policy_view.specs.Notes.{Note}
+use Rattle.recording.specs.Seen.{recording_seen}
+use Rattle.replay.specs.PlayedNotes.{GaveNotes}
+use Rattle.audit.specs.Tallies.{TallyOf}
+use Rattle.audit.proofs.tally.tally_of.Given as goal
+
+abbrev pub invariant-loop-item : goal.invariant-loop-item
+invariant-loop-item l = record {
+  given : List Note;
+  gave : GaveNotes (options_seen l.options) (recording_seen l.recording) l.played given;
+  counted : TallyOf l.options.policy given l.tally;
+}

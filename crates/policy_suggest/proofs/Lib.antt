@@ -1,0 +1,9 @@
+pub mod Asking
+pub mod Elements
+pub mod FactsLaws
+pub mod Grammar
+pub mod Least
+pub mod SeenTargets
+pub mod SuggestExamples
+pub mod Suggested
+pub mod Ordered

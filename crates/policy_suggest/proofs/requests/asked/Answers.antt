@@ -1,0 +1,23 @@
+use Rattle.std.proofs.Common.{◌≡◌, IfOk, Option, unwrap_or, ap, ap₂, sym, ◌∙◌, subst}
+use Rattle.dbus_header.specs.Contents.{contents_of, message_of}
+use Rattle.dbus_header.specs.Read.{message_seen}
+use Rattle.dbus_header.specs.Seen.{text_seen}
+use Rattle.dbus_header.proofs.MessageBodies.{message-read}
+use Rattle.policy_args.specs.declared.requests.Asked.{Asked}
+use Rattle.policy_suggest.specs.AskedBy.{asked_by, asked_from}
+use Rattle.policy_suggest.specs.Read.{asked_in}
+use Rattle.policy_suggest.proofs.Asking.{asked-in}
+use Rattle.policy_view.specs.Notes.{message_in}
+use Rattle.policy_view.specs.Own.{ping}
+use Rattle.policy_suggest.proofs.requests.asked.Goals as goal
+
+pub returns-in-Client : goal.returns-in-Client
+returns-in-Client c =
+    let message = c.message-message.result in
+    let note = c.args.note.now in
+    let found = message-read message.bytes.now (message_seen message) message.read in
+    let held : message_in note.frame ≡ found.0 = ap (λ o. unwrap_or o ping) (ap message_of (sym c.message-message.ensures.bytes) ∙ found.1) in
+    let same : asked_in (message_seen message) (text_seen c.first_text.result) ≡ asked_by note =
+    ap₂ asked_in (c.message-message.ensures.contents ∙ ap contents_of held) (c.first_text.ensures found.0 found.1)
+    ∙ asked-in found.0 ∙ ap₂ asked_from (sym c.in-Client.is ∙ c.side.ensures) (sym held) in
+    subst (λ (o : Option Asked). IfOk c.by_message.result (λ asked. asked ≡ o)) same c.by_message.ensures

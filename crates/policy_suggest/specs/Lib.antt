@@ -1,0 +1,5 @@
+pub mod AskedBy
+pub mod Facts
+pub mod Read
+pub mod Seen
+pub mod Suggest
