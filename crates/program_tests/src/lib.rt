@@ -2,6 +2,8 @@
 #![tactic(auto)]
 
 #[cfg(test)]
+mod audits;
+#[cfg(test)]
 mod explaining;
 #[cfg(test)]
 mod files;
@@ -17,3 +19,5 @@ mod serving;
 mod texts;
 #[cfg(test)]
 mod twins;
+#[cfg(test)]
+mod withins;

@@ -5,7 +5,9 @@ use proxy_main::{HELP, VERSION};
 use std::alloc::{AllocError, Global};
 use std::test::Fail;
 use std::thread::Threads;
-use tool_words::{explain_words, replay_words, sample_words, twin_words};
+use tool_words::{
+    audit_words, explain_words, replay_words, sample_words, twin_words, within_words,
+};
 
 /// Each option of a policy file, as the help shows it, and a word of it.
 const OPTIONS: [(&str, &str); 10] = [
@@ -28,11 +30,13 @@ const OPTIONS: [(&str, &str); 10] = [
 const LINE_OPTIONS: [&str; 2] = ["--sessions=N", "--args-file=FILE"];
 
 /// Each tool with its words, and what else the program is asked for.
-const TOOLS: [&str; 6] = [
+const TOOLS: [&str; 8] = [
     "replay POLICY RECORDING",
     "explain POLICY RECORDING N",
     "twin POLICY A B",
     "sample N SEED",
+    "audit POLICY RECORDING..",
+    "within A B",
     "--help",
     "--version",
 ];
@@ -66,6 +70,8 @@ fn is_taken(alloc: Global, words: &[String]) -> Result<bool, AllocError> {
         [tool, ..] if tool.as_str() == "explain" => explain_words(alloc, words)?.is_some(),
         [tool, ..] if tool.as_str() == "twin" => twin_words(alloc, words)?.is_some(),
         [tool, ..] if tool.as_str() == "sample" => sample_words(alloc, words)?.is_some(),
+        [tool, ..] if tool.as_str() == "audit" => audit_words(alloc, words)?.is_some(),
+        [tool, ..] if tool.as_str() == "within" => within_words(alloc, words)?.is_some(),
         [tool] => tool.starts_with("--"),
         _ => false,
     })

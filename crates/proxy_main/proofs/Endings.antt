@@ -15,7 +15,7 @@ use Rattle.proxy_main.proofs.Logs.{lines_none}
 
 -- ---- an answer that agrees with another
 
-done_as : (a b : Answer) (out new_out : Option (List ℕ)) (code : ℕ) → Agrees a b → IsDone b out new_out code → IsDone a out new_out code
+pub done_as : (a b : Answer) (out new_out : Option (List ℕ)) (code : ℕ) → Agrees a b → IsDone b out new_out code → IsDone a out new_out code
 done_as a b out new_out code agrees done = λ settled.
     let is = agrees settled in
     subst (λ x. HasCode x code × IsWritten x out new_out × (code ≡ 0 → GivesOutTheSame x)) (sym is) (done (subst IsSettled is settled))
@@ -25,7 +25,7 @@ front_as a b out new_out agrees front = λ settled.
     let is = agrees settled in
     subst (λ x. (bytes : List ℕ) × HasOut x bytes × Part out new_out bytes) (sym is) (front (subst IsSettled is settled))
 
-work_as : (a b : Answer) → Agrees a b → IsWork b → IsSettled a → IsWork a
+pub work_as : (a b : Answer) → Agrees a b → IsWork b → IsSettled a → IsWork a
 work_as a b agrees work settled = subst IsWork (sym (agrees settled)) work
 
 -- ---- a replay

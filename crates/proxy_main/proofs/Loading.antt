@@ -54,7 +54,7 @@ recording_read bytes r is = ap (or_refused BadFile) is
 
 -- ---- why a run stops
 
-read_err : {A : Type 0} (t : Option (List ℕ)) (check : List ℕ → Result A Refusal) (r : Refusal) (go : A → Answer) → IfSome t (λ bytes. check bytes ≡ Err r) → Agrees (then_read t check go) (Refused r)
+pub read_err : {A : Type 0} (t : Option (List ℕ)) (check : List ℕ → Result A Refusal) (r : Refusal) (go : A → Answer) → IfSome t (λ bytes. check bytes ≡ Err r) → Agrees (then_read t check go) (Refused r)
 read_err None check r go is = λ settled. absurd settled
 read_err (Some bytes) check r go is = λ settled. ap (λ x. then_go x go) is
 
@@ -62,17 +62,17 @@ pub read_ok : {A : Type 0} (t : Option (List ℕ)) (check : List ℕ → Result 
 read_ok None check x go is = λ settled. absurd settled
 read_ok (Some bytes) check x go is = λ settled. ap (λ y. then_go y go) is
 
-agrees-then : (a b c : Answer) → Agrees a b → Agrees b c → Agrees a c
+pub agrees-then : (a b c : Answer) → Agrees a b → Agrees b c → Agrees a c
 agrees-then a b c f g = λ settled. f settled ∙ g (subst IsSettled (f settled) settled)
 
-without-path : (path : List ℕ) (told : List ℕ → Option (List ℕ)) → without path told path ≡ None
+pub without-path : (path : List ℕ) (told : List ℕ → Option (List ℕ)) → without path told path ≡ None
 without-path path told = ap (λ b. cond b None (told path)) (bytes_eq-refl path)
 
-untold-first : {A : Type 0} (t : Option (List ℕ)) (check : List ℕ → Result A Refusal) (go : A → Answer) → t ≡ None → then_read t check go ≡ Untold
+pub untold-first : {A : Type 0} (t : Option (List ℕ)) (check : List ℕ → Result A Refusal) (go : A → Answer) → t ≡ None → then_read t check go ≡ Untold
 untold-first t check go e = ap (λ u. then_read u check go) e
 
 -- the second file isn't told, and the first is as it was or isn't told either
-untold-second : {A : Type 0} (b : Bool) (t : Option (List ℕ)) (check : List ℕ → Result A Refusal) (x : A) (go : A → Answer) → IfSome t (λ bytes. check bytes ≡ Ok x) → ((y : A) → go y ≡ Untold) →
+pub untold-second : {A : Type 0} (b : Bool) (t : Option (List ℕ)) (check : List ℕ → Result A Refusal) (x : A) (go : A → Answer) → IfSome t (λ bytes. check bytes ≡ Ok x) → ((y : A) → go y ≡ Untold) →
     then_read (cond b None t) check go ≡ Untold
 untold-second true t check x go is none = refl
 untold-second false None check x go is none = refl
@@ -105,7 +105,7 @@ stops_recording told t p r o stop.Memory ok same is = tt
 -- ---- the files of a comparison
 
 -- a refusal of a file is one whatever the words
-of_file : (r : Refusal) (command : Option Command) → IsOfFile r → IsOfWords r command
+pub of_file : (r : Refusal) (command : Option Command) → IsOfFile r → IsOfWords r command
 of_file Usage command is = absurd is
 of_file (LineWord bad) command is = absurd is
 of_file ArgsTooLong command is = absurd is

@@ -1,5 +1,5 @@
 -- What a run's log may be.
-use Rattle.std.proofs.Common.{◌≡◌, ◌⊎◌, inl, inr, ℕ, true, false, List, [], Option, None, Some, Result, Ok, Err, IfSome, IfErr, OnOk, refl, ap, sym, ◌∙◌}
+use Rattle.std.proofs.Common.{◌≡◌, ◌⊎◌, inl, inr, ℕ, true, false, List, [], ◌∷◌, Option, None, Some, Result, Ok, Err, IfSome, IfErr, OnOk, refl, ap, sym, ◌∙◌}
 use Rattle.std.proofs.lemmas.Bool.{true≢false, cond-false}
 use Rattle.link_traits.specs.Told.{added, Part}
 use Rattle.link_traits.proofs.Parts.{added-none, part_none, part_so_far}
@@ -9,8 +9,8 @@ use Rattle.replay.specs.Output.{log_of_recording}
 use Rattle.replay.specs.Logging.{WholeLines}
 use Rattle.replay.specs.Explained.{explained}
 use Rattle.proxy_main.specs.declared.Refusal.{Refusal}
-use Rattle.proxy_main.specs.Words.{Command, Replay, Explain, Twin, Sample, Help, Version}
-use Rattle.proxy_main.specs.Answers.{Answer, then_go, then_read, replayed, explaining, answer_to, Agrees, log_of, checked_policy, checked_recording, asks_for_log, may_ask_for_log, may_log, IsLog}
+use Rattle.proxy_main.specs.Words.{Command, Replay, Explain, Twin, Sample, Audit, Within, Help, Version}
+use Rattle.proxy_main.specs.Answers.{Answer, audited, then_go, then_read, then_recordings, replayed, explaining, answer_to, Agrees, log_of, checked_policy, checked_recording, asks_for_log, may_ask_for_log, may_log, IsLog}
 use Rattle.proxy_main.specs.declared.Stop.{Stop}
 use Rattle.proxy_main.specs.declared.Stop.TheVariants as stop
 use Rattle.proxy_main.specs.Loads.{CausedBy, KeepsLog, IsLogged, IsLogFront, IsLogInLines}
@@ -53,12 +53,19 @@ read_none : {A : Type 0} (t : Option (List ℕ)) (check : List ℕ → Result A 
 read_none None check go none = refl
 read_none (Some bytes) check go none = go_none (check bytes) go none
 
+recordings_none : (told : List ℕ → Option (List ℕ)) (ps : List (List ℕ)) (work : List Recording → Answer) → ((xs : List Recording) → log_of (work xs) ≡ []) → log_of (then_recordings told ps work) ≡ []
+recordings_none told [] work none = none []
+recordings_none told (p ∷ ps) work none =
+    read_none (told p) checked_recording (λ x. then_recordings told ps (λ others. work (x ∷ others))) (λ x. recordings_none told ps (λ others. work (x ∷ others)) (λ xs. none (x ∷ xs)))
+
 unasked : (told : List ℕ → Option (List ℕ)) (command : Option Command) → may_log told command ≡ false → log_of (answer_to told command) ≡ []
 unasked told None is = refl
 unasked told (Some (Replay p r)) is = answer_unasked (told p) (told r) is
 unasked told (Some (Explain p r number)) is = read_none (told p) checked_policy _ (λ o. read_none (told r) checked_recording _ (λ x. explaining_none (explained o x number)))
 unasked told (Some (Twin p a b)) is = read_none (told p) checked_policy _ (λ o. read_none (told a) checked_recording _ (λ x. read_none (told b) checked_recording _ (λ y. refl)))
 unasked told (Some (Sample n seed)) is = refl
+unasked told (Some (Audit p ps)) is = read_none (told p) checked_policy _ (λ o. recordings_none told ps (audited o) (λ xs. refl))
+unasked told (Some (Within a b)) is = read_none (told a) checked_policy _ (λ o. read_none (told b) checked_policy _ (λ other. refl))
 unasked told (Some Help) is = refl
 unasked told (Some Version) is = refl
 

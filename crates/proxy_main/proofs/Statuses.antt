@@ -1,7 +1,7 @@
 -- Whatever the ending, what its status says of the answer.
 use Rattle.std.proofs.Common.{◌≡◌, ◌⊎◌, inl, inr, ℕ, List, Option, sym, ◌∙◌, subst}
 use Rattle.proxy_main.specs.Words.{Command}
-use Rattle.proxy_main.specs.Answers.{Answer, Untold, Refused, Wrote, Compared, answer_to, IsSettled, HasCode, IsWork}
+use Rattle.proxy_main.specs.Answers.{Answer, Untold, Refused, Wrote, Compared, Contained, answer_to, IsSettled, HasCode, IsWork}
 use Rattle.proxy_main.specs.Endings.{Ends, Done, Refuses, NoFile, OutFails, LogFails, NoMemory, IsFree, ExactlyOfFiles, ExactlyOfWork}
 
 -- an answer has one status at most
@@ -13,6 +13,10 @@ code_unique (Compared p one other) m n (inl first) (inl second) = sym first.1 �
 code_unique (Compared p one other) m n (inl first) (inr second) = absurd (second.0 first.0)
 code_unique (Compared p one other) m n (inr first) (inl second) = absurd (first.0 second.0)
 code_unique (Compared p one other) m n (inr first) (inr second) = sym first.1 ∙ second.1
+code_unique (Contained one other) m n (inl first) (inl second) = sym first.1 ∙ second.1
+code_unique (Contained one other) m n (inl first) (inr second) = absurd (second.0 first.0)
+code_unique (Contained one other) m n (inr first) (inl second) = absurd (first.0 second.0)
+code_unique (Contained one other) m n (inr first) (inr second) = sym first.1 ∙ second.1
 
 -- that of work is none of a refusal
 work_code : (a : Answer) (n : ℕ) → IsWork a → HasCode a n → (0 ≡ n) ⊎ (7 ≡ n)
@@ -21,6 +25,8 @@ work_code (Refused refusal) n work has = absurd work
 work_code (Wrote out log) n work has = inl has
 work_code (Compared p one other) n work (inl has) = inl has.1
 work_code (Compared p one other) n work (inr has) = inr has.1
+work_code (Contained one other) n work (inl has) = inl has.1
+work_code (Contained one other) n work (inr has) = inr has.1
 
 module _ (told : List ℕ → Option (List ℕ)) (command : Option Command) (f o e : Type 0) (out new_out err new_err : Option (List ℕ)) (code : ℕ)
     (ends : Ends told command f o e out new_out err new_err code) (settled : IsSettled (answer_to told command)) where

@@ -1,11 +1,14 @@
 -- What a run answers, by its words and by what is told of the files.
 --
 -- The files are read in the order of the words, and each is read and checked before the next. The first fault is the answer.
-use Rattle.std.specs.Prelude.{◌≡◌, ◌≢◌, ◌⊎◌, ℕ, Bool, true, false, nat_lt, List, [], ◌++◌, length, codes, Option, Some, None, Result, Ok, Err, if◌then◌else◌}
+use Rattle.std.specs.Prelude.{◌≡◌, ◌≢◌, ◌⊎◌, ℕ, Bool, true, false, nat_lt, List, [], ◌∷◌, ◌++◌, length, codes, Option, Some, None, Result, Ok, Err, if◌then◌else◌}
 use Rattle.std.specs.Fmt.{decimal}
 use Rattle.policy_args.specs.declared.BadWord.{BadWord}
+use Rattle.audit.specs.Audit.{audit_of}
 use Rattle.policy_args.specs.Policy.{Policy}
+use Rattle.policy_args.specs.Requests.{Within}
 use Rattle.policy_args.specs.Words.{PolicyOptions, options_of, words_in, ◌>>=◌}
+use Rattle.policy_within.specs.Within.{answer_of as within_answer}
 use Rattle.recording.specs.Recording.{Recording, recording_of}
 use Rattle.replay.specs.Output.{output_of_recording, log_of_recording}
 use Rattle.replay.specs.Explained.{explained}
@@ -19,7 +22,8 @@ use Rattle.proxy_main.specs.declared.Refusal.TheVariants.{Usage, LineWord, ArgsT
 use Rattle.proxy_main.specs.declared.TheConstants.{POLICY_LIMIT}
 use Rattle.proxy_main.specs.declared.texts.TheConstants.{HELP, VERSION}
 use Rattle.proxy_main.specs.Lines.{is_policy_kind}
-use Rattle.proxy_main.specs.Words.{Command, Replay, Explain, Twin, Sample, Help, Version, reading}
+use Rattle.proxy_main.specs.WithinText.{within_text}
+use Rattle.proxy_main.specs.Words.{Command, Replay, Explain, Twin, Sample, Audit, Within as IsWithin, Help, Version, reading}
 
 pub data Answer : Type 0 where
   -- a file is needed of which nothing is told: the answer is not settled
@@ -30,6 +34,8 @@ pub data Answer : Type 0 where
   Wrote : List ℕ → List ℕ → Answer
   -- two recordings are compared under a policy
   Compared : Policy → Recording → Recording → Answer
+  -- whether a policy is within another
+  Contained : Policy → Policy → Answer
 
 -- ---- reading and checking
 
@@ -89,12 +95,27 @@ then_load told policy recording work = then_read (told policy) checked_policy (�
 abbrev pub then_compare : (List ℕ → Option (List ℕ)) → List ℕ → PolicyOptions → Recording → Answer
 then_compare told other options one = then_read (told other) checked_recording (Compared options.policy one)
 
+-- recordings are read and checked, one after the other, before the work on all of them
+abbrev pub then_recordings : (List ℕ → Option (List ℕ)) → List (List ℕ) → (List Recording → Answer) → Answer
+then_recordings told [] work = work []
+then_recordings told (path ∷ paths) work = then_read (told path) checked_recording (λ recording. then_recordings told paths (λ others. work (recording ∷ others)))
+
+-- what a policy denies of recordings, counted
+abbrev pub audited : PolicyOptions → List Recording → Answer
+audited options recordings = Wrote (audit_of options recordings) []
+
+-- one policy file and then another are read and checked, before they are compared
+abbrev pub then_contain : (List ℕ → Option (List ℕ)) → List ℕ → PolicyOptions → Answer
+then_contain told other one = then_read (told other) checked_policy (λ options. Contained one.policy options.policy)
+
 abbrev pub answer_to : (List ℕ → Option (List ℕ)) → Option Command → Answer
 answer_to told None = Refused Usage
 answer_to told (Some (Replay policy recording)) = then_load told policy recording replayed
 answer_to told (Some (Explain policy recording number)) = then_load told policy recording (explained_at number)
 answer_to told (Some (Twin policy one other)) = then_load told policy one (then_compare told other)
 answer_to told (Some (Sample n seed)) = sampled n seed
+answer_to told (Some (Audit policy recordings)) = then_read (told policy) checked_policy (λ options. then_recordings told recordings (audited options))
+answer_to told (Some (IsWithin one other)) = then_read (told one) checked_policy (then_contain told other)
 answer_to told (Some Help) = Wrote HELP.now []
 answer_to told (Some Version) = Wrote version_line []
 
@@ -107,6 +128,7 @@ IsSettled Untold = ⊥
 IsSettled (Refused refusal) = Unit {0}
 IsSettled (Wrote out log) = Unit {0}
 IsSettled (Compared policy one other) = Unit {0}
+IsSettled (Contained one other) = Unit {0}
 
 -- where the answer is settled it is this one
 abbrev pub Agrees : Answer → Answer → Type 0
@@ -124,13 +146,15 @@ refusal_code PolicyTooLong = 2
 refusal_code (BadFile fault) = 3
 refusal_code NoSuchMessage = 9
 
--- an answer has this status; of two recordings, by whether the same is left of both when all that the policy hides is erased
+-- An answer has this status: of two recordings, by whether the same is left of both when all that the policy hides is erased, and of two
+-- policies, by whether the one permits nothing that the other doesn't permit.
 abbrev pub HasCode : Answer → ℕ → Type 0
 HasCode Untold code = ⊥
 HasCode (Refused refusal) code = refusal_code refusal ≡ code
 HasCode (Wrote out log) code = 0 ≡ code
 HasCode (Compared policy one other) code =
     ((part_of_recording policy one ≡ part_of_recording policy other) × (0 ≡ code)) ⊎ ((part_of_recording policy one ≢ part_of_recording policy other) × (7 ≡ code))
+HasCode (Contained one other) code = (Within one other × (0 ≡ code)) ⊎ ((Within one other → ⊥) × (7 ≡ code))
 
 -- the status of a comparison, and its line
 abbrev pub twin_code : TwinAnswer → ℕ
@@ -147,6 +171,7 @@ HasOut Untold bytes = ⊥
 HasOut (Refused refusal) bytes = [] ≡ bytes
 HasOut (Wrote out log) bytes = out ≡ bytes
 HasOut (Compared policy one other) bytes = (answer : TwinAnswer) × Compares (part_of_recording policy one) (part_of_recording policy other) answer × (twin_line answer ≡ bytes)
+HasOut (Contained one other) bytes = within_text (within_answer one other) ≡ bytes
 
 -- neither the words nor a file are refused: the work is done, whatever it comes to
 abbrev pub IsWork : Answer → Type 0
@@ -154,6 +179,7 @@ IsWork Untold = ⊥
 IsWork (Refused refusal) = ⊥
 IsWork (Wrote out log) = Unit {0}
 IsWork (Compared policy one other) = Unit {0}
+IsWork (Contained one other) = Unit {0}
 
 -- where two recordings are compared, all bytes that either gives out are those of the other
 abbrev pub GivesOutTheSame : Answer → Type 0
@@ -161,6 +187,7 @@ GivesOutTheSame Untold = Unit {0}
 GivesOutTheSame (Refused refusal) = Unit {0}
 GivesOutTheSame (Wrote out log) = Unit {0}
 GivesOutTheSame (Compared policy one other) = output_of_recording (compared_under policy) one ≡ output_of_recording (compared_under policy) other
+GivesOutTheSame (Contained one other) = Unit {0}
 
 -- the log of an answer
 abbrev pub log_of : Answer → List ℕ
@@ -168,6 +195,7 @@ log_of Untold = []
 log_of (Refused refusal) = []
 log_of (Wrote out log) = log
 log_of (Compared policy one other) = []
+log_of (Contained one other) = []
 
 -- ---- the log
 
@@ -187,6 +215,8 @@ may_log told (Some (Replay policy recording)) = may_ask_for_log (told policy)
 may_log told (Some (Explain policy recording number)) = false
 may_log told (Some (Twin policy one other)) = false
 may_log told (Some (Sample n seed)) = false
+may_log told (Some (Audit policy recordings)) = false
+may_log told (Some (IsWithin one other)) = false
 may_log told (Some Help) = false
 may_log told (Some Version) = false
 

@@ -1,12 +1,12 @@
 -- The files that a run reads: those that its words name and no other, each once and in the order of the words, up to the one at which it stops.
 -- None is read behind one that is bad.
-use Rattle.std.specs.Prelude.{◌≡◌, ◌⊎◌, ℕ, List, [], ◌∷◌, ◌++◌, take, Option, Some, None, Result, Ok, Err}
+use Rattle.std.specs.Prelude.{◌≡◌, ◌≤◌, ◌⊎◌, ℕ, zero, suc, List, [], ◌∷◌, ◌++◌, take, Option, Some, None, Result, Ok, Err}
 use Rattle.link_traits.specs.Told.{ReadFront, ReadTo}
 use Rattle.proxy_main.specs.declared.Refusal.{Refusal}
 use Rattle.proxy_main.specs.declared.Refusal.TheVariants.{Usage, LineWord, ArgsTooLong, PolicyWord, PolicyTooLong, Recording, NoSuchMessage}
 use Rattle.proxy_main.specs.declared.Stop.{Stop}
 use Rattle.proxy_main.specs.declared.Stop.TheVariants.{Refused as Refuses, File, Output, Log, Memory}
-use Rattle.proxy_main.specs.Words.{Command, Replay, Explain, Twin, Sample, Help, Version}
+use Rattle.proxy_main.specs.Words.{Command, Replay, Explain, Twin, Sample, Audit, Within, Help, Version}
 use Rattle.proxy_main.specs.Answers.{checked_policy, checked_recording}
 use Rattle.proxy_main.specs.Lines.{file_line}
 use Rattle.proxy_main.specs.Endings.{Said}
@@ -18,8 +18,22 @@ paths_of (Some (Replay policy recording)) = policy ∷ recording ∷ []
 paths_of (Some (Explain policy recording number)) = policy ∷ recording ∷ []
 paths_of (Some (Twin policy one other)) = policy ∷ one ∷ other ∷ []
 paths_of (Some (Sample n seed)) = []
+paths_of (Some (Audit policy recordings)) = policy ∷ recordings
+paths_of (Some (Within one other)) = one ∷ other ∷ []
 paths_of (Some Help) = []
 paths_of (Some Version) = []
+
+-- how many of these are policy files; they are the first
+abbrev pub policies_of : Option Command → ℕ
+policies_of None = 0
+policies_of (Some (Replay policy recording)) = 1
+policies_of (Some (Explain policy recording number)) = 1
+policies_of (Some (Twin policy one other)) = 1
+policies_of (Some (Sample n seed)) = 0
+policies_of (Some (Audit policy recordings)) = 1
+policies_of (Some (Within one other)) = 2
+policies_of (Some Help) = 0
+policies_of (Some Version) = 0
 
 -- ---- the files that are needed
 
@@ -38,14 +52,15 @@ abbrev pub recordings_up_to_bad : (List ℕ → Option (List ℕ)) → List (Lis
 recordings_up_to_bad told [] = []
 recordings_up_to_bad told (path ∷ others) = path ∷ behind (told path) checked_recording (recordings_up_to_bad told others)
 
--- a policy file and the recordings behind it, up to the first that is bad
-abbrev pub up_to_bad : (List ℕ → Option (List ℕ)) → List (List ℕ) → List (List ℕ)
-up_to_bad told [] = []
-up_to_bad told (policy ∷ recordings) = policy ∷ behind (told policy) checked_policy (recordings_up_to_bad told recordings)
+-- so many policy files and the recordings behind them, up to the first that is bad
+abbrev pub up_to_bad : ℕ → (List ℕ → Option (List ℕ)) → List (List ℕ) → List (List ℕ)
+up_to_bad zero told paths = recordings_up_to_bad told paths
+up_to_bad (suc policies) told [] = []
+up_to_bad (suc policies) told (policy ∷ others) = policy ∷ behind (told policy) checked_policy (up_to_bad policies told others)
 
 -- the files that a command needs: those that it names, up to the first that is bad by what is told of it
 abbrev pub needed : (List ℕ → Option (List ℕ)) → Option Command → List (List ℕ)
-needed told command = up_to_bad told (paths_of command)
+needed told command = up_to_bad (policies_of command) told (paths_of command)
 
 -- ---- where a run stopped
 
@@ -53,13 +68,20 @@ needed told command = up_to_bad told (paths_of command)
 abbrev pub LastFailed : List (List ℕ) → List (List ℕ) → List (List ℕ) → Type 0 → Option (List ℕ) → Option (List ℕ) → Type 0
 LastFailed named reads new_reads err_rose err new_err = (path : List ℕ) × ReadTo path named reads new_reads × Said err_rose err new_err (file_line path)
 
--- which files a tool's run read of those that its words name, by its status
-pub record ToolReads (named reads new_reads : List (List ℕ)) (err_rose : Type 0) (err new_err : Option (List ℕ)) (code : ℕ) : Type 0 where
+-- of the files that are named one of the first was the last, which are policy files
+pub record EndsAtPolicy (policies : ℕ) (named reads new_reads : List (List ℕ)) : Type 0 where
+  pub count : ℕ
+  pub some : 1 ≤ count
+  pub within : count ≤ policies
+  pub are : new_reads ≡ reads ++ take count named
+
+-- which files a tool's run read of those that its words name, of which the first are policy files, by its status
+pub record ToolReads (policies : ℕ) (named reads new_reads : List (List ℕ)) (err_rose : Type 0) (err new_err : Option (List ℕ)) (code : ℕ) : Type 0 where
   -- Those that were read are a front of them, and no other file was read.
   pub front : ReadFront named reads new_reads
-  -- With 0, 6, 7 and 9 all were, with 2 the policy file alone, and with 4 the last is the one that could not be.
+  -- With 0, 6, 7 and 9 all were, with 2 the last is a policy file, and with 4 it is the one that could not be.
   pub all : (code ≡ 0) ⊎ ((code ≡ 6) ⊎ ((code ≡ 7) ⊎ (code ≡ 9))) → new_reads ≡ reads ++ named
-  pub policy : code ≡ 2 → new_reads ≡ reads ++ take 1 named
+  pub policy : code ≡ 2 → EndsAtPolicy policies named reads new_reads
   pub last : code ≡ 4 → LastFailed named reads new_reads err_rose err new_err
 
 -- which files of words a proxy line's run read, by its status
@@ -119,22 +141,22 @@ StopsWork Log = Unit {0}
 StopsWork Memory = Unit {0}
 
 -- what was read of the named files before a refusal ..
-abbrev pub ReadBefore : List (List ℕ) → List (List ℕ) → List (List ℕ) → Refusal → Type 0
-ReadBefore named reads new_reads Usage = ReadFront named reads new_reads
-ReadBefore named reads new_reads (LineWord bad) = ⊥
-ReadBefore named reads new_reads ArgsTooLong = ⊥
-ReadBefore named reads new_reads (PolicyWord bad) = new_reads ≡ reads ++ take 1 named
-ReadBefore named reads new_reads PolicyTooLong = new_reads ≡ reads ++ take 1 named
-ReadBefore named reads new_reads (Recording fault) = ReadFront named reads new_reads
-ReadBefore named reads new_reads NoSuchMessage = new_reads ≡ reads ++ named
+abbrev pub ReadBefore : ℕ → List (List ℕ) → List (List ℕ) → List (List ℕ) → Refusal → Type 0
+ReadBefore policies named reads new_reads Usage = ReadFront named reads new_reads
+ReadBefore policies named reads new_reads (LineWord bad) = ⊥
+ReadBefore policies named reads new_reads ArgsTooLong = ⊥
+ReadBefore policies named reads new_reads (PolicyWord bad) = EndsAtPolicy policies named reads new_reads
+ReadBefore policies named reads new_reads PolicyTooLong = EndsAtPolicy policies named reads new_reads
+ReadBefore policies named reads new_reads (Recording fault) = ReadFront named reads new_reads
+ReadBefore policies named reads new_reads NoSuchMessage = new_reads ≡ reads ++ named
 
 -- .. and before a tool's run stopped
-abbrev pub ReadUntil : List (List ℕ) → List (List ℕ) → List (List ℕ) → Stop → Type 0
-ReadUntil named reads new_reads (Refuses refusal) = ReadBefore named reads new_reads refusal
-ReadUntil named reads new_reads (File path) = ReadTo path.now named reads new_reads
-ReadUntil named reads new_reads Output = new_reads ≡ reads ++ named
-ReadUntil named reads new_reads Log = new_reads ≡ reads ++ named
-ReadUntil named reads new_reads Memory = ReadFront named reads new_reads
+abbrev pub ReadUntil : ℕ → List (List ℕ) → List (List ℕ) → List (List ℕ) → Stop → Type 0
+ReadUntil policies named reads new_reads (Refuses refusal) = ReadBefore policies named reads new_reads refusal
+ReadUntil policies named reads new_reads (File path) = ReadTo path.now named reads new_reads
+ReadUntil policies named reads new_reads Output = new_reads ≡ reads ++ named
+ReadUntil policies named reads new_reads Log = new_reads ≡ reads ++ named
+ReadUntil policies named reads new_reads Memory = ReadFront named reads new_reads
 
 -- ---- which of the needed files were read ..
 

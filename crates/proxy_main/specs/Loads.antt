@@ -5,7 +5,7 @@ use Rattle.proxy_main.specs.declared.Refusal.{Refusal}
 use Rattle.proxy_main.specs.declared.Refusal.TheVariants.{Usage, LineWord, ArgsTooLong, PolicyWord, PolicyTooLong, Recording, NoSuchMessage}
 use Rattle.proxy_main.specs.declared.Stop.{Stop}
 use Rattle.proxy_main.specs.declared.Stop.TheVariants.{Refused as Refuses, File, Output, Log, Memory}
-use Rattle.proxy_main.specs.Words.{Command, Replay, Explain, Twin, Sample, Help, Version}
+use Rattle.proxy_main.specs.Words.{Command, Replay, Explain, Twin, Sample, Audit, Within, Help, Version}
 use Rattle.policy_args.specs.Words.{PolicyOptions}
 use Rattle.recording.specs.Recording.{Recording as RecordingValue}
 use Rattle.replay.specs.Logging.{WholeLines}
@@ -55,6 +55,8 @@ IsExplain (Some (Replay policy recording)) = ⊥
 IsExplain (Some (Explain policy recording number)) = Unit {0}
 IsExplain (Some (Twin policy one other)) = ⊥
 IsExplain (Some (Sample n seed)) = ⊥
+IsExplain (Some (Audit policy recordings)) = ⊥
+IsExplain (Some (Within one other)) = ⊥
 IsExplain (Some Help) = ⊥
 IsExplain (Some Version) = ⊥
 
@@ -105,19 +107,21 @@ IsWritten answer out new_out = (bytes : List ℕ) × HasOut answer bytes × (new
 abbrev pub IsDone : Answer → Option (List ℕ) → Option (List ℕ) → ℕ → Type 0
 IsDone answer out new_out code = IsSettled answer → HasCode answer code × IsWritten answer out new_out × (code ≡ 0 → GivesOutTheSame answer)
 
--- the words ask for a comparison
-abbrev pub IsTwin : Option Command → Type 0
-IsTwin None = ⊥
-IsTwin (Some (Replay policy recording)) = ⊥
-IsTwin (Some (Explain policy recording number)) = ⊥
-IsTwin (Some (Twin policy one other)) = Unit {0}
-IsTwin (Some (Sample n seed)) = ⊥
-IsTwin (Some Help) = ⊥
-IsTwin (Some Version) = ⊥
+-- the words ask for a comparison, of two recordings or of two policies
+abbrev pub IsComparison : Option Command → Type 0
+IsComparison None = ⊥
+IsComparison (Some (Replay policy recording)) = ⊥
+IsComparison (Some (Explain policy recording number)) = ⊥
+IsComparison (Some (Twin policy one other)) = Unit {0}
+IsComparison (Some (Sample n seed)) = ⊥
+IsComparison (Some (Audit policy recordings)) = ⊥
+IsComparison (Some (Within one other)) = Unit {0}
+IsComparison (Some Help) = ⊥
+IsComparison (Some Version) = ⊥
 
 -- the status of work that is done: 0, or that of a difference where there is a comparison
 abbrev pub IsEnd : Option Command → ℕ → Type 0
-IsEnd command code = (code ≡ 0) ⊎ ((code ≡ 7) × IsTwin command)
+IsEnd command code = (code ≡ 0) ⊎ ((code ≡ 7) × IsComparison command)
 
 -- ---- the log
 

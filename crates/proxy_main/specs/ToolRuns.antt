@@ -3,8 +3,8 @@ use Rattle.std.specs.Prelude.{◌≡◌, ◌⊎◌, ◌++◌, ℕ, true, List, O
 use Rattle.link_traits.specs.Told.{ReadFront}
 use Rattle.proxy_main.specs.Words.{reading}
 use Rattle.proxy_main.specs.Answers.{answer_of, IsSettled, HasCode, may_log}
-use Rattle.proxy_main.specs.Loads.{IsDone, IsFront, IsLogged, IsTwin}
-use Rattle.proxy_main.specs.FilesRead.{paths_of, needed, ToolReads}
+use Rattle.proxy_main.specs.Loads.{IsDone, IsFront, IsLogged, IsComparison}
+use Rattle.proxy_main.specs.FilesRead.{paths_of, policies_of, needed, ToolReads}
 use Rattle.proxy_main.specs.Endings.{Ends, ErrFront, Exactly, ExactlyOfFiles, ExactlyOfWork, IsFree}
 
 -- of a run of these words, by what is told of the files, the paths that were read, the counts of faults that rose, what out and err tell,
@@ -14,15 +14,16 @@ pub record ToolRun (told : List ℕ → Option (List ℕ)) (words reads new_read
   pub ends : Ends told (reading words) files_rose out_rose err_rose out new_out err new_err code
   -- 1 comes exactly where the words aren't the tool's.
   pub usage : Exactly code 1 (reading words ≡ None)
-  -- 2 comes exactly where the policy file is refused, and 3 exactly where a recording is.
+  -- 2 comes exactly where a policy file is refused, and 3 exactly where a recording is.
   pub policy : IsSettled (answer_of words told) → ExactlyOfFiles code 2 (HasCode (answer_of words told) 2)
   pub recording : IsSettled (answer_of words told) → ExactlyOfFiles code 3 (HasCode (answer_of words told) 3)
   -- 9 comes exactly where the recording has no message of the number.
   pub missing : IsSettled (answer_of words told) → ExactlyOfFiles code 9 (HasCode (answer_of words told) 9)
-  -- 0 comes exactly where the answer is a whole output, and two recordings are the same to the policy. 7 comes exactly where they differ.
+  -- 0 comes exactly where the answer is a whole output, two recordings are the same to the policy, or a policy is within another. 7 comes
+  -- exactly where the recordings differ, or the policy is not within the other.
   pub whole : IsSettled (answer_of words told) → ExactlyOfWork code 0 (HasCode (answer_of words told) 0)
   pub differ : IsSettled (answer_of words told) → ExactlyOfWork code 7 (HasCode (answer_of words told) 7)
-  pub compared : code ≡ 7 → IsTwin (reading words)
+  pub compared : code ≡ 7 → IsComparison (reading words)
   -- 4 comes only where the files failed, and 6 only where out did, or where err did and there may be a log.
   pub file : code ≡ 4 → files_rose
   pub sink : code ≡ 6 → out_rose ⊎ ((may_log told (reading words) ≡ true) × err_rose)
@@ -39,7 +40,7 @@ pub record ToolRun (told : List ℕ → Option (List ℕ)) (words reads new_read
   -- In any case err got a front of the log, and then a front of the status's line.
   pub said : ErrFront told (reading words) err new_err code
   -- No file was read beside those that the words name: a front of these, each once and in their order.
-  pub reads_named : ToolReads (paths_of (reading words)) reads new_reads err_rose err new_err code
+  pub reads_named : ToolReads (policies_of (reading words)) (paths_of (reading words)) reads new_reads err_rose err new_err code
   -- No file was read behind one that is bad, by what is told of the files. Where that settles the answer, exactly those were read that it
   -- needs, unless a file failed or memory ran out.
   pub reads_needed : ReadFront (needed told (reading words)) reads new_reads

@@ -4,6 +4,8 @@
 --     explain POLICY RECORDING N    tells what was decided there on the recording's message of number N, from 1, and by which entry
 --     twin POLICY A B               tells whether the recordings A and B are the same to the policy, or where they first differ
 --     sample N SEED                 plays a sample of N draws from a seed, and sums it up
+--     audit POLICY RECORDING..      tells what the policy denies of one recording or more, up to 16, and which of its entries none of them names
+--     within A B                    tells whether the policy A permits nothing that the policy B doesn't permit
 --     --help                        writes what the program can do
 --     --version                     writes its version
 --
@@ -13,7 +15,7 @@
 use Rattle.std.specs.Prelude.{ℕ, ◌-◌, ◌^◌, ◌||◌, nat_le, Bool, false, List, [], ◌∷◌, Option, Some, None, option_map, codes, bytes_eq, if◌then◌else◌}
 use Rattle.policy_args.specs.ProxyLine.{number_of}
 pub use Rattle.process_streams.specs.Faults.{is_tool_name}
-use Rattle.tool_words.specs.Tools.{taken, replay_places, explain_places, twin_places, sample_places}
+use Rattle.tool_words.specs.Tools.{taken, taken_with, replay_places, explain_places, twin_places, sample_places, within_places, audit_places, more_recordings}
 
 pub data Command : Type 0 where
   -- the paths of the policy file and of the recording
@@ -24,6 +26,10 @@ pub data Command : Type 0 where
   Twin : List ℕ → List ℕ → List ℕ → Command
   -- how many draws, and the seed
   Sample : ℕ → ℕ → Command
+  -- the paths of the policy file and of the recordings
+  Audit : List ℕ → List (List ℕ) → Command
+  -- the paths of the policy file that is to be within the other, and of the other
+  Within : List ℕ → List ℕ → Command
   -- what the program can do
   Help : Command
   -- its version
@@ -68,6 +74,14 @@ abbrev pub sample_of : Option (List (List ℕ)) → Option Command
 sample_of (Some (n ∷ seed ∷ [])) = sample_by (number_within most_draws n) (number_within greatest seed)
 sample_of taken = None
 
+abbrev pub audit_of : Option (List (List ℕ)) → Option Command
+audit_of (Some (policy ∷ recordings)) = Some (Audit policy recordings)
+audit_of taken = None
+
+abbrev pub within_of : Option (List (List ℕ)) → Option Command
+within_of (Some (one ∷ other ∷ [])) = Some (Within one other)
+within_of taken = None
+
 -- a word that stands alone
 abbrev pub text_of : List ℕ → Option Command
 text_of word =
@@ -85,7 +99,9 @@ named_by tool words =
     else (if bytes_eq tool (codes "explain") then explain_of (taken (codes "explain") explain_places words)
     else (if bytes_eq tool (codes "twin") then twin_of (taken (codes "twin") twin_places words)
     else (if bytes_eq tool (codes "sample") then sample_of (taken (codes "sample") sample_places words)
-    else alone_of words)))
+    else (if bytes_eq tool (codes "audit") then audit_of (taken_with (codes "audit") audit_places more_recordings words)
+    else (if bytes_eq tool (codes "within") then within_of (taken (codes "within") within_places words)
+    else alone_of words)))))
 
 -- the command that the words name, where they name one
 abbrev pub reading : List (List ℕ) → Option Command

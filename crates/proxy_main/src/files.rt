@@ -1,15 +1,16 @@
 //! The files that the words name.
-ghost use Rattle.std.specs.Prelude.{◌≡◌, ◌≤◌, ◌<◌, ◌++◌, ◌∷◌, ℕ, List, [], Some, Ok, Err, IfOk, IfErr, IfSome, OnOk, length};
+ghost use Rattle.std.specs.Prelude.{◌≡◌, ◌≤◌, ◌<◌, ◌++◌, ◌∷◌, ℕ, List, [], Option, Some, Ok, Err, IfOk, IfErr, IfSome, OnOk, length, map};
 ghost use Rattle.link_traits.specs.Told.{Rose};
 ghost use Rattle.policy_args.specs.Gives.{Gives};
 ghost use Rattle.policy_args.specs.Seen.{options_seen};
 ghost use Rattle.policy_args.specs.Words.{PolicyOptions};
 ghost use Rattle.recording.specs.Recording.{Recording as RecordingValue, recording_of};
 ghost use Rattle.recording.specs.Seen.{recording_seen, size};
-ghost use Rattle.proxy_main.specs.Words.{Twin};
-ghost use Rattle.proxy_main.specs.Answers.{Answer, Compared, options_in, checked_policy, checked_recording, then_load, answer_to, Agrees, IsSettled};
+ghost use Rattle.proxy_main.specs.Words.{Audit, Twin, Within};
+ghost use Rattle.proxy_main.specs.Answers.{Answer, Compared, Contained, audited, options_in, checked_policy, checked_recording, then_load, answer_to, Agrees, IsSettled};
 ghost use Rattle.proxy_main.specs.FilesRead.{IsOfPolicy, IsOfRecording, StopsAt, ReadUntil, up_to_bad, needed, NeededUntil, ReadsNeeded};
 ghost use Rattle.proxy_main.specs.Loads.{Loads, FilesStop, StopsBy, CausedBy};
+ghost use Rattle.proxy_main.specs.ManyFiles.{AreGood, IsTold, StopsIn};
 
 use crate::{POLICY_LIMIT, Refusal, Stop};
 use link_traits::{FileFault, Files, read_whole};
@@ -40,9 +41,9 @@ pub fn load<'a, F: Files>(
     ensures count { F.faults files.old ≤ F.faults files.new }
     ensures kept { (p : List ℕ) → F.told files.new p ≡ F.told files.old p }
     ensures read { OnOk result (F.reads files.new ≡ F.reads files.old ++ policy.now ∷ recording.now ∷ []) }
-    ensures until { IfErr result (λ stop. (after : List (List ℕ)) → ReadUntil (policy.now ∷ recording.now ∷ after) (F.reads files.old) (F.reads files.new) stop) }
-    ensures needed { OnOk result (F.reads files.new ≡ F.reads files.old ++ up_to_bad (F.told files.old) (policy.now ∷ recording.now ∷ [])) }
-    ensures needed_until { IfErr result (λ stop. (after : List (List ℕ)) (work : PolicyOptions → RecordingValue → Answer) → NeededUntil (IsSettled (then_load (F.told files.old) policy.now recording.now work)) (up_to_bad (F.told files.old) (policy.now ∷ recording.now ∷ after)) (F.reads files.old) (F.reads files.new) stop) }
+    ensures until { IfErr result (λ stop. (after : List (List ℕ)) → ReadUntil 1 (policy.now ∷ recording.now ∷ after) (F.reads files.old) (F.reads files.new) stop) }
+    ensures needed { OnOk result (F.reads files.new ≡ F.reads files.old ++ up_to_bad 1 (F.told files.old) (policy.now ∷ recording.now ∷ [])) }
+    ensures needed_until { IfErr result (λ stop. (after : List (List ℕ)) (work : PolicyOptions → RecordingValue → Answer) → NeededUntil (IsSettled (then_load (F.told files.old) policy.now recording.now work)) (up_to_bad 1 (F.told files.old) (policy.now ∷ recording.now ∷ after)) (F.reads files.old) (F.reads files.new) stop) }
 {
     match load_policy(alloc, files, policy) {
         Ok(options) => match load_recording(alloc, files, recording) {
@@ -73,7 +74,7 @@ pub fn load_twins<'a, F: Files>(
     ensures stops { IfErr result (λ stop. StopsBy (F.told files.old) (Some (Twin policy.now one.now other.now)) stop) }
     ensures cause { IfErr result (λ stop. CausedBy (Rose (F.faults files.old) (F.faults files.new)) ⊥ ⊥ stop) }
     ensures read { OnOk result (F.reads files.new ≡ F.reads files.old ++ policy.now ∷ one.now ∷ other.now ∷ []) }
-    ensures until { IfErr result (ReadUntil (policy.now ∷ one.now ∷ other.now ∷ []) (F.reads files.old) (F.reads files.new)) }
+    ensures until { IfErr result (ReadUntil 1 (policy.now ∷ one.now ∷ other.now ∷ []) (F.reads files.old) (F.reads files.new)) }
     ensures needed { ReadsNeeded (IsSettled (answer_to (F.told files.old) (Some (Twin policy.now one.now other.now)))) (needed (F.told files.old) (Some (Twin policy.now one.now other.now))) (F.reads files.old) (F.reads files.new) result }
 {
     match load(alloc, files, policy, one) {
@@ -83,6 +84,100 @@ pub fn load_twins<'a, F: Files>(
                 one: loaded.recording,
                 other,
             }),
+            Err(stop) => Err(stop),
+        },
+        Err(stop) => Err(stop),
+    }
+}
+
+/// What an audit works on.
+#[derive(Drop)]
+pub struct LoadedRecordings {
+    pub options: Options,
+    pub recordings: Vec<Recording>,
+}
+
+/// Reads and checks the files of an audit: the policy file, and then one recording after the other.
+pub fn load_audit<'a, F: Files>(
+    alloc: Global,
+    files: &mut F,
+    policy: &'a str,
+    paths: &[&'a str],
+) -> Result<LoadedRecordings, Stop<'a>>
+    ensures loaded { IfOk result (λ x. Agrees (answer_to (F.told files.old) (Some (Audit policy.now (map (λ path. path.now) paths.now)))) (audited (options_seen x.options) (map recording_seen x.recordings.items))) }
+    ensures stops { IfErr result (λ stop. StopsBy (F.told files.old) (Some (Audit policy.now (map (λ path. path.now) paths.now))) stop) }
+    ensures cause { IfErr result (λ stop. CausedBy (Rose (F.faults files.old) (F.faults files.new)) ⊥ ⊥ stop) }
+    ensures read { OnOk result (F.reads files.new ≡ F.reads files.old ++ policy.now ∷ map (λ path. path.now) paths.now) }
+    ensures until { IfErr result (ReadUntil 1 (policy.now ∷ map (λ path. path.now) paths.now) (F.reads files.old) (F.reads files.new)) }
+    ensures needed { ReadsNeeded (IsSettled (answer_to (F.told files.old) (Some (Audit policy.now (map (λ path. path.now) paths.now))))) (needed (F.told files.old) (Some (Audit policy.now (map (λ path. path.now) paths.now)))) (F.reads files.old) (F.reads files.new) result }
+{
+    match load_policy(alloc, files, policy) {
+        Ok(options) => {
+            let mut recordings = Vec::new(alloc);
+            match load_recordings(alloc, files, paths, &mut recordings) {
+                Ok(()) => Ok(LoadedRecordings {
+                    options,
+                    recordings,
+                }),
+                Err(stop) => Err(stop),
+            }
+        }
+        Err(stop) => Err(stop),
+    }
+}
+
+/// Reads and checks recordings one after the other, and puts them after others.
+fn load_recordings<'a, F: Files>(
+    alloc: Global,
+    files: &mut F,
+    paths: &[&'a str],
+    loaded: &mut Vec<Recording>,
+) -> Result<(), Stop<'a>>
+    ensures loaded { OnOk result ((told : List ℕ → Option (List ℕ)) → IsTold told (F.told files.old) → (more : List RecordingValue) × (map recording_seen loaded.new.items ≡ map recording_seen loaded.old.items ++ more) × AreGood told (map (λ path. path.now) paths.now) more) }
+    ensures stops { IfErr result (λ stop. (told : List ℕ → Option (List ℕ)) → IsTold told (F.told files.old) → StopsIn told (map (λ path. path.now) paths.now) (F.reads files.old) (F.reads files.new) stop) }
+    ensures cause { IfErr result (λ stop. CausedBy (Rose (F.faults files.old) (F.faults files.new)) ⊥ ⊥ stop) }
+    ensures count { F.faults files.old ≤ F.faults files.new }
+    ensures read { OnOk result (F.reads files.new ≡ F.reads files.old ++ map (λ path. path.now) paths.now) }
+{
+    let [path, others @ ..] = paths else {
+        return Ok(());
+    };
+    if loaded.reserve(1).is_err() {
+        return Err(Stop::Memory);
+    }
+    match load_recording(alloc, files, path) {
+        Ok(recording) => {
+            loaded.push_reserved(recording);
+            load_recordings(alloc, files, others, loaded)
+        }
+        Err(stop) => Err(stop),
+    }
+}
+
+/// Two policies.
+#[derive(Drop)]
+pub struct LoadedPolicies {
+    pub one: Options,
+    pub other: Options,
+}
+
+/// Reads and checks two policy files, one after the other.
+pub fn load_policies<'a, F: Files>(
+    alloc: Global,
+    files: &mut F,
+    one: &'a str,
+    other: &'a str,
+) -> Result<LoadedPolicies, Stop<'a>>
+    ensures loaded { IfOk result (λ x. Agrees (answer_to (F.told files.old) (Some (Within one.now other.now))) (Contained x.one.policy x.other.policy)) }
+    ensures stops { IfErr result (λ stop. StopsBy (F.told files.old) (Some (Within one.now other.now)) stop) }
+    ensures cause { IfErr result (λ stop. CausedBy (Rose (F.faults files.old) (F.faults files.new)) ⊥ ⊥ stop) }
+    ensures read { OnOk result (F.reads files.new ≡ F.reads files.old ++ one.now ∷ other.now ∷ []) }
+    ensures until { IfErr result (ReadUntil 2 (one.now ∷ other.now ∷ []) (F.reads files.old) (F.reads files.new)) }
+    ensures needed { ReadsNeeded (IsSettled (answer_to (F.told files.old) (Some (Within one.now other.now)))) (needed (F.told files.old) (Some (Within one.now other.now))) (F.reads files.old) (F.reads files.new) result }
+{
+    match load_policy(alloc, files, one) {
+        Ok(one) => match load_policy(alloc, files, other) {
+            Ok(other) => Ok(LoadedPolicies { one, other }),
             Err(stop) => Err(stop),
         },
         Err(stop) => Err(stop),

@@ -11,6 +11,8 @@ Usage:
   zamtigarn explain POLICY RECORDING N  tells what was decided on its message of number N, and by which entry
   zamtigarn twin POLICY A B             tells whether two recordings are the same to a policy, or where they first differ
   zamtigarn sample N SEED               plays a session of N draws from a seed, and sums it up
+  zamtigarn audit POLICY RECORDING..    counts what a policy denies of recordings, and tells which of its entries they don't name
+  zamtigarn within A B                  tells whether a policy permits nothing that another doesn't
   zamtigarn --help                      writes this text
   zamtigarn --version                   writes the version
 
@@ -35,12 +37,12 @@ Among the words of blocks alone:
 Status:
   0  the output was written, or nothing is left to be served
   1  the words are none of these
-  2  the policy is refused
+  2  a policy is refused
   3  a recording is refused
   4  a file could not be read
   5  the proxy could not listen, or wait
   6  the output or the log of a tool could not be written
-  7  the two recordings differ to the policy
+  7  the two recordings differ to the policy, or the policy is not within the other
   8  memory was refused
   9  the recording has no message of the number N
 ";

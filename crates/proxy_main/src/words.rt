@@ -1,20 +1,20 @@
 //! The words of the command line.
 ghost use Rattle.std.specs.Prelude.{◌≡◌, ◌≤◌, [], ◌∷◌, map, option_map, string_bytes, codes, IfOk, IfSome};
 ghost use Rattle.policy_args.specs.ProxyLine.{has_leading_zero as begins_with_zero};
-ghost use Rattle.tool_words.specs.Tools.{taken, replay_places, explain_places, twin_places, sample_places};
-ghost use Rattle.proxy_main.specs.Words.{asks_alone as asks_for_text, names_tool, reading, named_by, alone_of, text_of, replay_of, explain_of, twin_of, sample_of, number_within};
+ghost use Rattle.tool_words.specs.Tools.{taken, taken_with, replay_places, explain_places, twin_places, sample_places, within_places, audit_places, more_recordings};
+ghost use Rattle.proxy_main.specs.Words.{asks_alone as asks_for_text, names_tool, reading, named_by, alone_of, text_of, replay_of, explain_of, twin_of, sample_of, audit_of, within_of, number_within};
 ghost use Rattle.proxy_main.specs.Read.{command_of, HasFewDraws, worth_within};
 
 use process_streams::is_tool_name;
 use sample::MOST_DRAWS;
 use std::alloc::{AllocError, Global};
 use tool_words::{
-    ExplainWords, ReplayWords, SampleWords, TwinWords, explain_words, replay_words, sample_words,
-    twin_words,
+    AuditWords, ExplainWords, ReplayWords, SampleWords, TwinWords, WithinWords, audit_words,
+    explain_words, replay_words, sample_words, twin_words, within_words,
 };
 
 /// The words of a command.
-#[derive(Clone, Copy)]
+#[derive(Drop)]
 pub enum CommandWords<'a> {
     /// The paths that a replay is given.
     Replay {
@@ -37,6 +37,16 @@ pub enum CommandWords<'a> {
     Sample {
         draws: u32,
         seed: u64,
+    },
+    /// The paths of a policy file and of recordings.
+    Audit {
+        policy: &'a str,
+        recordings: Vec<&'a str>,
+    },
+    /// The paths of two policy files.
+    Within {
+        one: &'a str,
+        other: &'a str,
     },
     /// What the program can do.
     Help,
@@ -96,6 +106,12 @@ fn read_tool<'a>(
     if tool == "sample" {
         return Ok(read_sample(sample_words(alloc, words)?));
     }
+    if tool == "audit" {
+        return Ok(read_audit(audit_words(alloc, words)?));
+    }
+    if tool == "within" {
+        return Ok(read_within(within_words(alloc, words)?));
+    }
     Ok(read_alone(words))
 }
 
@@ -146,6 +162,30 @@ fn read_sample<'a>(words: Option<SampleWords<'_>>) -> Option<CommandWords<'a>>
     let draws = read_number(words.draws, MOST_DRAWS as u64)? as u32;
     let seed = read_number(words.seed, u64::MAX)?;
     Some(CommandWords::Sample { draws, seed })
+}
+
+/// The reading of the words of `audit`.
+fn read_audit<'a>(words: Option<AuditWords<'a>>) -> Option<CommandWords<'a>>
+    ensures words { option_map command_of result ≡ audit_of (option_map (λ w. w.policy.now ∷ map (λ path. path.now) w.recordings.items) words.entry) }
+    ensures few { IfSome result HasFewDraws }
+{
+    let words = words?;
+    Some(CommandWords::Audit {
+        policy: words.policy,
+        recordings: words.recordings,
+    })
+}
+
+/// The reading of the words of `within`.
+fn read_within<'a>(words: Option<WithinWords<'a>>) -> Option<CommandWords<'a>>
+    ensures words { option_map command_of result ≡ within_of (option_map (λ w. w.one.now ∷ w.other.now ∷ []) words.entry) }
+    ensures few { IfSome result HasFewDraws }
+{
+    let words = words?;
+    Some(CommandWords::Within {
+        one: words.one,
+        other: words.other,
+    })
 }
 
 /// The reading of a word that stands alone.

@@ -1,26 +1,34 @@
 //! The work that the words ask for.
 ghost use Rattle.std.specs.Prelude.{◌≡◌, ◌≤◌, ◌⊎◌, ◌++◌, ℕ, [], List, Option, Some, map, string_bytes, IfErr, IfOk, OnOk};
 ghost use Rattle.link_traits.specs.Told.{Rose, added};
+ghost use Rattle.policy_args.specs.Seen.{options_seen};
 ghost use Rattle.recording.specs.Seen.{recording_seen};
-ghost use Rattle.proxy_main.specs.Words.{Command, reading, Replay, Explain, Twin, Sample};
+ghost use Rattle.proxy_main.specs.Words.{Command, reading, Replay, Explain, Twin, Sample, Audit, Within};
+ghost use Rattle.proxy_main.specs.WithinText.{within_code, within_text};
 ghost use Rattle.proxy_main.specs.Read.{command_of, HasFewDraws};
-ghost use Rattle.proxy_main.specs.Answers.{Wrote, Compared, answer_of, answer_to, IsSettled, IsWork, sampled, twin_code, twin_line, version_line};
-ghost use Rattle.proxy_main.specs.FilesRead.{paths_of, needed, ReadUntil, ReadsNeeded, StopsWork};
+ghost use Rattle.proxy_main.specs.Answers.{Wrote, Compared, Contained, audited, answer_of, answer_to, IsSettled, IsWork, sampled, twin_code, twin_line, version_line};
+ghost use Rattle.proxy_main.specs.FilesRead.{paths_of, policies_of, needed, ReadUntil, ReadsNeeded, StopsWork};
 ghost use Rattle.proxy_main.specs.Loads.{StopsBy, CausedBy, Keeps, KeepsLog, IsDone, IsEnd, IsLogged};
 
-use crate::files::{load, load_twins};
+use crate::containment::containment_text;
+use crate::files::{load, load_audit, load_policies, load_twins};
 use crate::texts::{HELP, VERSION};
 use crate::words::{CommandWords, read_words};
 use crate::{Refusal, Status, Stop};
-use link_traits::{Files, Sink, write_all};
-use policy_args::Policy;
+use audit::audit;
+use link_traits::{Files, Gate, Sink, write_all};
+use policy_args::{Options, Policy};
+use policy_within::{WithinAnswer, within};
 use recording::Recording;
 use replay::{ExplainFault, ReplayFault, TwinAnswer, explain, replay, twin};
 use sample::{MOST_DRAWS, SampleFault, summary};
 use std::alloc::{AllocError, Global};
+use std::thread::Threads;
 
 /// Reads the words and does what they ask for.
-pub fn work<'a, F: Files, O: Sink, E: Sink>(
+pub fn work<'a, R: Threads + Sync, G: Gate + Sync, F: Files, O: Sink, E: Sink>(
+    rt: &R,
+    gate: &G,
     alloc: Global,
     words: &'a [String],
     files: &mut F,
@@ -36,18 +44,20 @@ pub fn work<'a, F: Files, O: Sink, E: Sink>(
     ensures log { IfErr result (λ stop. KeepsLog (F.told files.old) (reading (map (λ w. string_bytes w) words.now)) (E.told err.old) (E.told err.new) stop) }
     ensures count { E.faults err.old ≤ E.faults err.new }
     ensures read { OnOk result (F.reads files.new ≡ F.reads files.old ++ paths_of (reading (map (λ w. string_bytes w) words.now))) }
-    ensures until { IfErr result (ReadUntil (paths_of (reading (map (λ w. string_bytes w) words.now))) (F.reads files.old) (F.reads files.new)) }
+    ensures until { IfErr result (ReadUntil (policies_of (reading (map (λ w. string_bytes w) words.now))) (paths_of (reading (map (λ w. string_bytes w) words.now))) (F.reads files.old) (F.reads files.new)) }
     ensures needed { ReadsNeeded (IsSettled (answer_of (map (λ w. string_bytes w) words.now) (F.told files.old))) (needed (F.told files.old) (reading (map (λ w. string_bytes w) words.now))) (F.reads files.old) (F.reads files.new) result }
 {
     match read_words(alloc, words) {
-        Ok(Some(command)) => work_command(alloc, command, files, out, err),
+        Ok(Some(command)) => work_command(rt, gate, alloc, command, files, out, err),
         Ok(None) => Err(Stop::Refused(Refusal::Usage)),
         Err(_) => Err(Stop::Memory),
     }
 }
 
 /// Does what a command asks for.
-fn work_command<'a, F: Files, O: Sink, E: Sink>(
+fn work_command<'a, R: Threads + Sync, G: Gate + Sync, F: Files, O: Sink, E: Sink>(
+    rt: &R,
+    gate: &G,
     alloc: Global,
     command: CommandWords<'a>,
     files: &mut F,
@@ -64,7 +74,7 @@ fn work_command<'a, F: Files, O: Sink, E: Sink>(
     ensures log { IfErr result (λ stop. KeepsLog (F.told files.old) (Some (command_of command.entry)) (E.told err.old) (E.told err.new) stop) }
     ensures count { E.faults err.old ≤ E.faults err.new }
     ensures read { OnOk result (F.reads files.new ≡ F.reads files.old ++ paths_of (Some (command_of command.entry))) }
-    ensures until { IfErr result (ReadUntil (paths_of (Some (command_of command.entry))) (F.reads files.old) (F.reads files.new)) }
+    ensures until { IfErr result (ReadUntil (policies_of (Some (command_of command.entry))) (paths_of (Some (command_of command.entry))) (F.reads files.old) (F.reads files.new)) }
     ensures needed { ReadsNeeded (IsSettled (answer_to (F.told files.old) (Some (command_of command.entry)))) (needed (F.told files.old) (Some (command_of command.entry))) (F.reads files.old) (F.reads files.new) result }
 {
     match command {
@@ -80,6 +90,10 @@ fn work_command<'a, F: Files, O: Sink, E: Sink>(
             work_twin(alloc, policy, one, other, files, out)
         }
         CommandWords::Sample { draws, seed } => work_sample(alloc, draws, seed, out),
+        CommandWords::Audit { policy, recordings } => {
+            work_audit(rt, gate, alloc, policy, &recordings, files, out)
+        }
+        CommandWords::Within { one, other } => work_within(alloc, one, other, files, out),
         CommandWords::Help => work_text(HELP, out),
         CommandWords::Version => work_version(alloc, out),
     }
@@ -103,7 +117,7 @@ fn work_replay<'a, F: Files, O: Sink, E: Sink>(
     ensures log { IfErr result (λ stop. KeepsLog (F.told files.old) (Some (Replay policy.now recording.now)) (E.told err.old) (E.told err.new) stop) }
     ensures count { E.faults err.old ≤ E.faults err.new }
     ensures read { OnOk result (F.reads files.new ≡ F.reads files.old ++ paths_of (Some (Replay policy.now recording.now))) }
-    ensures until { IfErr result (ReadUntil (paths_of (Some (Replay policy.now recording.now))) (F.reads files.old) (F.reads files.new)) }
+    ensures until { IfErr result (ReadUntil (policies_of (Some (Replay policy.now recording.now))) (paths_of (Some (Replay policy.now recording.now))) (F.reads files.old) (F.reads files.new)) }
     ensures needed { ReadsNeeded (IsSettled (answer_to (F.told files.old) (Some (Replay policy.now recording.now)))) (needed (F.told files.old) (Some (Replay policy.now recording.now))) (F.reads files.old) (F.reads files.new) result }
 {
     match load(alloc, files, policy, recording) {
@@ -132,7 +146,7 @@ fn work_explain<'a, F: Files, O: Sink>(
     ensures cause { IfErr result (λ stop. CausedBy (Rose (F.faults files.old) (F.faults files.new)) (Rose (O.faults out.old) (O.faults out.new)) ⊥ stop) }
     ensures keeps { IfErr result (λ stop. Keeps (answer_to (F.told files.old) (Some (Explain policy.now recording.now number))) (O.told out.old) (O.told out.new) stop) }
     ensures read { OnOk result (F.reads files.new ≡ F.reads files.old ++ paths_of (Some (Explain policy.now recording.now number))) }
-    ensures until { IfErr result (ReadUntil (paths_of (Some (Explain policy.now recording.now number))) (F.reads files.old) (F.reads files.new)) }
+    ensures until { IfErr result (ReadUntil (policies_of (Some (Explain policy.now recording.now number))) (paths_of (Some (Explain policy.now recording.now number))) (F.reads files.old) (F.reads files.new)) }
     ensures needed { ReadsNeeded (IsSettled (answer_to (F.told files.old) (Some (Explain policy.now recording.now number)))) (needed (F.told files.old) (Some (Explain policy.now recording.now number))) (F.reads files.old) (F.reads files.new) result }
 {
     match load(alloc, files, policy, recording) {
@@ -161,7 +175,7 @@ fn work_twin<'a, F: Files, O: Sink>(
     ensures cause { IfErr result (λ stop. CausedBy (Rose (F.faults files.old) (F.faults files.new)) (Rose (O.faults out.old) (O.faults out.new)) ⊥ stop) }
     ensures keeps { IfErr result (λ stop. Keeps (answer_to (F.told files.old) (Some (Twin policy.now one.now other.now))) (O.told out.old) (O.told out.new) stop) }
     ensures read { OnOk result (F.reads files.new ≡ F.reads files.old ++ paths_of (Some (Twin policy.now one.now other.now))) }
-    ensures until { IfErr result (ReadUntil (paths_of (Some (Twin policy.now one.now other.now))) (F.reads files.old) (F.reads files.new)) }
+    ensures until { IfErr result (ReadUntil (policies_of (Some (Twin policy.now one.now other.now))) (paths_of (Some (Twin policy.now one.now other.now))) (F.reads files.old) (F.reads files.new)) }
     ensures needed { ReadsNeeded (IsSettled (answer_to (F.told files.old) (Some (Twin policy.now one.now other.now)))) (needed (F.told files.old) (Some (Twin policy.now one.now other.now))) (F.reads files.old) (F.reads files.new) result }
 {
     match load_twins(alloc, files, policy, one, other) {
@@ -230,6 +244,131 @@ fn twin_status(answer: TwinAnswer) -> Status
     match answer {
         TwinAnswer::Same => Status { code: 0 },
         TwinAnswer::Differ(_) => Status { code: 7 },
+    }
+}
+
+/// Reads the files of an audit, and counts what the policy denies of the recordings. It has no log.
+fn work_audit<'a, R: Threads + Sync, G: Gate + Sync, F: Files, O: Sink>(
+    rt: &R,
+    gate: &G,
+    alloc: Global,
+    policy: &'a str,
+    recordings: &[&'a str],
+    files: &mut F,
+    out: &mut O,
+) -> Result<Status, Stop<'a>>
+    ensures done { IfOk result (λ status. IsDone (answer_to (F.told files.old) (Some (Audit policy.now (map (λ path. path.now) recordings.now)))) (O.told out.old) (O.told out.new) status.code) }
+    ensures end { IfOk result (λ status. status.code ≡ 0) }
+    ensures stops { IfErr result (λ stop. StopsBy (F.told files.old) (Some (Audit policy.now (map (λ path. path.now) recordings.now))) stop) }
+    ensures cause { IfErr result (λ stop. CausedBy (Rose (F.faults files.old) (F.faults files.new)) (Rose (O.faults out.old) (O.faults out.new)) ⊥ stop) }
+    ensures keeps { IfErr result (λ stop. Keeps (answer_to (F.told files.old) (Some (Audit policy.now (map (λ path. path.now) recordings.now)))) (O.told out.old) (O.told out.new) stop) }
+    ensures read { OnOk result (F.reads files.new ≡ F.reads files.old ++ paths_of (Some (Audit policy.now (map (λ path. path.now) recordings.now)))) }
+    ensures until { IfErr result (ReadUntil (policies_of (Some (Audit policy.now (map (λ path. path.now) recordings.now)))) (paths_of (Some (Audit policy.now (map (λ path. path.now) recordings.now)))) (F.reads files.old) (F.reads files.new)) }
+    ensures needed { ReadsNeeded (IsSettled (answer_to (F.told files.old) (Some (Audit policy.now (map (λ path. path.now) recordings.now))))) (needed (F.told files.old) (Some (Audit policy.now (map (λ path. path.now) recordings.now)))) (F.reads files.old) (F.reads files.new) result }
+{
+    match load_audit(alloc, files, policy, recordings) {
+        Ok(loaded) => write_audit(rt, gate, alloc, &loaded.options, &loaded.recordings, out),
+        Err(stop) => Err(stop),
+    }
+}
+
+/// Counts what a policy denies of recordings, and writes the counts.
+fn write_audit<'a, R: Threads + Sync, G: Gate + Sync, O: Sink>(
+    rt: &R,
+    gate: &G,
+    alloc: Global,
+    options: &Options,
+    recordings: &[Recording],
+    out: &mut O,
+) -> Result<Status, Stop<'a>>
+    ensures done { IfOk result (λ status. IsDone (audited (options_seen options.now) (map recording_seen recordings.now)) (O.told out.old) (O.told out.new) status.code) }
+    ensures end { IfOk result (λ status. status.code ≡ 0) }
+    ensures stops { IfErr result (λ stop. (told : List ℕ → Option (List ℕ)) (command : Option Command) → (IsSettled (answer_to told command) → IsWork (answer_to told command)) → StopsBy told command stop) }
+    ensures cause { IfErr result (λ stop. CausedBy ⊥ (Rose (O.faults out.old) (O.faults out.new)) ⊥ stop) }
+    ensures keeps { IfErr result (λ stop. Keeps (audited (options_seen options.now) (map recording_seen recordings.now)) (O.told out.old) (O.told out.new) stop) }
+    ensures work { IfErr result StopsWork }
+{
+    match audit(rt, gate, alloc, options, recordings) {
+        Ok(text) => match write_all(out, text.as_bytes()) {
+            Ok(()) => Ok(Status { code: 0 }),
+            Err(_) => Err(Stop::Output),
+        },
+        Err(_) => Err(Stop::Memory),
+    }
+}
+
+/// Reads two policy files, and tells whether the one policy is within the other. It has no log.
+fn work_within<'a, F: Files, O: Sink>(
+    alloc: Global,
+    one: &'a str,
+    other: &'a str,
+    files: &mut F,
+    out: &mut O,
+) -> Result<Status, Stop<'a>>
+    ensures done { IfOk result (λ status. IsDone (answer_to (F.told files.old) (Some (Within one.now other.now))) (O.told out.old) (O.told out.new) status.code) }
+    ensures end { IfOk result (λ status. (status.code ≡ 0) ⊎ (status.code ≡ 7)) }
+    ensures stops { IfErr result (λ stop. StopsBy (F.told files.old) (Some (Within one.now other.now)) stop) }
+    ensures cause { IfErr result (λ stop. CausedBy (Rose (F.faults files.old) (F.faults files.new)) (Rose (O.faults out.old) (O.faults out.new)) ⊥ stop) }
+    ensures keeps { IfErr result (λ stop. Keeps (answer_to (F.told files.old) (Some (Within one.now other.now))) (O.told out.old) (O.told out.new) stop) }
+    ensures read { OnOk result (F.reads files.new ≡ F.reads files.old ++ paths_of (Some (Within one.now other.now))) }
+    ensures until { IfErr result (ReadUntil (policies_of (Some (Within one.now other.now))) (paths_of (Some (Within one.now other.now))) (F.reads files.old) (F.reads files.new)) }
+    ensures needed { ReadsNeeded (IsSettled (answer_to (F.told files.old) (Some (Within one.now other.now)))) (needed (F.told files.old) (Some (Within one.now other.now))) (F.reads files.old) (F.reads files.new) result }
+{
+    match load_policies(alloc, files, one, other) {
+        Ok(loaded) => write_within(alloc, &loaded.one.policy, &loaded.other.policy, out),
+        Err(stop) => Err(stop),
+    }
+}
+
+/// Tells whether one policy is within another.
+fn write_within<'a, O: Sink>(
+    alloc: Global,
+    one: &Policy,
+    other: &Policy,
+    out: &mut O,
+) -> Result<Status, Stop<'a>>
+    ensures done { IfOk result (λ status. IsDone (Contained one.now other.now) (O.told out.old) (O.told out.new) status.code) }
+    ensures end { IfOk result (λ status. (status.code ≡ 0) ⊎ (status.code ≡ 7)) }
+    ensures stops { IfErr result (λ stop. (told : List ℕ → Option (List ℕ)) (command : Option Command) → (IsSettled (answer_to told command) → IsWork (answer_to told command)) → StopsBy told command stop) }
+    ensures cause { IfErr result (λ stop. CausedBy ⊥ (Rose (O.faults out.old) (O.faults out.new)) ⊥ stop) }
+    ensures keeps { IfErr result (λ stop. Keeps (Contained one.now other.now) (O.told out.old) (O.told out.new) stop) }
+    ensures work { IfErr result StopsWork }
+{
+    match within(alloc, one, other) {
+        Ok(answer) => write_containment(alloc, &answer, out),
+        Err(_) => Err(Stop::Memory),
+    }
+}
+
+/// Writes what is known of two policies.
+fn write_containment<'a, O: Sink>(
+    alloc: Global,
+    answer: &WithinAnswer,
+    out: &mut O,
+) -> Result<Status, Stop<'a>>
+    ensures code { IfOk result (λ status. status.code ≡ within_code answer.now) }
+    ensures lines { OnOk result (O.told out.new ≡ added (within_text answer.now) (O.told out.old)) }
+    ensures stops { IfErr result (λ stop. (told : List ℕ → Option (List ℕ)) (command : Option Command) → (IsSettled (answer_to told command) → IsWork (answer_to told command)) → StopsBy told command stop) }
+    ensures cause { IfErr result (λ stop. CausedBy ⊥ (Rose (O.faults out.old) (O.faults out.new)) ⊥ stop) }
+    ensures keeps { IfErr result (λ stop. Keeps (Wrote (within_text answer.now) []) (O.told out.old) (O.told out.new) stop) }
+    ensures work { IfErr result StopsWork }
+{
+    match containment_text(alloc, answer) {
+        Ok(text) => match write_all(out, text.as_bytes()) {
+            Ok(()) => Ok(containment_status(answer)),
+            Err(_) => Err(Stop::Output),
+        },
+        Err(_) => Err(Stop::Memory),
+    }
+}
+
+/// The status of what is known of two policies.
+fn containment_status(answer: &WithinAnswer) -> Status
+    ensures { result.code ≡ within_code answer.now }
+{
+    match answer {
+        WithinAnswer::Yes(_) => Status { code: 0 },
+        WithinAnswer::No(_) => Status { code: 7 },
     }
 }
 

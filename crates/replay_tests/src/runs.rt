@@ -57,6 +57,26 @@ pub fn twin<R: Threads + Sync>(
     )
 }
 
+/// What a policy denies of recordings, which are named by their numbers from 1.
+pub fn audit<R: Threads + Sync>(
+    rt: &R,
+    alloc: Global,
+    policy: &[u8],
+    recordings: &[Vec<u8>],
+) -> Result<Ended, AllocError> {
+    let names = ["1", "2", "3", "4"];
+    let mut files = Vec::new(alloc);
+    files.push(file(alloc, "policy", policy)?)?;
+    let mut words = Vec::new(alloc);
+    words.push("audit")?;
+    words.push("policy")?;
+    for (name, recording) in names.iter().zip(recordings) {
+        words.push(*name)?;
+        files.push(file(alloc, name, recording)?)?;
+    }
+    run_over(rt, alloc, &words, files, 10_000)
+}
+
 /// A run of a tool over files, with room for so many bytes of output.
 fn run_over<R: Threads + Sync>(
     rt: &R,

@@ -28,12 +28,12 @@ returns-in-Ok-load_recording-clause-read g c =
 
 pub returns-in-Err-load_recording-clause-until : goal.returns-in-Err-load_recording-clause-until
 returns-in-Err-load_recording-clause-until g c = λ after.
-    recording_stops (c.args.policy.now ∷ []) after (g.F.Files.reads c.args.files.now) (g.F.Files.reads c.load_policy.new.files) (g.F.Files.reads c.load_recording.new.files) c.args.recording.now
+    recording_stops 1 (c.args.policy.now ∷ []) after (g.F.Files.reads c.args.files.now) (g.F.Files.reads c.load_policy.new.files) (g.F.Files.reads c.load_recording.new.files) c.args.recording.now
     c.load_policy.ensures.read c.load_recording.ensures.read c.in-Err-load_recording.stop c.in-Err-load_recording.ensures.at
 
 pub returns-in-Err-clause-until : goal.returns-in-Err-clause-until
 returns-in-Err-clause-until g c = λ after.
-    policy_stops (c.args.recording.now ∷ after) (g.F.Files.reads c.args.files.now) (g.F.Files.reads c.load_policy.new.files) c.args.policy.now c.load_policy.ensures.read c.in-Err.stop c.in-Err.ensures.at
+    policy_stops 0 (c.args.recording.now ∷ after) (g.F.Files.reads c.args.files.now) (g.F.Files.reads c.load_policy.new.files) c.args.policy.now c.load_policy.ensures.read c.in-Err.stop c.in-Err.ensures.at
 
 pub returns-in-Ok-load_recording-clause-needed : goal.returns-in-Ok-load_recording-clause-needed
 returns-in-Ok-load_recording-clause-needed g c =

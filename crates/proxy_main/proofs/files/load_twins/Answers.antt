@@ -29,7 +29,7 @@ returns-in-Ok-load_recording-clause-read g c =
 
 pub returns-in-Err-load_recording-clause-until : goal.returns-in-Err-load_recording-clause-until
 returns-in-Err-load_recording-clause-until g c =
-    recording_stops (c.args.policy.now ∷ c.args.one.now ∷ []) [] (g.F.Files.reads c.args.files.now) (g.F.Files.reads c.load.new.files) (g.F.Files.reads c.load_recording.new.files) c.args.other.now
+    recording_stops 1 (c.args.policy.now ∷ c.args.one.now ∷ []) [] (g.F.Files.reads c.args.files.now) (g.F.Files.reads c.load.new.files) (g.F.Files.reads c.load_recording.new.files) c.args.other.now
     c.in-Ok.ensures.read c.load_recording.ensures.read c.in-Err-load_recording.stop c.in-Err-load_recording.ensures.at
 
 pub returns-in-Err-clause-until : goal.returns-in-Err-clause-until

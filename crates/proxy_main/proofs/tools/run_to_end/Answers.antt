@@ -2,7 +2,7 @@ use Rattle.std.proofs.Common.{inl, map, string_bytes}
 use Rattle.line_words.proofs.ReadLaws.{read_all}
 use Rattle.proxy_main.specs.Words.{reading}
 use Rattle.proxy_main.specs.Answers.{answer_of, IsSettled}
-use Rattle.proxy_main.specs.FilesRead.{paths_of, needed}
+use Rattle.proxy_main.specs.FilesRead.{paths_of, policies_of, needed}
 use Rattle.proxy_main.proofs.Endings.{ends_stop}
 use Rattle.proxy_main.proofs.Needed.{needed_front, needed_exactly}
 use Rattle.proxy_main.proofs.ReadFiles.{done_reads, stop_reads}
@@ -15,11 +15,11 @@ returns-in-Err-clause-ends g c =
 
 pub returns-in-Ok-clause-reads_named : goal.returns-in-Ok-clause-reads_named
 returns-in-Ok-clause-reads_named g c =
-    done_reads (paths_of (reading (map (λ w. string_bytes w) c.args.words.now))) (g.F.Files.reads c.args.files.now) (g.F.Files.reads c.work.new.files) _ _ _ _ c.in-Ok.ensures.read c.in-Ok.ensures.end
+    done_reads (policies_of (reading (map (λ w. string_bytes w) c.args.words.now))) (paths_of (reading (map (λ w. string_bytes w) c.args.words.now))) (g.F.Files.reads c.args.files.now) (g.F.Files.reads c.work.new.files) _ _ _ _ c.in-Ok.ensures.read c.in-Ok.ensures.end
 
 pub returns-in-Err-clause-reads_named : goal.returns-in-Err-clause-reads_named
 returns-in-Err-clause-reads_named g c =
-    stop_reads (g.F.Files.told c.args.files.now) (reading (map (λ w. string_bytes w) c.args.words.now)) (paths_of (reading (map (λ w. string_bytes w) c.args.words.now))) (g.F.Files.reads c.args.files.now)
+    stop_reads (g.F.Files.told c.args.files.now) (reading (map (λ w. string_bytes w) c.args.words.now)) (policies_of (reading (map (λ w. string_bytes w) c.args.words.now))) (paths_of (reading (map (λ w. string_bytes w) c.args.words.now))) (g.F.Files.reads c.args.files.now)
     (g.F.Files.reads c.work.new.files) _ _ _ _ _ _ _ c.in-Err.stop c.work.ensures.count c.in-Err.ensures.until c.in-Err.ensures.log c.tell.ensures.told
 
 pub returns-in-Ok-clause-reads_needed : goal.returns-in-Ok-clause-reads_needed

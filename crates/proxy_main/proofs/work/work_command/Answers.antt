@@ -33,6 +33,26 @@ returns-in-Twin-clause-log g c =
     let unasked = ap (λ (w : CommandWords). may_log (g.F.Files.told c.args.files.now) (Some (command_of w))) c.in-Twin.is in
     quiet_stop c.work_twin.result (g.F.Files.told c.args.files.now) _ _ _ _ _ unasked c.work_twin.ensures.cause refl
 
+pub returns-in-Audit-clause-logged : goal.returns-in-Audit-clause-logged
+returns-in-Audit-clause-logged g c =
+    let unasked = ap (λ (w : CommandWords). may_log (g.F.Files.told c.args.files.now) (Some (command_of w))) c.in-Audit.is in
+    quiet_done c.work_audit.result (g.F.Files.told c.args.files.now) _ _ unasked
+
+pub returns-in-Audit-clause-log : goal.returns-in-Audit-clause-log
+returns-in-Audit-clause-log g c =
+    let unasked = ap (λ (w : CommandWords). may_log (g.F.Files.told c.args.files.now) (Some (command_of w))) c.in-Audit.is in
+    quiet_stop c.work_audit.result (g.F.Files.told c.args.files.now) _ _ _ _ _ unasked c.work_audit.ensures.cause refl
+
+pub returns-in-Within-clause-logged : goal.returns-in-Within-clause-logged
+returns-in-Within-clause-logged g c =
+    let unasked = ap (λ (w : CommandWords). may_log (g.F.Files.told c.args.files.now) (Some (command_of w))) c.in-Within.is in
+    quiet_done c.work_within.result (g.F.Files.told c.args.files.now) _ _ unasked
+
+pub returns-in-Within-clause-log : goal.returns-in-Within-clause-log
+returns-in-Within-clause-log g c =
+    let unasked = ap (λ (w : CommandWords). may_log (g.F.Files.told c.args.files.now) (Some (command_of w))) c.in-Within.is in
+    quiet_stop c.work_within.result (g.F.Files.told c.args.files.now) _ _ _ _ _ unasked c.work_within.ensures.cause refl
+
 pub returns-in-Sample-clause-log : goal.returns-in-Sample-clause-log
 returns-in-Sample-clause-log g c =
     let unasked = ap (λ (w : CommandWords). may_log (g.F.Files.told c.args.files.now) (Some (command_of w))) c.in-Sample.is in
@@ -51,32 +71,32 @@ returns-in-Help-clause-log g c =
 pub returns-in-Sample-clause-read : goal.returns-in-Sample-clause-read
 returns-in-Sample-clause-read g c =
     let none = ap (λ (w : CommandWords). paths_of (Some (command_of w))) c.in-Sample.is in
-    work_done _ (g.F.Files.reads c.args.files.now) (g.F.Files.reads c.args.files.now) (unread _ (g.F.Files.reads c.args.files.now) none) c.work_sample.result
+    work_done 0 _ (g.F.Files.reads c.args.files.now) (g.F.Files.reads c.args.files.now) (unread _ (g.F.Files.reads c.args.files.now) none) c.work_sample.result
 
 pub returns-in-Sample-clause-until : goal.returns-in-Sample-clause-until
 returns-in-Sample-clause-until g c =
     let none = ap (λ (w : CommandWords). paths_of (Some (command_of w))) c.in-Sample.is in
-    work_ends _ (g.F.Files.reads c.args.files.now) (g.F.Files.reads c.args.files.now) (unread _ (g.F.Files.reads c.args.files.now) none) c.work_sample.result c.work_sample.ensures.work
+    work_ends _ _ (g.F.Files.reads c.args.files.now) (g.F.Files.reads c.args.files.now) (unread _ (g.F.Files.reads c.args.files.now) none) c.work_sample.result c.work_sample.ensures.work
 
 pub returns-in-Help-clause-read : goal.returns-in-Help-clause-read
 returns-in-Help-clause-read g c =
     let none = ap (λ (w : CommandWords). paths_of (Some (command_of w))) c.in-Help.is in
-    work_done _ (g.F.Files.reads c.args.files.now) (g.F.Files.reads c.args.files.now) (unread _ (g.F.Files.reads c.args.files.now) none) c.work_text.result
+    work_done 0 _ (g.F.Files.reads c.args.files.now) (g.F.Files.reads c.args.files.now) (unread _ (g.F.Files.reads c.args.files.now) none) c.work_text.result
 
 pub returns-in-Help-clause-until : goal.returns-in-Help-clause-until
 returns-in-Help-clause-until g c =
     let none = ap (λ (w : CommandWords). paths_of (Some (command_of w))) c.in-Help.is in
-    work_ends _ (g.F.Files.reads c.args.files.now) (g.F.Files.reads c.args.files.now) (unread _ (g.F.Files.reads c.args.files.now) none) c.work_text.result c.work_text.ensures.work
+    work_ends _ _ (g.F.Files.reads c.args.files.now) (g.F.Files.reads c.args.files.now) (unread _ (g.F.Files.reads c.args.files.now) none) c.work_text.result c.work_text.ensures.work
 
 pub returns-in-Version-clause-read : goal.returns-in-Version-clause-read
 returns-in-Version-clause-read g c =
     let none = ap (λ (w : CommandWords). paths_of (Some (command_of w))) c.in-Version.is in
-    work_done _ (g.F.Files.reads c.args.files.now) (g.F.Files.reads c.args.files.now) (unread _ (g.F.Files.reads c.args.files.now) none) c.work_version.result
+    work_done 0 _ (g.F.Files.reads c.args.files.now) (g.F.Files.reads c.args.files.now) (unread _ (g.F.Files.reads c.args.files.now) none) c.work_version.result
 
 pub returns-in-Version-clause-until : goal.returns-in-Version-clause-until
 returns-in-Version-clause-until g c =
     let none = ap (λ (w : CommandWords). paths_of (Some (command_of w))) c.in-Version.is in
-    work_ends _ (g.F.Files.reads c.args.files.now) (g.F.Files.reads c.args.files.now) (unread _ (g.F.Files.reads c.args.files.now) none) c.work_version.result c.work_version.ensures.work
+    work_ends _ _ (g.F.Files.reads c.args.files.now) (g.F.Files.reads c.args.files.now) (unread _ (g.F.Files.reads c.args.files.now) none) c.work_version.result c.work_version.ensures.work
 
 pub returns-in-Sample-clause-needed : goal.returns-in-Sample-clause-needed
 returns-in-Sample-clause-needed g c = none_named _ _ (g.F.Files.told c.args.files.now) (g.F.Files.reads c.args.files.now) c.work_sample.result c.in-Sample.is refl

@@ -1,0 +1,146 @@
+//! What a policy denies of recordings: the words and files of an audit, and that its recordings are played at the same time.
+use crate::explaining::{SEE, SEEN};
+use crate::runs::{Ended, file, run_over};
+use link_traits::{Gate, MemFiles, MemSink};
+use proxy_main::tool;
+use std::alloc::{AllocError, Global};
+use std::str;
+use std::sync::atomic::{AtomicBool, AtomicUsize, Ordering};
+use std::test::Fail;
+use std::thread::Threads;
+use test_tables::wrong_row;
+
+/// What is said of a recording that is named twice.
+const TWICE: &str = "\
+recording 1 items 1 denied 1
+recording 2 items 1 denied 1
+reason OnlySee 2
+entry 1 denied 2
+unnamed 1 --see=org.a.S
+";
+
+/// Words, and the status, how many lines are written, and the line on standard error.
+const WORDS: &str = "\
+audit policy => 1 0 error: usage
+audit policy seen => 0 5
+audit policy seen seen => 0 6
+audit policy seen none none => 0 7
+audit policy seen seen seen seen seen seen seen seen seen seen seen seen seen seen seen seen => 0 20
+audit policy seen seen seen seen seen seen seen seen seen seen seen seen seen seen seen seen seen => 1 0 error: usage
+audit policy -- seen => 0 5
+audit policy -seen => 1 0 error: usage
+audit policy seen bad missing => 3 0 error: recording: Cut at 3
+audit policy missing bad => 4 0 error: file missing
+audit policy bad missing => 3 0 error: recording: Cut at 3
+audit seen seen => 2 0 error: policy word 0: UnknownOption
+audit missing bad => 4 0 error: file missing
+";
+
+/// A run over a policy file, a recording of one call, one of nothing and one that is bad.
+fn audited<R: Threads + Sync>(
+    rt: &R,
+    alloc: Global,
+    words: &str,
+    room: usize,
+) -> Result<Ended, AllocError> {
+    let mut files = Vec::new(alloc);
+    files.push(file(alloc, "policy", SEE)?)?;
+    files.push(file(alloc, "seen", SEEN)?)?;
+    files.push(file(alloc, "none", b"DBPR\x01\0")?)?;
+    files.push(file(alloc, "bad", b"DBP")?)?;
+    run_over(rt, alloc, words, files, room)
+}
+
+fn told<R: Threads + Sync>(rt: &R, alloc: Global, words: &str) -> Result<String, AllocError> {
+    let ended = audited(rt, alloc, words, 10_000)?;
+    let lines = str::from_utf8(&ended.out.bytes)
+        .unwrap_or("")
+        .lines()
+        .count();
+    let line = str::from_utf8(&ended.err.bytes).unwrap_or("no text");
+    let told = format!(in alloc; "{} {lines} {}", ended.code, line.trim_end())?;
+    String::from_str(alloc, told.trim_end())
+}
+
+#[test]
+fn words_and_files_of_an_audit_are_checked_in_order(rt: HostRuntime) -> Result<(), Fail> {
+    assert_eq!(rt;
+        wrong_row(rt.alloc(), WORDS, &|alloc, words| told(&rt, alloc, words))?,
+        None
+    );
+    Ok(())
+}
+
+#[test]
+fn recording_that_is_named_twice_is_counted_twice(rt: HostRuntime) -> Result<(), Fail> {
+    let ended = audited(&rt, rt.alloc(), "audit policy seen seen", TWICE.len())?;
+    assert_eq!(rt; ended.code, 0);
+    assert_eq!(rt;
+        str::from_utf8(&ended.out.bytes).unwrap_or("no text"),
+        TWICE
+    );
+    for room in 0..TWICE.len() {
+        let ended = audited(&rt, rt.alloc(), "audit policy seen seen", room)?;
+        assert_eq!(rt; ended.code, 6);
+        assert_eq!(rt; ended.out.bytes.as_slice(), &TWICE.as_bytes()[..room]);
+    }
+    Ok(())
+}
+
+/// How often a job looks at most whether the other one has come.
+const LOOKS: u32 = 1_000_000_000;
+
+/// A gate at which two jobs wait for each other.
+#[derive(Drop)]
+struct Meeting {
+    first: AtomicBool,
+    second: AtomicBool,
+    met: AtomicUsize,
+}
+
+impl Meeting {
+    fn meet(&self, own: &AtomicBool, other: &AtomicBool) {
+        own.store(true, Ordering::SeqCst);
+        for _ in 0..LOOKS {
+            if other.load(Ordering::SeqCst) {
+                self.met.fetch_add(1, Ordering::SeqCst);
+                return;
+            }
+        }
+    }
+}
+
+impl Gate for Meeting {
+    fn enter(&self, job: u32) {
+        match job {
+            1 => self.meet(&self.first, &self.second),
+            2 => self.meet(&self.second, &self.first),
+            _ => {}
+        }
+    }
+}
+
+#[test]
+fn recordings_are_played_at_the_same_time(rt: HostRuntime) -> Result<(), Fail> {
+    let alloc = rt.alloc();
+    let gate = Meeting {
+        first: AtomicBool::new(false),
+        second: AtomicBool::new(false),
+        met: AtomicUsize::new(0),
+    };
+    let mut words = Vec::new(alloc);
+    for word in ["audit", "policy", "seen", "seen"] {
+        words.push(String::from_str(alloc, word)?)?;
+    }
+    let mut files = Vec::new(alloc);
+    files.push(file(alloc, "policy", SEE)?)?;
+    files.push(file(alloc, "seen", SEEN)?)?;
+    let mut files = MemFiles::new(files);
+    let mut out = MemSink::new(alloc, 10_000)?;
+    let mut err = MemSink::new(alloc, 100)?;
+    let status = tool(&rt, &gate, alloc, &words, &mut files, &mut out, &mut err);
+    assert!(rt; status.is_some_and(|status| status.code == 0));
+    assert_eq!(rt; gate.met.load(Ordering::SeqCst), 2);
+    assert_eq!(rt; str::from_utf8(&out.bytes).unwrap_or("no text"), TWICE);
+    Ok(())
+}
