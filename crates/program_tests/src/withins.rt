@@ -165,7 +165,7 @@ fn is_within<R: Threads + Sync>(
     let one = format!(in alloc; "{grant}{name}{rule}")?;
     let other = format!(in alloc; "{other_grant}{other_name}{other_rule}")?;
     let ended = compared(rt, alloc, &one, &other, 1_000)?;
-    Ok(ended.code == 0 && ended.out.bytes.as_slice() == b"within\nentry 1 by 1\n")
+    Ok(ended.code == 0 && ended.out.bytes.as_slice() == b"within\nentry 1 by 1\n".as_slice())
 }
 
 #[test]
