@@ -22,12 +22,12 @@ unnamed 1 --see=org.a.S
 /// Words, and the status, how many lines are written, and the line on standard error.
 const WORDS: &str = "\
 audit policy => 1 0 error: usage
-audit policy seen => 0 5
-audit policy seen seen => 0 6
-audit policy seen none none => 0 7
-audit policy seen seen seen seen seen seen seen seen seen seen seen seen seen seen seen seen => 0 20
+audit policy seen => 0 4
+audit policy seen seen => 0 5
+audit policy seen none none => 0 6
+audit policy seen seen seen seen seen seen seen seen seen seen seen seen seen seen seen seen => 0 19
 audit policy seen seen seen seen seen seen seen seen seen seen seen seen seen seen seen seen seen => 1 0 error: usage
-audit policy -- seen => 0 5
+audit policy -- seen => 0 4
 audit policy -seen => 1 0 error: usage
 audit policy seen bad missing => 3 0 error: recording: Cut at 3
 audit policy missing bad => 4 0 error: file missing
