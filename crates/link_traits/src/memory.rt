@@ -1,6 +1,6 @@
 //! Files and a sink in memory, which tell all that they hold.
-ghost use Rattle.std.specs.Prelude.{◌≡◌, ◌≤◌, ◌<◌, ◌+◌, ◌-◌, ◌++◌, ◌∷◌, ◌↔◌, ℕ, List, [], Some, OnOk, OnErr, IfOk, IfSome, IsErr, IsErrOf, is_ok, length, take, min, vec_len, vec_capacity, option_map, if◌then◌else◌};
-ghost use Rattle.link_traits.specs.Memory.{file_of, told_of, read_of, Reads, one_more, faults_after};
+ghost use Rattle.std.specs.Prelude.{◌≡◌, ◌≢◌, ◌≤◌, ◌<◌, ◌+◌, ◌-◌, ◌^◌, ◌++◌, ◌∷◌, ◌↔◌, ℕ, List, [], Some, None, Err, OnOk, OnErr, IfOk, IfSome, IfNone, IsErr, IsErrOf, IsSome, is_ok, length, take, min, vec_len, vec_capacity, option_map, if◌then◌else◌, false};
+ghost use Rattle.link_traits.specs.Memory.{file_of, told_of, fails_in, IsPlace, is_named, read_of, create_of, append_of, after_append, Answers, Reads, one_more, faults_after};
 ghost use Rattle.link_traits.specs.Told.{added, Rose, Given};
 
 use crate::outside::{FileFault, Files, Sink, SinkFault};
@@ -10,36 +10,58 @@ use std::alloc::{AllocError, Global};
 /// A file in memory.
 #[derive(Drop)]
 pub struct MemFile {
-    /// The path that it is read by.
+    /// The path that it is read and written by.
     pub path: String,
     /// What it holds.
     pub bytes: Vec<u8>,
-    /// Whether each read of it fails.
+    /// Whether each call on it fails.
     pub fails: bool,
 }
 
-/// Files in memory. Of two with one path the first is read.
+/// What appends to files in memory answer, by their numbers from 1.
+#[derive(Clone, Copy, Debug)]
+pub struct Appends {
+    /// How many were made, up to the greatest `u64`.
+    pub made: u64,
+    /// The most bytes that one takes. One of a piece that has bytes takes at least one byte.
+    pub most: usize,
+    /// The number of the one that fails, if any.
+    pub fails: Option<u64>,
+    /// The number of the one that is refused memory, if any.
+    pub refused: Option<u64>,
+}
+
+/// Files in memory. Of two with one path the first is read and written.
 #[derive(Drop)]
 pub struct MemFiles {
     /// The files, in order.
     pub files: Vec<MemFile>,
-    /// How many reads have failed, up to the greatest `u64`.
+    /// How many calls have failed, up to the greatest `u64`.
     pub faults: u64,
     /// The paths that were read.
     pub reads: ReadPaths,
+    /// What appends answer.
+    pub appends: Appends,
 }
 
 impl MemFiles {
-    /// These files, none of which was read.
+    /// These files, on which no call was made. An append takes its whole piece.
     pub fn new(files: Vec<MemFile>) -> MemFiles
         ensures files { result.files.items ≡ files.items }
         ensures faults { result.faults ≡ 0 }
         ensures reads { result.reads.paths ≡ [] }
+        ensures appends { result.appends ≡ record { made = 0; most = 2 ^ 64 - 1; fails = None; refused = None } }
     {
         MemFiles {
             files,
             faults: 0,
             reads: ReadPaths::new(),
+            appends: Appends {
+                made: 0,
+                most: usize::MAX,
+                fails: None,
+                refused: None,
+            },
         }
     }
 }
@@ -58,6 +80,107 @@ fn find<'a>(files: &'a [MemFile], path: &str) -> Option<&'a MemFile>
     None
 }
 
+/// The place of the first file with this path.
+fn place_of(files: &[MemFile], path: &str) -> Option<usize>
+    ensures place { IfSome result (IsPlace files.now path.now) }
+    ensures within { IfSome result (λ place. place < length files.now) }
+    ensures none { IfNone result (file_of files.now path.now ≡ None) }
+{
+    for (place, file) in files.iter().enumerate() {
+        if file.path.as_str() == path {
+            return Some(place);
+        }
+    }
+    None
+}
+
+/// Whether an append that is made at this place is the one that is named.
+fn is_named(named: Option<u64>, place: u64) -> bool
+    ensures { result ≡ is_named named place }
+{
+    match named {
+        Some(named) => named == place,
+        None => false,
+    }
+}
+
+/// What an append of this many bytes answers, unless memory is refused.
+fn append_answer(appends: Appends, len: usize, file: Option<&MemFile>) -> Result<usize, FileFault>
+    ensures { result ≡ append_of appends len (option_map (λ f. f.now) file.entry) }
+{
+    let Some(file) = file else {
+        return Err(FileFault::Failed);
+    };
+    let number = appends.made.saturating_add(1);
+    if file.fails {
+        return Err(FileFault::Failed);
+    }
+    if is_named(appends.fails, number) {
+        return Err(FileFault::Failed);
+    }
+    if is_named(appends.refused, number) {
+        return Err(FileFault::Memory);
+    }
+    Ok(len.min(appends.most.max(1)))
+}
+
+/// Whether each call on a file fails, where there is one.
+fn is_failing(file: Option<&MemFile>) -> bool
+    ensures { result ≡ fails_in (option_map (λ f. f.now) file.entry) }
+{
+    match file {
+        Some(file) => file.fails,
+        None => false,
+    }
+}
+
+/// Puts bytes at the end of the first file with this path, if there is one.
+fn extend(files: &mut Vec<MemFile>, path: &str, bytes: &[u8]) -> Result<(), AllocError>
+    ensures ok { OnOk result (told_of files.new.items path.now ≡ added bytes.now (told_of files.old.items path.now)) }
+    ensures err { OnErr result ((p : List ℕ) → told_of files.new.items p ≡ told_of files.old.items p) }
+    ensures others { (p : List ℕ) → p ≢ path.now → told_of files.new.items p ≡ told_of files.old.items p }
+    ensures failing { (p : List ℕ) → fails_in (file_of files.new.items p) ≡ fails_in (file_of files.old.items p) }
+{
+    if let Some(place) = place_of(files, path) {
+        let file = &mut files[place];
+        file.bytes.extend_from_slice(bytes)?;
+    }
+    Ok(())
+}
+
+/// Empties the first file with this path, or adds one that holds no bytes.
+fn make_empty(files: &mut Vec<MemFile>, path: &str) -> Result<(), AllocError>
+    ensures ok { OnOk result (told_of files.new.items path.now ≡ Some []) }
+    ensures err { OnErr result ((p : List ℕ) → told_of files.new.items p ≡ told_of files.old.items p) }
+    ensures others { (p : List ℕ) → p ≢ path.now → told_of files.new.items p ≡ told_of files.old.items p }
+    ensures failing { (p : List ℕ) → fails_in (file_of files.new.items p) ≡ fails_in (file_of files.old.items p) }
+{
+    if let Some(place) = place_of(files, path) {
+        let file = &mut files[place];
+        file.bytes.clear();
+        return Ok(());
+    }
+    add_file(files, path)
+}
+
+/// Adds a file that holds no bytes, behind those that are there.
+fn add_file(files: &mut Vec<MemFile>, path: &str) -> Result<(), AllocError>
+    requires new { file_of files.old.items path.now ≡ None }
+    ensures ok { OnOk result (told_of files.new.items path.now ≡ Some []) }
+    ensures err { OnErr result (files.new.items ≡ files.old.items) }
+    ensures others { (p : List ℕ) → p ≢ path.now → told_of files.new.items p ≡ told_of files.old.items p }
+    ensures failing { (p : List ℕ) → fails_in (file_of files.new.items p) ≡ fails_in (file_of files.old.items p) }
+{
+    let alloc = *files.allocator();
+    let file = MemFile {
+        path: String::from_str(alloc, path)?,
+        bytes: Vec::new(alloc),
+        fails: false,
+    };
+    files.push(file)?;
+    Ok(())
+}
+
 impl Files for MemFiles {
     ghost told = { λ m path. told_of m.files.items path };
 
@@ -65,8 +188,8 @@ impl Files for MemFiles {
 
     ghost reads = { λ m. m.reads.paths };
 
-    /// It fails where no file has the path, and where the first that has it fails; else it is refused as too long where the
-    /// file has more bytes than the limit.
+    /// It fails where no file has the path, and where the first that has it fails; else it is refused as too long where
+    /// the file has more bytes than the limit.
     fn read(&mut self, path: &str, limit: usize, into: &mut Vec<u8>) -> Result<(), FileFault>
         ensures reads { Reads (read_of limit (file_of self.old.files.items path.now)) result into.old.items into.new.items }
         ensures faults { self.new.faults ≡ faults_after (read_of limit (file_of self.old.files.items path.now)) self.old.faults }
@@ -98,6 +221,67 @@ impl Files for MemFiles {
             }
         }
     }
+
+    /// It fails exactly where the first file with the path fails.
+    fn create(&mut self, path: &str) -> Result<(), FileFault>
+        ensures answer { Answers (create_of (file_of self.old.files.items path.now)) result }
+        ensures created { OnOk result (told_of self.new.files.items path.now ≡ Some []) }
+        ensures faults { self.new.faults ≡ faults_after (create_of (file_of self.old.files.items path.now)) self.old.faults }
+        ensures failing { (p : List ℕ) → fails_in (file_of self.new.files.items p) ≡ fails_in (file_of self.old.files.items p) }
+        ensures appends { self.new.appends ≡ self.old.appends }
+
+        // What the trait says.
+        ensures empty { OnOk result (IfSome (told_of self.new.files.items path.now) (λ bytes. bytes ≡ [])) }
+        ensures tells { IsSome (told_of self.old.files.items path.now) → IsSome (told_of self.new.files.items path.now) }
+        ensures others { (p : List ℕ) → p ≢ path.now → told_of self.new.files.items p ≡ told_of self.old.files.items p }
+        ensures err { OnErr result ((p : List ℕ) → told_of self.new.files.items p ≡ told_of self.old.files.items p) }
+        ensures cause { IsErrOf result FileFault.Failed → Rose self.old.faults self.new.faults }
+        ensures short { result ≢ Err FileFault.TooLong }
+        ensures count { self.old.faults ≤ self.new.faults }
+        ensures unread { self.new.reads.paths ≡ self.old.reads.paths }
+    {
+        if is_failing(find(&self.files, path)) {
+            self.faults = self.faults.saturating_add(1);
+            return Err(FileFault::Failed);
+        }
+        match make_empty(&mut self.files, path) {
+            Ok(()) => Ok(()),
+            Err(_) => Err(FileFault::Memory),
+        }
+    }
+
+    /// It fails where no file has the path, where the first that has it fails, and where it is the one that is to fail.
+    fn append(&mut self, path: &str, piece: &[u8]) -> Result<usize, FileFault>
+        ensures answer { Answers (append_of self.old.appends (length piece.now) (file_of self.old.files.items path.now)) result }
+        ensures faults { self.new.faults ≡ faults_after (append_of self.old.appends (length piece.now) (file_of self.old.files.items path.now)) self.old.faults }
+        ensures failing { (p : List ℕ) → fails_in (file_of self.new.files.items p) ≡ fails_in (file_of self.old.files.items p) }
+        ensures appends { self.new.appends ≡ after_append self.old.appends }
+
+        // What the trait says.
+        ensures added { IfOk result (λ n. told_of self.new.files.items path.now ≡ added (take n piece.now) (told_of self.old.files.items path.now)) }
+        ensures within { IfOk result (λ n. n ≤ length piece.now) }
+        ensures progress { IfOk result (λ n. 0 < length piece.now → 0 < n) }
+        ensures others { (p : List ℕ) → p ≢ path.now → told_of self.new.files.items p ≡ told_of self.old.files.items p }
+        ensures err { OnErr result ((p : List ℕ) → told_of self.new.files.items p ≡ told_of self.old.files.items p) }
+        ensures cause { IsErrOf result FileFault.Failed → Rose self.old.faults self.new.faults }
+        ensures short { result ≢ Err FileFault.TooLong }
+        ensures count { self.old.faults ≤ self.new.faults }
+        ensures unread { self.new.reads.paths ≡ self.old.reads.paths }
+    {
+        let answer = append_answer(self.appends, piece.len(), find(&self.files, path));
+        self.appends.made = self.appends.made.saturating_add(1);
+        match answer {
+            Ok(n) => match extend(&mut self.files, path, &piece[..n]) {
+                Ok(()) => Ok(n),
+                Err(_) => Err(FileFault::Memory),
+            },
+            Err(FileFault::Failed) => {
+                self.faults = self.faults.saturating_add(1);
+                Err(FileFault::Failed)
+            }
+            Err(_) => Err(FileFault::Memory),
+        }
+    }
 }
 
 /// A sink in memory. It takes as many bytes as it has room for, and fails where it has none left.
@@ -113,7 +297,7 @@ pub struct MemSink {
 }
 
 impl MemSink {
-    /// An empty sink with room for so many bytes, which are reserved at once.
+    /// An empty sink with room for this many bytes, which are reserved at once.
     pub fn new(alloc: Global, room: usize) -> Result<MemSink, AllocError>
         ensures bytes { IfOk result (λ m. m.bytes.items ≡ []) }
         ensures room { IfOk result (λ m. m.room ≡ room) }

@@ -1,14 +1,14 @@
 //! Files, sinks, and what is done with them whatever they are.
-ghost use Rattle.std.specs.Prelude.{◌≡◌, ◌≤◌, ◌<◌, ◌++◌, ◌∷◌, ℕ, List, [], Option, Err, length, take, OnOk, OnErr, IfOk, IfErr, IfSome, IsErrOf};
+ghost use Rattle.std.specs.Prelude.{◌≡◌, ◌≢◌, ◌≤◌, ◌<◌, ◌++◌, ◌∷◌, ℕ, List, [], Option, Err, length, take, OnOk, OnErr, IfOk, IfErr, IfSome, IsErrOf, IsSome};
 ghost use Rattle.link_traits.specs.Told.{added, Rose, Part, Given};
 
 use std::alloc::Global;
 use thiserror::Error;
 
-/// Why a file was not read.
+/// Why a file was not read or written.
 #[derive(Clone, Copy, Debug, PartialEq, Eq, Error)]
 pub enum FileFault {
-    /// There is no such file, or it could not be read. The count of faults rises.
+    /// There is no such file, or it could not be read or written. The count of faults rises.
     #[error("the file could not be read")]
     Failed,
     /// The file has more bytes than the limit.
@@ -29,7 +29,7 @@ pub trait Files {
     /// The bytes that a path holds, where that is told.
     ghost told: { Self → List ℕ → Option (List ℕ) };
 
-    /// How often a read has failed, up to the greatest number that the count has.
+    /// How often a call has failed, up to the greatest number that the count has.
     ghost faults: { Self → ℕ };
 
     /// The paths that were read, in order: each read is in it once, whatever it answered.
@@ -45,6 +45,32 @@ pub trait Files {
         ensures count { faults self.old ≤ faults self.new }
         ensures kept { (p : List ℕ) → told self.new p ≡ told self.old p }
         ensures path { reads self.new ≡ reads self.old ++ path.now ∷ [] };
+
+    /// Makes the file of a path, or empties the one that is there: after `Ok` it holds no bytes. Where it is refused or
+    /// fails, each path holds what it held. It never answers `TooLong`.
+    fn create(&mut self, path: &str) -> Result<(), FileFault>
+        ensures empty { OnOk result (IfSome (told self.new path.now) (λ bytes. bytes ≡ [])) }
+        ensures tells { IsSome (told self.old path.now) → IsSome (told self.new path.now) }
+        ensures others { (p : List ℕ) → p ≢ path.now → told self.new p ≡ told self.old p }
+        ensures err { OnErr result ((p : List ℕ) → told self.new p ≡ told self.old p) }
+        ensures cause { IsErrOf result FileFault.Failed → Rose (faults self.old) (faults self.new) }
+        ensures short { result ≢ Err FileFault.TooLong }
+        ensures count { faults self.old ≤ faults self.new }
+        ensures unread { reads self.new ≡ reads self.old };
+
+    /// Puts a prefix of the piece at the end of the file of a path, at least a byte if the piece has one, and answers
+    /// how many bytes it put there. Where it is refused or fails, each path holds what it held. It never answers
+    /// `TooLong`.
+    fn append(&mut self, path: &str, piece: &[u8]) -> Result<usize, FileFault>
+        ensures added { IfOk result (λ n. told self.new path.now ≡ added (take n piece.now) (told self.old path.now)) }
+        ensures within { IfOk result (λ n. n ≤ length piece.now) }
+        ensures progress { IfOk result (λ n. 0 < length piece.now → 0 < n) }
+        ensures others { (p : List ℕ) → p ≢ path.now → told self.new p ≡ told self.old p }
+        ensures err { OnErr result ((p : List ℕ) → told self.new p ≡ told self.old p) }
+        ensures cause { IsErrOf result FileFault.Failed → Rose (faults self.old) (faults self.new) }
+        ensures short { result ≢ Err FileFault.TooLong }
+        ensures count { faults self.old ≤ faults self.new }
+        ensures unread { reads self.new ≡ reads self.old };
 }
 
 /// Where bytes are written, in pieces.
