@@ -16,7 +16,7 @@ use Rattle.recording.specs.Seen.{Fits}
 abbrev ok : {A : Type 0} → A → Result A BadRecording
 ok x = Ok x
 
-skip : {A : Type 0} (b : Bool) (y z w : Result A BadRecording) → b ≡ false → z ≡ w → cond b y z ≡ w
+pub skip : {A : Type 0} (b : Bool) (y z w : Result A BadRecording) → b ≡ false → z ≡ w → cond b y z ≡ w
 skip b y z w e k = ap (λ (c : Bool). cond c y z) e ∙ k
 
 -- a record in front of any bytes
@@ -32,7 +32,7 @@ record_front place kind bytes rest low short none =
     (skip (nat_lt (length all) (5 + from_le_bytes w32 (to_le_bytes w32 (length bytes)))) (refused Cut (place + length all)) _ _ (ap (λ (k : ℕ). nat_lt (length all) (5 + k)) len ∙ le-ltb (length all) (5 + length bytes) (omega (arith, size)))
     (ap (λ (k : ℕ). ok k) len))))
 
-then_ok : {A B : Type 0} (r : Result A BadRecording) (f : A → Result B BadRecording) (x : A) (z : Result B BadRecording) → r ≡ Ok x → f x ≡ z → (r >>= f) ≡ z
+pub then_ok : {A B : Type 0} (r : Result A BadRecording) (f : A → Result B BadRecording) (x : A) (z : Result B BadRecording) → r ≡ Ok x → f x ≡ z → (r >>= f) ≡ z
 then_ok r f x z e k = ap (λ (q : Result _ BadRecording). q >>= f) e ∙ k
 
 record_step : (n place kind : ℕ) (bytes rest : List ℕ) (events : List Event) → record_len place (spelled_record kind bytes ++ rest) ≡ Ok (length bytes) → ((q : ℕ) → events_at n q rest ≡ Ok events) → events_at (suc n) place (spelled_record kind bytes ++ rest) ≡ Ok (event_of kind bytes ∷ events)
@@ -61,7 +61,7 @@ events_again (Finished Client ∷ events) (suc n) place f h =
 events_again (Finished Bus ∷ events) (suc n) place f h =
     record_step n place 3 [] (flat_map spelled_event events) events (record_front place 3 [] (flat_map spelled_event events) refl (omega arith) refl) (λ q. events_again events n q f.1 (omega (arith, h)))
 
-six : (a b c d e f k : ℕ) (bytes : List ℕ) → k ≤ 6 → nat_lt (length (a ∷ b ∷ c ∷ d ∷ e ∷ f ∷ bytes)) k ≡ false
+pub six : (a b c d e f k : ℕ) (bytes : List ℕ) → k ≤ 6 → nat_lt (length (a ∷ b ∷ c ∷ d ∷ e ∷ f ∷ bytes)) k ≡ false
 six a b c d e f k bytes h = le-ltb (length (a ∷ b ∷ c ∷ d ∷ e ∷ f ∷ bytes)) k (omega (arith, h))
 
 head_again : (auth : Bool) (bytes : List ℕ) → head_of (magic ++ 1 ∷ auth_byte auth ∷ bytes) ≡ Ok auth

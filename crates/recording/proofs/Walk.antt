@@ -12,9 +12,9 @@ use Rattle.recording.specs.declared.TheConstants.{RECORDING_LIMIT}
 use Rattle.recording.specs.Recording.{Event, Recording, magic, ◌>>=◌, event_of, record_len, events_at, head_of, recording_of, refused}
 use Rattle.recording.specs.Passes.{records, counted, IsChecked}
 use Rattle.recording.specs.Seen.{seen}
-use Rattle.recording.proofs.Fronts.{passed, front_is}
+use Rattle.recording.proofs.Fronts.{ok, passed, front_is}
 
-bind_same : {A B : Type 0} (r : Result A BadRecording) (f g : A → Result B BadRecording) → ((x : A) → f x ≡ g x) → (r >>= f) ≡ (r >>= g)
+pub bind_same : {A B : Type 0} (r : Result A BadRecording) (f g : A → Result B BadRecording) → ((x : A) → f x ≡ g x) → (r >>= f) ≡ (r >>= g)
 bind_same (Ok x) f g h = h x
 bind_same (Err e) f g h = refl
 
@@ -35,7 +35,7 @@ enough (suc n) (suc m) place (kind ∷ bytes) h k =
     (enough n m (place + 5 + len) (drop (4 + len) bytes) (omega (arith, h, length-drop (4 + len) bytes)) (omega (arith, k, length-drop (4 + len) bytes))))
 
 -- an event in front of those that are read behind it
-abbrev pub behind : Event → Result (List Event) BadRecording → Result (List Event) BadRecording
+abbrev pub behind : {A : Type 0} → A → Result (List A) BadRecording → Result (List A) BadRecording
 behind event read = read >>= λ events. Ok (event ∷ events)
 
 -- a record without a fault, and then those behind it
@@ -90,10 +90,10 @@ records-at_end at file le = ap (records at) (drop_all at file le) ∙ records-ni
 
 -- ---- the first pass
 
-abbrev number : ℕ → Result ℕ BadRecording
+abbrev pub number : ℕ → Result ℕ BadRecording
 number n = Ok n
 
-counted-behind : (n : ℕ) (e : Event) (read : Result (List Event) BadRecording) → counted n (behind e read) ≡ counted (n + 1) read
+pub counted-behind : {A : Type 0} (n : ℕ) (e : A) (read : Result (List A) BadRecording) → counted n (behind e read) ≡ counted (n + 1) read
 counted-behind n e (Ok events) = ap number (omega arith)
 counted-behind n e (Err fault) = refl
 
@@ -103,7 +103,7 @@ counted-on n at len end file lt e is =
     sym (ap (counted n) (records-at at len end file lt e is) ∙ counted-behind n (event_at file at end) (records end (drop end file)))
 
 -- those before are among them
-pub counted-le : (n count : ℕ) (read : Result (List Event) BadRecording) → counted n read ≡ Ok count → n ≤ count
+pub counted-le : {A : Type 0} (n count : ℕ) (read : Result (List A) BadRecording) → counted n read ≡ Ok count → n ≤ count
 counted-le n count (Ok events) e = let same : n + length events ≡ count = cc in omega (arith, same)
 counted-le n count (Err fault) e = absurd cc
 
@@ -149,15 +149,12 @@ pub sound-slice : (n count at len : ℕ) (slice file : List ℕ) → slice ≡ f
 sound-slice n count at len slice file e lt c is = sound n count at len file lt c (is ∙ ap (λ (b : List ℕ). from_le_bytes w32 (take 4 (drop 1 b))) (tail at slice file e))
 
 -- events in front of those that are read behind them
-abbrev pub with_front : List Event → Result (List Event) BadRecording → Result (List Event) BadRecording
+abbrev pub with_front : {A : Type 0} → List A → Result (List A) BadRecording → Result (List A) BadRecording
 with_front front read = read >>= λ events. Ok (front ++ events)
 
-with_front-behind : (front : List Event) (e : Event) (read : Result (List Event) BadRecording) →
+pub with_front-behind : {A : Type 0} (front : List A) (e : A) (read : Result (List A) BadRecording) →
     with_front (front ++ e ∷ []) read ≡ with_front front (behind e read)
-with_front-behind front e (Ok events) = ap events_ok (append_assoc front (e ∷ []) events)
-  where
-    events_ok : List Event → Result (List Event) BadRecording
-    events_ok es = Ok es
+with_front-behind {A} front e (Ok events) = ap (λ (es : List A). ok es) (append_assoc front (e ∷ []) events)
 with_front-behind front e (Err fault) = refl
 
 -- the loop goes on behind a record
@@ -173,12 +170,9 @@ events-on es fs e at len end file more lt s is own =
 
 -- and ends at the end of the file
 pub events-end : (es : List Event) (at : ℕ) (file : List ℕ) → length file ≤ at → with_front es (records at (drop at file)) ≡ Ok es
-events-end es at file le = ap (with_front es) (records-at_end at file le) ∙ ap events_ok (append-nil es)
-  where
-    events_ok : List Event → Result (List Event) BadRecording
-    events_ok t = Ok t
+events-end es at file le = ap (with_front es) (records-at_end at file le) ∙ ap (λ (t : List Event). ok t) (append-nil es)
 
-pub events-start : (read : Result (List Event) BadRecording) → with_front [] read ≡ read
+pub events-start : {A : Type 0} (read : Result (List A) BadRecording) → with_front [] read ≡ read
 events-start (Ok events) = refl
 events-start (Err fault) = refl
 

@@ -13,3 +13,9 @@ Fails (Bad fault) read = read ≡ Err fault
 abbrev pub Gives : {X Y : Type 0} → (X → Y) → Result X RecordingRefusal → Result Y BadRecording → Type 0
 Gives view (Ok x) read = read ≡ Ok (view x)
 Gives view (Err e) read = Fails e read
+
+-- the same, where memory may run out before the first fault is found
+abbrev pub GivesUnlessMemory : {X Y : Type 0} → (X → Y) → Result X RecordingRefusal → Result Y BadRecording → Type 0
+GivesUnlessMemory view (Ok x) read = read ≡ Ok (view x)
+GivesUnlessMemory view (Err (Bad fault)) read = read ≡ Err fault
+GivesUnlessMemory view (Err Memory) read = Unit {0}

@@ -4,7 +4,8 @@ ghost use Rattle.std.specs.Prelude.{◌≡◌, ◌≤◌, ◌<◌, ◌+◌, ◌^
 ghost use Rattle.std.specs.Int.{w32, from_le_bytes};
 ghost use Rattle.recording.specs.Gives.{Gives};
 ghost use Rattle.recording.specs.Recording.{event_of, events_at, head_of, record_len, recording_of, spelled_recording};
-ghost use Rattle.recording.specs.Passes.{IsChecked, counted, records};
+ghost use Rattle.recording.specs.Passes.{IsChecked, auth_of, counted, records, version_of};
+ghost use Rattle.recording.specs.Sessions.{number_at};
 ghost use Rattle.recording.specs.Seen.{Fits, recording_seen, seen, size};
 
 use crate::{
@@ -53,7 +54,7 @@ fn check(bytes: &[u8]) -> Result<Checked, BadRecording>
 }
 
 /// A fault at a place of the file.
-fn fault(kind: RecordingKind, at: usize) -> BadRecording
+pub(crate) fn fault(kind: RecordingKind, at: usize) -> BadRecording
     ensures { result ≡ record { kind = kind; at = at } }
 {
     BadRecording {
@@ -62,10 +63,9 @@ fn fault(kind: RecordingKind, at: usize) -> BadRecording
     }
 }
 
-/// The auth byte, where the first six bytes have no fault.
-#[tactic(auto, unfolding(crate::specs::Recording::head_of))]
-fn head(bytes: &[u8]) -> Result<bool, BadRecording>
-    ensures { result ≡ head_of bytes.now }
+/// The version byte, where the bytes up to it have no fault.
+pub(crate) fn version(bytes: &[u8]) -> Result<u8, BadRecording>
+    ensures { result ≡ version_of bytes.now }
 {
     if bytes.len() < 4 {
         return Err(fault(RecordingKind::Cut, bytes.len()));
@@ -76,9 +76,13 @@ fn head(bytes: &[u8]) -> Result<bool, BadRecording>
     if bytes.len() < 5 {
         return Err(fault(RecordingKind::Cut, bytes.len()));
     }
-    if bytes[4] != VERSION {
-        return Err(fault(RecordingKind::BadVersion, 4));
-    }
+    Ok(bytes[4])
+}
+
+/// The auth byte, where the first five bytes have no fault.
+pub(crate) fn auth(bytes: &[u8]) -> Result<bool, BadRecording>
+    ensures { result ≡ auth_of bytes.now }
+{
     if bytes.len() < HEAD_LEN {
         return Err(fault(RecordingKind::Cut, bytes.len()));
     }
@@ -86,6 +90,16 @@ fn head(bytes: &[u8]) -> Result<bool, BadRecording>
         return Err(fault(RecordingKind::BadAuth, 5));
     }
     Ok(bytes[5] == 1)
+}
+
+/// The auth byte, where the first six bytes have no fault.
+fn head(bytes: &[u8]) -> Result<bool, BadRecording>
+    ensures { result ≡ head_of bytes.now }
+{
+    if version(bytes)? != VERSION {
+        return Err(fault(RecordingKind::BadVersion, 4));
+    }
+    auth(bytes)
 }
 
 /// How many records follow the first six bytes, where none has a fault.
@@ -133,10 +147,18 @@ fn length_field(bytes: &[u8]) -> usize
     ensures value { result ≡ from_le_bytes w32 (take 4 (drop 1 bytes.now)) }
     ensures bound { result < 2 ^ 32 }
 {
-    u32::from_le_bytes([bytes[1], bytes[2], bytes[3], bytes[4]]) as usize
+    number(bytes, 1) as usize
 }
 
-/// The second pass: the events of a file without a fault, which has so many records. The one
+/// The number in four bytes that begin at the place.
+pub(crate) fn number(bytes: &[u8], at: usize) -> u32
+    requires { at + 4 ≤ length bytes.now }
+    ensures { result ≡ number_at at bytes.now }
+{
+    u32::from_le_bytes([bytes[at], bytes[at + 1], bytes[at + 2], bytes[at + 3]])
+}
+
+/// The second pass: the events of a file without a fault, which has this many records. The one
 /// reservation has room for each.
 fn events(alloc: Global, file: &Bytes, count: usize) -> Result<Vec<Event>, AllocError>
     requires long { HEAD_LEN ≤ length file.now }
@@ -162,10 +184,17 @@ fn event(file: &Bytes, at: usize, end: usize) -> Result<Event, AllocError>
         ≡ event_of (slice_index file.now at) (slice_range file.now (at + RECORD_HEAD_LEN) end)) }
 {
     let bytes = file.slice(at + RECORD_HEAD_LEN..end)?;
-    match file.as_slice()[at] {
-        CLIENT_BYTES => Ok(Event::Bytes(Side::Client, bytes)),
-        BUS_BYTES => Ok(Event::Bytes(Side::Bus, bytes)),
-        CLIENT_END => Ok(Event::Finished(Side::Client)),
-        _ => Ok(Event::Finished(Side::Bus)),
+    Ok(event_of_kind(file.as_slice()[at], bytes))
+}
+
+/// The event of a kind of record that has these bytes.
+pub(crate) fn event_of_kind(kind: u8, bytes: Bytes) -> Event
+    ensures { seen result ≡ event_of kind bytes }
+{
+    match kind {
+        CLIENT_BYTES => Event::Bytes(Side::Client, bytes),
+        BUS_BYTES => Event::Bytes(Side::Bus, bytes),
+        CLIENT_END => Event::Finished(Side::Client),
+        _ => Event::Finished(Side::Bus),
     }
 }

@@ -5,3 +5,5 @@
 mod links;
 #[cfg(test)]
 mod recordings;
+#[cfg(test)]
+mod session_recordings;

@@ -7,8 +7,8 @@ use std::alloc::{AllocError, Global};
 use std::test::Fail;
 use test_tables::{add_text, plain, wrong_row};
 
-/// Files, and the kind and the place of their first fault, or whether the streams begin with lines of authentication and
-/// what the sides did.
+/// Files, and the kind and the place of their first fault, or whether the streams begin with lines of authentication
+/// and what the sides did.
 const FILES: &str = "\
 D => Cut 1
  => Cut 0
@@ -81,12 +81,13 @@ fn told_recording(alloc: Global, recording: &Recording, same: bool) -> Result<St
 fn told_events(alloc: Global, recording: &Recording) -> Result<String, AllocError> {
     let mut told = format!(in alloc; "{}", recording.auth)?;
     for event in &recording.events {
+        told.push_str(", ")?;
         add_event(&mut told, event)?;
     }
     Ok(told)
 }
 
-fn add_event(told: &mut String, event: &Event) -> Result<(), AllocError> {
+pub(crate) fn add_event(told: &mut String, event: &Event) -> Result<(), AllocError> {
     match event {
         Event::Bytes(side, bytes) => {
             told.push_str(named(*side))?;
@@ -101,8 +102,8 @@ fn add_event(told: &mut String, event: &Event) -> Result<(), AllocError> {
 
 fn named(side: Side) -> &'static str {
     match side {
-        Side::Client => ", Client ",
-        Side::Bus => ", Bus ",
+        Side::Client => "Client ",
+        Side::Bus => "Bus ",
     }
 }
 
@@ -112,7 +113,7 @@ fn files_are_recordings_or_have_a_first_fault(rt: HostRuntime) -> Result<(), Fai
     Ok(())
 }
 
-/// A file of so many zeros.
+/// A file of this many zeros.
 fn told_zeros(alloc: Global, len: usize) -> Result<String, AllocError> {
     told_bytes(alloc, &vec![in alloc; 0; len]?)
 }
