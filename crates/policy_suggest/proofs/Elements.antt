@@ -43,7 +43,7 @@ module _ {X : Type 0} where
   has-right [] ys x h = h
   has-right (z ∷ xs) ys x h = inr (has-right xs ys x h)
 
-  append-has : (xs ys : List X) (x : X) → Has x (xs ++ ys) → Has x xs ⊎ Has x ys
+  pub append-has : (xs ys : List X) (x : X) → Has x (xs ++ ys) → Has x xs ⊎ Has x ys
   append-has [] ys x h = inr h
   append-has (z ∷ xs) ys x (inl e) = inl (inl e)
   append-has (z ∷ xs) ys x (inr h) = by (append-has xs ys x h)

@@ -1,9 +1,15 @@
 pub mod Asking
 pub mod Elements
+pub mod EntriesRead
 pub mod FactsLaws
+pub mod Gathering
 pub mod Grammar
+pub mod Kept
 pub mod Least
+pub mod Needs
+pub mod OnceSuffices
+pub mod Ordered
+pub mod Possible
 pub mod SeenTargets
 pub mod SuggestExamples
 pub mod Suggested
-pub mod Ordered

@@ -1,8 +1,9 @@
--- Targets in order are the same targets.
-use Rattle.std.proofs.Common.{◌≡◌, ◌⊎◌, inl, inr, List, [], ◌∷◌, refl, ap, sym, ◌∙◌}
+-- Targets in order are the same targets, and one that is there isn't put in again.
+use Rattle.std.proofs.Common.{◌≡◌, ◌⊎◌, inl, inr, List, [], ◌∷◌, ◌++◌, refl, ap, sym, ◌∙◌}
 use Rattle.std.specs.BTreeSet.{insert_key}
-use Rattle.std.specs.Cmp.Lexicographic.{bytes_decides}
-use Rattle.std.specs.Ordering.{is_eq, match_ordering, ordering_then}
+use Rattle.std.specs.Cmp.{IsTotalOrder, then_total, tied_itself}
+use Rattle.std.specs.Cmp.Lexicographic.{bytes_decides, on_texts}
+use Rattle.std.specs.Ordering.{is_eq, match_ordering, ordering_reverse, ordering_then}
 use Rattle.std.specs.declared.cmp.Ordering.{Ordering}
 use Rattle.std.specs.declared.cmp.Ordering.TheVariants.{Less, Equal, Greater}
 use Rattle.std.proofs.lemmas.Map.Text.{is_eq-slice_cmp}
@@ -95,3 +96,74 @@ ordered-has ts t h = by (with-has [] ts t h)
     by : Has t [] ⊎ Has t ts → Has t ts
     by (inl k) = absurd k
     by (inr k) = k
+
+-- ---- in order
+
+compare-total : IsTotalOrder compare
+compare-total = then_total (on_texts (λ t. t.name)) (then_total (on_texts (λ t. t.path)) (then_total (on_texts (λ t. t.interface)) (on_texts (λ t. t.member))))
+
+pub compare-itself : (t : Target) → compare t t ≡ Equal
+compare-itself t = tied_itself compare-total t
+
+less-back : (t u : Target) → compare t u ≡ Less → compare u t ≡ Greater
+less-back t u less = compare-total.antisymm u t ∙ ap ordering_reverse less
+
+greater-back : (t u : Target) → compare t u ≡ Greater → compare u t ≡ Less
+greater-back t u greater = compare-total.antisymm u t ∙ ap ordering_reverse greater
+
+abbrev pub IsBelow : Target → List Target → Type 0
+IsBelow t us = (u : Target) → Has u us → compare t u ≡ Less
+
+abbrev pub Sorted : List Target → Type 0
+Sorted [] = Unit {0}
+Sorted (t ∷ ts) = IsBelow t ts × Sorted ts
+
+sorted-insert : (ts : List Target) (k : Target) → Sorted ts → Sorted (insert_key compare ts k)
+sorted-insert [] k s = ((λ u h. absurd h), tt)
+sorted-insert (t ∷ ts) k s = by (compare k t) refl (sorted-insert ts k s.1)
+  where
+    first : compare k t ≡ Less → IsBelow k (t ∷ ts)
+    first less u (inl e) = ap (compare k) e ∙ less
+    first less u (inr h) = compare-total.trans k t u less (s.0 u h)
+
+    later : compare k t ≡ Greater → (u : Target) → (u ≡ k) ⊎ Has u ts → compare t u ≡ Less
+    later greater u (inl e) = ap (compare t) e ∙ greater-back k t greater
+    later greater u (inr h) = s.0 u h
+
+    by : (o : Ordering) → compare k t ≡ o → Sorted (insert_key compare ts k) → Sorted (match_ordering o (k ∷ t ∷ ts) (t ∷ ts) (t ∷ insert_key compare ts k))
+    by Less is rest = (first is, s)
+    by Equal is rest = s
+    by Greater is rest = ((λ u h. later is u (insert-has ts k u h)), rest)
+
+sorted-with : (before ts : List Target) → Sorted before → Sorted (with_targets before ts)
+sorted-with before [] s = s
+sorted-with before (t ∷ ts) s = sorted-with (insert_key compare before t) ts (sorted-insert before t s)
+
+pub sorted-order : (ts : List Target) → Sorted (in_order ts)
+sorted-order ts = sorted-with [] ts tt
+
+-- ---- a target that is there
+
+insert-there : (ts : List Target) (k : Target) → Sorted ts → Has k ts → insert_key compare ts k ≡ ts
+insert-there [] k s h = absurd h
+insert-there (t ∷ ts) k s (inl e) =
+    ap (λ o. match_ordering o (k ∷ t ∷ ts) (t ∷ ts) (t ∷ insert_key compare ts k)) (ap (compare k) (sym e) ∙ compare-itself k)
+insert-there (t ∷ ts) k s (inr h) =
+    ap (λ o. match_ordering o (k ∷ t ∷ ts) (t ∷ ts) (t ∷ insert_key compare ts k)) (less-back t k (s.0 k h))
+    ∙ ap (λ us. t ∷ us) (insert-there ts k s.1 h)
+
+with-there : (before ts : List Target) → Sorted before → ((t : Target) → Has t ts → Has t before) → with_targets before ts ≡ before
+with-there before [] s there = refl
+with-there before (t ∷ ts) s there =
+    ap (λ us. with_targets us ts) (insert-there before t s (there t (inl refl))) ∙ with-there before ts s (λ u h. there u (inr h))
+
+with-append : (before ts us : List Target) → with_targets before (ts ++ us) ≡ with_targets (with_targets before ts) us
+with-append before [] us = refl
+with-append before (t ∷ ts) us = with-append (insert_key compare before t) ts us
+
+-- targets that stand before aren't put in again
+pub order-without : (ts us vs : List Target) → ((t : Target) → Has t us → Has t ts) → in_order (ts ++ (us ++ vs)) ≡ in_order (ts ++ vs)
+order-without ts us vs there =
+    with-append [] ts (us ++ vs) ∙ with-append (in_order ts) us vs
+    ∙ ap (λ ks. with_targets ks vs) (with-there (in_order ts) us (sorted-order ts) (λ t h. has-ordered ts t (there t h)))
+    ∙ sym (with-append [] ts vs)

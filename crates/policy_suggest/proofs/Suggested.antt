@@ -143,27 +143,27 @@ module _ (all : List Asked) (t : Target) where
       let parts = neither (list_any (asks_own t.name) all) (list_any (asks_signal t.name) all) bare in
       grant-unowned parts.0 ∙ ap (λ b. if b then to_talk else ruled-grant t) parts.1
 
-targets-level : (all : List Asked) (a : Asked) → has_level all (asked_name a) ≡ true → targets all a ≡ of_name (asked_name a) ∷ []
+pub targets-level : (all : List Asked) (a : Asked) → has_level all (asked_name a) ≡ true → targets all a ≡ of_name (asked_name a) ∷ []
 targets-level all a is = ap (λ b. if b then of_name (asked_name a) ∷ [] else ruled_targets all a) is
 
-targets-ruled : (all : List Asked) (a : Asked) → has_level all (asked_name a) ≡ false → targets all a ≡ ruled_targets all a
+pub targets-ruled : (all : List Asked) (a : Asked) → has_level all (asked_name a) ≡ false → targets all a ≡ ruled_targets all a
 targets-ruled all a bare = ap (λ b. if b then of_name (asked_name a) ∷ [] else ruled_targets all a) bare
 
-only : {X : Type 0} (x y : X) → Has x (y ∷ []) → x ≡ y
+pub only : {X : Type 0} (x y : X) → Has x (y ∷ []) → x ≡ y
 only x y (inl e) = e
 only x y (inr h) = absurd h
 
-path-call : (all : List Asked) (name path : Text) → has_level all name ≡ false → is_empty path ≡ false → grant_for all (of_path name path) ≡ to_call (path_rule path)
+pub path-call : (all : List Asked) (name path : Text) → has_level all name ≡ false → is_empty path ≡ false → grant_for all (of_path name path) ≡ to_call (path_rule path)
 path-call all name path bare some = grant-ruled all (of_path name path) bare ∙ ap (λ b. if b then to_see else to_call (path_rule path)) some
 
-method-call : (all : List Asked) (name path interface member : Text) → has_level all name ≡ false → is_empty path ≡ false → is_empty interface ≡ false →
+pub method-call : (all : List Asked) (name path interface member : Text) → has_level all name ≡ false → is_empty path ≡ false → is_empty interface ≡ false →
     grant_for all (of_method name path (Some interface) member) ≡ to_call (method_rule path interface member)
 method-call all name path interface member bare some there =
     grant-ruled all (of_method name path (Some interface) member) bare
     ∙ ap (λ b. if b then to_see else to_call (rule_for (of_method name path (Some interface) member))) some
     ∙ ap (λ b. to_call (if b then path_rule path else method_rule path interface member)) there
 
-name-see : (all : List Asked) (name : Text) → has_level all name ≡ false → grant_for all (of_name name) ≡ to_see
+pub name-see : (all : List Asked) (name : Text) → has_level all name ≡ false → grant_for all (of_name name) ≡ to_see
 name-see all name bare = grant-ruled all (of_name name) bare
 
 -- ---- each request is permitted

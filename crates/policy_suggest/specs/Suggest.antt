@@ -10,6 +10,7 @@ use Rattle.dbus_names.specs.Names.{is_empty, is_interface, is_member, is_path}
 use Rattle.dbus_names.specs.Texts.{Text}
 use Rattle.policy_args.specs.Policy.{InGrammar, Policy, policy_of}
 use Rattle.policy_args.specs.Requests.{asked_name}
+use Rattle.policy_args.specs.Words.{PolicyOptions}
 use Rattle.policy_args.specs.declared.entry.Entry.{Entry}
 use Rattle.policy_args.specs.declared.entry.Grant.{Grant}
 use Rattle.policy_args.specs.declared.entry.Grant.TheVariants.{See as to_see, Talk as to_talk, Own as to_own, Call as to_call}
@@ -51,7 +52,8 @@ asks_any_interface name path _ = false
 
 -- ---- what entries are for
 
--- A name, and for an entry with a rule a path, and for a rule of one method the method too. A part that is absent is empty.
+-- A name, and for an entry with a rule a path, and for a rule of one method the method too. A part that is absent is
+-- empty.
 pub record Target : Type 0 where
   pub name : Text
   pub path : Text
@@ -126,6 +128,10 @@ entries_for all = map (entry_for all) (in_order (flat_map (targets all) all))
 
 unfoldable pub suggested : List Asked → Policy
 suggested all = policy_of (entries_for all)
+
+-- the options that ask for the filter and give a policy
+abbrev pub filtered : Policy → PolicyOptions
+filtered policy = record { filter = true; log = false; policy = policy }
 
 -- ---- policies of words
 

@@ -1,10 +1,10 @@
 //! What is known of the names in requests.
-ghost use Rattle.std.specs.Prelude.{◌≡◌, [], IfOk, OnOk, option_map, string_bytes};
+ghost use Rattle.std.specs.Prelude.{◌≡◌, ◌++◌, [], IfOk, OnOk, option_map, string_bytes};
 ghost use Rattle.policy_suggest.specs.Facts.{facts_of, gathered, no_facts, noted, of_call, target_by, word_by};
 ghost use Rattle.policy_suggest.specs.Seen.{target_seen};
 
 use crate::targets::{Target, Targets};
-use crate::words::{call_word, name_word};
+use crate::words::{push_call_word, push_name_word};
 use dbus_names::Name;
 use policy_args::Asked;
 use std::alloc::{AllocError, Global};
@@ -72,17 +72,26 @@ impl<'a> Facts<'a> {
     pub(crate) fn word(&self, alloc: Global, target: Target<'a>) -> Result<String, AllocError>
         ensures { IfOk result (λ word. string_bytes word ≡ word_by self.now (target_seen target.entry)) }
     {
+        let mut word = String::new(alloc);
+        self.push_word(&mut word, target)?;
+        Ok(word)
+    }
+
+    // Puts that word after a text.
+    fn push_word(&self, text: &mut String, target: Target<'a>) -> Result<(), AllocError>
+        ensures { OnOk result (string_bytes text.new ≡ string_bytes text.old ++ word_by self.now (target_seen target.entry)) }
+    {
         let name = target.name;
         if self.owned.contains(Target::of_name(name)) {
-            return name_word(alloc, "--own=", name);
+            return push_name_word(text, "--own=", name);
         }
         if self.signalled.contains(Target::of_name(name)) {
-            return name_word(alloc, "--talk=", name);
+            return push_name_word(text, "--talk=", name);
         }
         if target.path.is_empty() {
-            return name_word(alloc, "--see=", name);
+            return push_name_word(text, "--see=", name);
         }
-        call_word(alloc, target)
+        push_call_word(text, target)
     }
 
     // What the entries that the requests need are for.

@@ -2,11 +2,14 @@
 #![tactic(auto)]
 
 mod facts;
+mod gathered;
 mod laws;
 mod requests;
+mod suggesting;
 mod targets;
 mod words;
 
-pub use laws::{suggested_is_least, suggested_permits_all};
+pub use gathered::Requests;
+pub use laws::{once_suffices, suggested_is_least, suggested_is_read, suggested_permits_all};
 pub use requests::asked;
-pub use words::suggested_words;
+pub use suggesting::{SuggestRefusal, suggest};

@@ -1,5 +1,5 @@
 //! The words of the least policy that permits requests.
-ghost use Rattle.std.specs.Prelude.{◌≡◌, ◌++◌, ◌∷◌, IfOk, codes, map, string_bytes};
+ghost use Rattle.std.specs.Prelude.{◌≡◌, ◌++◌, ◌∷◌, IfOk, OnOk, codes, map, string_bytes};
 ghost use Rattle.policy_args.specs.Policy.{entry_word};
 ghost use Rattle.policy_suggest.specs.Facts.{word_by};
 ghost use Rattle.policy_suggest.specs.Seen.{target_seen};
@@ -10,13 +10,8 @@ use crate::targets::{Target, Targets};
 use policy_args::Asked;
 use std::alloc::{AllocError, Global};
 
-/// The words of the suggested policy's entries, in their order: names stand in the order of their bytes, and the Call
-/// entries of a name by path, then by interface, then by member.
-///
-/// A name that is to be owned has one entry, `--own=NAME`; else one to which a signal goes has `--talk=NAME`; else one
-/// that is called has the entry of each method, or of a path at which a call names no interface; and any other has
-/// `--see=NAME`.
-pub fn suggested_words(alloc: Global, asked: &[Asked]) -> Result<Vec<String>, AllocError>
+// The words of the suggested policy's entries, in their order.
+pub(crate) fn suggested_words(alloc: Global, asked: &[Asked]) -> Result<Vec<String>, AllocError>
     ensures { IfOk result (λ words. map (λ w. string_bytes w) words.items ≡ map entry_word (suggested asked.now).entries) }
 {
     let facts = Facts::of(alloc, asked)?;
@@ -39,27 +34,25 @@ fn words_of<'a>(
     Ok(words)
 }
 
-// An option with a name.
-pub(crate) fn name_word(alloc: Global, option: &str, name: &str) -> Result<String, AllocError>
-    ensures { IfOk result (λ word. string_bytes word ≡ option.now ++ name.now) }
+// Puts an option with a name after a text.
+pub(crate) fn push_name_word(text: &mut String, option: &str, name: &str) -> Result<(), AllocError>
+    ensures { OnOk result (string_bytes text.new ≡ string_bytes text.old ++ option.now ++ name.now) }
 {
-    let mut word = String::from_str(alloc, option)?;
-    word.push_str(name)?;
-    Ok(word)
+    text.push_str(option)?;
+    text.push_str(name)
 }
 
-// The word of a Call entry.
-pub(crate) fn call_word(alloc: Global, target: Target<'_>) -> Result<String, AllocError>
-    ensures { IfOk result (λ word. string_bytes word ≡ codes "--call=" ++ target.entry.name.now ++ 61 ∷ (rule_for (target_seen target.entry)).text) }
+// Puts the word of a Call entry after a text.
+pub(crate) fn push_call_word(text: &mut String, target: Target<'_>) -> Result<(), AllocError>
+    ensures { OnOk result (string_bytes text.new ≡ string_bytes text.old ++ codes "--call=" ++ target.entry.name.now ++ 61 ∷ (rule_for (target_seen target.entry)).text) }
 {
-    let mut word = name_word(alloc, "--call=", target.name)?;
-    word.push_str("=")?;
+    push_name_word(text, "--call=", target.name)?;
+    text.push_str("=")?;
     if !target.interface.is_empty() {
-        word.push_str(target.interface)?;
-        word.push_str(".")?;
-        word.push_str(target.member)?;
+        text.push_str(target.interface)?;
+        text.push_str(".")?;
+        text.push_str(target.member)?;
     }
-    word.push_str("@")?;
-    word.push_str(target.path)?;
-    Ok(word)
+    text.push_str("@")?;
+    text.push_str(target.path)
 }
