@@ -1,14 +1,18 @@
 -- The entries that names mark.
-use Rattle.std.proofs.Common.{◌≡◌, ◌<◌, ◌≤◌, ◌+◌, ℕ, Bool, true, false, ◌||◌, ◌&&◌, ◌==◌, nat_lt, List, [], ◌∷◌, ◌++◌, Option, Some, refl, ap, ap₂, sym, ◌∙◌, arith, length, get_or, option_map, string_bytes}
+use Rattle.std.proofs.Common.{◌≡◌, ◌<◌, ◌≤◌, ◌+◌, ℕ, zero, suc, if◌then◌else◌, Bool, true, false, ◌||◌, ◌&&◌, ◌==◌, nat_lt, List, [], ◌∷◌, ◌++◌, Option, Some, refl, ap, ap₂, sym, ◌∙◌, arith, length, get_or, option_map, string_bytes}
+use Rattle.std.specs.List.{list_any}
 use Rattle.std.specs.Prelude.{slice_get}
 use Rattle.std.proofs.Math.ListN.{set}
 use Rattle.std.proofs.lemmas.Bool.Decides.{nat_tests}
 use Rattle.std.proofs.lemmas.Grind.{get_or-set_at}
 use Rattle.std.proofs.lemmas.List.{get_or-set_other}
 use Rattle.std.proofs.lemmas.List.Folds.{list_any-append}
+use Rattle.std.proofs.lemmas.List.Sorted.{list_any-IsPermutation}
 use Rattle.std.proofs.lemmas.Option.{slice_get_within}
 use Rattle.dbus_names.specs.Texts.{Text}
 use Rattle.name_patterns.specs.Patterns.{covers}
+use Rattle.policy_args.specs.Covering.{AreCovering}
+use Rattle.policy_args.specs.Levels.{numbers_where}
 use Rattle.policy_args.specs.declared.entry.Entry.{Entry}
 use Rattle.audit.specs.Audit.{is_named}
 use Rattle.audit.specs.Tallies.{Marked}
@@ -67,54 +71,86 @@ marked-both entries names more old other new last len at one two = record {
   looked = λ text was entry covered. list_any-append (covers entry.pattern) names more ∙ stays _ _ (one.looked text (ap (option_map (λ t. string_bytes t)) (sym last) ∙ was) entry covered);
 }
 
--- ---- one entry after the other
+-- ---- the entries of numbers
 
--- the first so many entries were marked where they cover the name
-abbrev pub MarkedTo : List Entry → Text → List Bool → ℕ → List Bool → Type 0
-MarkedTo entries name start n marks =
-    (place : ℕ) (entry : Entry) → slice_get entries place ≡ Some entry → get_or marks place false ≡ (get_or start place false || (nat_lt place n && covers entry.pattern name))
+-- the entry at a place covers the name exactly where its number, counted from 1, is one of those that cover it
+other_number : (n k : ℕ) (p : Entry → Bool) (es : List Entry) → n < k → list_any (λ m. n == m) (numbers_where p k es) ≡ false
+other_number n k p [] less = refl
+other_number n k p (e ∷ es) less = by (p e) (other_number n (k + 1) p es (omega (arith, less)))
+  where
+    apart : (n == k) ≡ false
+    apart = grind (arith, nat_tests, less)
 
-pub marked-none : (entries : List Entry) (name : Text) (start : List Bool) → MarkedTo entries name start 0 start
-marked-none entries name start = λ place entry there.
-    let tested : nat_lt place 0 ≡ false = grind (arith, nat_tests) in
-    sym (or_false (get_or start place false)) ∙ ap (λ b. get_or start place false || (b && covers entry.pattern name)) (sym tested)
+    by : (b : Bool) → list_any (λ m. n == m) (numbers_where p (k + 1) es) ≡ false → list_any (λ m. n == m) (if b then k ∷ numbers_where p (k + 1) es else numbers_where p (k + 1) es) ≡ false
+    by true rest = ap₂ (λ u v. u || v) apart rest
+    by false rest = rest
 
-same_entry : (o : Option Entry) (one other : Entry) → o ≡ Some one → o ≡ Some other → one ≡ other
-same_entry o one other a b = let both : ◌≡◌ {A = Option Entry} (Some one) (Some other) = sym a ∙ b in cc
+found_later : (p : Entry → Bool) (k : ℕ) (e : Entry) (es : List Entry) (i : ℕ) (entry : Entry) → list_any (λ m. k + 1 + i == m) (numbers_where p (k + 1) es) ≡ p entry → list_any (λ m. k + suc i == m) (numbers_where p k (e ∷ es)) ≡ p entry
+found_later p k e es i entry found = by (p e)
+  where
+    later : list_any (λ m. k + suc i == m) (numbers_where p (k + 1) es) ≡ p entry
+    later = ap (λ n. list_any (λ m. n == m) (numbers_where p (k + 1) es)) (omega arith) ∙ found
+
+    apart : (k + suc i == k) ≡ false
+    apart = grind (arith, nat_tests)
+
+    by : (b : Bool) → list_any (λ m. k + suc i == m) (if b then k ∷ numbers_where p (k + 1) es else numbers_where p (k + 1) es) ≡ p entry
+    by true = ap₂ (λ u v. u || v) apart later
+    by false = later
+
+number_found : (p : Entry → Bool) (k : ℕ) (es : List Entry) (i : ℕ) (entry : Entry) → slice_get es i ≡ Some entry → list_any (λ m. k + i == m) (numbers_where p k es) ≡ p entry
+number_found p k [] i entry there = absurd cc
+number_found p k (e ∷ es) zero entry there = by (p e) refl ∙ ap p same
+  where
+    same : e ≡ entry
+    same = cc
+
+    here : (k + 0 == k) ≡ true
+    here = grind (arith, nat_tests)
+
+    by : (b : Bool) → p e ≡ b → list_any (λ m. k + 0 == m) (if b then k ∷ numbers_where p (k + 1) es else numbers_where p (k + 1) es) ≡ b
+    by true is = ap (λ b. b || list_any (λ m. k + 0 == m) (numbers_where p (k + 1) es)) here
+    by false is = other_number (k + 0) (k + 1) p es (omega arith)
+number_found p k (e ∷ es) (suc i) entry there = found_later p k e es i entry (number_found p (k + 1) es i entry there)
+
+pub covering-at : (entries : List Entry) (name numbers : List ℕ) (place : ℕ) (entry : Entry) → AreCovering entries name numbers → slice_get entries place ≡ Some entry →
+    list_any (λ m. place + 1 == m) numbers ≡ covers entry.pattern name
+covering-at entries name numbers place entry are there =
+    sym (list_any-IsPermutation (λ m. place + 1 == m) (numbers_where (λ e. covers e.pattern name) 1 entries) numbers are)
+    ∙ ap (λ n. list_any (λ m. n == m) (numbers_where (λ e. covers e.pattern name) 1 entries)) (omega arith)
+    ∙ number_found (λ e. covers e.pattern name) 1 entries place entry there
+
+-- ---- one number after the other
+
+-- what is marked, with what the numbers that are left mark, is what was marked at the start or covers the name
+abbrev pub MarkedTo : List Entry → Text → List Bool → List ℕ → List Bool → Type 0
+MarkedTo entries name start left marks =
+    (place : ℕ) (entry : Entry) → slice_get entries place ≡ Some entry → (get_or marks place false || list_any (λ m. place + 1 == m) left) ≡ (get_or start place false || covers entry.pattern name)
+
+pub marked-none : (entries : List Entry) (name : Text) (start : List Bool) (numbers : List ℕ) → AreCovering entries name numbers → MarkedTo entries name start numbers start
+marked-none entries name start numbers are = λ place entry there. ap (λ b. get_or start place false || b) (covering-at entries name numbers place entry are there)
+
+pub marked-step : (entries : List Entry) (name : Text) (start marks new : List Bool) (number : ℕ) (left : List ℕ) → length marks ≡ length entries →
+    ((place : ℕ) → place < length marks → get_or new place false ≡ (get_or marks place false || place + 1 == number)) → MarkedTo entries name start (number ∷ left) marks → MarkedTo entries name start left new
+marked-step entries name start marks new number left len at so_far = λ place entry there.
+    ap (λ b. b || list_any (λ m. place + 1 == m) left) (at place (omega (arith, slice_get_within entries place entry there, len)))
+    ∙ associates (get_or marks place false) (place + 1 == number) (list_any (λ m. place + 1 == m) left) ∙ so_far place entry there
+  where
+    associates : (a b c : Bool) → ((a || b) || c) ≡ (a || (b || c))
+    associates true b c = refl
+    associates false b c = refl
+
+pub marked-all : (entries : List Entry) (name : Text) (start marks : List Bool) → MarkedTo entries name start [] marks → (place : ℕ) (entry : Entry) → slice_get entries place ≡ Some entry →
+    get_or marks place false ≡ (get_or start place false || covers entry.pattern name)
+marked-all entries name start marks so_far place entry there = sym (or_false (get_or marks place false)) ∙ so_far place entry there
+
+-- ---- one mark of others after the other
 
 or_and : (a c : Bool) → ((a || (false && c)) || c) ≡ (a || (true && c))
 or_and true c = refl
 or_and false c = refl
 
-pub marked-step : (entries : List Entry) (name : Text) (start marks : List Bool) (n : ℕ) (this : Entry) → n < length marks → slice_get entries n ≡ Some this → MarkedTo entries name start n marks →
-    MarkedTo entries name start (n + 1) (set marks n (get_or marks n false || covers this.pattern name))
-marked-step entries name start marks n this lt is so_far = λ place entry there.
-    elim (n == place) as (λ b. (n == place) ≡ b → get_or (set marks n (get_or marks n false || covers this.pattern name)) place false ≡ (get_or start place false || (nat_lt place (n + 1) && covers entry.pattern name))) [
-      | true ↦ λ e.
-          let same : place ≡ n = equal_places n place e in
-          let here : this ≡ entry = same_entry _ this entry (ap (slice_get entries) same ∙ is) there in
-          let before : nat_lt place n ≡ false = grind (arith, nat_tests, same) in
-          let behind : nat_lt place (n + 1) ≡ true = grind (arith, nat_tests, same) in
-          get_or-set_at marks n place _ false same lt
-          ∙ ap₂ (λ a (e : Entry). a || covers e.pattern name) (ap (λ k. get_or marks k false) (sym same) ∙ so_far place entry there) here
-          ∙ ap (λ b. (get_or start place false || (b && covers entry.pattern name)) || covers entry.pattern name) before
-          ∙ or_and (get_or start place false) (covers entry.pattern name)
-          ∙ ap (λ b. get_or start place false || (b && covers entry.pattern name)) (sym behind)
-      | false ↦ λ e.
-          let tested : nat_lt place n ≡ nat_lt place (n + 1) = grind (arith, nat_tests, e) in
-          get_or-set_other marks n place _ false (other_places n place e) ∙ so_far place entry there ∙ ap (λ b. get_or start place false || (b && covers entry.pattern name)) tested
-    ] refl
-
-pub marked-all : (entries : List Entry) (name : Text) (start marks : List Bool) (n : ℕ) → length entries ≤ n → MarkedTo entries name start n marks →
-    (place : ℕ) (entry : Entry) → slice_get entries place ≡ Some entry → get_or marks place false ≡ (get_or start place false || covers entry.pattern name)
-marked-all entries name start marks n all so_far = λ place entry there.
-    let within : place < length entries = slice_get_within entries place entry there in
-    let behind : nat_lt place n ≡ true = grind (arith, nat_tests, within, all) in
-    so_far place entry there ∙ ap (λ b. get_or start place false || (b && covers entry.pattern name)) behind
-
--- ---- one mark of others after the other
-
--- the first so many marks of others were taken over
+-- the first this many marks of others were taken over
 abbrev pub JoinedTo : List Bool → List Bool → ℕ → List Bool → Type 0
 JoinedTo start other n marks = (place : ℕ) → get_or marks place false ≡ (get_or start place false || (nat_lt place n && get_or other place false))
 

@@ -124,7 +124,3 @@ pub audit-is : (options : PolicyOptions) (recordings : List Declared) (text : Te
     text ≡ audit_of options (map recording_seen recordings)
 unfolding audit_of
 audit-is options recordings text is = is ∙ ap (audit_text options.policy) (sym (map-map (notes_under options) recording_seen recordings))
-
-pub if-ok-weaker : {X E : Type 0} {P Q : X → Type 0} (r : Result X E) → ((x : X) → P x → Q x) → IfOk r P → IfOk r Q
-if-ok-weaker (Ok x) weaker p = weaker x p
-if-ok-weaker (Err e) weaker p = tt

@@ -1,11 +1,9 @@
 //! Auditing recordings: what a policy denies in them, and which of its entries none of them needs.
 //!
-//! Each recording is played by a job of its own, and the jobs may be done in parallel. A job counts the notes of its recording as
-//! they come and keeps none of them.
+//! What is counted of each recording is gathered from its notes by a job of its own.
 #![tactic(auto)]
 
 mod counters;
-mod job;
 mod lines;
 mod marks;
 mod names;
@@ -17,18 +15,19 @@ ghost use Rattle.policy_args.specs.Seen.{options_seen};
 ghost use Rattle.recording.specs.Seen.{recording_seen};
 ghost use Rattle.audit.specs.Audit.{audit_of};
 
-use job::tallies_of;
 use lines::audit_text;
 use link_traits::Gate;
+use note_gathering::gather;
 use policy_args::Options;
 use recording::Recording;
 use std::alloc::{AllocError, Global};
 use std::thread::Threads;
+use tally::Count;
 
-/// The denials that recordings meet under the options, counted, and the entries that no item of a recording names: a line for each
-/// recording, for each reason and each entry with denials, and for each entry that isn't named. Each recording is played by a job,
-/// which enters the gate with the number of the recording, from 1, before it begins. Refused where memory is; also where a session
-/// ended so, or a count is too large.
+/// The denials that recordings meet under the options, counted, and the entries that no item of a recording names: a
+/// line for each recording, for each reason and each entry with denials, and for each entry that isn't named. Each
+/// recording is played by a job, which enters the gate with the number of the recording, from 1, before it begins.
+/// Refused where memory is; also where a session ended so, or a count is too large.
 pub fn audit<R: Threads + Sync, G: Gate + Sync>(
     rt: &R,
     gate: &G,
@@ -38,6 +37,9 @@ pub fn audit<R: Threads + Sync, G: Gate + Sync>(
 ) -> Result<String, AllocError>
     ensures { IfOk result (λ text. string_bytes text ≡ audit_of (options_seen options.now) (map recording_seen recordings.now)) }
 {
-    let tallies = tallies_of(rt, gate, alloc, options, recordings)?;
+    let count = Count {
+        policy: &options.policy,
+    };
+    let tallies = gather(rt, gate, alloc, &count, options, recordings)?;
     audit_text(alloc, &options.policy, &tallies)
 }

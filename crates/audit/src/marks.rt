@@ -1,11 +1,11 @@
 //! Marks of the entries that cover a name.
-ghost use Rattle.std.specs.Prelude.{◌≡◌, ◌++◌, ◌∷◌, ◌||◌, ℕ, List, [], Some, IfOk, OnOk, false, true, get_or, length, option_map, slice_get, string_bytes};
+ghost use Rattle.std.specs.Prelude.{◌≡◌, ◌<◌, ◌+◌, ◌==◌, ◌++◌, ◌∷◌, ◌||◌, ℕ, List, [], Some, IfOk, OnOk, false, true, get_or, length, option_map, slice_get, string_bytes};
 ghost use Rattle.dbus_names.specs.Texts.{Text};
 ghost use Rattle.name_patterns.specs.Patterns.{covers};
 ghost use Rattle.policy_args.specs.declared.entry.Entry.{Entry as EntryValue};
 ghost use Rattle.audit.specs.Tallies.{Marked};
 
-use policy_args::{Entry, Policy};
+use policy_args::Policy;
 use std::alloc::{AllocError, Global};
 
 /// Which entries of a policy cover one of the names so far.
@@ -14,15 +14,6 @@ pub struct Marks {
     marks: Vec<bool>,
     /// The name that came last: if it comes again, nothing is left to mark.
     last: Option<String>,
-}
-
-/// Marks an entry if it covers a name.
-fn mark_entry(entry: &Entry, name: &str, mark: &mut bool)
-    ensures { mark.new ≡ (mark.old || covers entry.now.pattern name.now) }
-{
-    if !*mark {
-        *mark = entry.pattern.covers(name);
-    }
 }
 
 /// Marks what another mark marks.
@@ -82,14 +73,28 @@ impl Marks {
         }
     }
 
-    /// Marks the entries of a policy that cover a name.
+    /// Marks the entry of a number, from 1. Beyond the last entry nothing is marked.
+    fn mark_number(&mut self, number: u32)
+        ensures last { self.new.last ≡ self.old.last }
+        ensures len { length self.new.marks.items ≡ length self.old.marks.items }
+        ensures at { (place : ℕ) → place < length self.old.marks.items → get_or self.new.marks.items place false ≡ (get_or self.old.marks.items place false || place + 1 == number) }
+    {
+        let Some(place) = (number as usize).checked_sub(1) else {
+            return;
+        };
+        if let Some(mark) = self.marks.get_mut(place) {
+            *mark = true;
+        }
+    }
+
+    /// Marks the entries of a policy that cover a name, of which the policy knows the numbers.
     fn mark_covering(&mut self, policy: &Policy, name: &str)
         ensures last { self.new.last ≡ self.old.last }
         ensures len { length self.new.marks.items ≡ length self.old.marks.items }
         ensures at { (place : ℕ) (entry : EntryValue) → length self.old.marks.items ≡ length policy.now.entries → slice_get policy.now.entries place ≡ Some entry → get_or self.new.marks.items place false ≡ (get_or self.old.marks.items place false || covers entry.pattern name.now) }
     {
-        for place in 0..self.marks.len().min(policy.len() as usize) {
-            mark_entry(policy.entry(place as u32 + 1), name, &mut self.marks[place]);
+        for number in policy.covering(name) {
+            self.mark_number(number);
         }
     }
 

@@ -1,17 +1,13 @@
-//! What is counted of the notes of one recording.
+//! What is counted of notes.
 ghost use Rattle.std.specs.Prelude.{◌≡◌, ◌+◌, ◌++◌, ◌∷◌, List, [], IfOk, OnOk, cond, is_some};
-ghost use Rattle.policy_args.specs.Seen.{options_seen};
 ghost use Rattle.policy_view.specs.Notes.{Note as NoteValue};
-ghost use Rattle.recording.specs.Seen.{recording_seen};
-ghost use Rattle.replay.specs.PlayedNotes.{notes_under};
 ghost use Rattle.audit.specs.Audit.{denied_by};
 ghost use Rattle.audit.specs.Tallies.{TallyOf};
 
 use crate::sums::Sums;
-use policy_args::{Options, Policy};
+use note_gathering::Gatherer;
+use policy_args::Policy;
 use policy_view::{Decision, Note, Verdict};
-use recording::Recording;
-use replay::PlayedNotes;
 use std::alloc::{AllocError, Global};
 
 /// How many notes and denials a recording has, and what is counted by reasons and by entries.
@@ -64,21 +60,22 @@ fn sum_of(count: u64, more: u64) -> Result<u64, AllocError>
     }
 }
 
-/// Plays a recording, and counts its notes as they come. None of them is kept.
-pub fn tally_of(
-    alloc: Global,
-    options: &Options,
-    recording: &Recording,
-) -> Result<Tally, AllocError>
-    ensures { IfOk result (λ tally. TallyOf options.now.policy (notes_under (options_seen options.now) (recording_seen recording.now)) tally) }
-{
-    let mut played = PlayedNotes::new(alloc, options, recording)?;
-    let mut tally = Tally::new(alloc, &options.policy)?;
-    for _item in 0..u64::MAX {
-        match played.next_note(options, recording)? {
-            Some(note) => tally.count(alloc, &options.policy, &note)?,
-            None => return Ok(tally),
-        }
+/// What counts notes under a policy.
+#[derive(Drop)]
+pub struct Count<'a> {
+    pub policy: &'a Policy,
+}
+
+impl<'a> Gatherer for Count<'a> {
+    type Gathered = Tally;
+
+    ghost stands_for = { λ count notes tally. TallyOf count.policy.now notes tally };
+
+    fn start(&self, alloc: Global) -> Result<Tally, AllocError> {
+        Tally::new(alloc, self.policy)
     }
-    Err(AllocError)
+
+    fn take(&self, alloc: Global, gathered: &mut Tally, note: &Note) -> Result<(), AllocError> {
+        gathered.count(alloc, self.policy, note)
+    }
 }

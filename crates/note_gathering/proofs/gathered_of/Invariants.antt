@@ -3,12 +3,11 @@ use Rattle.policy_args.specs.Seen.{options_seen}
 use Rattle.policy_view.specs.Notes.{Note}
 use Rattle.recording.specs.Seen.{recording_seen}
 use Rattle.replay.specs.PlayedNotes.{GaveNotes}
-use Rattle.audit.specs.Tallies.{TallyOf}
-use Rattle.audit.proofs.tally.tally_of.Given as goal
+use Rattle.note_gathering.proofs.gathered_of.Given as goal
 
 abbrev pub invariant-loop-item : goal.invariant-loop-item
-invariant-loop-item l = record {
+invariant-loop-item g l = record {
   given : List Note;
   gave : GaveNotes (options_seen l.options) (recording_seen l.recording) l.played given;
-  counted : TallyOf l.options.policy given l.tally;
+  gathered : g.G.Gatherer.stands_for l.gather given l.gathered;
 }

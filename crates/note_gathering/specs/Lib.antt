@@ -1,0 +1,1 @@
+-- No definitions: what may be gathered from notes is stated by what gathers it.
