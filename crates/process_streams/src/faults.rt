@@ -70,7 +70,7 @@ pub fn is_tool_name(word: &str) -> bool
 {
     matches!(
         word,
-        "replay" | "explain" | "twin" | "sample" | "audit" | "within"
+        "replay" | "explain" | "twin" | "sample" | "audit" | "within" | "suggest"
     )
 }
 

@@ -1,17 +1,14 @@
-//! What a policy denies of recordings: the words and files of an audit, and that its recordings are played at the same time.
+//! What a policy denies of recordings: the words and files of an audit.
 use crate::explaining::{SEE, SEEN};
 use crate::runs::{Ended, file, run_over};
-use link_traits::{Gate, MemFiles, MemSink};
-use proxy_main::tool;
 use std::alloc::{AllocError, Global};
 use std::str;
-use std::sync::atomic::{AtomicBool, AtomicUsize, Ordering};
 use std::test::Fail;
 use std::thread::Threads;
 use test_tables::wrong_row;
 
 /// What is said of a recording that is named twice.
-const TWICE: &str = "\
+pub const TWICE: &str = "\
 recording 1 items 1 denied 1
 recording 2 items 1 denied 1
 reason OnlySee 2
@@ -84,63 +81,5 @@ fn recording_that_is_named_twice_is_counted_twice(rt: HostRuntime) -> Result<(),
         assert_eq!(rt; ended.code, 6);
         assert_eq!(rt; ended.out.bytes.as_slice(), &TWICE.as_bytes()[..room]);
     }
-    Ok(())
-}
-
-/// How often a job looks at most whether the other one has come.
-const LOOKS: u32 = 1_000_000_000;
-
-/// A gate at which two jobs wait for each other.
-#[derive(Drop)]
-struct Meeting {
-    first: AtomicBool,
-    second: AtomicBool,
-    met: AtomicUsize,
-}
-
-impl Meeting {
-    fn meet(&self, own: &AtomicBool, other: &AtomicBool) {
-        own.store(true, Ordering::SeqCst);
-        for _ in 0..LOOKS {
-            if other.load(Ordering::SeqCst) {
-                self.met.fetch_add(1, Ordering::SeqCst);
-                return;
-            }
-        }
-    }
-}
-
-impl Gate for Meeting {
-    fn enter(&self, job: u32) {
-        match job {
-            1 => self.meet(&self.first, &self.second),
-            2 => self.meet(&self.second, &self.first),
-            _ => {}
-        }
-    }
-}
-
-#[test]
-fn recordings_are_played_at_the_same_time(rt: HostRuntime) -> Result<(), Fail> {
-    let alloc = rt.alloc();
-    let gate = Meeting {
-        first: AtomicBool::new(false),
-        second: AtomicBool::new(false),
-        met: AtomicUsize::new(0),
-    };
-    let mut words = Vec::new(alloc);
-    for word in ["audit", "policy", "seen", "seen"] {
-        words.push(String::from_str(alloc, word)?)?;
-    }
-    let mut files = Vec::new(alloc);
-    files.push(file(alloc, "policy", SEE)?)?;
-    files.push(file(alloc, "seen", SEEN)?)?;
-    let mut files = MemFiles::new(files);
-    let mut out = MemSink::new(alloc, 10_000)?;
-    let mut err = MemSink::new(alloc, 100)?;
-    let status = tool(&rt, &gate, alloc, &words, &mut files, &mut out, &mut err);
-    assert!(rt; status.is_some_and(|status| status.code == 0));
-    assert_eq!(rt; gate.met.load(Ordering::SeqCst), 2);
-    assert_eq!(rt; str::from_utf8(&out.bytes).unwrap_or("no text"), TWICE);
     Ok(())
 }

@@ -1,4 +1,5 @@
-//! Tests of the program's words, files and output, over files and sinks in memory, and of its disk files and standard output.
+//! Tests of the program's words, files and output, over files and sinks in memory, and of its disk files and standard
+//! output.
 #![tactic(auto)]
 
 #[cfg(test)]
@@ -8,6 +9,8 @@ mod explaining;
 #[cfg(test)]
 mod files;
 #[cfg(test)]
+mod meetings;
+#[cfg(test)]
 mod outside;
 #[cfg(test)]
 mod runs;
@@ -15,6 +18,8 @@ mod runs;
 mod sampling;
 #[cfg(test)]
 mod serving;
+#[cfg(test)]
+mod suggestions;
 #[cfg(test)]
 mod texts;
 #[cfg(test)]

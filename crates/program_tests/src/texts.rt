@@ -6,7 +6,7 @@ use std::alloc::{AllocError, Global};
 use std::test::Fail;
 use std::thread::Threads;
 use tool_words::{
-    audit_words, explain_words, replay_words, sample_words, twin_words, within_words,
+    audit_words, explain_words, replay_words, sample_words, suggest_words, twin_words, within_words,
 };
 
 /// Each option of a policy file, as the help shows it, and a word of it.
@@ -30,13 +30,14 @@ const OPTIONS: [(&str, &str); 10] = [
 const LINE_OPTIONS: [&str; 2] = ["--sessions=N", "--args-file=FILE"];
 
 /// Each tool with its words, and what else the program is asked for.
-const TOOLS: [&str; 8] = [
+const TOOLS: [&str; 9] = [
     "replay POLICY RECORDING",
     "explain POLICY RECORDING N",
     "twin POLICY A B",
     "sample N SEED",
     "audit POLICY RECORDING..",
     "within A B",
+    "suggest RECORDING..",
     "--help",
     "--version",
 ];
@@ -72,6 +73,7 @@ fn is_taken(alloc: Global, words: &[String]) -> Result<bool, AllocError> {
         [tool, ..] if tool.as_str() == "sample" => sample_words(alloc, words)?.is_some(),
         [tool, ..] if tool.as_str() == "audit" => audit_words(alloc, words)?.is_some(),
         [tool, ..] if tool.as_str() == "within" => within_words(alloc, words)?.is_some(),
+        [tool, ..] if tool.as_str() == "suggest" => suggest_words(alloc, words)?.is_some(),
         [tool] => tool.starts_with("--"),
         _ => false,
     })

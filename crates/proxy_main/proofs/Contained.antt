@@ -1,7 +1,7 @@
 -- What the comparison of two policies answers, and its status and output.
 use Rattle.std.proofs.Common.{◌≡◌, ◌↔◌, ◌∙◌, inl, inr, ℕ, List, Option, Result, Ok, Err, IfErr, IfOk, OnOk, IsTrue, ap, refl, sym, rules, []}
 use Rattle.std.proofs.lemmas.Bool.{false≢true}
-use Rattle.link_traits.specs.Told.{Part, added}
+use Rattle.link_traits.specs.Told.{added}
 use Rattle.policy_args.specs.Policy.{Policy}
 use Rattle.policy_args.specs.Requests.{Within}
 use Rattle.policy_within.specs.Within.{answer_of, is_yes}

@@ -1,5 +1,5 @@
 -- How the run of a proxy line ends, and what follows from it.
-use Rattle.std.proofs.Common.{◌≡◌, ◌≤◌, ◌⊎◌, ◌++◌, inl, inr, ℕ, Bool, true, false, if◌then◌else◌, List, Option, Some, Ok, Err, ap, sym, ◌∙◌, subst, refl, arith}
+use Rattle.std.proofs.Common.{◌≡◌, ◌≤◌, ◌<◌, ◌⊎◌, ◌++◌, inl, inr, ℕ, Bool, true, false, if◌then◌else◌, List, Option, Some, Ok, Err, ap, sym, ◌∙◌, subst, refl, arith}
 use Rattle.link_traits.specs.Told.{Rose, ReadFront}
 use Rattle.link_traits.specs.Views.{NetView, RoseAt}
 use Rattle.link_traits.specs.declared.links.Count.TheVariants.{Own as OfNet}
@@ -14,7 +14,7 @@ use Rattle.line_words.specs.Words.{Line, Untold, TooLong, Bad, Reads, line_in}
 use Rattle.line_words.specs.Stops.{IsSettled, Agrees, StopsBy, CausedBy, without}
 use Rattle.line_words.specs.FilesRead.{paths_in, needed_by}
 use Rattle.proxy_main.specs.declared.Refusal.{Refusal}
-use Rattle.proxy_main.specs.declared.Refusal.TheVariants.{Usage, LineWord, ArgsTooLong, PolicyWord, PolicyTooLong, Recording as BadFile, NoSuchMessage}
+use Rattle.proxy_main.specs.declared.Refusal.TheVariants.{Usage, LineWord, ArgsTooLong, PolicyWord, PolicyTooLong, Recording as BadFile, NoSuchMessage, TooManyEntries}
 use Rattle.proxy_main.specs.declared.Stop.{Stop}
 use Rattle.proxy_main.specs.Answers.{refusal_code}
 use Rattle.proxy_main.specs.Lines.{refusal_line, file_line, memory_line, listen_line, wait_line, is_policy_kind}
@@ -76,28 +76,23 @@ module _ {A : Type 0} where
   word_code false this (inr (inl h)) e = absurd (omega arith)
   word_code false this (inr (inr h)) e = absurd (omega arith)
 
-  plain_code : (code this : ℕ) → (this ≡ 0) ⊎ ((this ≡ 4) ⊎ (this ≡ 5)) → (code ≡ 1) ⊎ ((code ≡ 2) ⊎ ((code ≡ 3) ⊎ (code ≡ 9))) → code ≡ this → A
-  plain_code code this (inl h) (inl c) e = absurd (omega arith)
-  plain_code code this (inl h) (inr (inl c)) e = absurd (omega arith)
-  plain_code code this (inl h) (inr (inr (inl c))) e = absurd (omega arith)
-  plain_code code this (inl h) (inr (inr (inr c))) e = absurd (omega arith)
-  plain_code code this (inr (inl h)) (inl c) e = absurd (omega arith)
-  plain_code code this (inr (inl h)) (inr (inl c)) e = absurd (omega arith)
-  plain_code code this (inr (inl h)) (inr (inr (inl c))) e = absurd (omega arith)
-  plain_code code this (inr (inl h)) (inr (inr (inr c))) e = absurd (omega arith)
-  plain_code code this (inr (inr h)) (inl c) e = absurd (omega arith)
-  plain_code code this (inr (inr h)) (inr (inl c)) e = absurd (omega arith)
-  plain_code code this (inr (inr h)) (inr (inr (inl c))) e = absurd (omega arith)
-  plain_code code this (inr (inr h)) (inr (inr (inr c))) e = absurd (omega arith)
+  plain_code : (code this : ℕ) → (this ≡ 0) ⊎ ((this ≡ 4) ⊎ (this ≡ 5)) → ((0 < code) × (code < 4)) ⊎ (5 < code) → code ≡ this → A
+  plain_code code this (inl h) (inl c) e = absurd (omega (arith, c))
+  plain_code code this (inl h) (inr c) e = absurd (omega arith)
+  plain_code code this (inr (inl h)) (inl c) e = absurd (omega (arith, c))
+  plain_code code this (inr (inl h)) (inr c) e = absurd (omega arith)
+  plain_code code this (inr (inr h)) (inl c) e = absurd (omega (arith, c))
+  plain_code code this (inr (inr h)) (inr c) e = absurd (omega arith)
 
   pub refused_code : (refusal : Refusal) (this : ℕ) → (this ≡ 0) ⊎ ((this ≡ 4) ⊎ (this ≡ 5)) → refusal_code refusal ≡ this → A
-  refused_code Usage this h e = plain_code 1 this h (inl refl) e
+  refused_code Usage this h e = plain_code 1 this h (inl (omega arith)) e
   refused_code (LineWord bad) this h e = word_code (is_policy_kind bad.kind) this h e
-  refused_code ArgsTooLong this h e = plain_code 1 this h (inl refl) e
-  refused_code (PolicyWord bad) this h e = plain_code 2 this h (inr (inl refl)) e
-  refused_code PolicyTooLong this h e = plain_code 2 this h (inr (inl refl)) e
-  refused_code (BadFile fault) this h e = plain_code 3 this h (inr (inr (inl refl))) e
-  refused_code NoSuchMessage this h e = plain_code 9 this h (inr (inr (inr refl))) e
+  refused_code ArgsTooLong this h e = plain_code 1 this h (inl (omega arith)) e
+  refused_code (PolicyWord bad) this h e = plain_code 2 this h (inl (omega arith)) e
+  refused_code PolicyTooLong this h e = plain_code 2 this h (inl (omega arith)) e
+  refused_code (BadFile fault) this h e = plain_code 3 this h (inl (omega arith)) e
+  refused_code NoSuchMessage this h e = plain_code 9 this h (inr (omega arith)) e
+  refused_code TooManyEntries this h e = plain_code 7 this h (inr (omega arith)) e
 
 module _ (told : List ℕ → Option (List ℕ)) (words : List (List ℕ)) (files err : Type 0) (before after : NetView) (first last : SinkView) (code : ℕ) where
   -- the status of words that gave a line

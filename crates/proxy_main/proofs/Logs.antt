@@ -1,5 +1,5 @@
 -- What a run's log may be.
-use Rattle.std.proofs.Common.{◌≡◌, ◌⊎◌, inl, inr, ℕ, true, false, List, [], ◌∷◌, Option, None, Some, Result, Ok, Err, IfSome, IfErr, OnOk, refl, ap, sym, ◌∙◌}
+use Rattle.std.proofs.Common.{◌≡◌, ◌⊎◌, inl, inr, ℕ, Bool, true, false, if◌then◌else◌, nat_lt, length, List, [], ◌∷◌, Option, None, Some, Result, Ok, Err, IfSome, IfErr, OnOk, refl, ap, sym, ◌∙◌}
 use Rattle.std.proofs.lemmas.Bool.{true≢false, cond-false}
 use Rattle.link_traits.specs.Told.{added, Part}
 use Rattle.link_traits.proofs.Parts.{added-none, part_none, part_so_far}
@@ -8,9 +8,11 @@ use Rattle.recording.specs.Recording.{Recording}
 use Rattle.replay.specs.Output.{log_of_recording}
 use Rattle.replay.specs.Logging.{WholeLines}
 use Rattle.replay.specs.Explained.{explained}
+use Rattle.suggestion.specs.Suggestion.{policy_for, suggestion_of}
 use Rattle.proxy_main.specs.declared.Refusal.{Refusal}
-use Rattle.proxy_main.specs.Words.{Command, Replay, Explain, Twin, Sample, Audit, Within, Help, Version}
-use Rattle.proxy_main.specs.Answers.{Answer, audited, then_go, then_read, then_recordings, replayed, explaining, answer_to, Agrees, log_of, checked_policy, checked_recording, asks_for_log, may_ask_for_log, may_log, IsLog}
+use Rattle.proxy_main.specs.declared.Refusal.TheVariants.{TooManyEntries}
+use Rattle.proxy_main.specs.Words.{Command, Replay, Explain, Twin, Sample, Audit, Within, Suggest, Help, Version}
+use Rattle.proxy_main.specs.Answers.{Answer, Refused, Wrote, audited, suggesting, then_go, then_read, then_recordings, replayed, explaining, answer_to, Agrees, log_of, checked_policy, checked_recording, asks_for_log, may_ask_for_log, may_log, IsLog}
 use Rattle.proxy_main.specs.declared.Stop.{Stop}
 use Rattle.proxy_main.specs.declared.Stop.TheVariants as stop
 use Rattle.proxy_main.specs.Loads.{CausedBy, KeepsLog, IsLogged, IsLogFront, IsLogInLines}
@@ -58,6 +60,14 @@ recordings_none told [] work none = none []
 recordings_none told (p ∷ ps) work none =
     read_none (told p) checked_recording (λ x. then_recordings told ps (λ others. work (x ∷ others))) (λ x. recordings_none told ps (λ others. work (x ∷ others)) (λ xs. none (x ∷ xs)))
 
+suggesting-none : (xs : List Recording) → log_of (suggesting xs) ≡ []
+unfolding suggesting
+suggesting-none xs = by (nat_lt 65535 (length (policy_for xs).entries))
+  where
+    by : (b : Bool) → log_of (if b then Refused TooManyEntries else Wrote (suggestion_of xs) []) ≡ []
+    by true = refl
+    by false = refl
+
 unasked : (told : List ℕ → Option (List ℕ)) (command : Option Command) → may_log told command ≡ false → log_of (answer_to told command) ≡ []
 unasked told None is = refl
 unasked told (Some (Replay p r)) is = answer_unasked (told p) (told r) is
@@ -66,6 +76,7 @@ unasked told (Some (Twin p a b)) is = read_none (told p) checked_policy _ (λ o.
 unasked told (Some (Sample n seed)) is = refl
 unasked told (Some (Audit p ps)) is = read_none (told p) checked_policy _ (λ o. recordings_none told ps (audited o) (λ xs. refl))
 unasked told (Some (Within a b)) is = read_none (told a) checked_policy _ (λ o. read_none (told b) checked_policy _ (λ other. refl))
+unasked told (Some (Suggest ps)) is = recordings_none told ps suggesting suggesting-none
 unasked told (Some Help) is = refl
 unasked told (Some Version) is = refl
 

@@ -12,7 +12,7 @@ use Rattle.line_words.specs.declared.reading.LineStop.TheVariants as line_stop
 use Rattle.line_words.specs.FilesRead.{ReadUntil as LineReadUntil}
 use Rattle.line_words.proofs.ReadLaws.{read_all}
 use Rattle.proxy_main.specs.declared.Refusal.{Refusal}
-use Rattle.proxy_main.specs.declared.Refusal.TheVariants.{Usage, LineWord, ArgsTooLong, PolicyWord, PolicyTooLong, Recording, NoSuchMessage}
+use Rattle.proxy_main.specs.declared.Refusal.TheVariants.{Usage, LineWord, ArgsTooLong, PolicyWord, PolicyTooLong, Recording, NoSuchMessage, TooManyEntries}
 use Rattle.proxy_main.specs.declared.Stop.{Stop}
 use Rattle.proxy_main.specs.declared.Stop.TheVariants.{Refused as Refuses, File, Output, Log, Memory}
 use Rattle.proxy_main.specs.Words.{Command}
@@ -68,6 +68,7 @@ module _ (policies : ℕ) (before after reads now new_reads : List (List ℕ)) (
   refused_recording PolicyTooLong h = absurd h
   refused_recording (Recording fault) h = front
   refused_recording NoSuchMessage h = absurd h
+  refused_recording TooManyEntries h = absurd h
 
   pub recording_stops : (s : Stop) → StopsAt IsOfRecording path s → ReadUntil policies (before ++ path ∷ after) reads new_reads s
   recording_stops (Refuses refusal) h = refused_recording refusal h
@@ -89,6 +90,7 @@ module _ (policies : ℕ) (after reads new_reads : List (List ℕ)) (path : List
   refused_policy PolicyTooLong h = at_first
   refused_policy (Recording fault) h = absurd h
   refused_policy NoSuchMessage h = absurd h
+  refused_policy TooManyEntries h = absurd h
 
   pub policy_stops : (s : Stop) → StopsAt IsOfPolicy path s → ReadUntil (suc policies) (path ∷ after) reads new_reads s
   policy_stops (Refuses refusal) h = refused_policy refusal h
@@ -97,7 +99,8 @@ module _ (policies : ℕ) (after reads new_reads : List (List ℕ)) (path : List
   policy_stops Log h = absurd h
   policy_stops Memory h = front 0 [] after reads reads new_reads path (none_named reads) next
 
--- the others are why, behind a first file of which nothing is refused; it is a policy file where one of them may be the last
+-- the others are why, behind a first file of which nothing is refused; it is a policy file where one of them may be the
+-- last
 module _ (policies all_policies : ℕ) (named reads now new_reads : List (List ℕ)) (path : List ℕ) (first : (n : ℕ) → 1 ≤ n → n ≤ policies → n + 1 ≤ all_policies) (next : now ≡ reads ++ path ∷ []) where
   later_all : new_reads ≡ now ++ named → new_reads ≡ reads ++ path ∷ named
   later_all all = all ∙ ap (λ (paths : List (List ℕ)). paths ++ named) next ∙ append_assoc reads (path ∷ []) named
@@ -132,6 +135,7 @@ module _ (policies all_policies : ℕ) (named reads now new_reads : List (List �
   later_refused PolicyTooLong h = later_policy h
   later_refused (Recording fault) h = later_front h
   later_refused NoSuchMessage h = later_all h
+  later_refused TooManyEntries h = later_all h
 
   pub later_stops : (s : Stop) → ReadUntil policies named now new_reads s → ReadUntil all_policies (path ∷ named) reads new_reads s
   later_stops (Refuses refusal) h = later_refused refusal h
@@ -150,6 +154,7 @@ module _ (policies : ℕ) (named reads new_reads : List (List ℕ)) (all : new_r
   refused_work PolicyTooLong h = absurd h
   refused_work (Recording fault) h = absurd h
   refused_work NoSuchMessage h = all
+  refused_work TooManyEntries h = all
 
   pub work_stops : (s : Stop) → StopsWork s → ReadUntil policies named reads new_reads s
   work_stops (Refuses refusal) h = refused_work refusal h
@@ -228,6 +233,7 @@ module _ (policies : ℕ) (named reads new_reads : List (List ℕ)) (rose : Type
   refusal_reads PolicyTooLong h is = reads_policy h is
   refusal_reads (Recording fault) h is = reads_front h 3 is refl (λ two. omega arith) (λ four. omega arith)
   refusal_reads NoSuchMessage h is = reads_all h (λ two. omega arith) (λ four. omega arith)
+  refusal_reads TooManyEntries h is = reads_all h (λ two. omega arith) (λ four. omega arith)
 
   refusal_front : (refusal : Refusal) → ReadBefore policies named reads new_reads refusal → ReadFront named reads new_reads
   refusal_front Usage h = h
@@ -237,6 +243,7 @@ module _ (policies : ℕ) (named reads new_reads : List (List ℕ)) (rose : Type
   refusal_front PolicyTooLong h = record { count = h.count; are = h.are }
   refusal_front (Recording fault) h = h
   refusal_front NoSuchMessage h = read_all named reads new_reads h
+  refusal_front TooManyEntries h = read_all named reads new_reads h
 
 -- the count of err's faults is a at the start, b behind the work and c behind the line
 pub stop_reads : (told : List ℕ → Option (List ℕ)) (command : Option Command) (policies : ℕ) (named reads new_reads : List (List ℕ)) (err between new_err : Option (List ℕ)) (a b c code : ℕ) (s : Stop) → a ≤ b →

@@ -1,12 +1,12 @@
 -- Recordings that are read one after the other behind a policy file, and two policy files.
-use Rattle.std.proofs.Common.{◌≡◌, ◌≤◌, ◌+◌, ◌-◌, ℕ, List, [], ◌∷◌, ◌++◌, Bor, Option, Some, None, Result, Ok, Err, IfErr, IfSome, OnOk, ap, arith, drop, get_or, length, map, append_assoc, bytes_eq, refl, subst, sym, take, ◌∙◌}
+use Rattle.std.proofs.Common.{◌≡◌, ◌≤◌, ◌-◌, ℕ, List, [], ◌∷◌, ◌++◌, Bor, Option, Some, Result, Ok, Err, IfErr, IfSome, OnOk, ap, arith, drop, get_or, length, map, append_assoc, bytes_eq, refl, subst, sym, take, ◌∙◌}
 use Rattle.std.proofs.lemmas.List.{take_all}
 use Rattle.policy_args.specs.Words.{PolicyOptions}
 use Rattle.recording.specs.Recording.{Recording}
 use Rattle.proxy_main.specs.declared.Stop.{Stop}
 use Rattle.proxy_main.specs.declared.Stop.TheVariants as stop
 use Rattle.proxy_main.specs.Words.{Audit, Within}
-use Rattle.proxy_main.specs.Answers.{Answer, Contained, Untold, Refused, Agrees, IsSettled, answer_to, audited, checked_policy, checked_recording, then_contain, then_read, then_recordings, without}
+use Rattle.proxy_main.specs.Answers.{Answer, Contained, Untold, Agrees, IsSettled, answer_to, audited, checked_policy, checked_recording, then_contain, then_recordings, without}
 use Rattle.proxy_main.specs.Loads.{LoadStops, StopsBy}
 use Rattle.proxy_main.specs.FilesRead.{IsOfPolicy, IsOfRecording, NeededUntil, ReadUntil, StopsAt, behind, recordings_up_to_bad, up_to_bad}
 use Rattle.proxy_main.specs.ManyFiles.{AreGood, IsTold, OneStops, StopsIn}
@@ -64,7 +64,8 @@ module _ (told : List ℕ → Option (List ℕ)) (p : List ℕ) (ps reads now ne
         (h.needed (λ others. work (x ∷ others)));
   }
 
--- One recording was read and is good, and others are read behind it. What is told of the files then is what was told at the start.
+-- One recording was read and is good, and others are read behind it. What is told of the files then is what was told at
+-- the start.
 module _ (start mid : List ℕ → Option (List ℕ)) (kept : IsTold mid start) (p : List ℕ) (paths others reads now new_reads : List (List ℕ)) (names : paths ≡ p ∷ others) (x : Recording)
     (ok : IfSome (start p) (λ bytes. checked_recording bytes ≡ Ok x)) where
   as_told : (told : List ℕ → Option (List ℕ)) → IsTold told start → IfSome (told p) (λ bytes. checked_recording bytes ≡ Ok x)

@@ -1,7 +1,10 @@
 -- Whatever the ending, what its status says of the answer.
-use Rattle.std.proofs.Common.{◌≡◌, ◌⊎◌, inl, inr, ℕ, List, Option, sym, ◌∙◌, subst}
-use Rattle.proxy_main.specs.Words.{Command}
-use Rattle.proxy_main.specs.Answers.{Answer, Untold, Refused, Wrote, Compared, Contained, answer_to, IsSettled, HasCode, IsWork}
+use Rattle.std.proofs.Common.{◌≡◌, ◌⊎◌, inl, inr, ℕ, List, Option, Some, None, sym, ◌∙◌, subst, arith}
+use Rattle.proxy_main.specs.declared.Refusal.{Refusal}
+use Rattle.proxy_main.specs.declared.Refusal.TheVariants.{Usage, LineWord, ArgsTooLong, PolicyWord, PolicyTooLong, Recording as BadFile, NoSuchMessage, TooManyEntries}
+use Rattle.proxy_main.specs.Words.{Command, Replay, Explain, Twin, Sample, Audit, Within, Suggest, Help, Version}
+use Rattle.proxy_main.specs.Answers.{Answer, Untold, Refused, Wrote, Compared, Contained, answer_to, IsSettled, HasCode, IsWork, refusal_code}
+use Rattle.proxy_main.specs.Loads.{IsComparison, IsDone, IsEnd, IsLogged, IsOfWords, IsSuggest}
 use Rattle.proxy_main.specs.Endings.{Ends, Done, Refuses, NoFile, OutFails, LogFails, NoMemory, IsFree, ExactlyOfFiles, ExactlyOfWork}
 
 -- an answer has one status at most
@@ -27,6 +30,90 @@ work_code (Compared p one other) n work (inl has) = inl has.1
 work_code (Compared p one other) n work (inr has) = inr has.1
 work_code (Contained one other) n work (inl has) = inl has.1
 work_code (Contained one other) n work (inr has) = inr has.1
+
+-- ---- the answer no
+
+-- of refusals only one has the status of the answer no
+refused-no : (refusal : Refusal) (command : Option Command) (code : ℕ) → code ≡ refusal_code refusal → IsOfWords refusal command → code ≡ 7 → IsSuggest command
+refused-no Usage command code is words seven = absurd (omega arith)
+refused-no (LineWord bad) command code is words seven = absurd words
+refused-no ArgsTooLong command code is words seven = absurd words
+refused-no (PolicyWord bad) command code is words seven = absurd (omega arith)
+refused-no PolicyTooLong command code is words seven = absurd (omega arith)
+refused-no (BadFile fault) command code is words seven = absurd (omega arith)
+refused-no NoSuchMessage command code is words seven = absurd (omega arith)
+refused-no TooManyEntries command code is words seven = words
+
+refused-none : (refusal : Refusal) (command : Option Command) (code : ℕ) → code ≡ refusal_code refusal → IsOfWords refusal command → code ≡ 0 → ⊥
+refused-none Usage command code is words none = omega arith
+refused-none (LineWord bad) command code is words none = words
+refused-none ArgsTooLong command code is words none = words
+refused-none (PolicyWord bad) command code is words none = omega arith
+refused-none PolicyTooLong command code is words none = omega arith
+refused-none (BadFile fault) command code is words none = omega arith
+refused-none NoSuchMessage command code is words none = omega arith
+refused-none TooManyEntries command code is words none = omega arith
+
+-- no command asks for both
+one-no : (command : Option Command) → IsSuggest command → IsComparison command → ⊥
+one-no None suggest comparison = suggest
+one-no (Some (Replay policy recording)) suggest comparison = suggest
+one-no (Some (Explain policy recording number)) suggest comparison = suggest
+one-no (Some (Twin policy one other)) suggest comparison = suggest
+one-no (Some (Sample n seed)) suggest comparison = suggest
+one-no (Some (Audit policy recordings)) suggest comparison = suggest
+one-no (Some (Within one other)) suggest comparison = suggest
+one-no (Some (Suggest recordings)) suggest comparison = comparison
+one-no (Some Help) suggest comparison = suggest
+one-no (Some Version) suggest comparison = suggest
+
+module _ (told : List ℕ → Option (List ℕ)) (command : Option Command) (f o e : Type 0) (out new_out err new_err : Option (List ℕ)) (code : ℕ)
+    (ends : Ends told command f o e out new_out err new_err code) where
+  pub answers-no : code ≡ 7 → IsComparison command ⊎ IsSuggest command
+  answers-no seven = elim ends [
+    | Done is done log ↦ inl (compared is)
+    | Refuses r is agrees words kept said ↦ inr (refused-no r command code is words seven)
+    | NoFile path is rose needs kept said ↦ absurd (omega (arith, is, seven))
+    | OutFails is rose work front log ↦ absurd (omega (arith, is, seven))
+    | LogFails is rose asked work kept log ↦ absurd (omega (arith, is, seven))
+    | NoMemory is kept said ↦ absurd (omega (arith, is, seven))
+  ]
+    where
+      compared : IsEnd command code → IsComparison command
+      compared (inl none) = absurd (omega (arith, none, seven))
+      compared (inr is) = is.1
+
+  pub done-told : IsEnd command code → IsDone (answer_to told command) out new_out code × IsLogged told command err new_err
+  done-told end = elim ends [
+    | Done is done log ↦ (done, log)
+    | Refuses r is agrees words kept said ↦ absurd (refused r is words end)
+    | NoFile path is rose needs kept said ↦ absurd (given end (inl is))
+    | OutFails is rose work front log ↦ absurd (given end (inr (inl is)))
+    | LogFails is rose asked work kept log ↦ absurd (given end (inr (inl is)))
+    | NoMemory is kept said ↦ absurd (given end (inr (inr is)))
+  ]
+    where
+      refused : (r : Refusal) → code ≡ refusal_code r → IsOfWords r command → IsEnd command code → ⊥
+      refused r is words (inl none) = refused-none r command code is words none
+      refused r is words (inr seven) = one-no command (refused-no r command code is words seven.0) seven.1
+
+      given : IsEnd command code → IsFree code → ⊥
+      given (inl none) (inl is) = omega (arith, none, is)
+      given (inl none) (inr (inl is)) = omega (arith, none, is)
+      given (inl none) (inr (inr is)) = omega (arith, none, is)
+      given (inr seven) (inl is) = omega (arith, seven.0, is)
+      given (inr seven) (inr (inl is)) = omega (arith, seven.0, is)
+      given (inr seven) (inr (inr is)) = omega (arith, seven.0, is)
+
+  pub nothing-told : IsEnd command code ⊎ ((code ≡ 6) ⊎ (new_out ≡ out))
+  nothing-told = elim ends [
+    | Done is done log ↦ inl is
+    | Refuses r is agrees words kept said ↦ inr (inr kept)
+    | NoFile path is rose needs kept said ↦ inr (inr kept)
+    | OutFails is rose work front log ↦ inr (inl is)
+    | LogFails is rose asked work kept log ↦ inr (inr kept)
+    | NoMemory is kept said ↦ inr (inr kept)
+  ]
 
 module _ (told : List ℕ → Option (List ℕ)) (command : Option Command) (f o e : Type 0) (out new_out err new_err : Option (List ℕ)) (code : ℕ)
     (ends : Ends told command f o e out new_out err new_err code) (settled : IsSettled (answer_to told command)) where

@@ -1,5 +1,5 @@
 -- The texts that the program writes of itself, in full.
-use Rattle.std.proofs.Common.{ℕ, ◌≡◌, ◌++◌, List, codes, refl}
+use Rattle.std.proofs.Common.{◌≡◌, ◌++◌, codes, refl}
 use Rattle.proxy_main.specs.declared.texts.TheConstants.{HELP, VERSION}
 
 version_text : VERSION.now ≡ codes "0.1.0"
@@ -14,6 +14,7 @@ help_text : HELP.now
     ++ codes "  zamtigarn sample N SEED               plays a session of N draws from a seed, and sums it up\n"
     ++ codes "  zamtigarn audit POLICY RECORDING..    counts what a policy denies of recordings, and tells which of its entries they don't name\n"
     ++ codes "  zamtigarn within A B                  tells whether a policy permits nothing that another doesn't\n"
+    ++ codes "  zamtigarn suggest RECORDING..         writes the least policy that permits what the applications of recordings asked\n"
     ++ codes "  zamtigarn --help                      writes this text\n"
     ++ codes "  zamtigarn --version                   writes the version\n"
     ++ codes "\n"
@@ -43,7 +44,8 @@ help_text : HELP.now
     ++ codes "  4  a file could not be read\n"
     ++ codes "  5  the proxy could not listen, or wait\n"
     ++ codes "  6  the output or the log of a tool could not be written\n"
-    ++ codes "  7  the two recordings differ to the policy, or the policy is not within the other\n"
+    ++ codes "  7  the two recordings differ to the policy, the policy is not within the other, or the policy\n"
+    ++ codes "     that is asked for would have more than 65,535 entries\n"
     ++ codes "  8  memory was refused\n"
     ++ codes "  9  the recording has no message of the number N\n"
 help_text = refl

@@ -1,6 +1,7 @@
 -- What a run answers, by its words and by what is told of the files.
 --
--- The files are read in the order of the words, and each is read and checked before the next. The first fault is the answer.
+-- The files are read in the order of the words, and each is read and checked before the next. The first fault is the
+-- answer.
 use Rattle.std.specs.Prelude.{◌≡◌, ◌≢◌, ◌⊎◌, ℕ, Bool, true, false, nat_lt, List, [], ◌∷◌, ◌++◌, length, codes, Option, Some, None, Result, Ok, Err, if◌then◌else◌}
 use Rattle.std.specs.Fmt.{decimal}
 use Rattle.policy_args.specs.declared.BadWord.{BadWord}
@@ -16,14 +17,15 @@ use Rattle.replay.specs.Twins.{compared_under, part_of_recording, Compares}
 use Rattle.replay.specs.declared.comparing.TwinAnswer.{TwinAnswer}
 use Rattle.replay.specs.declared.comparing.TwinAnswer.TheVariants.{Same, Differ}
 use Rattle.sample.specs.Summary.{sample_history, sample_options, summary_of}
+use Rattle.suggestion.specs.Suggestion.{policy_for, suggestion_of}
 pub use Rattle.line_words.specs.Stops.{without}
 use Rattle.proxy_main.specs.declared.Refusal.{Refusal}
-use Rattle.proxy_main.specs.declared.Refusal.TheVariants.{Usage, LineWord, ArgsTooLong, PolicyWord, PolicyTooLong, Recording as BadFile, NoSuchMessage}
+use Rattle.proxy_main.specs.declared.Refusal.TheVariants.{Usage, LineWord, ArgsTooLong, PolicyWord, PolicyTooLong, Recording as BadFile, NoSuchMessage, TooManyEntries}
 use Rattle.proxy_main.specs.declared.TheConstants.{POLICY_LIMIT}
 use Rattle.proxy_main.specs.declared.texts.TheConstants.{HELP, VERSION}
 use Rattle.proxy_main.specs.Lines.{is_policy_kind}
 use Rattle.proxy_main.specs.WithinText.{within_text}
-use Rattle.proxy_main.specs.Words.{Command, Replay, Explain, Twin, Sample, Audit, Within as IsWithin, Help, Version, reading}
+use Rattle.proxy_main.specs.Words.{Command, Replay, Explain, Twin, Sample, Audit, Within as IsWithin, Suggest, Help, Version, reading}
 
 pub data Answer : Type 0 where
   -- a file is needed of which nothing is told: the answer is not settled
@@ -104,6 +106,10 @@ then_recordings told (path ∷ paths) work = then_read (told path) checked_recor
 abbrev pub audited : PolicyOptions → List Recording → Answer
 audited options recordings = Wrote (audit_of options recordings) []
 
+-- the policy file that is suggested for recordings, unless its policy has too many entries
+unfoldable pub suggesting : List Recording → Answer
+suggesting recordings = if nat_lt 65535 (length (policy_for recordings).entries) then Refused TooManyEntries else Wrote (suggestion_of recordings) []
+
 -- one policy file and then another are read and checked, before they are compared
 abbrev pub then_contain : (List ℕ → Option (List ℕ)) → List ℕ → PolicyOptions → Answer
 then_contain told other one = then_read (told other) checked_policy (λ options. Contained one.policy options.policy)
@@ -116,6 +122,7 @@ answer_to told (Some (Twin policy one other)) = then_load told policy one (then_
 answer_to told (Some (Sample n seed)) = sampled n seed
 answer_to told (Some (Audit policy recordings)) = then_read (told policy) checked_policy (λ options. then_recordings told recordings (audited options))
 answer_to told (Some (IsWithin one other)) = then_read (told one) checked_policy (then_contain told other)
+answer_to told (Some (Suggest recordings)) = then_recordings told recordings suggesting
 answer_to told (Some Help) = Wrote HELP.now []
 answer_to told (Some Version) = Wrote version_line []
 
@@ -145,9 +152,10 @@ refusal_code (PolicyWord bad) = 2
 refusal_code PolicyTooLong = 2
 refusal_code (BadFile fault) = 3
 refusal_code NoSuchMessage = 9
+refusal_code TooManyEntries = 7
 
--- An answer has this status: of two recordings, by whether the same is left of both when all that the policy hides is erased, and of two
--- policies, by whether the one permits nothing that the other doesn't permit.
+-- An answer has this status: of two recordings, by whether the same is left of both when all that the policy hides is
+-- erased, and of two policies, by whether the one permits nothing that the other doesn't permit.
 abbrev pub HasCode : Answer → ℕ → Type 0
 HasCode Untold code = ⊥
 HasCode (Refused refusal) code = refusal_code refusal ≡ code
@@ -217,6 +225,7 @@ may_log told (Some (Twin policy one other)) = false
 may_log told (Some (Sample n seed)) = false
 may_log told (Some (Audit policy recordings)) = false
 may_log told (Some (IsWithin one other)) = false
+may_log told (Some (Suggest recordings)) = false
 may_log told (Some Help) = false
 may_log told (Some Version) = false
 

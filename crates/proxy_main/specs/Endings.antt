@@ -10,8 +10,8 @@
 --     8    memory ran out
 --     9    the recording has no message of the number
 --
--- The log is written before the output. A fault of err while a status's line is said changes no status: err got a front of that
--- line. Only what is told of the files settles what they hold.
+-- The log is written before the output. A fault of err while a status's line is said changes no status: err got a front
+-- of that line. Only what is told of the files settles what they hold.
 use Rattle.std.specs.Prelude.{◌≡◌, ◌⊎◌, ℕ, true, List, [], Option}
 use Rattle.link_traits.specs.Told.{added, Part}
 use Rattle.proxy_main.specs.declared.Refusal.{Refusal}
@@ -33,7 +33,8 @@ pub record SaidAfterLog (told : List ℕ → Option (List ℕ)) (command : Optio
   pub log : IsLogInLines told command err between
   pub said : Said rose between new_err line
 
--- how a run of these words ended, by what is told of the files, the counts of faults that rose, and what out and err tell
+-- how a run of these words ended, by what is told of the files, the counts of faults that rose, and what out and err
+-- tell
 pub data Ends (told : List ℕ → Option (List ℕ)) (command : Option Command) (files_rose out_rose err_rose : Type 0) (out new_out err new_err : Option (List ℕ)) (code : ℕ) : Type 0 where
   -- the whole log and the whole output were written
   Done : IsEnd command code
@@ -69,7 +70,7 @@ pub data Ends (told : List ℕ → Option (List ℕ)) (command : Option Command)
 
 -- ---- what err got, whatever the ending
 
--- the line of a status: none with 0, 6 and 7
+-- the line of a status: none with 0, 6 and the 7 of a comparison
 pub data LineOf (code : ℕ) (line : List ℕ) : Type 0 where
   NoLine : (code ≡ 0) ⊎ ((code ≡ 6) ⊎ (code ≡ 7)) → line ≡ [] → LineOf code line
   OfRefusal : (refusal : Refusal) → code ≡ refusal_code refusal → line ≡ refusal_line refusal → LineOf code line

@@ -1,12 +1,12 @@
--- The files that a run reads: those that its words name and no other, each once and in the order of the words, up to the one at which it stops.
--- None is read behind one that is bad.
+-- The files that a run reads: those that its words name and no other, each once and in the order of the words, up to
+-- the one at which it stops. None is read behind one that is bad.
 use Rattle.std.specs.Prelude.{◌≡◌, ◌≤◌, ◌⊎◌, ℕ, zero, suc, List, [], ◌∷◌, ◌++◌, take, Option, Some, None, Result, Ok, Err}
 use Rattle.link_traits.specs.Told.{ReadFront, ReadTo}
 use Rattle.proxy_main.specs.declared.Refusal.{Refusal}
-use Rattle.proxy_main.specs.declared.Refusal.TheVariants.{Usage, LineWord, ArgsTooLong, PolicyWord, PolicyTooLong, Recording, NoSuchMessage}
+use Rattle.proxy_main.specs.declared.Refusal.TheVariants.{Usage, LineWord, ArgsTooLong, PolicyWord, PolicyTooLong, Recording, NoSuchMessage, TooManyEntries}
 use Rattle.proxy_main.specs.declared.Stop.{Stop}
 use Rattle.proxy_main.specs.declared.Stop.TheVariants.{Refused as Refuses, File, Output, Log, Memory}
-use Rattle.proxy_main.specs.Words.{Command, Replay, Explain, Twin, Sample, Audit, Within, Help, Version}
+use Rattle.proxy_main.specs.Words.{Command, Replay, Explain, Twin, Sample, Audit, Within, Suggest, Help, Version}
 use Rattle.proxy_main.specs.Answers.{checked_policy, checked_recording}
 use Rattle.proxy_main.specs.Lines.{file_line}
 use Rattle.proxy_main.specs.Endings.{Said}
@@ -20,6 +20,7 @@ paths_of (Some (Twin policy one other)) = policy ∷ one ∷ other ∷ []
 paths_of (Some (Sample n seed)) = []
 paths_of (Some (Audit policy recordings)) = policy ∷ recordings
 paths_of (Some (Within one other)) = one ∷ other ∷ []
+paths_of (Some (Suggest recordings)) = recordings
 paths_of (Some Help) = []
 paths_of (Some Version) = []
 
@@ -32,6 +33,7 @@ policies_of (Some (Twin policy one other)) = 1
 policies_of (Some (Sample n seed)) = 0
 policies_of (Some (Audit policy recordings)) = 1
 policies_of (Some (Within one other)) = 2
+policies_of (Some (Suggest recordings)) = 0
 policies_of (Some Help) = 0
 policies_of (Some Version) = 0
 
@@ -52,7 +54,7 @@ abbrev pub recordings_up_to_bad : (List ℕ → Option (List ℕ)) → List (Lis
 recordings_up_to_bad told [] = []
 recordings_up_to_bad told (path ∷ others) = path ∷ behind (told path) checked_recording (recordings_up_to_bad told others)
 
--- so many policy files and the recordings behind them, up to the first that is bad
+-- this many policy files and the recordings behind them, up to the first that is bad
 abbrev pub up_to_bad : ℕ → (List ℕ → Option (List ℕ)) → List (List ℕ) → List (List ℕ)
 up_to_bad zero told paths = recordings_up_to_bad told paths
 up_to_bad (suc policies) told [] = []
@@ -103,6 +105,7 @@ IsOfPolicy (PolicyWord bad) = Unit {0}
 IsOfPolicy PolicyTooLong = Unit {0}
 IsOfPolicy (Recording fault) = ⊥
 IsOfPolicy NoSuchMessage = ⊥
+IsOfPolicy TooManyEntries = ⊥
 
 -- a refusal of a recording
 abbrev pub IsOfRecording : Refusal → Type 0
@@ -113,16 +116,18 @@ IsOfRecording (PolicyWord bad) = ⊥
 IsOfRecording PolicyTooLong = ⊥
 IsOfRecording (Recording fault) = Unit {0}
 IsOfRecording NoSuchMessage = ⊥
+IsOfRecording TooManyEntries = ⊥
 
--- a refusal of a message's number
-abbrev pub IsOfMessage : Refusal → Type 0
-IsOfMessage Usage = ⊥
-IsOfMessage (LineWord bad) = ⊥
-IsOfMessage ArgsTooLong = ⊥
-IsOfMessage (PolicyWord bad) = ⊥
-IsOfMessage PolicyTooLong = ⊥
-IsOfMessage (Recording fault) = ⊥
-IsOfMessage NoSuchMessage = Unit {0}
+-- a refusal of the work on files that were read: of a message's number, or of a policy that would have too many entries
+abbrev pub IsOfWork : Refusal → Type 0
+IsOfWork Usage = ⊥
+IsOfWork (LineWord bad) = ⊥
+IsOfWork ArgsTooLong = ⊥
+IsOfWork (PolicyWord bad) = ⊥
+IsOfWork PolicyTooLong = ⊥
+IsOfWork (Recording fault) = ⊥
+IsOfWork NoSuchMessage = Unit {0}
+IsOfWork TooManyEntries = Unit {0}
 
 -- the file at the path is why, or memory
 abbrev pub StopsAt : (Refusal → Type 0) → List ℕ → Stop → Type 0
@@ -134,7 +139,7 @@ StopsAt refuses path Memory = Unit {0}
 
 -- what is done once all files are read is why
 abbrev pub StopsWork : Stop → Type 0
-StopsWork (Refuses refusal) = IsOfMessage refusal
+StopsWork (Refuses refusal) = IsOfWork refusal
 StopsWork (File path) = ⊥
 StopsWork Output = Unit {0}
 StopsWork Log = Unit {0}
@@ -149,6 +154,7 @@ ReadBefore policies named reads new_reads (PolicyWord bad) = EndsAtPolicy polici
 ReadBefore policies named reads new_reads PolicyTooLong = EndsAtPolicy policies named reads new_reads
 ReadBefore policies named reads new_reads (Recording fault) = ReadFront named reads new_reads
 ReadBefore policies named reads new_reads NoSuchMessage = new_reads ≡ reads ++ named
+ReadBefore policies named reads new_reads TooManyEntries = new_reads ≡ reads ++ named
 
 -- .. and before a tool's run stopped
 abbrev pub ReadUntil : ℕ → List (List ℕ) → List (List ℕ) → List (List ℕ) → Stop → Type 0

@@ -2,10 +2,10 @@
 use Rattle.std.specs.Prelude.{◌≡◌, ◌⊎◌, ℕ, true, List, Option, Some, None, Result, Ok, Err, IfSome}
 use Rattle.link_traits.specs.Told.{added, Part}
 use Rattle.proxy_main.specs.declared.Refusal.{Refusal}
-use Rattle.proxy_main.specs.declared.Refusal.TheVariants.{Usage, LineWord, ArgsTooLong, PolicyWord, PolicyTooLong, Recording, NoSuchMessage}
+use Rattle.proxy_main.specs.declared.Refusal.TheVariants.{Usage, LineWord, ArgsTooLong, PolicyWord, PolicyTooLong, Recording, NoSuchMessage, TooManyEntries}
 use Rattle.proxy_main.specs.declared.Stop.{Stop}
 use Rattle.proxy_main.specs.declared.Stop.TheVariants.{Refused as Refuses, File, Output, Log, Memory}
-use Rattle.proxy_main.specs.Words.{Command, Replay, Explain, Twin, Sample, Audit, Within, Help, Version}
+use Rattle.proxy_main.specs.Words.{Command, Replay, Explain, Twin, Sample, Audit, Within, Suggest, Help, Version}
 use Rattle.policy_args.specs.Words.{PolicyOptions}
 use Rattle.recording.specs.Recording.{Recording as RecordingValue}
 use Rattle.replay.specs.Logging.{WholeLines}
@@ -22,6 +22,7 @@ IsOfFile (PolicyWord bad) = Unit {0}
 IsOfFile PolicyTooLong = Unit {0}
 IsOfFile (Recording fault) = Unit {0}
 IsOfFile NoSuchMessage = ⊥
+IsOfFile TooManyEntries = ⊥
 
 -- the file at the path is why a run stops: its check refuses what is told of it, or it was not read
 abbrev pub LoadStops : {A : Type 0} → (List ℕ → Result A Refusal) → Option (List ℕ) → List ℕ → Stop → Type 0
@@ -57,10 +58,25 @@ IsExplain (Some (Twin policy one other)) = ⊥
 IsExplain (Some (Sample n seed)) = ⊥
 IsExplain (Some (Audit policy recordings)) = ⊥
 IsExplain (Some (Within one other)) = ⊥
+IsExplain (Some (Suggest recordings)) = ⊥
 IsExplain (Some Help) = ⊥
 IsExplain (Some Version) = ⊥
 
--- the words are refused only where they name nothing, and a message's number only where they ask for a message
+-- the words ask for a policy
+abbrev pub IsSuggest : Option Command → Type 0
+IsSuggest None = ⊥
+IsSuggest (Some (Replay policy recording)) = ⊥
+IsSuggest (Some (Explain policy recording number)) = ⊥
+IsSuggest (Some (Twin policy one other)) = ⊥
+IsSuggest (Some (Sample n seed)) = ⊥
+IsSuggest (Some (Audit policy recordings)) = ⊥
+IsSuggest (Some (Within one other)) = ⊥
+IsSuggest (Some (Suggest recordings)) = Unit {0}
+IsSuggest (Some Help) = ⊥
+IsSuggest (Some Version) = ⊥
+
+-- the words are refused only where they name nothing, a message's number only where they ask for a message, and a
+-- policy only where they ask for one
 abbrev pub IsOfWords : Refusal → Option Command → Type 0
 IsOfWords Usage command = command ≡ None
 IsOfWords (LineWord bad) command = ⊥
@@ -69,9 +85,10 @@ IsOfWords (PolicyWord bad) command = Unit {0}
 IsOfWords PolicyTooLong command = Unit {0}
 IsOfWords (Recording fault) command = Unit {0}
 IsOfWords NoSuchMessage command = IsExplain command
+IsOfWords TooManyEntries command = IsSuggest command
 
--- why a run stops: what is told settles it so, or a file failed without which nothing is settled, or the work had begun, with a
--- log where it was that which failed
+-- why a run stops: what is told settles it so, or a file failed without which nothing is settled, or the work had
+-- begun, with a log where it was that which failed
 abbrev pub StopsBy : (List ℕ → Option (List ℕ)) → Option Command → Stop → Type 0
 StopsBy told command (Refuses refusal) = Agrees (answer_to told command) (Refused refusal) × IsOfWords refusal command
 StopsBy told command (File path) = answer_to (without path.now told) command ≡ Untold
@@ -116,6 +133,7 @@ IsComparison (Some (Twin policy one other)) = Unit {0}
 IsComparison (Some (Sample n seed)) = ⊥
 IsComparison (Some (Audit policy recordings)) = ⊥
 IsComparison (Some (Within one other)) = Unit {0}
+IsComparison (Some (Suggest recordings)) = ⊥
 IsComparison (Some Help) = ⊥
 IsComparison (Some Version) = ⊥
 
@@ -137,8 +155,8 @@ IsLogFront told command err new_err = (log : List ℕ) × IsLog told command log
 abbrev pub IsLogInLines : (List ℕ → Option (List ℕ)) → Option Command → Option (List ℕ) → Option (List ℕ) → Type 0
 IsLogInLines told command err new_err = (log : List ℕ) × IsLog told command log × ((new_err ≡ err) ⊎ WholeLines err new_err log)
 
--- what err got before a run stopped: nothing before the work, all of the log where out failed, and whole lines of it where memory ran
--- out
+-- what err got before a run stopped: nothing before the work, all of the log where out failed, and whole lines of it
+-- where memory ran out
 abbrev pub KeepsLog : (List ℕ → Option (List ℕ)) → Option Command → Option (List ℕ) → Option (List ℕ) → Stop → Type 0
 KeepsLog told command err new_err (Refuses refusal) = new_err ≡ err
 KeepsLog told command err new_err (File path) = new_err ≡ err

@@ -1,5 +1,5 @@
 -- What the words of a process come to before a net is needed.
-use Rattle.std.specs.Prelude.{◌≡◌, ◌⊎◌, ℕ, Bool, true, false, List, Option, IfSome, map, string_bytes, drop}
+use Rattle.std.specs.Prelude.{◌≡◌, ℕ, true, false, List, Option, IfSome, map, string_bytes, drop}
 use Rattle.process_streams.specs.Faults.{FaultEnds}
 use Rattle.process_streams.specs.Words.{Explains}
 use Rattle.process_streams.specs.declared.faults.ProcessFault.{ProcessFault}

@@ -6,16 +6,17 @@
 --     sample N SEED                 plays a sample of N draws from a seed, and sums it up
 --     audit POLICY RECORDING..      tells what the policy denies of one recording or more, up to 16, and which of its entries none of them names
 --     within A B                    tells whether the policy A permits nothing that the policy B doesn't permit
+--     suggest RECORDING..           writes the least policy that permits what is asked in one recording or more, up to 16
 --     --help                        writes what the program can do
 --     --version                     writes its version
 --
--- The words of a tool are those that its command takes. POLICY, RECORDING, A and B are paths. Each number is decimal, in digits alone and with
--- no zero in front of others: the N of a sample is at most 100,000, and any other number is below 2^64. Words of any other form are
--- none of a tool's.
+-- The words of a tool are those that its command takes. POLICY, RECORDING, A and B are paths. Each number is decimal,
+-- in digits alone and with no zero in front of others: the N of a sample is at most 100,000, and any other number is
+-- below 2^64. Words of any other form are none of a tool's.
 use Rattle.std.specs.Prelude.{ℕ, ◌-◌, ◌^◌, ◌||◌, nat_le, Bool, false, List, [], ◌∷◌, Option, Some, None, option_map, codes, bytes_eq, if◌then◌else◌}
 use Rattle.policy_args.specs.ProxyLine.{number_of}
 pub use Rattle.process_streams.specs.Faults.{is_tool_name}
-use Rattle.tool_words.specs.Tools.{taken, taken_with, replay_places, explain_places, twin_places, sample_places, within_places, audit_places, more_recordings}
+use Rattle.tool_words.specs.Tools.{taken, taken_with, replay_places, explain_places, twin_places, sample_places, within_places, audit_places, suggest_places, more_recordings}
 
 pub data Command : Type 0 where
   -- the paths of the policy file and of the recording
@@ -30,6 +31,8 @@ pub data Command : Type 0 where
   Audit : List ℕ → List (List ℕ) → Command
   -- the paths of the policy file that is to be within the other, and of the other
   Within : List ℕ → List ℕ → Command
+  -- the paths of the recordings
+  Suggest : List (List ℕ) → Command
   -- what the program can do
   Help : Command
   -- its version
@@ -78,6 +81,9 @@ abbrev pub audit_of : Option (List (List ℕ)) → Option Command
 audit_of (Some (policy ∷ recordings)) = Some (Audit policy recordings)
 audit_of taken = None
 
+abbrev pub suggest_of : Option (List (List ℕ)) → Option Command
+suggest_of taken = option_map Suggest taken
+
 abbrev pub within_of : Option (List (List ℕ)) → Option Command
 within_of (Some (one ∷ other ∷ [])) = Some (Within one other)
 within_of taken = None
@@ -101,7 +107,8 @@ named_by tool words =
     else (if bytes_eq tool (codes "sample") then sample_of (taken (codes "sample") sample_places words)
     else (if bytes_eq tool (codes "audit") then audit_of (taken_with (codes "audit") audit_places more_recordings words)
     else (if bytes_eq tool (codes "within") then within_of (taken (codes "within") within_places words)
-    else alone_of words)))))
+    else (if bytes_eq tool (codes "suggest") then suggest_of (taken_with (codes "suggest") suggest_places more_recordings words)
+    else alone_of words))))))
 
 -- the command that the words name, where they name one
 abbrev pub reading : List (List ℕ) → Option Command
@@ -112,7 +119,8 @@ abbrev pub asks_alone : List (List ℕ) → Bool
 asks_alone (word ∷ []) = bytes_eq word (codes "--help") || bytes_eq word (codes "--version")
 asks_alone words = false
 
--- The words name a tool where the first of them does, or where `--help` or `--version` is the only one. Any others are a proxy line.
+-- The words name a tool where the first of them does, or where `--help` or `--version` is the only one. Any others are
+-- a proxy line.
 abbrev pub names_tool : List (List ℕ) → Bool
 names_tool [] = false
 names_tool (word ∷ words) = is_tool_name word || asks_alone (word ∷ words)

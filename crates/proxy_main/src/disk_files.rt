@@ -1,7 +1,7 @@
 //! Files on a disk.
-ghost use Rattle.std.specs.Prelude.{◌≡◌, ◌≢◌, ◌≤◌, ◌<◌, ◌+◌, ◌++◌, ◌∷◌, ℕ, List, [], Ok, IfOk, IfErr, IfSome, OnOk, OnErr, IsErrOf, length};
+ghost use Rattle.std.specs.Prelude.{◌≡◌, ◌≢◌, ◌≤◌, ◌<◌, ◌+◌, ◌++◌, ◌∷◌, ℕ, List, [], Ok, Err, IfOk, IfErr, IfSome, IsSome, OnOk, OnErr, IsErrOf, length, take};
 ghost use Rattle.std.specs.IoError.{error_kind};
-ghost use Rattle.link_traits.specs.Told.{Given, Rose};
+ghost use Rattle.link_traits.specs.Told.{Given, Rose, added};
 ghost use Rattle.proxy_main.specs.Faults.{reads_failed};
 
 use crate::disk::Disk;
@@ -16,12 +16,26 @@ pub struct DiskFiles<D: Disk + Drop> {
 }
 
 impl<D: Disk + Drop> DiskFiles<D> {
-    /// The files of a disk, before any read of one has failed.
+    /// The files of a disk, before any call has failed.
     pub fn new(disk: D) -> DiskFiles<D>
         ensures disk { result.disk ≡ disk }
         ensures faults { result.faults ≡ 0 }
     {
         DiskFiles { disk, faults: 0 }
+    }
+
+    /// What is told of a write that failed. It is counted, unless it was for want of memory.
+    fn failed(&mut self, error: &io::Error) -> FileFault
+        ensures cause { result ≡ FileFault.Failed → Rose self.old.faults self.new.faults }
+        ensures short { result ≢ FileFault.TooLong }
+        ensures disk { self.new.disk ≡ self.old.disk }
+        ensures count { self.old.faults ≤ self.new.faults }
+    {
+        if error.kind() == ErrorKind::OutOfMemory {
+            return FileFault::Memory;
+        }
+        self.faults = self.faults.saturating_add(1);
+        FileFault::Failed
     }
 }
 
@@ -48,9 +62,23 @@ impl<D: Disk + Drop> Files for DiskFiles<D> {
         }
         result
     }
+
+    fn create(&mut self, path: &str) -> Result<(), FileFault> {
+        match self.disk.create(path) {
+            Ok(()) => Ok(()),
+            Err(error) => Err(self.failed(&error)),
+        }
+    }
+
+    fn append(&mut self, path: &str, piece: &[u8]) -> Result<usize, FileFault> {
+        match self.disk.append(path, piece) {
+            Ok(count) => Ok(count),
+            Err(error) => Err(self.failed(&error)),
+        }
+    }
 }
 
-/// Puts what a file holds behind what `into` holds, where it could be opened and has at most so many bytes.
+/// Puts what a file holds behind what `into` holds, where it could be opened and has at most this many bytes.
 fn read_opened<R: Read + Drop>(
     opened: io::Result<R>,
     limit: usize,
@@ -68,7 +96,8 @@ fn read_opened<R: Read + Drop>(
     }
 }
 
-/// Puts all bytes up to the file's end behind what `into` holds, where they are at most so many. One byte more is read, to tell that.
+/// Puts all bytes up to the file's end behind what `into` holds, where they are at most this many. One byte more is
+/// read, to tell that.
 fn read_limited<R: Read + Drop>(file: R, limit: usize, into: &mut Vec<u8>) -> Result<(), FileFault>
     ensures given { OnOk result (Given limit (R.remaining file) into.old.items into.new.items) }
     ensures too_long { IsErrOf result FileFault.TooLong → IfSome (R.remaining file) (λ bytes. limit < length bytes) }
@@ -83,7 +112,7 @@ fn read_limited<R: Read + Drop>(file: R, limit: usize, into: &mut Vec<u8>) -> Re
     result
 }
 
-/// What is told of so many bytes that were read, or of an error.
+/// What is told of this many bytes that were read, or of an error.
 fn told(read: io::Result<usize>, limit: usize) -> Result<(), FileFault>
     ensures within { IfOk read (λ n. n ≤ limit → result ≡ Ok tt) }
     ensures too_long { IfOk read (λ n. limit < n → IsErrOf result FileFault.TooLong) }

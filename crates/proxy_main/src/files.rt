@@ -6,8 +6,8 @@ ghost use Rattle.policy_args.specs.Seen.{options_seen};
 ghost use Rattle.policy_args.specs.Words.{PolicyOptions};
 ghost use Rattle.recording.specs.Recording.{Recording as RecordingValue, recording_of};
 ghost use Rattle.recording.specs.Seen.{recording_seen, size};
-ghost use Rattle.proxy_main.specs.Words.{Audit, Twin, Within};
-ghost use Rattle.proxy_main.specs.Answers.{Answer, Compared, Contained, audited, options_in, checked_policy, checked_recording, then_load, answer_to, Agrees, IsSettled};
+ghost use Rattle.proxy_main.specs.Words.{Audit, Suggest, Twin, Within};
+ghost use Rattle.proxy_main.specs.Answers.{Answer, Compared, Contained, audited, suggesting, options_in, checked_policy, checked_recording, then_load, answer_to, Agrees, IsSettled};
 ghost use Rattle.proxy_main.specs.FilesRead.{IsOfPolicy, IsOfRecording, StopsAt, ReadUntil, up_to_bad, needed, NeededUntil, ReadsNeeded};
 ghost use Rattle.proxy_main.specs.Loads.{Loads, FilesStop, StopsBy, CausedBy};
 ghost use Rattle.proxy_main.specs.ManyFiles.{AreGood, IsTold, StopsIn};
@@ -122,6 +122,26 @@ pub fn load_audit<'a, F: Files>(
                 Err(stop) => Err(stop),
             }
         }
+        Err(stop) => Err(stop),
+    }
+}
+
+/// Reads and checks the recordings for which a policy is suggested, one after the other.
+pub fn load_suggested<'a, F: Files>(
+    alloc: Global,
+    files: &mut F,
+    paths: &[&'a str],
+) -> Result<Vec<Recording>, Stop<'a>>
+    ensures loaded { IfOk result (λ x. Agrees (answer_to (F.told files.old) (Some (Suggest (map (λ path. path.now) paths.now)))) (suggesting (map recording_seen x.items))) }
+    ensures stops { IfErr result (λ stop. StopsBy (F.told files.old) (Some (Suggest (map (λ path. path.now) paths.now))) stop) }
+    ensures cause { IfErr result (λ stop. CausedBy (Rose (F.faults files.old) (F.faults files.new)) ⊥ ⊥ stop) }
+    ensures read { OnOk result (F.reads files.new ≡ F.reads files.old ++ map (λ path. path.now) paths.now) }
+    ensures until { IfErr result (ReadUntil 0 (map (λ path. path.now) paths.now) (F.reads files.old) (F.reads files.new)) }
+    ensures needed { ReadsNeeded (IsSettled (answer_to (F.told files.old) (Some (Suggest (map (λ path. path.now) paths.now))))) (needed (F.told files.old) (Some (Suggest (map (λ path. path.now) paths.now)))) (F.reads files.old) (F.reads files.new) result }
+{
+    let mut recordings = Vec::new(alloc);
+    match load_recordings(alloc, files, paths, &mut recordings) {
+        Ok(()) => Ok(recordings),
         Err(stop) => Err(stop),
     }
 }

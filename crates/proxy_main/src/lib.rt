@@ -3,12 +3,14 @@
 //! `ADDRESS PATH [OPTION..]` and further such blocks are a proxy line: the program listens at each PATH, and serves each client that comes
 //! between it and the bus at ADDRESS, by the block's options.
 //!
-//! The tools work on files. `replay POLICY RECORDING` plays a recorded session under a policy, and writes what its sides get on the
-//! standard output; where the policy asks for a log, that is written first, on the standard error. `explain POLICY RECORDING N` plays it,
-//! too, and writes what was decided on its message of number N, and the entry of the policy on which that rests. `twin POLICY A B` plays
-//! two, and writes whether they are the same to the policy, or where they first differ. `sample N SEED` plays a generated session, and
-//! sums it up. `audit POLICY RECORDING..` plays up to 16, and writes what the policy denies of them. `within A B` writes whether the policy A
-//! permits nothing that B doesn't. `--help` and `--version` write what they say.
+//! The tools work on files. `replay POLICY RECORDING` plays a recorded session under a policy, and writes what its
+//! sides get on the standard output; where the policy asks for a log, that is written first, on the standard error.
+//! `explain POLICY RECORDING N` plays it, too, and writes what was decided on its message of number N, and the entry of
+//! the policy on which that rests. `twin POLICY A B` plays two, and writes whether they are the same to the policy, or
+//! where they first differ. `sample N SEED` plays a generated session, and sums it up. `audit POLICY RECORDING..` plays
+//! up to 16, and writes what the policy denies of them. `within A B` writes whether the policy A permits nothing that B
+//! doesn't. `suggest RECORDING..` plays up to 16, and writes the least policy that permits what their clients asked.
+//! `--help` and `--version` write what they say.
 //!
 //! A run ends with a status, and with a line on the standard error where the status says that something is wrong.
 #![tactic(auto)]
@@ -68,12 +70,16 @@ pub enum Refusal {
     /// The recording has no message of the number.
     #[error("the recording has no message of the number")]
     NoSuchMessage,
+    /// The policy that is asked for would have more than 65,535 entries.
+    #[error("the policy would have too many entries")]
+    TooManyEntries,
 }
 
 /// Why a run stops before its work is done.
 #[derive(Clone, Copy, Debug, PartialEq, Eq, Error)]
 pub(crate) enum Stop<'a> {
-    /// The words, a file, or the number of a message are refused, and nothing was written.
+    /// The words, a file, the number of a message, or a policy with too many entries are refused, and
+    /// nothing was written.
     #[error("{0}")]
     Refused(Refusal),
     /// The file at this path, which the words name, was not read.
@@ -92,10 +98,11 @@ pub(crate) enum Stop<'a> {
 
 /// The status of a run.
 ///
-/// 0: the whole log and the whole output were written, or nothing is left to be served. 1: the words are refused, or a file of them is
-/// too long. 2: a word of a policy, or its NAME or RULE in a proxy line, is refused, or the policy file is too long. 3: a recording is
-/// refused. 4: a file was not read. 5: the net could not listen, or wait. 6: the output or the log of a tool was not written. 7: the parts
-/// differ that the policy leaves of two recordings, or a policy is not within another. 8: memory ran out. 9: the recording has no message of the number.
+/// 0: the whole log and the whole output were written, or nothing is left to be served. 1: the words are refused, or a
+/// file of them is too long. 2: a word of a policy, or its NAME or RULE in a proxy line, is refused, or the policy file
+/// is too long. 3: a recording is refused. 4: a file was not read. 5: the net could not listen, or wait. 6: the output
+/// or the log of a tool was not written. 7: the parts differ that the policy leaves of two recordings, or a policy is
+/// not within another. 8: memory ran out. 9: the recording has no message of the number.
 #[derive(Clone, Copy, Debug, PartialEq, Eq)]
 pub struct Status {
     /// The number that the process ends with.

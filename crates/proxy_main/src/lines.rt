@@ -22,6 +22,7 @@ pub fn refusal_text(alloc: Global, refusal: Refusal) -> Result<String, AllocErro
         Refusal::PolicyTooLong => String::from_str(alloc, "error: policy file too long\n"),
         Refusal::Recording(fault) => recording_text(alloc, fault),
         Refusal::NoSuchMessage => String::from_str(alloc, "error: no such message\n"),
+        Refusal::TooManyEntries => String::from_str(alloc, "error: too many entries\n"),
     }
 }
 
@@ -118,5 +119,8 @@ fn fault_name(kind: RecordingKind) -> &'static str
         RecordingKind::BadAuth => "BadAuth",
         RecordingKind::BadLength => "BadLength",
         RecordingKind::TooLong => "TooLong",
+        RecordingKind::BadSession => "BadSession",
+        RecordingKind::TooManySessions => "TooManySessions",
+        RecordingKind::BadEnd => "BadEnd",
     }
 }

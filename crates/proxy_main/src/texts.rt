@@ -13,6 +13,7 @@ Usage:
   zamtigarn sample N SEED               plays a session of N draws from a seed, and sums it up
   zamtigarn audit POLICY RECORDING..    counts what a policy denies of recordings, and tells which of its entries they don't name
   zamtigarn within A B                  tells whether a policy permits nothing that another doesn't
+  zamtigarn suggest RECORDING..         writes the least policy that permits what the applications of recordings asked
   zamtigarn --help                      writes this text
   zamtigarn --version                   writes the version
 
@@ -42,7 +43,8 @@ Status:
   4  a file could not be read
   5  the proxy could not listen, or wait
   6  the output or the log of a tool could not be written
-  7  the two recordings differ to the policy, or the policy is not within the other
+  7  the two recordings differ to the policy, the policy is not within the other, or the policy
+     that is asked for would have more than 65,535 entries
   8  memory was refused
   9  the recording has no message of the number N
 ";

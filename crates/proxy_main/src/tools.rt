@@ -3,7 +3,7 @@ ghost use Rattle.std.specs.Prelude.{◌≡◌, ◌⊎◌, ◌↔◌, ◌++◌, t
 ghost use Rattle.link_traits.specs.Told.{Rose, ReadFront};
 ghost use Rattle.proxy_main.specs.Words.{reading, names_tool};
 ghost use Rattle.proxy_main.specs.Answers.{answer_of, IsSettled, HasCode, may_log};
-ghost use Rattle.proxy_main.specs.Loads.{IsDone, IsFront, IsLogged, IsComparison};
+ghost use Rattle.proxy_main.specs.Loads.{IsDone, IsFront, IsLogged, IsComparison, IsEnd, IsSuggest};
 ghost use Rattle.proxy_main.specs.Endings.{Ends, ErrFront, Exactly, ExactlyOfFiles, ExactlyOfWork, IsFree};
 ghost use Rattle.proxy_main.specs.FilesRead.{paths_of, policies_of, needed, ToolReads};
 ghost use Rattle.proxy_main.specs.ToolRuns.{ToolRun};
@@ -16,12 +16,13 @@ use link_traits::{Files, Gate, Sink};
 use std::alloc::Global;
 use std::thread::Threads;
 
-/// The tool that the words name, if they name one: the first of them does, or `--help` or `--version` is the only one. Else nothing is
-/// read or written. `rt` is the runtime by which the jobs of `audit` are joined, and `gate` is entered by each job, which has the number of
-/// its recording from 1, before its work.
+/// The tool that the words name, if they name one: the first of them does, or `--help` or `--version` is the only one.
+/// Else nothing is read or written. `rt` is the runtime by which the jobs of `audit` and of `suggest` are joined, and
+/// `gate` is entered by each job, which has the number of its recording from 1, before its work.
 ///
-/// The tool reads its words, then each file that they name, and does its work. What it gives out goes to `out`. Before that the log goes
-/// to `err`, where one is asked for, and a line on what went wrong follows it there. Memory grows with the bytes of the files.
+/// The tool reads its words, then each file that they name, and does its work. What it gives out goes to `out`. Before
+/// that the log goes to `err`, where one is asked for, and a line on what went wrong follows it there. Memory grows
+/// with the bytes of the files.
 pub fn tool<R: Threads + Sync, G: Gate + Sync, F: Files, O: Sink, E: Sink>(
     rt: &R,
     gate: &G,
@@ -67,11 +68,11 @@ fn run_tool<R: Threads + Sync, G: Gate + Sync, F: Files, O: Sink, E: Sink>(
     ensures missing { IsSettled (answer_of (map (λ w. string_bytes w) words.now) (F.told files.old)) → ExactlyOfFiles result.code 9 (HasCode (answer_of (map (λ w. string_bytes w) words.now) (F.told files.old)) 9) }
 
     // 0 comes exactly where the answer is a whole output, two recordings are the same to the policy, or
-    // a policy is within another. 7 comes exactly where the recordings differ, or the policy is not
-    // within the other.
+    // a policy is within another. 7 comes exactly where the recordings differ, the policy is not
+    // within the other, or a policy that is asked for would have too many entries.
     ensures whole { IsSettled (answer_of (map (λ w. string_bytes w) words.now) (F.told files.old)) → ExactlyOfWork result.code 0 (HasCode (answer_of (map (λ w. string_bytes w) words.now) (F.told files.old)) 0) }
     ensures differ { IsSettled (answer_of (map (λ w. string_bytes w) words.now) (F.told files.old)) → ExactlyOfWork result.code 7 (HasCode (answer_of (map (λ w. string_bytes w) words.now) (F.told files.old)) 7) }
-    ensures compared { result.code ≡ 7 → IsComparison (reading (map (λ w. string_bytes w) words.now)) }
+    ensures answers_no { result.code ≡ 7 → IsComparison (reading (map (λ w. string_bytes w) words.now)) ⊎ IsSuggest (reading (map (λ w. string_bytes w) words.now)) }
 
     // 4 comes only where the files failed, and 6 only where out did, or where err did and there may
     // be a log.
@@ -81,14 +82,14 @@ fn run_tool<R: Threads + Sync, G: Gate + Sync, F: Files, O: Sink, E: Sink>(
     // Unless a file, out, err or memory fails, the status is the answer's.
     ensures complete { IsSettled (answer_of (map (λ w. string_bytes w) words.now) (F.told files.old)) → HasCode (answer_of (map (λ w. string_bytes w) words.now) (F.told files.old)) result.code ⊎ IsFree result.code }
 
-    // With 0 and 7 out got the whole output, and err got the whole log and nothing else. With 0, two
-    // recordings that were compared give out the same bytes.
-    ensures done { (result.code ≡ 0) ⊎ (result.code ≡ 7) → IsDone (answer_of (map (λ w. string_bytes w) words.now) (F.told files.old)) (O.told out.old) (O.told out.new) result.code × IsLogged (F.told files.old) (reading (map (λ w. string_bytes w) words.now)) (E.told err.old) (E.told err.new) }
+    // With 0, and with 7 of a comparison, out got the whole output, and err got the whole log and
+    // nothing else. With 0, two recordings that were compared give out the same bytes.
+    ensures done { IsEnd (reading (map (λ w. string_bytes w) words.now)) result.code → IsDone (answer_of (map (λ w. string_bytes w) words.now) (F.told files.old)) (O.told out.old) (O.told out.new) result.code × IsLogged (F.told files.old) (reading (map (λ w. string_bytes w) words.now)) (E.told err.old) (E.told err.new) }
 
     // In any case out got nothing or a front of the output, and nothing with another status than 0,
-    // 6 and 7.
+    // 6 and a comparison's 7.
     ensures front { (O.told out.new ≡ O.told out.old) ⊎ IsFront (answer_of (map (λ w. string_bytes w) words.now) (F.told files.old)) (O.told out.old) (O.told out.new) }
-    ensures nothing { (result.code ≡ 0) ⊎ ((result.code ≡ 6) ⊎ ((result.code ≡ 7) ⊎ (O.told out.new ≡ O.told out.old))) }
+    ensures nothing { IsEnd (reading (map (λ w. string_bytes w) words.now)) result.code ⊎ ((result.code ≡ 6) ⊎ (O.told out.new ≡ O.told out.old)) }
 
     // The log is first: out got nothing unless err has the whole log and nothing else.
     ensures first { (O.told out.new ≡ O.told out.old) ⊎ IsLogged (F.told files.old) (reading (map (λ w. string_bytes w) words.now)) (E.told err.old) (E.told err.new) }

@@ -1,16 +1,17 @@
 //! The words of the command line.
 ghost use Rattle.std.specs.Prelude.{◌≡◌, ◌≤◌, [], ◌∷◌, map, option_map, string_bytes, codes, IfOk, IfSome};
 ghost use Rattle.policy_args.specs.ProxyLine.{has_leading_zero as begins_with_zero};
-ghost use Rattle.tool_words.specs.Tools.{taken, taken_with, replay_places, explain_places, twin_places, sample_places, within_places, audit_places, more_recordings};
-ghost use Rattle.proxy_main.specs.Words.{asks_alone as asks_for_text, names_tool, reading, named_by, alone_of, text_of, replay_of, explain_of, twin_of, sample_of, audit_of, within_of, number_within};
+ghost use Rattle.tool_words.specs.Tools.{taken, taken_with, replay_places, explain_places, twin_places, sample_places, within_places, audit_places, suggest_places, more_recordings};
+ghost use Rattle.proxy_main.specs.Words.{asks_alone as asks_for_text, names_tool, reading, named_by, alone_of, text_of, replay_of, explain_of, twin_of, sample_of, audit_of, within_of, suggest_of, number_within};
 ghost use Rattle.proxy_main.specs.Read.{command_of, HasFewDraws, worth_within};
 
 use process_streams::is_tool_name;
 use sample::MOST_DRAWS;
 use std::alloc::{AllocError, Global};
 use tool_words::{
-    AuditWords, ExplainWords, ReplayWords, SampleWords, TwinWords, WithinWords, audit_words,
-    explain_words, replay_words, sample_words, twin_words, within_words,
+    AuditWords, ExplainWords, ReplayWords, SampleWords, SuggestWords, TwinWords, WithinWords,
+    audit_words, explain_words, replay_words, sample_words, suggest_words, twin_words,
+    within_words,
 };
 
 /// The words of a command.
@@ -47,6 +48,10 @@ pub enum CommandWords<'a> {
     Within {
         one: &'a str,
         other: &'a str,
+    },
+    /// The paths of recordings.
+    Suggest {
+        recordings: Vec<&'a str>,
     },
     /// What the program can do.
     Help,
@@ -111,6 +116,9 @@ fn read_tool<'a>(
     }
     if tool == "within" {
         return Ok(read_within(within_words(alloc, words)?));
+    }
+    if tool == "suggest" {
+        return Ok(read_suggest(suggest_words(alloc, words)?));
     }
     Ok(read_alone(words))
 }
@@ -185,6 +193,17 @@ fn read_within<'a>(words: Option<WithinWords<'a>>) -> Option<CommandWords<'a>>
     Some(CommandWords::Within {
         one: words.one,
         other: words.other,
+    })
+}
+
+/// The reading of the words of `suggest`.
+fn read_suggest<'a>(words: Option<SuggestWords<'a>>) -> Option<CommandWords<'a>>
+    ensures words { option_map command_of result ≡ suggest_of (option_map (λ w. map (λ path. path.now) w.recordings.items) words.entry) }
+    ensures few { IfSome result HasFewDraws }
+{
+    let words = words?;
+    Some(CommandWords::Suggest {
+        recordings: words.recordings,
     })
 }
 

@@ -3,27 +3,29 @@ ghost use Rattle.std.specs.Prelude.{◌≡◌, ◌≤◌, ◌⊎◌, ◌++◌, �
 ghost use Rattle.link_traits.specs.Told.{Rose, added};
 ghost use Rattle.policy_args.specs.Seen.{options_seen};
 ghost use Rattle.recording.specs.Seen.{recording_seen};
-ghost use Rattle.proxy_main.specs.Words.{Command, reading, Replay, Explain, Twin, Sample, Audit, Within};
+ghost use Rattle.proxy_main.specs.Words.{Command, reading, Replay, Explain, Twin, Sample, Audit, Within, Suggest};
 ghost use Rattle.proxy_main.specs.WithinText.{within_code, within_text};
 ghost use Rattle.proxy_main.specs.Read.{command_of, HasFewDraws};
-ghost use Rattle.proxy_main.specs.Answers.{Wrote, Compared, Contained, audited, answer_of, answer_to, IsSettled, IsWork, sampled, twin_code, twin_line, version_line};
+ghost use Rattle.proxy_main.specs.Answers.{Wrote, Compared, Contained, Agrees, audited, suggesting, answer_of, answer_to, IsSettled, IsWork, sampled, twin_code, twin_line, version_line};
 ghost use Rattle.proxy_main.specs.FilesRead.{paths_of, policies_of, needed, ReadUntil, ReadsNeeded, StopsWork};
-ghost use Rattle.proxy_main.specs.Loads.{StopsBy, CausedBy, Keeps, KeepsLog, IsDone, IsEnd, IsLogged};
+ghost use Rattle.proxy_main.specs.Loads.{StopsBy, CausedBy, Keeps, KeepsLog, IsDone, IsEnd, IsLogged, IsSuggest};
 
 use crate::containment::containment_text;
-use crate::files::{load, load_audit, load_policies, load_twins};
+use crate::files::{load, load_audit, load_policies, load_suggested, load_twins};
 use crate::texts::{HELP, VERSION};
 use crate::words::{CommandWords, read_words};
 use crate::{Refusal, Status, Stop};
 use audit::audit;
 use link_traits::{Files, Gate, Sink, write_all};
 use policy_args::{Options, Policy};
+use policy_suggest::SuggestRefusal;
 use policy_within::{WithinAnswer, within};
 use recording::Recording;
 use replay::{ExplainFault, ReplayFault, TwinAnswer, explain, replay, twin};
 use sample::{MOST_DRAWS, SampleFault, summary};
 use std::alloc::{AllocError, Global};
 use std::thread::Threads;
+use suggestion::suggestion;
 
 /// Reads the words and does what they ask for.
 pub fn work<'a, R: Threads + Sync, G: Gate + Sync, F: Files, O: Sink, E: Sink>(
@@ -94,6 +96,9 @@ fn work_command<'a, R: Threads + Sync, G: Gate + Sync, F: Files, O: Sink, E: Sin
             work_audit(rt, gate, alloc, policy, &recordings, files, out)
         }
         CommandWords::Within { one, other } => work_within(alloc, one, other, files, out),
+        CommandWords::Suggest { recordings } => {
+            work_suggest(rt, gate, alloc, &recordings, files, out)
+        }
         CommandWords::Help => work_text(HELP, out),
         CommandWords::Version => work_version(alloc, out),
     }
@@ -369,6 +374,55 @@ fn containment_status(answer: &WithinAnswer) -> Status
     match answer {
         WithinAnswer::Yes(_) => Status { code: 0 },
         WithinAnswer::No(_) => Status { code: 7 },
+    }
+}
+
+/// Reads recordings, and suggests a policy for them. It has no log.
+fn work_suggest<'a, R: Threads + Sync, G: Gate + Sync, F: Files, O: Sink>(
+    rt: &R,
+    gate: &G,
+    alloc: Global,
+    recordings: &[&'a str],
+    files: &mut F,
+    out: &mut O,
+) -> Result<Status, Stop<'a>>
+    ensures done { IfOk result (λ status. IsDone (answer_to (F.told files.old) (Some (Suggest (map (λ path. path.now) recordings.now)))) (O.told out.old) (O.told out.new) status.code) }
+    ensures end { IfOk result (λ status. status.code ≡ 0) }
+    ensures stops { IfErr result (λ stop. StopsBy (F.told files.old) (Some (Suggest (map (λ path. path.now) recordings.now))) stop) }
+    ensures cause { IfErr result (λ stop. CausedBy (Rose (F.faults files.old) (F.faults files.new)) (Rose (O.faults out.old) (O.faults out.new)) ⊥ stop) }
+    ensures keeps { IfErr result (λ stop. Keeps (answer_to (F.told files.old) (Some (Suggest (map (λ path. path.now) recordings.now)))) (O.told out.old) (O.told out.new) stop) }
+    ensures read { OnOk result (F.reads files.new ≡ F.reads files.old ++ paths_of (Some (Suggest (map (λ path. path.now) recordings.now)))) }
+    ensures until { IfErr result (ReadUntil (policies_of (Some (Suggest (map (λ path. path.now) recordings.now)))) (paths_of (Some (Suggest (map (λ path. path.now) recordings.now)))) (F.reads files.old) (F.reads files.new)) }
+    ensures needed { ReadsNeeded (IsSettled (answer_to (F.told files.old) (Some (Suggest (map (λ path. path.now) recordings.now))))) (needed (F.told files.old) (Some (Suggest (map (λ path. path.now) recordings.now)))) (F.reads files.old) (F.reads files.new) result }
+{
+    match load_suggested(alloc, files, recordings) {
+        Ok(loaded) => write_suggestion(rt, gate, alloc, &loaded, out),
+        Err(stop) => Err(stop),
+    }
+}
+
+/// Suggests a policy for recordings, and writes its file.
+fn write_suggestion<'a, R: Threads + Sync, G: Gate + Sync, O: Sink>(
+    rt: &R,
+    gate: &G,
+    alloc: Global,
+    recordings: &[Recording],
+    out: &mut O,
+) -> Result<Status, Stop<'a>>
+    ensures done { IfOk result (λ status. IsDone (suggesting (map recording_seen recordings.now)) (O.told out.old) (O.told out.new) status.code) }
+    ensures end { IfOk result (λ status. status.code ≡ 0) }
+    ensures stops { IfErr result (λ stop. (told : List ℕ → Option (List ℕ)) (command : Option Command) → Agrees (answer_to told command) (suggesting (map recording_seen recordings.now)) → IsSuggest command → StopsBy told command stop) }
+    ensures cause { IfErr result (λ stop. CausedBy ⊥ (Rose (O.faults out.old) (O.faults out.new)) ⊥ stop) }
+    ensures keeps { IfErr result (λ stop. Keeps (suggesting (map recording_seen recordings.now)) (O.told out.old) (O.told out.new) stop) }
+    ensures work { IfErr result StopsWork }
+{
+    match suggestion(rt, gate, alloc, recordings) {
+        Ok(text) => match write_all(out, text.as_bytes()) {
+            Ok(()) => Ok(Status { code: 0 }),
+            Err(_) => Err(Stop::Output),
+        },
+        Err(SuggestRefusal::TooMany) => Err(Stop::Refused(Refusal::TooManyEntries)),
+        Err(SuggestRefusal::Memory) => Err(Stop::Memory),
     }
 }
 

@@ -26,6 +26,8 @@ mod runs;
 #[cfg(test)]
 mod sessions;
 #[cfg(test)]
+mod suggestions;
+#[cfg(test)]
 mod twins;
 #[cfg(test)]
 mod values;

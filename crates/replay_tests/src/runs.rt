@@ -22,7 +22,7 @@ fn file(alloc: Global, path: &str, bytes: &[u8]) -> Result<MemFile, AllocError> 
     })
 }
 
-/// A replay of a recording under a policy, with room for so many bytes of output.
+/// A replay of a recording under a policy, with room for this many bytes of output.
 pub fn replay<R: Threads + Sync>(
     rt: &R,
     alloc: Global,
@@ -57,27 +57,66 @@ pub fn twin<R: Threads + Sync>(
     )
 }
 
-/// What a policy denies of recordings, which are named by their numbers from 1.
+/// What a policy denies of recordings.
 pub fn audit<R: Threads + Sync>(
     rt: &R,
     alloc: Global,
     policy: &[u8],
     recordings: &[Vec<u8>],
 ) -> Result<Ended, AllocError> {
-    let names = ["1", "2", "3", "4"];
     let mut files = Vec::new(alloc);
     files.push(file(alloc, "policy", policy)?)?;
     let mut words = Vec::new(alloc);
     words.push("audit")?;
     words.push("policy")?;
-    for (name, recording) in names.iter().zip(recordings) {
-        words.push(*name)?;
-        files.push(file(alloc, name, recording)?)?;
-    }
+    add_recordings(alloc, recordings, &mut words, &mut files)?;
     run_over(rt, alloc, &words, files, 10_000)
 }
 
-/// A run of a tool over files, with room for so many bytes of output.
+/// The policy that is suggested for recordings.
+pub fn suggest<R: Threads + Sync>(
+    rt: &R,
+    alloc: Global,
+    recordings: &[Vec<u8>],
+) -> Result<Ended, AllocError> {
+    let mut files = Vec::new(alloc);
+    let mut words = Vec::new(alloc);
+    words.push("suggest")?;
+    add_recordings(alloc, recordings, &mut words, &mut files)?;
+    run_over(rt, alloc, &words, files, 10_000)
+}
+
+/// Whether one policy is within another.
+pub fn within<R: Threads + Sync>(
+    rt: &R,
+    alloc: Global,
+    one: &[u8],
+    other: &[u8],
+) -> Result<Ended, AllocError> {
+    let mut files = Vec::new(alloc);
+    files.push(file(alloc, "one", one)?)?;
+    files.push(file(alloc, "other", other)?)?;
+    run_over(rt, alloc, &["within", "one", "other"], files, 10_000)
+}
+
+/// The names of recordings.
+const NAMES: [&str; 4] = ["1", "2", "3", "4"];
+
+/// Adds recordings, up to four, which are named by their numbers from 1.
+fn add_recordings(
+    alloc: Global,
+    recordings: &[Vec<u8>],
+    words: &mut Vec<&'static str>,
+    files: &mut Vec<MemFile>,
+) -> Result<(), AllocError> {
+    for (name, recording) in NAMES.iter().zip(recordings) {
+        words.push(*name)?;
+        files.push(file(alloc, name, recording)?)?;
+    }
+    Ok(())
+}
+
+/// A run of a tool over files, with room for this many bytes of output.
 fn run_over<R: Threads + Sync>(
     rt: &R,
     alloc: Global,

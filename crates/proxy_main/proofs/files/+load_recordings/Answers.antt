@@ -1,4 +1,4 @@
-use Rattle.std.proofs.Common.{◌≡◌, ◌∙◌, ◌++◌, ◌∷◌, [], ap, map}
+use Rattle.std.proofs.Common.{◌∙◌, ◌++◌, ◌∷◌, [], ap, map}
 use Rattle.recording.specs.Seen.{recording_seen}
 use Rattle.proxy_main.proofs.RecordingFiles.{first_text, map-more, step_first, step_loaded, step_stops}
 use Rattle.proxy_main.proofs.files.+load_recordings.Goals as goal

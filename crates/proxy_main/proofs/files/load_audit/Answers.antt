@@ -1,6 +1,5 @@
-use Rattle.std.proofs.Common.{◌≡◌, ◌∙◌, ◌++◌, ◌∷◌, [], ℕ, List, Option, Some, Bor, ap, append_assoc, map, subst, sym}
+use Rattle.std.proofs.Common.{◌∙◌, ◌++◌, ◌∷◌, [], ℕ, List, Some, ap, append_assoc, map, subst, sym}
 use Rattle.policy_args.specs.Seen.{options_seen}
-use Rattle.policy_args.specs.Words.{PolicyOptions}
 use Rattle.recording.specs.Recording.{Recording}
 use Rattle.recording.specs.Seen.{recording_seen}
 use Rattle.proxy_main.specs.Words.{Audit}

@@ -1,8 +1,7 @@
-use Rattle.std.proofs.Common.{[], ◌∷◌, ℕ, ◌+◌, ◌≤◌, arith}
+use Rattle.std.proofs.Common.{[], ◌∷◌}
 use Rattle.policy_args.specs.Seen.{options_seen}
-use Rattle.proxy_main.specs.Answers.{then_contain}
 use Rattle.proxy_main.proofs.RecordingFiles.{within_loaded, within_needed, within_needed_until, within_needed_first, within_stops_first, within_stops_other, within_until}
-use Rattle.proxy_main.proofs.ReadFiles.{policy_stops, then_read}
+use Rattle.proxy_main.proofs.ReadFiles.{policy_stops}
 use Rattle.proxy_main.proofs.files.load_policies.Goals as goal
 
 pub returns-in-Ok-load_policy-clause-loaded : goal.returns-in-Ok-load_policy-clause-loaded

@@ -1,4 +1,4 @@
-use Rattle.std.proofs.Common.{◌≡◌, Bool, true, false, ℕ, List, Option, Some, None, IfSome, String, Global, refl, sym, subst, map, drop, string_bytes}
+use Rattle.std.proofs.Common.{◌≡◌, Bool, true, false, List, Option, Some, None, IfSome, String, Global, refl, sym, subst, map, drop, string_bytes}
 use Rattle.proxy_main.specs.Starts.{OfTool, OfFault}
 use Rattle.proxy_main.proofs.process.start_process.Goals as goal
 

@@ -1,6 +1,6 @@
 use Rattle.std.proofs.Common.{arith}
 use Rattle.proxy_main.proofs.Fronts.{out_front, err_front}
-use Rattle.proxy_main.proofs.Statuses.{complete, exactly_of_files, exactly_of_work}
+use Rattle.proxy_main.proofs.Statuses.{answers-no, complete, done-told, exactly_of_files, exactly_of_work, nothing-told}
 use Rattle.proxy_main.proofs.tools.run_tool.Goals as goal
 
 pub returns-clause-policy : goal.returns-clause-policy
@@ -17,6 +17,15 @@ returns-clause-whole g c = λ settled. exactly_of_work _ _ _ _ _ _ _ _ _ _ c.run
 
 pub returns-clause-differ : goal.returns-clause-differ
 returns-clause-differ g c = λ settled. exactly_of_work _ _ _ _ _ _ _ _ _ _ c.run_to_end.ensures.ends settled 7 (λ free. omega arith)
+
+pub returns-clause-answers_no : goal.returns-clause-answers_no
+returns-clause-answers_no g c = answers-no _ _ _ _ _ _ _ _ _ _ c.run_to_end.ensures.ends
+
+pub returns-clause-done : goal.returns-clause-done
+returns-clause-done g c = done-told _ _ _ _ _ _ _ _ _ _ c.run_to_end.ensures.ends
+
+pub returns-clause-nothing : goal.returns-clause-nothing
+returns-clause-nothing g c = nothing-told _ _ _ _ _ _ _ _ _ _ c.run_to_end.ensures.ends
 
 pub returns-clause-complete : goal.returns-clause-complete
 returns-clause-complete g c = λ settled. complete _ _ _ _ _ _ _ _ _ _ c.run_to_end.ensures.ends settled

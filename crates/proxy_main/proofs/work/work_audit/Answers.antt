@@ -1,4 +1,4 @@
-use Rattle.std.proofs.Common.{[], ◌∷◌, Some, map}
+use Rattle.std.proofs.Common.{◌∷◌, Some, map}
 use Rattle.proxy_main.specs.Words.{Audit}
 use Rattle.proxy_main.specs.Answers.{answer_to, IsSettled}
 use Rattle.proxy_main.specs.FilesRead.{needed}

@@ -1,10 +1,10 @@
-use Rattle.std.proofs.Common.{◌≡◌, ◌∙◌, ℕ, List, [], Option, Some, Result, IfOk, ap, refl, subst, sym}
+use Rattle.std.proofs.Common.{◌≡◌, ◌∙◌, ◌++◌, ℕ, List, [], Option, Some, Result, IfErr, IfOk, OnOk, ap, refl, subst, sym}
 use Rattle.proxy_main.specs.Answers.{Answer, IsSettled, answer_to, may_log}
 use Rattle.proxy_main.specs.Loads.{IsDone}
 use Rattle.proxy_main.specs.Read.{command_of}
 use Rattle.proxy_main.specs.declared.words.CommandWords.{CommandWords}
 use Rattle.proxy_main.specs.declared.Stop.{Stop}
-use Rattle.proxy_main.specs.FilesRead.{paths_of, needed, ReadsNeeded}
+use Rattle.proxy_main.specs.FilesRead.{paths_of, policies_of, needed, ReadsNeeded, ReadUntil, StopsWork}
 use Rattle.proxy_main.proofs.Needed.{none_needed, reads_needed}
 use Rattle.proxy_main.proofs.ReadFiles.{unread, work_done, work_ends}
 use Rattle.proxy_main.proofs.Logs.{quiet_done, quiet_stop}
@@ -17,6 +17,17 @@ none_named words these told reads result is none =
     let command = Some (command_of words) in
     reads_needed (IsSettled (answer_to told command)) (needed told command) reads reads
     (none_needed told command reads (ap (λ (w : CommandWords). paths_of (Some (command_of w))) is ∙ none)) result
+
+-- .. which reads nothing
+none_read : (words these : CommandWords) (reads : List (List ℕ)) {A : Type 0} (result : Result A Stop) → words ≡ these → paths_of (Some (command_of these)) ≡ [] →
+    OnOk result (reads ≡ reads ++ paths_of (Some (command_of words)))
+none_read words these reads result is none =
+    work_done 0 (paths_of (Some (command_of words))) reads reads (unread (command_of words) reads (ap (λ (w : CommandWords). paths_of (Some (command_of w))) is ∙ none)) result
+
+none_until : (words these : CommandWords) (reads : List (List ℕ)) {A : Type 0} (result : Result A Stop) → words ≡ these → paths_of (Some (command_of these)) ≡ [] → IfErr result StopsWork →
+    IfErr result (ReadUntil (policies_of (Some (command_of words))) (paths_of (Some (command_of words))) reads reads)
+none_until words these reads result is none work =
+    work_ends (policies_of (Some (command_of words))) (paths_of (Some (command_of words))) reads reads (unread (command_of words) reads (ap (λ (w : CommandWords). paths_of (Some (command_of w))) is ∙ none)) result work
 
 pub returns-in-Explain-clause-log : goal.returns-in-Explain-clause-log
 returns-in-Explain-clause-log g c =
@@ -53,6 +64,16 @@ returns-in-Within-clause-log g c =
     let unasked = ap (λ (w : CommandWords). may_log (g.F.Files.told c.args.files.now) (Some (command_of w))) c.in-Within.is in
     quiet_stop c.work_within.result (g.F.Files.told c.args.files.now) _ _ _ _ _ unasked c.work_within.ensures.cause refl
 
+pub returns-in-Suggest-clause-logged : goal.returns-in-Suggest-clause-logged
+returns-in-Suggest-clause-logged g c =
+    let unasked = ap (λ (w : CommandWords). may_log (g.F.Files.told c.args.files.now) (Some (command_of w))) c.in-Suggest.is in
+    quiet_done c.work_suggest.result (g.F.Files.told c.args.files.now) _ _ unasked
+
+pub returns-in-Suggest-clause-log : goal.returns-in-Suggest-clause-log
+returns-in-Suggest-clause-log g c =
+    let unasked = ap (λ (w : CommandWords). may_log (g.F.Files.told c.args.files.now) (Some (command_of w))) c.in-Suggest.is in
+    quiet_stop c.work_suggest.result (g.F.Files.told c.args.files.now) _ _ _ _ _ unasked c.work_suggest.ensures.cause refl
+
 pub returns-in-Sample-clause-log : goal.returns-in-Sample-clause-log
 returns-in-Sample-clause-log g c =
     let unasked = ap (λ (w : CommandWords). may_log (g.F.Files.told c.args.files.now) (Some (command_of w))) c.in-Sample.is in
@@ -69,34 +90,22 @@ returns-in-Help-clause-log g c =
     quiet_stop c.work_text.result (g.F.Files.told c.args.files.now) _ _ _ _ _ unasked c.work_text.ensures.cause refl
 
 pub returns-in-Sample-clause-read : goal.returns-in-Sample-clause-read
-returns-in-Sample-clause-read g c =
-    let none = ap (λ (w : CommandWords). paths_of (Some (command_of w))) c.in-Sample.is in
-    work_done 0 _ (g.F.Files.reads c.args.files.now) (g.F.Files.reads c.args.files.now) (unread _ (g.F.Files.reads c.args.files.now) none) c.work_sample.result
+returns-in-Sample-clause-read g c = none_read _ _ (g.F.Files.reads c.args.files.now) c.work_sample.result c.in-Sample.is refl
 
 pub returns-in-Sample-clause-until : goal.returns-in-Sample-clause-until
-returns-in-Sample-clause-until g c =
-    let none = ap (λ (w : CommandWords). paths_of (Some (command_of w))) c.in-Sample.is in
-    work_ends _ _ (g.F.Files.reads c.args.files.now) (g.F.Files.reads c.args.files.now) (unread _ (g.F.Files.reads c.args.files.now) none) c.work_sample.result c.work_sample.ensures.work
+returns-in-Sample-clause-until g c = none_until _ _ (g.F.Files.reads c.args.files.now) c.work_sample.result c.in-Sample.is refl c.work_sample.ensures.work
 
 pub returns-in-Help-clause-read : goal.returns-in-Help-clause-read
-returns-in-Help-clause-read g c =
-    let none = ap (λ (w : CommandWords). paths_of (Some (command_of w))) c.in-Help.is in
-    work_done 0 _ (g.F.Files.reads c.args.files.now) (g.F.Files.reads c.args.files.now) (unread _ (g.F.Files.reads c.args.files.now) none) c.work_text.result
+returns-in-Help-clause-read g c = none_read _ _ (g.F.Files.reads c.args.files.now) c.work_text.result c.in-Help.is refl
 
 pub returns-in-Help-clause-until : goal.returns-in-Help-clause-until
-returns-in-Help-clause-until g c =
-    let none = ap (λ (w : CommandWords). paths_of (Some (command_of w))) c.in-Help.is in
-    work_ends _ _ (g.F.Files.reads c.args.files.now) (g.F.Files.reads c.args.files.now) (unread _ (g.F.Files.reads c.args.files.now) none) c.work_text.result c.work_text.ensures.work
+returns-in-Help-clause-until g c = none_until _ _ (g.F.Files.reads c.args.files.now) c.work_text.result c.in-Help.is refl c.work_text.ensures.work
 
 pub returns-in-Version-clause-read : goal.returns-in-Version-clause-read
-returns-in-Version-clause-read g c =
-    let none = ap (λ (w : CommandWords). paths_of (Some (command_of w))) c.in-Version.is in
-    work_done 0 _ (g.F.Files.reads c.args.files.now) (g.F.Files.reads c.args.files.now) (unread _ (g.F.Files.reads c.args.files.now) none) c.work_version.result
+returns-in-Version-clause-read g c = none_read _ _ (g.F.Files.reads c.args.files.now) c.work_version.result c.in-Version.is refl
 
 pub returns-in-Version-clause-until : goal.returns-in-Version-clause-until
-returns-in-Version-clause-until g c =
-    let none = ap (λ (w : CommandWords). paths_of (Some (command_of w))) c.in-Version.is in
-    work_ends _ _ (g.F.Files.reads c.args.files.now) (g.F.Files.reads c.args.files.now) (unread _ (g.F.Files.reads c.args.files.now) none) c.work_version.result c.work_version.ensures.work
+returns-in-Version-clause-until g c = none_until _ _ (g.F.Files.reads c.args.files.now) c.work_version.result c.in-Version.is refl c.work_version.ensures.work
 
 pub returns-in-Sample-clause-needed : goal.returns-in-Sample-clause-needed
 returns-in-Sample-clause-needed g c = none_named _ _ (g.F.Files.told c.args.files.now) (g.F.Files.reads c.args.files.now) c.work_sample.result c.in-Sample.is refl

@@ -1,0 +1,17 @@
+use Rattle.std.proofs.Common.{Some, map}
+use Rattle.proxy_main.specs.Words.{Suggest}
+use Rattle.proxy_main.specs.Answers.{answer_to, IsSettled}
+use Rattle.proxy_main.specs.FilesRead.{needed}
+use Rattle.proxy_main.proofs.Needed.{reads_needed}
+use Rattle.proxy_main.proofs.ReadFiles.{work_ends}
+use Rattle.proxy_main.proofs.work.work_suggest.Goals as goal
+
+pub returns-in-Ok-clause-until : goal.returns-in-Ok-clause-until
+returns-in-Ok-clause-until g c =
+    work_ends 0 (map (λ path. path.now) c.args.recordings.now) (g.F.Files.reads c.args.files.now) (g.F.Files.reads c.load_suggested.new.files) c.in-Ok.ensures.read c.write_suggestion.result c.write_suggestion.ensures.work
+
+pub returns-in-Ok-clause-needed : goal.returns-in-Ok-clause-needed
+returns-in-Ok-clause-needed g c =
+    let told = g.F.Files.told c.args.files.now in
+    let command = Some (Suggest (map (λ path. path.now) c.args.recordings.now)) in
+    reads_needed (IsSettled (answer_to told command)) (needed told command) (g.F.Files.reads c.args.files.now) (g.F.Files.reads c.load_suggested.new.files) c.in-Ok.ensures.needed c.write_suggestion.result
