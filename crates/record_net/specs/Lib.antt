@@ -1,0 +1,4 @@
+pub mod Records
+pub mod Tapes
+pub mod Starts
+pub mod Sessions

@@ -1,0 +1,51 @@
+-- What contracts see of files and of a recorder's failure, and what a record puts there.
+use Rattle.std.specs.Prelude.{ℕ, ◌≡◌, ◌≢◌, ◌≤◌, ◌<◌, List, length, take, Option, None, Some, Result, Err, OnOk, OnErr, IsErrOf}
+use Rattle.link_traits.specs.Told.{added, Rose}
+use Rattle.link_traits.specs.declared.outside.FileFault.{FileFault}
+use Rattle.link_traits.specs.declared.outside.FileFault.TheVariants.{Failed, TooLong}
+
+-- what each path holds where that is told, the count of faults, and the paths that were read
+pub record FilesView : Type 0 where
+  pub told : List ℕ → Option (List ℕ)
+  pub faults : ℕ
+  pub reads : List (List ℕ)
+
+abbrev pub files_of : (List ℕ → Option (List ℕ)) → ℕ → List (List ℕ) → FilesView
+files_of told faults reads = record { told = told; faults = faults; reads = reads }
+
+-- the files, and the first error that an append answered
+pub record Tape : Type 0 where
+  pub files : FilesView
+  pub failed : Option FileFault
+
+abbrev pub tape_of : (List ℕ → Option (List ℕ)) → ℕ → List (List ℕ) → Option FileFault → Tape
+tape_of told faults reads failed = record { files = files_of told faults reads; failed = failed }
+
+-- a prefix of some bytes that lacks at least one was put at the end of what is told
+pub record Cut (bytes : List ℕ) (old new : Option (List ℕ)) : Type 0 where
+  pub count : ℕ
+  pub lacks : count < length bytes
+  pub got : new ≡ added (take count bytes) old
+
+-- The file of a path got all these bytes where the answer is Ok, and else a prefix that lacks some. No other path
+-- changed, no file was read, and an answer Failed comes with a fault that is counted.
+pub record Appended (path bytes : List ℕ) (answer : Result (Unit {0}) FileFault) (old new : FilesView) : Type 0 where
+  pub whole : OnOk answer (new.told path ≡ added bytes (old.told path))
+  pub part : OnErr answer (Cut bytes (old.told path) (new.told path))
+  pub others : (p : List ℕ) → p ≢ path → new.told p ≡ old.told p
+  pub cause : IsErrOf answer Failed → Rose old.faults new.faults
+  pub short : answer ≢ Err TooLong
+  pub count : old.faults ≤ new.faults
+  pub unread : new.reads ≡ old.reads
+
+-- Bytes were put at the end of the file of a path, unless an append had failed before: then nothing changes any more.
+-- Where an append fails now, a prefix was put there that lacks some of the bytes.
+pub record Puts (path bytes : List ℕ) (old new : Tape) : Type 0 where
+  pub whole : new.failed ≡ None → (old.failed ≡ None) × (new.files.told path ≡ added bytes (old.files.told path))
+  pub part : (fault : FileFault) → old.failed ≡ None → new.failed ≡ Some fault → Cut bytes (old.files.told path) (new.files.told path)
+  pub stays : (fault : FileFault) → old.failed ≡ Some fault → new ≡ old
+  pub cause : old.failed ≡ None → new.failed ≡ Some Failed → Rose old.files.faults new.files.faults
+  pub short : old.failed ≡ None → new.failed ≢ Some TooLong
+  pub others : (p : List ℕ) → p ≢ path → new.files.told p ≡ old.files.told p
+  pub count : old.files.faults ≤ new.files.faults
+  pub unread : new.files.reads ≡ old.files.reads

@@ -1,0 +1,121 @@
+//! The file of a recording, and how records get into it.
+ghost use Rattle.std.specs.Prelude.{◌≡◌, ◌≢◌, ◌≤◌, ◌<◌, ◌+◌, ℕ, List, Option, None, Some, Err, OnOk, IfOk, IfSome, IsErrOf, length, string_bytes, vec_capacity};
+ghost use Rattle.link_traits.specs.Told.{Rose};
+ghost use Rattle.record_net.specs.Records.{spelled_record, head};
+ghost use Rattle.link_traits.specs.Journals.{Journal};
+ghost use Rattle.record_net.specs.Starts.{IsRecording, start_of};
+ghost use Rattle.record_net.specs.Tapes.{Appended, Puts, files_of, tape_of};
+
+use crate::spelling::{HEAD, spell};
+use crate::{READ_LIMIT, RECORD_HEAD_LEN};
+use link_traits::{FileFault, Files};
+use std::alloc::Global;
+
+/// The file that a recorder appends to. Memory for the longest record is taken when it is made.
+#[derive(Drop)]
+pub struct RecordFile {
+    path: String,
+    buffer: Vec<u8>,
+    failed: Option<FileFault>,
+    ghost room: { 65545 ≤ vec_capacity buffer },
+}
+
+impl RecordFile {
+    /// Makes the file of a path, or empties the one that is there, and writes the first six bytes of a recording.
+    /// `Failed` is answered only if the files' count of faults rose. The file may hold a prefix of these bytes after an
+    /// error.
+    pub fn create<F: Files>(
+        alloc: Global,
+        files: &mut F,
+        path: String,
+    ) -> Result<RecordFile, FileFault>
+        ensures path { IfOk result (λ file. string_bytes file.path ≡ string_bytes path) }
+        ensures failed { IfOk result (λ file. file.failed ≡ None) }
+        ensures head { OnOk result (IfSome (F.told files.new (string_bytes path)) (λ bytes. bytes ≡ head)) }
+
+        // Whatever the journal of a net is now, a recording of what the net does from now on starts here.
+        ensures starts { IfOk result (λ file. (journal : Option Journal) → IsRecording (start_of journal (files_of (F.told files.new) (F.faults files.new) (F.reads files.new)) (string_bytes path)) journal (tape_of (F.told files.new) (F.faults files.new) (F.reads files.new) file.failed)) }
+
+        // The other files, and errors.
+        ensures others { (p : List ℕ) → p ≢ string_bytes path → F.told files.new p ≡ F.told files.old p }
+        ensures cause { IsErrOf result FileFault.Failed → Rose (F.faults files.old) (F.faults files.new) }
+        ensures short { IsErrOf result FileFault.TooLong → ⊥ }
+        ensures count { F.faults files.old ≤ F.faults files.new }
+        ensures unread { F.reads files.new ≡ F.reads files.old }
+    {
+        let Ok(buffer) = Vec::with_capacity(alloc, RECORD_HEAD_LEN + READ_LIMIT) else {
+            return Err(FileFault::Memory);
+        };
+        begin(files, &path)?;
+        Ok(RecordFile {
+            path,
+            buffer,
+            failed: None,
+        })
+    }
+
+    /// The first error that an append answered since the file was made.
+    pub fn failed(&self) -> Option<FileFault>
+        ensures { result ≡ self.now.failed }
+    {
+        self.failed
+    }
+
+    /// Appends a record, unless an append failed before.
+    pub(crate) fn put<F: Files>(&mut self, files: &mut F, kind: u8, session: u32, bytes: &[u8])
+        requires { length bytes.now ≤ READ_LIMIT }
+        ensures puts { Puts (string_bytes self.old.path) (spelled_record kind session bytes.now) (tape_of (F.told files.old) (F.faults files.old) (F.reads files.old) self.old.failed) (tape_of (F.told files.new) (F.faults files.new) (F.reads files.new) self.new.failed) }
+        ensures path { string_bytes self.new.path ≡ string_bytes self.old.path }
+    {
+        if self.failed.is_some() {
+            return;
+        }
+        spell(&mut self.buffer, kind, session, bytes);
+        if let Err(fault) = append_all(files, &self.path, &self.buffer) {
+            self.failed = Some(fault);
+        }
+    }
+}
+
+/// Makes the file of a path with the first bytes of a recording, where a recording can start.
+fn begin<F: Files>(files: &mut F, path: &str) -> Result<(), FileFault>
+    ensures starts { OnOk result ((journal : Option Journal) → IsRecording (start_of journal (files_of (F.told files.new) (F.faults files.new) (F.reads files.new)) path.now) journal (tape_of (F.told files.new) (F.faults files.new) (F.reads files.new) None)) }
+    ensures head { OnOk result (IfSome (F.told files.new path.now) (λ bytes. bytes ≡ head)) }
+    ensures others { (p : List ℕ) → p ≢ path.now → F.told files.new p ≡ F.told files.old p }
+    ensures cause { IsErrOf result FileFault.Failed → Rose (F.faults files.old) (F.faults files.new) }
+    ensures short { result ≢ Err FileFault.TooLong }
+    ensures count { F.faults files.old ≤ F.faults files.new }
+    ensures unread { F.reads files.new ≡ F.reads files.old }
+{
+    create_with_head(files, path)
+}
+
+/// Makes the file of a path with the first bytes of a recording.
+fn create_with_head<F: Files>(files: &mut F, path: &str) -> Result<(), FileFault>
+    ensures head { OnOk result (IfSome (F.told files.new path.now) (λ bytes. bytes ≡ head)) }
+    ensures others { (p : List ℕ) → p ≢ path.now → F.told files.new p ≡ F.told files.old p }
+    ensures cause { IsErrOf result FileFault.Failed → Rose (F.faults files.old) (F.faults files.new) }
+    ensures short { result ≢ Err FileFault.TooLong }
+    ensures count { F.faults files.old ≤ F.faults files.new }
+    ensures unread { F.reads files.new ≡ F.reads files.old }
+{
+    match files.create(path) {
+        Ok(()) => append_all(files, path, &HEAD),
+        Err(fault) => Err(fault),
+    }
+}
+
+/// Appends all bytes, in as many pieces as the files take. Where it fails, the file got a prefix that lacks at least
+/// one byte.
+fn append_all<F: Files>(files: &mut F, path: &str, bytes: &[u8]) -> Result<(), FileFault>
+    ensures { Appended path.now bytes.now result (files_of (F.told files.old) (F.faults files.old) (F.reads files.old)) (files_of (F.told files.new) (F.faults files.new) (F.reads files.new)) }
+{
+    let mut done = 0;
+    while done < bytes.len() {
+        match files.append(path, &bytes[done..]) {
+            Ok(n) => done += n,
+            Err(fault) => return Err(fault),
+        }
+    }
+    Ok(())
+}
