@@ -1,0 +1,56 @@
+//! Numbers by their bytes.
+ghost use Rattle.std.specs.Prelude.{◌≡◌, ◌⊎◌, ◌≤◌};
+ghost use Rattle.dbus_values.specs.Alignments.{IsAlignment};
+ghost use Rattle.dbus_values.specs.Walk.{alignment_by};
+ghost use Rattle.message_text.specs.Printing.{number_in, width_of};
+
+use dbus_values::Order;
+
+/// The number that 1, 2, 4 or 8 bytes are.
+pub(crate) fn number(order: Order, bytes: &[u8]) -> u64
+    ensures { result ≡ number_in order bytes.now }
+{
+    match (order, bytes) {
+        (_, [byte]) => u64::from(*byte),
+        (Order::Little, [a, b]) => u64::from(u16::from_le_bytes([*a, *b])),
+        (Order::Big, [a, b]) => u64::from(u16::from_be_bytes([*a, *b])),
+        (Order::Little, [a, b, c, d]) => u64::from(u32::from_le_bytes([*a, *b, *c, *d])),
+        (Order::Big, [a, b, c, d]) => u64::from(u32::from_be_bytes([*a, *b, *c, *d])),
+        (Order::Little, [a, b, c, d, e, f, g, h]) => {
+            u64::from_le_bytes([*a, *b, *c, *d, *e, *f, *g, *h])
+        }
+        (Order::Big, [a, b, c, d, e, f, g, h]) => {
+            u64::from_be_bytes([*a, *b, *c, *d, *e, *f, *g, *h])
+        }
+        _ => 0,
+    }
+}
+
+/// How many bytes a number has, by its type's code (D-Bus Specification, "Type System", "Summary of types").
+#[inline]
+pub(crate) fn width(code: u8) -> usize
+    ensures value { result ≡ width_of code }
+    ensures power { IsAlignment result }
+    ensures most { result ≤ 8 }
+{
+    match code {
+        b'y' => 1,
+        b'n' | b'q' => 2,
+        b'x' | b't' | b'd' => 8,
+        _ => 4,
+    }
+}
+
+/// The alignment of a type, by its code (D-Bus Specification, "Type System", "Summary of types").
+#[inline]
+pub(crate) fn alignment(code: u8) -> usize
+    ensures value { result ≡ alignment_by code }
+    ensures power { IsAlignment result }
+{
+    match code {
+        b'n' | b'q' => 2,
+        b'b' | b'i' | b'u' | b'h' | b's' | b'o' | b'a' => 4,
+        b'x' | b't' | b'd' | b'(' | b'{' => 8,
+        _ => 1,
+    }
+}

@@ -1,0 +1,5 @@
+//! Tests of messages as texts.
+#![tactic(auto)]
+
+#[cfg(test)]
+mod texts;
