@@ -126,13 +126,13 @@ numbers : map sessions_of (codes "1" ∷ codes "1000000" ∷ codes "1000001" ∷
 numbers = refl
 
 one_block : line_of (codes "unix:path=/run/user/1000/bus,guid=00" ∷ codes "/tmp/p" ∷ codes "--filter" ∷ codes "--talk=org.a.T" ∷ codes "--talk=org.a.T" ∷ codes "--see=org.a.*" ∷ [])
-    ≡ Ok (record { blocks = record { address = codes "/run/user/1000/bus"; path = codes "/tmp/p"; options = record { filter = true; log = false; policy = policy_of (talk_T ∷ see_a ∷ []) } } ∷ []; sessions = 4294967295 })
+    ≡ Ok (record { blocks = record { address = codes "/run/user/1000/bus"; path = codes "/tmp/p"; options = record { filter = true; log = false; policy = policy_of (talk_T ∷ see_a ∷ []) } } ∷ []; sessions = 4294967295; record_to = None })
 unfolding line_of talk_T see_a is_utf8 chars encode_utf8
 one_block = refl
 
 -- each block has its own options, and the last --sessions counts
 two_blocks : line_of (codes "unix:path=/a" ∷ codes "/p" ∷ codes "--filter" ∷ codes "--sessions=2" ∷ codes "unix:path=/b" ∷ codes "/q" ∷ codes "--talk=org.a.T" ∷ codes "--sessions=3" ∷ [])
-    ≡ Ok (record { blocks = record { address = codes "/a"; path = codes "/p"; options = record { filter = true; log = false; policy = policy_of [] } } ∷ record { address = codes "/b"; path = codes "/q"; options = record { filter = false; log = false; policy = policy_of (talk_T ∷ []) } } ∷ []; sessions = 3 })
+    ≡ Ok (record { blocks = record { address = codes "/a"; path = codes "/p"; options = record { filter = true; log = false; policy = policy_of [] } } ∷ record { address = codes "/b"; path = codes "/q"; options = record { filter = false; log = false; policy = policy_of (talk_T ∷ []) } } ∷ []; sessions = 3; record_to = None })
 unfolding line_of talk_T is_utf8 chars encode_utf8
 two_blocks = refl
 
@@ -148,6 +148,16 @@ bad_words : map line_of (after (codes "--talk=org" ∷ []) ∷ after (codes "--c
     ≡ bad 2 BadName ∷ bad 2 BadRule ∷ bad 2 UnknownOption ∷ bad 2 BadNumber ∷ bad 2 BadAddress ∷ bad 3 NoPath ∷ []
 unfolding line_of is_utf8 chars encode_utf8
 bad_words = refl
+
+-- --record stands in any block, and the last one counts; its FILE isn't empty, and it is no word of a policy file
+recorded : line_of (after (codes "--record=/a" ∷ codes "unix:path=/b" ∷ codes "/q" ∷ codes "--record=/b=c" ∷ []))
+    ≡ Ok (record { blocks = record { address = codes "/a"; path = codes "/p"; options = record { filter = false; log = false; policy = policy_of [] } } ∷ record { address = codes "/b"; path = codes "/q"; options = record { filter = false; log = false; policy = policy_of [] } } ∷ []; sessions = 4294967295; record_to = Some (codes "/b=c") })
+unfolding line_of is_utf8 chars encode_utf8
+recorded = refl
+
+not_recorded : map line_of (after (codes "--record=" ∷ []) ∷ after (codes "--record" ∷ []) ∷ (codes "--record=/a" ∷ []) ∷ []) ≡ bad 2 UnknownOption ∷ bad 2 UnknownOption ∷ bad 0 OptionBeforeAddress ∷ []
+unfolding line_of is_utf8 chars encode_utf8
+not_recorded = refl
 
 -- ---- files
 

@@ -7,7 +7,7 @@ use Rattle.dbus_names.specs.Texts.{begins_with, behind}
 use Rattle.policy_args.specs.Addresses.{bus_path}
 use Rattle.policy_args.specs.Words.{◌>>=◌, or_kind, each_word, PolicyOptions, no_options, with_option}
 use Rattle.policy_args.specs.declared.WordKind.{WordKind}
-use Rattle.policy_args.specs.declared.WordKind.TheVariants.{BadAddress, NoPath, OptionBeforeAddress, BadNumber, TooMany}
+use Rattle.policy_args.specs.declared.WordKind.TheVariants.{UnknownOption, BadAddress, NoPath, OptionBeforeAddress, BadNumber, TooMany}
 use Rattle.policy_args.specs.declared.BadWord.{BadWord}
 
 -- ---- numbers
@@ -39,18 +39,20 @@ pub record BlockValue : Type 0 where
   pub path : List ℕ
   pub options : PolicyOptions
 
+-- the blocks, how many sessions are served, and the file that they are recorded in, if there is one
 pub record LineValue : Type 0 where
   pub blocks : List BlockValue
   pub sessions : ℕ
+  pub record_to : Option (List ℕ)
 
 -- what the words so far give, and the bus's path of a block whose PATH is next
 pub record SoFar : Type 0 where
   pub line : LineValue
   pub pending : Option (List ℕ)
 
--- without --sessions so many are served
+-- without --sessions as many are served as there may be, and without --record none is recorded
 abbrev pub no_words : SoFar
-no_words = record { line = record { blocks = []; sessions = 4294967295 }; pending = None }
+no_words = record { line = record { blocks = []; sessions = 4294967295; record_to = None }; pending = None }
 
 -- ---- one more word
 
@@ -64,15 +66,28 @@ in_last w (b ∷ []) = with_option b.options w >>= λ o. Ok (record b { options 
 in_last w (b ∷ blocks) = in_last w blocks >>= λ rest. Ok (b ∷ rest)
 
 abbrev pub with_sessions : SoFar → List ℕ → Result SoFar WordKind
-with_sessions s text = sessions_of text >>= λ n. Ok (record s { line = record { blocks = s.line.blocks; sessions = n } })
+with_sessions s text = sessions_of text >>= λ n. Ok (record s { line = record (s.line) { sessions = n } })
 
 abbrev pub with_block_option : SoFar → List ℕ → Result SoFar WordKind
-with_block_option s w = in_last w s.line.blocks >>= λ blocks. Ok (record s { line = record { blocks = blocks; sessions = s.line.sessions } })
+with_block_option s w = in_last w s.line.blocks >>= λ blocks. Ok (record s { line = record (s.line) { blocks = blocks } })
 
--- --sessions=N of any block, of which the last counts, or an option of the last block
+-- the file that the sessions are recorded in
+abbrev pub with_record : SoFar → List ℕ → Result SoFar WordKind
+with_record s [] = Err UnknownOption
+with_record s (c ∷ path) = Ok (record s { line = record (s.line) { record_to = Some (c ∷ path) } })
+
+-- --record=FILE of any block, of which the last counts, or an option of the last block
+abbrev pub record_option : SoFar → List ℕ → Option (List ℕ) → Result SoFar WordKind
+record_option s w (Some path) = with_record s path
+record_option s w None = with_block_option s w
+
+abbrev pub other_option : SoFar → List ℕ → Result SoFar WordKind
+other_option s w = record_option s w (behind (codes "--record=") w)
+
+-- --sessions=N of any block, of which the last counts, or another option
 abbrev pub line_option : SoFar → List ℕ → Option (List ℕ) → Result SoFar WordKind
 line_option s w (Some text) = with_sessions s text
-line_option s w None = with_block_option s w
+line_option s w None = other_option s w
 
 abbrev pub option_word : SoFar → List ℕ → Result SoFar WordKind
 option_word s w = if length s.line.blocks == 0 then Err OptionBeforeAddress else line_option s w (behind (codes "--sessions=") w)
@@ -91,7 +106,7 @@ line_word s w =
 abbrev pub line_path : SoFar → List ℕ → List ℕ → Result SoFar WordKind
 line_path s address w =
     if is_empty w || is_option w then Err NoPath
-    else Ok (record { line = record { blocks = s.line.blocks ++ record { address = address; path = w; options = no_options } ∷ []; sessions = s.line.sessions }; pending = None })
+    else Ok (record { line = record (s.line) { blocks = s.line.blocks ++ record { address = address; path = w; options = no_options } ∷ [] }; pending = None })
 
 abbrev pub line_step_at : SoFar → Option (List ℕ) → List ℕ → Result SoFar WordKind
 line_step_at s None w = line_word s w

@@ -11,7 +11,7 @@ abbrev pub block_seen : Block → BlockValue
 block_seen b = record { address = string_bytes b.address; path = string_bytes b.path; options = options_seen b.options }
 
 abbrev pub line_seen : ProxyLine → LineValue
-line_seen l = record { blocks = map block_seen l.blocks.items; sessions = l.sessions }
+line_seen l = record { blocks = map block_seen l.blocks.items; sessions = l.sessions; record_to = option_map (λ path. string_bytes path) l.record_to }
 
 abbrev pub last_seen : Option Block → List BlockValue
 last_seen None = []
@@ -20,15 +20,15 @@ last_seen (Some b) = block_seen b ∷ []
 abbrev pub blocks_seen : List Block → Option Block → List BlockValue
 blocks_seen blocks last = map block_seen blocks ++ last_seen last
 
-abbrev pub so_far : {Z : Type 0} → List Block → Option Block → ℕ → Option (String Z) → SoFar
-so_far blocks last sessions pending = record {
-  line = record { blocks = blocks_seen blocks last; sessions = sessions };
+abbrev pub so_far : {Z : Type 0} → List Block → Option Block → ℕ → Option (List ℕ) → Option (String Z) → SoFar
+so_far blocks last sessions record_to pending = record {
+  line = record { blocks = blocks_seen blocks last; sessions = sessions; record_to = record_to };
   pending = option_map (λ p. string_bytes p) pending;
 }
 
 -- with one more block
 abbrev pub with_block : BlockValue → SoFar → SoFar
-with_block b s = record { line = record { blocks = s.line.blocks ++ b ∷ []; sessions = s.line.sessions }; pending = None }
+with_block b s = record { line = record (s.line) { blocks = s.line.blocks ++ b ∷ [] }; pending = None }
 
 -- digits that are worth 1,000,000 at most
 abbrev pub worth_of : List ℕ → Option ℕ

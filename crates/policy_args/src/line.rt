@@ -1,7 +1,7 @@
 //! The words of a proxy line: blocks of a bus address, a path, and options.
 ghost use Rattle.std.specs.Prelude.{◌≡◌, OnOk, length, map, string_bytes};
 ghost use Rattle.policy_args.specs.Gives.{Gives, StepGives, refusal_at};
-ghost use Rattle.policy_args.specs.ProxyLine.{finished, line_address, line_of, line_path, line_step, line_word, no_words, option_word, sessions_of, with_block_option, with_sessions};
+ghost use Rattle.policy_args.specs.ProxyLine.{finished, line_address, line_of, line_path, line_step, line_word, no_words, option_word, other_option, sessions_of, with_block_option, with_record, with_sessions};
 ghost use Rattle.policy_args.specs.Reading.{block_seen, line_seen, with_block, worth_of};
 ghost use Rattle.policy_args.specs.Words.{each_word, or_kind};
 ghost use Rattle.policy_args.specs.declared.WordKind.TheVariants.{BadNumber};
@@ -44,6 +44,9 @@ pub struct ProxyLine {
     pub blocks: Vec<Block>,
     /// How many sessions are served in all: 1 to 1,000,000, or 4,294,967,295 where nothing is said.
     pub sessions: u32,
+    /// The path of the file that the sessions are recorded in, where one is given: that of the last `--record=FILE`. It
+    /// isn't empty.
+    pub record_to: Option<String>,
 }
 
 // What the words so far give. The last block stands by itself, since options are added to it.
@@ -52,18 +55,19 @@ struct Reading {
     blocks: Vec<Block>,
     last: Option<Block>,
     sessions: u32,
+    record_to: Option<String>,
     // The bus's path of a block whose own path comes next.
     pending: Option<String>,
 }
 
 impl Model for Reading {
-    ghost use Rattle.std.specs.Prelude.{◌≡◌, None, []};
+    ghost use Rattle.std.specs.Prelude.{◌≡◌, None, [], option_map, string_bytes};
     ghost use Rattle.policy_args.specs.ProxyLine.{SoFar};
     ghost use Rattle.policy_args.specs.Reading.{so_far};
 
     ghost Value = { SoFar };
 
-    ghost view = { λ r. so_far r.blocks.items r.last r.sessions r.pending };
+    ghost view = { λ r. so_far r.blocks.items r.last r.sessions (option_map (λ path. string_bytes path) r.record_to) r.pending };
 
     ghost invariant = { λ r. r.last ≡ None → r.blocks.items ≡ [] };
 }
@@ -77,6 +81,7 @@ impl Reading {
             blocks: Vec::new(alloc),
             last: None,
             sessions: ALL_SESSIONS,
+            record_to: None,
             pending: None,
         }
     }
@@ -158,7 +163,33 @@ impl Reading {
         }
         match behind("--sessions=", word) {
             Some(text) => self.take_sessions(text),
+            None => self.take_other_option(alloc, word),
+        }
+    }
+
+    // Takes an option other than `--sessions`.
+    fn take_other_option(&mut self, alloc: Global, word: &str) -> Result<(), WordRefusal>
+        ensures { StepGives (λ _. self.new) result (other_option self.old word.now) }
+    {
+        match behind("--record=", word) {
+            Some(path) => self.take_record(alloc, path),
             None => self.take_block_option(alloc, word),
+        }
+    }
+
+    // Takes the file that the sessions are recorded in.
+    fn take_record(&mut self, alloc: Global, path: &str) -> Result<(), WordRefusal>
+        ensures { StepGives (λ _. self.new) result (with_record self.old path.now) }
+    {
+        if path.is_empty() {
+            return Err(WordRefusal::Bad(WordKind::UnknownOption));
+        }
+        match String::from_str(alloc, path) {
+            Ok(path) => {
+                self.record_to = Some(path);
+                Ok(())
+            }
+            Err(_) => Err(WordRefusal::Memory),
         }
     }
 
@@ -175,7 +206,7 @@ impl Reading {
         }
     }
 
-    // Takes one more option of the last block, other than `--sessions`.
+    // Takes one more option of the last block, other than `--sessions` and `--record`.
     fn take_block_option(&mut self, alloc: Global, word: &str) -> Result<(), WordRefusal>
         ensures { StepGives (λ _. self.new) result (with_block_option self.old word.now) }
     {
@@ -212,6 +243,7 @@ impl Reading {
                 Ok(ProxyLine {
                     blocks: self.blocks,
                     sessions: self.sessions,
+                    record_to: self.record_to,
                 })
             }
             None => Err(bad(0, WordKind::BadAddress)),
@@ -256,15 +288,16 @@ fn read_digits(digits: &[u8]) -> Option<u32>
 /// The proxy line that the words give, or the first bad word.
 ///
 /// A line has blocks, each a bus address, a path to listen on, and then options, which begin with
-/// `--` (xdg-dbus-proxy(1), "Synopsis"). The options are those of `read_options` and `--sessions=N`,
-/// which may stand in any block, and of which the last counts; N is 1 to 1,000,000.
+/// `--` (xdg-dbus-proxy(1), "Synopsis"). The options are those of `read_options`, and `--sessions=N`
+/// and `--record=FILE`, which may stand in any block, and of each of which the last counts; N is 1 to
+/// 1,000,000, and FILE isn't empty.
 ///
 /// Of an address, the `path` of its first part that begins with `unix:` and has one is taken
 /// (D-Bus Specification, "Server Addresses"). `BadAddress` is an address without such a path, or
 /// whose path is empty, holds NUL, isn't UTF-8 or has `%` without two hexadecimal digits, and, at
 /// index 0, where there are no words. `NoPath` is an empty word, an option or the end where the
 /// path has to stand; `OptionBeforeAddress` is an option before the first block, `BadNumber` a
-/// wrong N, and `TooMany` the address of block 65,536, too.
+/// wrong N, `UnknownOption` an empty FILE, and `TooMany` the address of block 65,536, too.
 pub fn read_line(alloc: Global, words: &[String]) -> Result<ProxyLine, LineRefusal>
     ensures { Gives line_seen result (line_of (map (λ w. string_bytes w) words.now)) }
 {

@@ -158,7 +158,7 @@ const MANY_BLOCKS: &str = "\
 65535 unix:path=/a => TooMany 131070
 ";
 
-/// Words of a proxy line, and the sessions that are served, and of each block the address, the path, whether messages are
+/// Words of a proxy line, and the sessions that are served, the file that they are recorded in, if any, and of each block the address, the path, whether messages are
 /// filtered and whether they are logged, how many entries there are and the level of org.a.T, or the first bad word.
 const LINES: &str = "\
 unix:path=/run/user/1000/bus,guid=00 /tmp/p --filter --talk=org.a.T --talk=org.a.T --see=org.a.* => 4294967295, /run/user/1000/bus /tmp/p true false 2 Talk
@@ -179,8 +179,11 @@ unix:path=/a /p --sessions=1000000 => 1000000, /a /p false false 0 None
 unix:path=/a /p --log unix:path=/b /q --filter => 4294967295, /a /p false true 0 None, /b /q true false 0 None
 unix:path=/a /p --sessions=9 --filter --sessions=10 => 10, /a /p true false 0 None
 unix:path=/a /p --filter --talk=org.a.T --sessions=2 unix:path=/b /q unix:path=/c /r --see=org.a.T --own=org.a.T --sessions=3 => 3, /a /p true false 1 Talk, /b /q false false 0 None, /c /r false false 2 Own
+unix:path=/a /p --record=/r => 4294967295 /r, /a /p false false 0 None
+unix:path=/a /p --record=r=s --sessions=2 unix:path=/b /q --record=--log --filter => 2 --log, /a /p false false 0 None, /b /q true false 0 None
  => BadAddress 0
  /p => BadAddress 0
+--record=/r => OptionBeforeAddress 0
 --filter => OptionBeforeAddress 0
 --log => OptionBeforeAddress 0
 --sessions=1 => OptionBeforeAddress 0
@@ -219,6 +222,11 @@ unix:path=/a /p --call=org.a.C => BadRule 2
 unix:path=/a /p --colour => UnknownOption 2
 unix:path=/a /p --sessions => UnknownOption 2
 unix:path=/a /p -- => UnknownOption 2
+unix:path=/a /p --record => UnknownOption 2
+unix:path=/a /p --record= => UnknownOption 2
+unix:path=/a /p --record=/r --record= => UnknownOption 3
+unix:path=/a /p --records=/r => UnknownOption 2
+unix:path=/a --record=/r => NoPath 1
 unix:path=/a /p --sessions= => BadNumber 2
 unix:path=/a /p --sessions=0 => BadNumber 2
 unix:path=/a /p --sessions=01 => BadNumber 2
@@ -290,6 +298,10 @@ fn told_line(alloc: Global, row: &str) -> Result<String, AllocError> {
 
 fn told_blocks(alloc: Global, line: &ProxyLine) -> Result<String, AllocError> {
     let mut told = format!(in alloc; "{}", line.sessions)?;
+    if let Some(path) = &line.record_to {
+        told.push(' ')?;
+        told.push_str(path)?;
+    }
     for block in &line.blocks {
         let text = told_block(alloc, block)?;
         told.push_str(&text)?;
