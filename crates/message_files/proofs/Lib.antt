@@ -1,0 +1,4 @@
+pub mod Readings
+pub mod Messages
+pub mod Texts
+mod FileExamples
