@@ -7,3 +7,12 @@ pub mod Parts
 pub mod Elements
 pub mod Twins
 pub mod NotesGiven
+pub mod Ascending
+pub mod OwnEvents
+pub mod PlayingLaws
+pub mod PlayersLaws
+pub mod SessionOutputs
+pub mod OnlySession
+pub mod SessionLogs
+pub mod GatheredNotes
+pub mod OneSession

@@ -9,38 +9,53 @@
 //! to a sink of its own. One message alone can be explained: its line, and the entry of the policy
 //! on which its decision rests.
 //!
+//! A recording may have many sessions. Each is played by its own events. The output has the records
+//! of one session after those of another, in the ascending order of their numbers, and each record
+//! has the session's number, four bytes with the lowest first, between its kind and its length.
+//!
 //! Two recordings can be compared: whether what the policy lets be seen of either is the same, and
 //! else where it first differs.
 #![tactic(auto)]
 
 mod comparing;
 mod explaining;
+mod laws;
 mod listing;
 mod logging;
 mod played_notes;
 mod playing;
+mod session_logging;
+mod session_notes;
+mod session_playing;
+mod session_writing;
 mod watching;
 mod writing;
 
-ghost use Rattle.std.specs.Prelude.{◌≡◌, ◌≤◌, ◌⊎◌, ℕ, true, List, Some, None, IfOk, OnOk, IsErrOf, IfSome};
+ghost use Rattle.std.specs.Prelude.{◌≡◌, ◌≤◌, ◌⊎◌, ◌↔◌, ℕ, true, List, Some, None, IfOk, IsOk, OnOk, OnErr, IsErrOf, IfSome};
 ghost use Rattle.link_traits.specs.Told.{added, Rose, Part};
 ghost use Rattle.policy_args.specs.Seen.{options_seen};
 ghost use Rattle.recording.specs.Seen.{recording_seen, size};
+ghost use Rattle.recording.specs.SessionsSeen.{IsReadable, sessions_seen};
 ghost use Rattle.policy_view.specs.Notes.{notes as notes_of};
 ghost use Rattle.replay.specs.Output.{history_of, output_of_recording, log_of_recording};
 ghost use Rattle.replay.specs.Explained.{explained, with_log};
-ghost use Rattle.replay.specs.Logging.{WholeLines};
+ghost use Rattle.replay.specs.Logging.{WholeLines, WholeSessionLines};
+ghost use Rattle.replay.specs.SessionsOutput.{log_of_sessions, noted_in, output_of_sessions};
 
 pub use comparing::{TwinAnswer, twin};
 use explaining::{note_of, write_explanation};
-use link_traits::Sink;
+pub use laws::{one_session_replays_alike, version_1_is_replayed};
+use link_traits::{Sink, SinkFault};
 pub use listing::NoteList;
 use listing::waiting_notes;
 use logging::write_log;
 pub use played_notes::PlayedNotes;
 use playing::play;
 use policy_args::Options;
-use recording::{RECORDING_LIMIT, Recording};
+use recording::{RECORDING_LIMIT, Recording, Sessions};
+use session_logging::write_session_log;
+use session_playing::{Players, play_only, play_sessions};
+use session_writing::write_sessions;
 use std::alloc::{AllocError, Global};
 use thiserror::Error;
 use writing::write_output;
@@ -105,7 +120,70 @@ pub fn replay<O: Sink, E: Sink>(
 {
     let mut session = play(alloc, options, recording, options.log)?;
     write_log(alloc, &mut session, err)?;
-    match write_output(&mut session, out) {
+    match write_output(None, &mut session, out) {
+        Ok(()) => Ok(()),
+        Err(_) => Err(ReplayFault::Out),
+    }
+}
+
+/// The version of a recording of one session.
+const ONE_SESSION: u8 = 1;
+
+/// Plays a recording of many sessions under the policy of the options, each session by its own events. If the options ask for a
+/// log, its lines are written to `err` first, in the order of the events that brought them. Then the output of each session is
+/// written to `out`, in the ascending order of their numbers. Both are written after all events were played, so memory grows with
+/// the bytes of the recording. A recording of version 1 is replayed as by `replay`, and its records have no session.
+///
+/// The errors are those of `replay`. `Memory` also means that one of the sessions ended for want of memory.
+#[tactic(auto, using(link_traits::proofs::Parts::part_none))]
+pub fn replay_sessions<O: Sink, E: Sink>(
+    alloc: Global,
+    options: &Options,
+    sessions: &Sessions,
+    out: &mut O,
+    err: &mut E,
+) -> Result<(), ReplayFault>
+    // This holds of each recording that `recording::read_any` reads.
+    requires readable { IsReadable (sessions_seen sessions.now) }
+
+    // out gets the output and err the log: all of it, or a prefix if the replay stops.
+    ensures out { OnOk result (O.told out.new ≡ added (output_of_sessions (options_seen options.now) (sessions_seen sessions.now)) (O.told out.old)) }
+    ensures log { OnOk result (E.told err.new ≡ added (log_of_sessions (options_seen options.now) (sessions_seen sessions.now)) (E.told err.old)) }
+    ensures part { Part (O.told out.old) (O.told out.new) (output_of_sessions (options_seen options.now) (sessions_seen sessions.now)) }
+    ensures log_part { Part (E.told err.old) (E.told err.new) (log_of_sessions (options_seen options.now) (sessions_seen sessions.now)) }
+
+    // The log is first: out gets nothing before err has all of it.
+    ensures first { IsErrOf result ReplayFault.Out → E.told err.new ≡ added (log_of_sessions (options_seen options.now) (sessions_seen sessions.now)) (E.told err.old) }
+    ensures unwritten { IsErrOf result ReplayFault.Err → O.told out.new ≡ O.told out.old }
+    ensures memory { IsErrOf result ReplayFault.Memory → O.told out.new ≡ O.told out.old }
+    ensures whole { IsErrOf result ReplayFault.Memory → WholeSessionLines (E.told err.old) (E.told err.new) (noted_in (options_seen options.now) (sessions_seen sessions.now)) }
+
+    // A sink is named only where it failed, and err only where a log is asked for.
+    ensures cause { IsErrOf result ReplayFault.Out → Rose (O.faults out.old) (O.faults out.new) }
+    ensures log_cause { IsErrOf result ReplayFault.Err → Rose (E.faults err.old) (E.faults err.new) }
+    ensures asked { IsErrOf result ReplayFault.Err → options.now.log ≡ true }
+    ensures count { O.faults out.old ≤ O.faults out.new }
+    ensures log_count { E.faults err.old ≤ E.faults err.new }
+{
+    if sessions.version == ONE_SESSION {
+        let mut session = play_only(alloc, options, sessions)?;
+        write_log(alloc, &mut session, err)?;
+        return match write_output(None, &mut session, out) {
+            Ok(()) => Ok(()),
+            Err(_) => Err(ReplayFault::Out),
+        };
+    }
+    let Players { mut running, notes } = play_sessions(alloc, options, sessions)?;
+    write_session_log(alloc, &notes, err)?;
+    replay_result(write_sessions(&mut running, out))
+}
+
+/// What a replay answers after its output was written, or could not be.
+fn replay_result(written: Result<(), SinkFault>) -> Result<(), ReplayFault>
+    ensures ok { IsOk result ↔ IsOk written }
+    ensures fault { OnErr result (IsErrOf result ReplayFault.Out) }
+{
+    match written {
         Ok(()) => Ok(()),
         Err(_) => Err(ReplayFault::Out),
     }

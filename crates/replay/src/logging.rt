@@ -18,7 +18,7 @@ pub const SESSION: u32 = 1;
 const LONG: usize = 65_536;
 
 /// Writes the lines that are joined.
-fn write_lines<E: Sink>(lines: &mut String, err: &mut E) -> Result<(), ReplayFault>
+pub fn write_lines<E: Sink>(lines: &mut String, err: &mut E) -> Result<(), ReplayFault>
     ensures ok { OnOk result (E.told err.new ≡ added (string_bytes lines.old) (E.told err.old)) }
     ensures none { OnOk result (string_bytes lines.new ≡ []) }
     ensures len { OnOk result (string_len lines.new ≡ 0) }
@@ -38,21 +38,22 @@ fn write_lines<E: Sink>(lines: &mut String, err: &mut E) -> Result<(), ReplayFau
 /// Joins the line of a note to the others, and writes them where they are long. Where memory is refused for the line the others are
 /// written.
 #[tactic(auto, using(link_traits::proofs::Parts::part_none))]
-fn put_line<E: Sink>(
+pub fn put_line<E: Sink>(
     alloc: Global,
-    note: Note,
+    session: u32,
+    note: &Note,
     lines: &mut String,
     err: &mut E,
 ) -> Result<(), ReplayFault>
-    ensures ok { OnOk result (Joins (E.told err.old) (E.told err.new) (string_bytes lines.old ++ log_line 1 note) (string_bytes lines.new)) }
+    ensures ok { OnOk result (Joins (E.told err.old) (E.told err.new) (string_bytes lines.old ++ log_line session note.now) (string_bytes lines.new)) }
     ensures short { OnOk result (string_len lines.new < LONG) }
-    ensures part { Part (E.told err.old) (E.told err.new) (string_bytes lines.old ++ log_line 1 note) }
+    ensures part { Part (E.told err.old) (E.told err.new) (string_bytes lines.old ++ log_line session note.now) }
     ensures out { IsErrOf result ReplayFault.Out → ⊥ }
     ensures memory { IsErrOf result ReplayFault.Memory → E.told err.new ≡ added (string_bytes lines.old) (E.told err.old) }
     ensures cause { IsErrOf result ReplayFault.Err → Rose (E.faults err.old) (E.faults err.new) }
     ensures count { E.faults err.old ≤ E.faults err.new }
 {
-    if push_line(alloc, lines, SESSION, &note).is_err() {
+    if push_line(alloc, lines, session, note).is_err() {
         write_lines(lines, err)?;
         return Err(ReplayFault::Memory);
     }
@@ -79,7 +80,7 @@ pub fn write_log<E: Sink>(
 {
     let mut lines = String::new(alloc);
     while let Some(note) = session.next_note() {
-        put_line(alloc, note, &mut lines, err)?;
+        put_line(alloc, SESSION, &note, &mut lines, err)?;
     }
     if lines.is_empty() {
         return Ok(());

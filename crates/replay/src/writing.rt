@@ -1,12 +1,14 @@
-//! Writing what a session gives out, piece by piece as it lies in the session.
+//! Writing what a session gives out, piece by piece as it lies in the session. If the session has a number, each record has it
+//! between its kind and its length.
 ghost use Rattle.std.specs.Prelude.{◌≡◌, ◌≤◌, ◌<◌, ◌^◌, ◌∷◌, ◌++◌, [], length, drop, OnOk, OnErr};
 ghost use Rattle.std.specs.Int.{w64, to_le_bytes};
 ghost use Rattle.link_traits.specs.Told.{added, Rose, Part};
 ghost use Rattle.dbus_header.specs.Malformed.{kind_number};
 ghost use Rattle.sasl_watch.specs.Lines.{line_number};
 ghost use Rattle.proxy_core.specs.Sessions.{IsFront, waits_for};
-ghost use Rattle.replay.specs.Output.{header, record_of, record_where_any, fault_bytes, end_bytes, end_record};
-ghost use Rattle.replay.specs.Waiting.{with_waiting, kind_of, output_of};
+ghost use Rattle.replay.specs.Output.{header, fault_bytes, end_bytes};
+ghost use Rattle.replay.specs.SessionsOutput.{named_end, named_header, named_record, named_where_any};
+ghost use Rattle.replay.specs.Waiting.{with_waiting, kind_of, named_output};
 
 use dbus_header::MalformedKind;
 use link_traits::{Sink, SinkFault, write_all};
@@ -78,39 +80,60 @@ fn write_waiting<O: Sink>(session: &mut Session, side: Side, out: &mut O) -> Res
     Ok(())
 }
 
-/// Writes a record's kind and length.
+/// Writes a record's kind and length, with the session's number between them if there is one.
 #[tactic(auto, unfolding(crate::specs::Output::header))]
-fn write_header<O: Sink>(kind: u8, len: u64, out: &mut O) -> Result<(), SinkFault>
+fn write_header<O: Sink>(
+    named: Option<u32>,
+    kind: u8,
+    len: u64,
+    out: &mut O,
+) -> Result<(), SinkFault>
     requires { len < 2 ^ 32 }
-    ensures ok { OnOk result (O.told out.new ≡ added (header kind len) (O.told out.old)) }
-    ensures part { Part (O.told out.old) (O.told out.new) (header kind len) }
+    ensures ok { OnOk result (O.told out.new ≡ added (named_header named kind len) (O.told out.old)) }
+    ensures part { Part (O.told out.old) (O.told out.new) (named_header named kind len) }
     ensures cause { OnErr result (Rose (O.faults out.old) (O.faults out.new)) }
     ensures count { O.faults out.old ≤ O.faults out.new }
 {
     let [a, b, c, d] = (len as u32).to_le_bytes();
-    write_all(out, &[kind, a, b, c, d])
+    match named {
+        None => write_all(out, &[kind, a, b, c, d]),
+        Some(session) => {
+            let [e, f, g, h] = session.to_le_bytes();
+            write_all(out, &[kind, e, f, g, h, a, b, c, d])
+        }
+    }
 }
 
 /// Writes the record of what waits for a side.
 #[tactic(auto, using(link_traits::proofs::Parts::part_first, link_traits::proofs::Parts::part_second, link_traits::proofs::Parts::then_all))]
-fn write_record<O: Sink>(session: &mut Session, side: Side, out: &mut O) -> Result<(), SinkFault>
+fn write_record<O: Sink>(
+    named: Option<u32>,
+    session: &mut Session,
+    side: Side,
+    out: &mut O,
+) -> Result<(), SinkFault>
     requires { length (waits_for side session.old) < 2 ^ 32 }
-    ensures ok { OnOk result (O.told out.new ≡ added (record_of (kind_of side) (waits_for side session.old)) (O.told out.old)) }
-    ensures part { Part (O.told out.old) (O.told out.new) (record_of (kind_of side) (waits_for side session.old)) }
+    ensures ok { OnOk result (O.told out.new ≡ added (named_record named (kind_of side) (waits_for side session.old)) (O.told out.old)) }
+    ensures part { Part (O.told out.old) (O.told out.new) (named_record named (kind_of side) (waits_for side session.old)) }
     ensures session { session.new ≡ with_waiting side (waits_for side session.new) session.old }
     ensures cause { OnErr result (Rose (O.faults out.old) (O.faults out.new)) }
     ensures count { O.faults out.old ≤ O.faults out.new }
 {
-    write_header(kind(side), waiting(session, side), out)?;
+    write_header(named, kind(side), waiting(session, side), out)?;
     write_waiting(session, side, out)
 }
 
 /// Writes the record of what waits for a side, where something does.
 #[tactic(auto, using(link_traits::proofs::Parts::part_none))]
-fn write_side<O: Sink>(session: &mut Session, side: Side, out: &mut O) -> Result<(), SinkFault>
+fn write_side<O: Sink>(
+    named: Option<u32>,
+    session: &mut Session,
+    side: Side,
+    out: &mut O,
+) -> Result<(), SinkFault>
     requires { length (waits_for side session.old) < 2 ^ 32 }
-    ensures ok { OnOk result (O.told out.new ≡ added (record_where_any (kind_of side) (waits_for side session.old)) (O.told out.old)) }
-    ensures part { Part (O.told out.old) (O.told out.new) (record_where_any (kind_of side) (waits_for side session.old)) }
+    ensures ok { OnOk result (O.told out.new ≡ added (named_where_any named (kind_of side) (waits_for side session.old)) (O.told out.old)) }
+    ensures part { Part (O.told out.old) (O.told out.new) (named_where_any named (kind_of side) (waits_for side session.old)) }
     ensures session { session.new ≡ with_waiting side (waits_for side session.new) session.old }
     ensures cause { OnErr result (Rose (O.faults out.old) (O.faults out.new)) }
     ensures count { O.faults out.old ≤ O.faults out.new }
@@ -118,7 +141,7 @@ fn write_side<O: Sink>(session: &mut Session, side: Side, out: &mut O) -> Result
     if waiting(session, side) == 0 {
         return Ok(());
     }
-    write_record(session, side, out)
+    write_record(named, session, side, out)
 }
 
 /// The number of a kind of malformed message.
@@ -140,13 +163,19 @@ fn malformed_kind(kind: MalformedKind) -> u8
 
 /// Writes the record of an End that is a number alone.
 #[tactic(auto, unfolding(crate::specs::Output::header))]
-fn write_number<O: Sink>(number: u8, out: &mut O) -> Result<(), SinkFault>
-    ensures ok { OnOk result (O.told out.new ≡ added (record_of END_KIND (number ∷ [])) (O.told out.old)) }
-    ensures part { Part (O.told out.old) (O.told out.new) (record_of END_KIND (number ∷ [])) }
+fn write_number<O: Sink>(named: Option<u32>, number: u8, out: &mut O) -> Result<(), SinkFault>
+    ensures ok { OnOk result (O.told out.new ≡ added (named_record named END_KIND (number ∷ [])) (O.told out.old)) }
+    ensures part { Part (O.told out.old) (O.told out.new) (named_record named END_KIND (number ∷ [])) }
     ensures cause { OnErr result (Rose (O.faults out.old) (O.faults out.new)) }
     ensures count { O.faults out.old ≤ O.faults out.new }
 {
-    write_all(out, &[END_KIND, 1, 0, 0, 0, number])
+    match named {
+        None => write_all(out, &[END_KIND, 1, 0, 0, 0, number]),
+        Some(session) => {
+            let [a, b, c, d] = session.to_le_bytes();
+            write_all(out, &[END_KIND, a, b, c, d, 1, 0, 0, 0, number])
+        }
+    }
 }
 
 /// The number of a kind of faulty line.
@@ -187,60 +216,72 @@ fn parts_of(fault: Fault) -> FaultParts
     }
 }
 
-/// Writes the record of an End by a malformed stream.
-#[tactic(auto, unfolding(crate::specs::Output::header))]
-fn write_malformed<O: Sink>(number: u8, fault: Fault, out: &mut O) -> Result<(), SinkFault>
-    ensures ok { OnOk result (O.told out.new ≡ added (record_of END_KIND (number ∷ fault_bytes fault)) (O.told out.old)) }
-    ensures part { Part (O.told out.old) (O.told out.new) (record_of END_KIND (number ∷ fault_bytes fault)) }
-    ensures cause { OnErr result (Rose (O.faults out.old) (O.faults out.new)) }
-    ensures count { O.faults out.old ≤ O.faults out.new }
+/// The bytes of the record of an End by a malformed stream.
+fn malformed_bytes(number: u8, fault: Fault) -> [u8; 11]
+    ensures { result ≡ number ∷ fault_bytes fault }
 {
     let FaultParts { form, kind, at } = parts_of(fault);
     let [a, b, c, d, e, f, g, h] = at.to_le_bytes();
-    write_all(
-        out,
-        &[
-            END_KIND, 11, 0, 0, 0, number, form, kind, a, b, c, d, e, f, g, h,
-        ],
-    )
+    [number, form, kind, a, b, c, d, e, f, g, h]
+}
+
+/// Writes the record of an End by a malformed stream.
+#[tactic(auto, using(link_traits::proofs::Parts::part_first, link_traits::proofs::Parts::part_second, link_traits::proofs::Parts::then_all))]
+fn write_malformed<O: Sink>(
+    named: Option<u32>,
+    number: u8,
+    fault: Fault,
+    out: &mut O,
+) -> Result<(), SinkFault>
+    ensures ok { OnOk result (O.told out.new ≡ added (named_record named END_KIND (number ∷ fault_bytes fault)) (O.told out.old)) }
+    ensures part { Part (O.told out.old) (O.told out.new) (named_record named END_KIND (number ∷ fault_bytes fault)) }
+    ensures cause { OnErr result (Rose (O.faults out.old) (O.faults out.new)) }
+    ensures count { O.faults out.old ≤ O.faults out.new }
+{
+    write_header(named, END_KIND, 11, out)?;
+    write_all(out, &malformed_bytes(number, fault))
 }
 
 /// Writes the record of the End, where the session ended.
 #[tactic(auto, using(link_traits::proofs::Parts::part_none))]
-fn write_end<O: Sink>(ended: Option<End>, out: &mut O) -> Result<(), SinkFault>
-    ensures ok { OnOk result (O.told out.new ≡ added (end_record ended) (O.told out.old)) }
-    ensures part { Part (O.told out.old) (O.told out.new) (end_record ended) }
+fn write_end<O: Sink>(named: Option<u32>, ended: Option<End>, out: &mut O) -> Result<(), SinkFault>
+    ensures ok { OnOk result (O.told out.new ≡ added (named_end named ended) (O.told out.old)) }
+    ensures part { Part (O.told out.old) (O.told out.new) (named_end named ended) }
     ensures cause { OnErr result (Rose (O.faults out.old) (O.faults out.new)) }
     ensures count { O.faults out.old ≤ O.faults out.new }
 {
     match ended {
         None => Ok(()),
-        Some(End::ClientMalformed(fault)) => write_malformed(1, fault, out),
-        Some(End::BusMalformed(fault)) => write_malformed(2, fault, out),
-        Some(End::ClientEnd) => write_number(3, out),
-        Some(End::BusEnd) => write_number(4, out),
-        Some(End::SerialsSpent) => write_number(5, out),
-        Some(End::Memory) => write_number(6, out),
-        Some(End::ClientRead) => write_number(7, out),
-        Some(End::ClientWrite) => write_number(8, out),
-        Some(End::BusRead) => write_number(9, out),
-        Some(End::BusWrite) => write_number(10, out),
-        Some(End::BusConnect) => write_number(11, out),
-        Some(End::LogFault) => write_number(12, out),
+        Some(End::ClientMalformed(fault)) => write_malformed(named, 1, fault, out),
+        Some(End::BusMalformed(fault)) => write_malformed(named, 2, fault, out),
+        Some(End::ClientEnd) => write_number(named, 3, out),
+        Some(End::BusEnd) => write_number(named, 4, out),
+        Some(End::SerialsSpent) => write_number(named, 5, out),
+        Some(End::Memory) => write_number(named, 6, out),
+        Some(End::ClientRead) => write_number(named, 7, out),
+        Some(End::ClientWrite) => write_number(named, 8, out),
+        Some(End::BusRead) => write_number(named, 9, out),
+        Some(End::BusWrite) => write_number(named, 10, out),
+        Some(End::BusConnect) => write_number(named, 11, out),
+        Some(End::LogFault) => write_number(named, 12, out),
     }
 }
 
-/// Writes all that waits, and the End.
+/// Writes all that waits, and the End, with the session's number in each record if there is one.
 #[tactic(auto, using(link_traits::proofs::Parts::part_first, link_traits::proofs::Parts::part_second, link_traits::proofs::Parts::then_all))]
-pub fn write_output<O: Sink>(session: &mut Session, out: &mut O) -> Result<(), SinkFault>
+pub fn write_output<O: Sink>(
+    named: Option<u32>,
+    session: &mut Session,
+    out: &mut O,
+) -> Result<(), SinkFault>
     requires bus { length session.old.bus_side < 2 ^ 32 }
     requires client { length session.old.client_side < 2 ^ 32 }
-    ensures ok { OnOk result (O.told out.new ≡ added (output_of session.old) (O.told out.old)) }
-    ensures part { Part (O.told out.old) (O.told out.new) (output_of session.old) }
+    ensures ok { OnOk result (O.told out.new ≡ added (named_output named session.old) (O.told out.old)) }
+    ensures part { Part (O.told out.old) (O.told out.new) (named_output named session.old) }
     ensures cause { OnErr result (Rose (O.faults out.old) (O.faults out.new)) }
     ensures count { O.faults out.old ≤ O.faults out.new }
 {
-    write_side(session, Side::Bus, out)?;
-    write_side(session, Side::Client, out)?;
-    write_end(session.ended(), out)
+    write_side(named, session, Side::Bus, out)?;
+    write_side(named, session, Side::Client, out)?;
+    write_end(named, session.ended(), out)
 }

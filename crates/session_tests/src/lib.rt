@@ -2,6 +2,8 @@
 #![tactic(auto)]
 
 #[cfg(test)]
+mod many_sessions;
+#[cfg(test)]
 mod name_lists;
 #[cfg(test)]
 mod notes;

@@ -14,7 +14,7 @@ use test_tables::{plain, text_of, wrong_row};
 ///
 /// In three of them the client calls `a.b`: the call and its answer are numbered anew, or a ping stands in the place of a
 /// call to a hidden name, without a log and with one.
-const REPLAYS: &str = "\
+pub const REPLAYS: &str = "\
 --filter 64 DBPR%01~ => Ok(()) [] 0 0
 --filter 64 DBPR%01~%02~~~~ => Ok(()) [%12%01~~~%03] 0 0
 --filter 6 DBPR%01~%03~~~~%02~~~~ => Ok(()) [%12%01~~~%04] 0 0
@@ -84,7 +84,7 @@ fn told_file(
     }
 }
 
-fn told_output(
+pub fn told_output(
     alloc: Global,
     answer: Result<(), ReplayFault>,
     out: &MemSink,

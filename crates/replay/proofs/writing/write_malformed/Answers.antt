@@ -1,14 +1,13 @@
-use Rattle.std.proofs.Common.{◌≡◌, subst, OnOk}
-use Rattle.link_traits.specs.Told.{added, Part}
-use Rattle.replay.proofs.Records.{malformed-record}
+use Rattle.std.proofs.Common.{◌∷◌, ◌++◌, ℕ, sym, subst}
+use Rattle.link_traits.specs.Told.{Part}
+use Rattle.link_traits.proofs.Parts.{part_first}
+use Rattle.replay.specs.Output.{fault_bytes}
+use Rattle.replay.specs.SessionsOutput.{named_header}
+use Rattle.replay.proofs.Records.{malformed-length}
 use Rattle.replay.proofs.writing.write_malformed.Goals as goal
 
-pub returns-clause-ok : goal.returns-clause-ok
-returns-clause-ok g c =
-    subst (λ t. OnOk c.write_all.result (g.O.Sink.told c.write_all.new.sink ≡ added t (g.O.Sink.told c.args.out.now)))
-    (malformed-record c.args.number c.parts_of-form.result.form c.parts_of-form.result.kind c.parts_of-form.result.at c.to_le_bytes.result c.args.fault c.parts_of-form.ensures c.to_le_bytes.ensures) c.write_all.ensures.ok
-
-pub returns-clause-part : goal.returns-clause-part
-returns-clause-part g c =
-    subst (λ t. Part (g.O.Sink.told c.args.out.now) (g.O.Sink.told c.write_all.new.sink) t)
-    (malformed-record c.args.number c.parts_of-form.result.form c.parts_of-form.result.kind c.parts_of-form.result.at c.to_le_bytes.result c.args.fault c.parts_of-form.ensures c.to_le_bytes.ensures) c.write_all.ensures.part
+pub returns-in_err-write_header-clause-part : goal.returns-in_err-write_header-clause-part
+returns-in_err-write_header-clause-part g c =
+    let bytes = c.args.number ∷ fault_bytes c.args.fault in
+    subst (λ (n : ℕ). Part (g.O.Sink.told c.args.out.now) (g.O.Sink.told c.write_header.new.out) (named_header c.args.named 18 n ++ bytes)) (sym (malformed-length c.args.number c.args.fault))
+    (part_first _ _ (named_header c.args.named 18 11) bytes c.write_header.ensures.part)

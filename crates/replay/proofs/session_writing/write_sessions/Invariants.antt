@@ -1,0 +1,18 @@
+use Rattle.std.proofs.Common.{◌≡◌, ◌≤◌, ◌++◌, ℕ, List, length}
+use Rattle.std.specs.List.{AllByRecursion}
+use Rattle.link_traits.specs.Told.{added}
+use Rattle.replay.specs.SessionsPlayed.{IsShort}
+use Rattle.replay.proofs.SessionOutputs.{all_outputs}
+use Rattle.replay.proofs.session_writing.write_sessions.Given as goal
+
+abbrev pub invariant-loop-number : goal.invariant-loop-number
+invariant-loop-number g l = record {
+  written : List ℕ;
+  split : all_outputs l.fn.running.entries ≡ written ++ all_outputs l.running.entries;
+  got : g.O.Sink.told l.out ≡ added written (g.O.Sink.told l.fn.out);
+  few : AllByRecursion IsShort l.running.entries;
+  count : g.O.Sink.faults l.fn.out ≤ g.O.Sink.faults l.out;
+}
+
+abbrev pub decreases-loop-number : goal.decreases-loop-number
+decreases-loop-number g l = length l.running.entries
