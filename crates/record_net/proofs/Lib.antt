@@ -1,3 +1,4 @@
 pub mod Putting
 pub mod Recordings
+pub mod Fits
 pub mod SessionLaws

@@ -1,5 +1,6 @@
 -- How a recording goes on.
-use Rattle.std.proofs.Common.{◌≡◌, ◌≢◌, ◌≤◌, ◌<◌, ◌+◌, ℕ, zero, suc, List, [], ◌∷◌, ◌++◌, Option, None, Some, Result, Ok, Err, OnOk, IfSome, refl, ap, ap₂, sym, ◌∙◌, subst, length, take, arith, append_assoc, append-nil, length-append}
+use Rattle.std.proofs.Common.{◌≡◌, ◌≢◌, ◌≤◌, ◌<◌, ◌+◌, ℕ, zero, suc, List, [], ◌∷◌, ◌++◌, Bool, true, ◌&&◌, Option, None, Some, Result, Ok, Err, OnOk, IfSome, refl, ap, ap₂, sym, ◌∙◌, subst, length, take, arith, append_assoc, append-nil, length-append}
+use Rattle.std.specs.List.{list_all}
 use Rattle.std.proofs.lemmas.List.{take-append-le}
 use Rattle.link_traits.specs.Journals.{Journal}
 use Rattle.link_traits.specs.Entries.{Entry}
@@ -12,6 +13,7 @@ use Rattle.link_traits.specs.declared.links.NetFault.{NetFault}
 use Rattle.link_traits.specs.declared.links.NetFault.TheVariants as net_fault
 use Rattle.link_traits.specs.declared.outside.FileFault.{FileFault}
 use Rattle.link_traits.specs.declared.outside.FileFault.TheVariants.{Failed, TooLong}
+use Rattle.record_net.specs.Fitting.{entry_fits}
 use Rattle.record_net.specs.Records.{record_by, records_of, recorded, head}
 use Rattle.record_net.specs.Tapes.{FilesView, Tape, Puts}
 use Rattle.record_net.specs.Starts.{Start, start_of, IsRecording}
@@ -46,10 +48,14 @@ no_more (x ∷ since) before e = absurd (omega (arith, ap length e, length-appen
 pub recorded-next : (earlier : Journal) (entry : Entry) → recorded (entry ∷ earlier) ≡ recorded earlier ++ record_by entry
 recorded-next earlier entry = sym (append_assoc head (records_of earlier) (record_by entry))
 
+-- what is told of an entry that is added, from the journal before it
+abbrev pub FitsAfter : NetView → Entry → Type 0
+FitsAfter old entry = (before : Journal) → old.journal ≡ Some before → entry_fits entry ≡ true
+
 -- ---- one entry more
 
 module _ (start : Start) (old new : NetView) (t0 t1 : Tape) (entry : Entry) (was : IsRecording start old.journal t0) (adds : Adds old new (entry ∷ []))
-    (puts : Puts start.path (record_by entry) t0 t1) where
+    (puts : Puts start.path (record_by entry) t0 t1) (fits : FitsAfter old entry) where
   -- what was since the start, and its place before the entry
   record Earlier (before since : Journal) : Type 0 where
     earlier : Journal
@@ -75,6 +81,12 @@ module _ (start : Start) (old new : NetView) (t0 t1 : Tape) (entry : Entry) (was
       let o = added_some (record_by entry) (t0.files.told start.path) bytes (sym p.1 ∙ told) in
       let first : o.0 ≡ recorded s.earlier = was.whole before s.earlier o.0 b s.told o.1 p.0 in
       o.2 ∙ ap (λ (l : List ℕ). l ++ record_by entry) first ∙ sym (recorded-next s.earlier entry) ∙ sym (ap recorded s.is)
+
+  fit : (before since : Journal) → start.journal ≡ Some before → new.journal ≡ Some (since ++ before) → list_all entry_fits since ≡ true
+  fit before since b n =
+      let s = earlier_of before since b n in
+      ap (list_all entry_fits) s.is
+      ∙ ap₂ (λ (x y : Bool). x && y) (fits (s.earlier ++ before) s.told) (was.fit before s.earlier b s.told)
 
   -- a prefix of what was recorded before, or of that and the entry's record, lacks some bytes of both
   IsPart : List ℕ → List ℕ → Type 0
@@ -126,6 +138,7 @@ module _ (start : Start) (old new : NetView) (t0 t1 : Tape) (entry : Entry) (was
     longer = longer;
     whole = whole;
     part = part_of t0.failed refl;
+    fit = fit;
     cause = cause_of t0.failed refl;
     short = short_of t0.failed refl;
     others = λ p n. puts.others p n ∙ was.others p n;
@@ -135,9 +148,9 @@ module _ (start : Start) (old new : NetView) (t0 t1 : Tape) (entry : Entry) (was
 
 -- .. where the path is known by an equation
 pub goes_on_at : (start : Start) (old new : NetView) (t0 t1 : Tape) (entry : Entry) (path : List ℕ) → IsRecording start old.journal t0 → Adds old new (entry ∷ []) →
-    path ≡ start.path → Puts path (record_by entry) t0 t1 → IsRecording start new.journal t1
-goes_on_at start old new t0 t1 entry path was adds same puts =
-    goes_on start old new t0 t1 entry was adds (subst (λ (p : List ℕ). Puts p (record_by entry) t0 t1) same puts)
+    path ≡ start.path → Puts path (record_by entry) t0 t1 → FitsAfter old entry → IsRecording start new.journal t1
+goes_on_at start old new t0 t1 entry path was adds same puts fits =
+    goes_on start old new t0 t1 entry was adds (subst (λ (p : List ℕ). Puts p (record_by entry) t0 t1) same puts) fits
 
 -- ---- no entry more
 
@@ -146,6 +159,7 @@ stays start old new t was adds = record {
   longer = λ before now b n. let a = adds.told now n in omega (arith, was.longer before a.0 b a.1, ap length a.2);
   whole = λ before since bytes b n told none. let a = adds.told (since ++ before) n in was.whole before since bytes b (a.1 ∙ ap Some (sym a.2)) told none;
   part = λ before since bytes fault b n told some. let a = adds.told (since ++ before) n in was.part before since bytes fault b (a.1 ∙ ap Some (sym a.2)) told some;
+  fit = λ before since b n. let a = adds.told (since ++ before) n in was.fit before since b (a.1 ∙ ap Some (sym a.2));
   cause = was.cause;
   short = was.short;
   others = was.others;
@@ -155,9 +169,9 @@ stays start old new t was adds = record {
 
 -- an entry more that gives no record
 pub goes_on_silently : (start : Start) (old new : NetView) (t : Tape) (entry : Entry) → IsRecording start old.journal t → Adds old new (entry ∷ []) → record_by entry ≡ [] →
-    IsRecording start new.journal t
-goes_on_silently start old new t entry was adds silent =
-    goes_on start old new t t entry was adds (subst (λ (bytes : List ℕ). Puts start.path bytes t t) (sym silent) (put_nothing start.path t.files t.failed))
+    FitsAfter old entry → IsRecording start new.journal t
+goes_on_silently start old new t entry was adds silent fits =
+    goes_on start old new t t entry was adds (subst (λ (bytes : List ℕ). Puts start.path bytes t t) (sym silent) (put_nothing start.path t.files t.failed)) fits
 
 pub silent_listen : (path : List ℕ) (answer : Result ℕ NetFault) → record_by (listen_entry path answer) ≡ []
 silent_listen path (Ok listener) = refl
@@ -182,6 +196,10 @@ starts journal old new path is others count unread = record {
       let same : before ≡ since ++ before = cc in
       is bytes told ∙ sym (append-nil head) ∙ sym (ap recorded (no_more since before same));
   part = λ before since bytes fault b n told some. absurd (cc);
+  fit = λ before since b n.
+      let e : Some before ≡ Some (since ++ before) = sym b ∙ n in
+      let same : before ≡ since ++ before = cc in
+      ap (list_all entry_fits) (no_more since before same);
   cause = λ some. absurd (cc);
   short = λ some. absurd (cc);
   others = others;

@@ -1,14 +1,15 @@
 //! The file of a recording, and how records get into it.
 ghost use Rattle.std.specs.Prelude.{◌≡◌, ◌≢◌, ◌≤◌, ◌<◌, ◌+◌, ℕ, List, Option, None, Some, Err, OnOk, IfOk, IfSome, IsErrOf, length, string_bytes, vec_capacity};
 ghost use Rattle.link_traits.specs.Told.{Rose};
-ghost use Rattle.record_net.specs.Records.{spelled_record, head};
+ghost use Rattle.record_net.specs.Records.{spelled_record, bytes_kind, head};
 ghost use Rattle.link_traits.specs.Journals.{Journal};
 ghost use Rattle.record_net.specs.Starts.{IsRecording, start_of};
 ghost use Rattle.record_net.specs.Tapes.{Appended, Puts, files_of, tape_of};
 
-use crate::spelling::{HEAD, spell};
+use crate::spelling::spell;
 use crate::{READ_LIMIT, RECORD_HEAD_LEN};
-use link_traits::{FileFault, Files};
+use link_traits::{FileFault, Files, Side};
+use recording::session_file_head;
 use std::alloc::Global;
 
 /// The file that a recorder appends to. Memory for the longest record is taken when it is made.
@@ -62,18 +63,27 @@ impl RecordFile {
     }
 
     /// Appends a record, unless an append failed before.
-    pub(crate) fn put<F: Files>(&mut self, files: &mut F, kind: u8, session: u32, bytes: &[u8])
-        requires { length bytes.now ≤ READ_LIMIT }
-        ensures puts { Puts (string_bytes self.old.path) (spelled_record kind session bytes.now) (tape_of (F.told files.old) (F.faults files.old) (F.reads files.old) self.old.failed) (tape_of (F.told files.new) (F.faults files.new) (F.reads files.new) self.new.failed) }
+    pub(crate) fn put<F: Files>(&mut self, files: &mut F, bytes: &[u8])
+        ensures puts { Puts (string_bytes self.old.path) bytes.now (tape_of (F.told files.old) (F.faults files.old) (F.reads files.old) self.old.failed) (tape_of (F.told files.new) (F.faults files.new) (F.reads files.new) self.new.failed) }
         ensures path { string_bytes self.new.path ≡ string_bytes self.old.path }
     {
-        if self.failed.is_some() {
-            return;
-        }
-        spell(&mut self.buffer, kind, session, bytes);
-        if let Err(fault) = append_all(files, &self.path, &self.buffer) {
-            self.failed = Some(fault);
-        }
+        append_unless_failed(files, &self.path, &mut self.failed, bytes);
+    }
+
+    /// Appends the record of bytes that came from a side, unless an append failed before.
+    pub(crate) fn put_bytes<F: Files>(
+        &mut self,
+        files: &mut F,
+        side: Side,
+        session: u32,
+        bytes: &[u8],
+    )
+        requires { length bytes.now ≤ READ_LIMIT }
+        ensures puts { Puts (string_bytes self.old.path) (spelled_record (bytes_kind side) session bytes.now) (tape_of (F.told files.old) (F.faults files.old) (F.reads files.old) self.old.failed) (tape_of (F.told files.new) (F.faults files.new) (F.reads files.new) self.new.failed) }
+        ensures path { string_bytes self.new.path ≡ string_bytes self.old.path }
+    {
+        spell(&mut self.buffer, side, session, bytes);
+        append_unless_failed(files, &self.path, &mut self.failed, &self.buffer);
     }
 }
 
@@ -100,8 +110,25 @@ fn create_with_head<F: Files>(files: &mut F, path: &str) -> Result<(), FileFault
     ensures unread { F.reads files.new ≡ F.reads files.old }
 {
     match files.create(path) {
-        Ok(()) => append_all(files, path, &HEAD),
+        Ok(()) => append_all(files, path, &session_file_head(true)),
         Err(fault) => Err(fault),
+    }
+}
+
+/// Appends a record, unless an append failed before, and keeps the error if this one fails.
+fn append_unless_failed<F: Files>(
+    files: &mut F,
+    path: &str,
+    failed: &mut Option<FileFault>,
+    bytes: &[u8],
+)
+    ensures { Puts path.now bytes.now (tape_of (F.told files.old) (F.faults files.old) (F.reads files.old) failed.old) (tape_of (F.told files.new) (F.faults files.new) (F.reads files.new) failed.new) }
+{
+    if failed.is_some() {
+        return;
+    }
+    if let Err(fault) = append_all(files, path, bytes) {
+        *failed = Some(fault);
     }
 }
 

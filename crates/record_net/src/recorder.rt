@@ -1,5 +1,5 @@
 //! The net that records.
-ghost use Rattle.std.specs.Prelude.{◌≡◌, ◌≤◌, ◌<◌, ◌+◌, [], ◌∷◌, ℕ, true, Some, None, IfOk, IsErrOf, OnOk, length, drop, string_bytes};
+ghost use Rattle.std.specs.Prelude.{◌≡◌, ◌≤◌, ◌<◌, ◌+◌, ◌^◌, [], ◌∷◌, ℕ, true, Some, None, IfOk, IsErrOf, OnOk, length, drop, string_bytes};
 ghost use Rattle.std.specs.Option.{option_map};
 ghost use Rattle.link_traits.specs.Journals.{Journal, accepts, listens};
 ghost use Rattle.link_traits.specs.Entries.{ready, shut};
@@ -13,7 +13,7 @@ ghost use Rattle.record_net.specs.Starts.{IsRecording, start_of};
 
 use crate::READ_LIMIT;
 use crate::record_file::RecordFile;
-use crate::spelling::{CONNECT_END, FAILED_KIND, bytes_kind, finished_kind, read_end, write_end};
+use crate::spelling::{CONNECT_END, end_record, failed_record, read_end, write_end};
 use link_traits::{Accepted, FileFault, Files, Got, Link, Net, NetFault, Ready, Took};
 
 /// A net that passes each call on to another net, and appends a record of what that net's links gave to a file.
@@ -113,8 +113,8 @@ impl<N: Net, F: Files> Net for Recorder<'_, N, F> {
     {
         let answer = self.net.connect(session, path);
         if let Err(NetFault::Failed) = answer {
-            self.file
-                .put(self.files, FAILED_KIND, session, &[CONNECT_END]);
+            let record = failed_record(session, CONNECT_END);
+            self.file.put(self.files, &record);
         }
         answer
     }
@@ -146,6 +146,9 @@ impl<N: Net, F: Files> Net for Recorder<'_, N, F> {
         ensures limit { (n : ℕ) → result ≡ Got.Bytes n → n ≤ READ_LIMIT }
         ensures rest { drop READ_LIMIT into.new ≡ drop READ_LIMIT into.old }
 
+        // The session is a number of four bytes.
+        ensures session { link.session < 2 ^ 32 }
+
         // What the trait says.
         ensures told { Adds (N.view self.old.net.now) (N.view self.new.net.now) (read_entry link into.new result ∷ []) }
         ensures within { (n : ℕ) → result ≡ Got.Bytes n → n ≤ length into.new }
@@ -154,19 +157,20 @@ impl<N: Net, F: Files> Net for Recorder<'_, N, F> {
         ensures not_ready { result ≡ Got.NotReady → RoseAt Count.Waits (N.view self.old.net.now) (N.view self.new.net.now) }
         ensures wishes { KeepsWishes (N.view self.old.net.now) (N.view self.new.net.now) }
     {
+        let session = link.session;
         let got = read_front(self.net, link, into);
         match got {
             Got::Bytes(n) => {
-                let kind = bytes_kind(link.side);
-                self.file.put(self.files, kind, link.session, &into[..n]);
+                self.file
+                    .put_bytes(self.files, link.side, session, &into[..n]);
             }
             Got::Finished => {
-                let kind = finished_kind(link.side);
-                self.file.put(self.files, kind, link.session, &[]);
+                let record = end_record(link.side, session);
+                self.file.put(self.files, &record);
             }
             Got::Failed => {
-                let end = read_end(link.side);
-                self.file.put(self.files, FAILED_KIND, link.session, &[end]);
+                let record = failed_record(session, read_end(link.side));
+                self.file.put(self.files, &record);
             }
             Got::NotReady => {}
         }
@@ -181,6 +185,9 @@ impl<N: Net, F: Files> Net for Recorder<'_, N, F> {
         ensures files_name { self.new.files.ghost_name ≡ self.old.files.ghost_name }
         ensures file_name { self.new.file.ghost_name ≡ self.old.file.ghost_name }
 
+        // The session is a number of four bytes.
+        ensures session { link.session < 2 ^ 32 }
+
         // What the trait says.
         ensures told { Adds (N.view self.old.net.now) (N.view self.new.net.now) (write_entry link piece.now result ∷ []) }
         ensures within { (n : ℕ) → result ≡ Took.Bytes n → n ≤ length piece.now }
@@ -189,11 +196,12 @@ impl<N: Net, F: Files> Net for Recorder<'_, N, F> {
         ensures not_ready { result ≡ Took.NotReady → RoseAt Count.Waits (N.view self.old.net.now) (N.view self.new.net.now) }
         ensures wishes { KeepsWishes (N.view self.old.net.now) (N.view self.new.net.now) }
     {
+        let session = link.session;
         let took = self.net.write(link, piece);
         match took {
             Took::Failed => {
-                let end = write_end(link.side);
-                self.file.put(self.files, FAILED_KIND, link.session, &[end]);
+                let record = failed_record(session, write_end(link.side));
+                self.file.put(self.files, &record);
             }
             Took::Bytes(_) | Took::NotReady => {}
         }

@@ -1,4 +1,5 @@
-//! Tests of recorders over nets and files in memory, and a caller that records what code over any net does.
+//! Tests of recorders and of recorded runs over nets and files in memory, and a caller that records what code over any net
+//! does.
 #![tactic(auto)]
 
 pub mod callers;
@@ -6,3 +7,5 @@ pub mod callers;
 mod calls;
 #[cfg(test)]
 mod recordings;
+#[cfg(test)]
+mod runs;

@@ -33,7 +33,7 @@ arrival 0; most 1, fails 6; listen => Failed
 ";
 
 /// Files of which none is there.
-fn files(alloc: Global, script: &str) -> MemFiles {
+pub fn files(alloc: Global, script: &str) -> MemFiles {
     let mut files = MemFiles::new(Vec::new(alloc));
     for word in script.split(", ") {
         let (kind, number) = word.split_once(' ').unwrap_or((word, ""));
@@ -49,7 +49,7 @@ fn files(alloc: Global, script: &str) -> MemFiles {
 }
 
 /// What the first file holds.
-fn held(alloc: Global, files: &MemFiles) -> Result<String, AllocError> {
+pub fn held(alloc: Global, files: &MemFiles) -> Result<String, AllocError> {
     match files.files.first() {
         Some(file) => text_of(alloc, &file.bytes),
         None => String::from_str(alloc, "no file"),

@@ -8,5 +8,5 @@ invariant_of-self g c = record {
   path = ap (λ f. string_bytes f.now.path) c.wait.ensures.file ∙ c.args.self.now.path;
   net = c.wait.ensures.net_name ∙ c.args.self.now.net;
   files = ap (λ f. f.ghost_name) c.wait.ensures.files ∙ c.args.self.now.files;
-  recording = rw (c.wait.ensures.files, c.wait.ensures.file) (goes_on_silently g.K.RecordingStart.start (g.N.Net.view c.args.self.now.recorder.net.now) (g.N.Net.view c.wait.new.self.net.now) _ (ready c.wait.result) c.args.self.now.recording c.wait.ensures.told refl);
+  recording = rw (c.wait.ensures.files, c.wait.ensures.file) (goes_on_silently g.K.RecordingStart.start (g.N.Net.view c.args.self.now.recorder.net.now) (g.N.Net.view c.wait.new.self.net.now) _ (ready c.wait.result) c.args.self.now.recording c.wait.ensures.told refl (λ before told. refl));
 }

@@ -1,0 +1,70 @@
+//! What comes of a proxy line that is served while its net is recorded. A row has the line's words, what appends answer and
+//! the net's script, and then how the server ends, the first error of an append, what was written to the links and what the file
+//! holds. Where the file can't be made, the error is told, and what the net answers to its first listen then.
+use crate::recordings::{files, held};
+use link_traits::{MemNet, MemSink, Net, NetFault};
+use policy_args::{LineRefusal, ProxyLine, read_line};
+use recorded_run::serve_recorded;
+use std::alloc::{AllocError, Global};
+use std::test::Fail;
+use test_nets::{add_written, net_of};
+use test_tables::wrong_row;
+
+/// Two sessions, of which one is malformed from its first byte and one calls org.a.T and is answered: over files that take all, a
+/// byte at each append, and that fail at an append. Files that can't be made. A line that can't be listened for, and a connect that
+/// fails.
+const RUNS: &str = "\
+unix:path=/bus /p --filter --talk=org.a.T --sessions=2; ; arrival 0, arrival 0, piece c1 A, piece c2 ~AUTH EXTERNAL%0D%0ABEGIN%0D, piece c2 %0Al%01~%01~~~~%01~~~@~~~%01%01o~%02~~~/p~~~~~~%02%01s~%07~~~org.a.I~%03%01s~%01~~~A~~~~~~~%06%01s~%07~~~org.a.T~, piece b2 OK 00112233445566778899aabbccddeeff%0D%0Al%02%01%01~~~~%09~~~%25~~~%05%01u~%01~~~%06%01s~%05~~~:1.40~~~%07%01s~%04~~~:1.7~~~~, end c2 => Ok(()), None, c1 , b1 , c2 OK 00112233445566778899aabbccddeeff%0D%0Al%02%01%01~~~~%09~~~%25~~~%05%01u~%01~~~%06%01s~%05~~~:1.40~~~%07%01s~%04~~~:1.7~~~~, b2 ~AUTH EXTERNAL%0D%0ABEGIN%0D%0Al%01~%01~~~~%01~~~@~~~%01%01o~%02~~~/p~~~~~~%02%01s~%07~~~org.a.I~%03%01s~%01~~~A~~~~~~~%06%01s~%07~~~org.a.T~, DBPR%02%01~%01~~~%01~~~A~%02~~~%16~~~~AUTH EXTERNAL%0D%0ABEGIN%0D~%02~~~Q~~~%0Al%01~%01~~~~%01~~~@~~~%01%01o~%02~~~/p~~~~~~%02%01s~%07~~~org.a.I~%03%01s~%01~~~A~~~~~~~%06%01s~%07~~~org.a.T~%01%02~~~]~~~OK 00112233445566778899aabbccddeeff%0D%0Al%02%01%01~~~~%09~~~%25~~~%05%01u~%01~~~%06%01s~%05~~~:1.40~~~%07%01s~%04~~~:1.7~~~~%02%02~~~~~~~
+unix:path=/bus /p --filter --talk=org.a.T --sessions=2; most 1; arrival 0, arrival 0, piece c1 A, piece c2 ~AUTH EXTERNAL%0D%0ABEGIN%0D, piece c2 %0Al%01~%01~~~~%01~~~@~~~%01%01o~%02~~~/p~~~~~~%02%01s~%07~~~org.a.I~%03%01s~%01~~~A~~~~~~~%06%01s~%07~~~org.a.T~, piece b2 OK 00112233445566778899aabbccddeeff%0D%0Al%02%01%01~~~~%09~~~%25~~~%05%01u~%01~~~%06%01s~%05~~~:1.40~~~%07%01s~%04~~~:1.7~~~~, end c2 => Ok(()), None, c1 , b1 , c2 OK 00112233445566778899aabbccddeeff%0D%0Al%02%01%01~~~~%09~~~%25~~~%05%01u~%01~~~%06%01s~%05~~~:1.40~~~%07%01s~%04~~~:1.7~~~~, b2 ~AUTH EXTERNAL%0D%0ABEGIN%0D%0Al%01~%01~~~~%01~~~@~~~%01%01o~%02~~~/p~~~~~~%02%01s~%07~~~org.a.I~%03%01s~%01~~~A~~~~~~~%06%01s~%07~~~org.a.T~, DBPR%02%01~%01~~~%01~~~A~%02~~~%16~~~~AUTH EXTERNAL%0D%0ABEGIN%0D~%02~~~Q~~~%0Al%01~%01~~~~%01~~~@~~~%01%01o~%02~~~/p~~~~~~%02%01s~%07~~~org.a.I~%03%01s~%01~~~A~~~~~~~%06%01s~%07~~~org.a.T~%01%02~~~]~~~OK 00112233445566778899aabbccddeeff%0D%0Al%02%01%01~~~~%09~~~%25~~~%05%01u~%01~~~%06%01s~%05~~~:1.40~~~%07%01s~%04~~~:1.7~~~~%02%02~~~~~~~
+unix:path=/bus /p --filter --talk=org.a.T --sessions=2; fails 3; arrival 0, arrival 0, piece c1 A, piece c2 ~AUTH EXTERNAL%0D%0ABEGIN%0D, piece c2 %0Al%01~%01~~~~%01~~~@~~~%01%01o~%02~~~/p~~~~~~%02%01s~%07~~~org.a.I~%03%01s~%01~~~A~~~~~~~%06%01s~%07~~~org.a.T~, piece b2 OK 00112233445566778899aabbccddeeff%0D%0Al%02%01%01~~~~%09~~~%25~~~%05%01u~%01~~~%06%01s~%05~~~:1.40~~~%07%01s~%04~~~:1.7~~~~, end c2 => Ok(()), Some(Failed), c1 , b1 , c2 OK 00112233445566778899aabbccddeeff%0D%0Al%02%01%01~~~~%09~~~%25~~~%05%01u~%01~~~%06%01s~%05~~~:1.40~~~%07%01s~%04~~~:1.7~~~~, b2 ~AUTH EXTERNAL%0D%0ABEGIN%0D%0Al%01~%01~~~~%01~~~@~~~%01%01o~%02~~~/p~~~~~~%02%01s~%07~~~org.a.I~%03%01s~%01~~~A~~~~~~~%06%01s~%07~~~org.a.T~, DBPR%02%01~%01~~~%01~~~A
+unix:path=/bus /p --filter --talk=org.a.T --sessions=2; most 8, fails 3; arrival 0, arrival 0, piece c1 A, piece c2 ~AUTH EXTERNAL%0D%0ABEGIN%0D, piece c2 %0Al%01~%01~~~~%01~~~@~~~%01%01o~%02~~~/p~~~~~~%02%01s~%07~~~org.a.I~%03%01s~%01~~~A~~~~~~~%06%01s~%07~~~org.a.T~, piece b2 OK 00112233445566778899aabbccddeeff%0D%0Al%02%01%01~~~~%09~~~%25~~~%05%01u~%01~~~%06%01s~%05~~~:1.40~~~%07%01s~%04~~~:1.7~~~~, end c2 => Ok(()), Some(Failed), c1 , b1 , c2 OK 00112233445566778899aabbccddeeff%0D%0Al%02%01%01~~~~%09~~~%25~~~%05%01u~%01~~~%06%01s~%05~~~:1.40~~~%07%01s~%04~~~:1.7~~~~, b2 ~AUTH EXTERNAL%0D%0ABEGIN%0D%0Al%01~%01~~~~%01~~~@~~~%01%01o~%02~~~/p~~~~~~%02%01s~%07~~~org.a.I~%03%01s~%01~~~A~~~~~~~%06%01s~%07~~~org.a.T~, DBPR%02%01~%01~~~%01~~
+unix:path=/bus /p --filter --talk=org.a.T --sessions=2; refused 2; arrival 0, arrival 0, piece c1 A, piece c2 ~AUTH EXTERNAL%0D%0ABEGIN%0D, piece c2 %0Al%01~%01~~~~%01~~~@~~~%01%01o~%02~~~/p~~~~~~%02%01s~%07~~~org.a.I~%03%01s~%01~~~A~~~~~~~%06%01s~%07~~~org.a.T~, piece b2 OK 00112233445566778899aabbccddeeff%0D%0Al%02%01%01~~~~%09~~~%25~~~%05%01u~%01~~~%06%01s~%05~~~:1.40~~~%07%01s~%04~~~:1.7~~~~, end c2 => Ok(()), Some(Memory), c1 , b1 , c2 OK 00112233445566778899aabbccddeeff%0D%0Al%02%01%01~~~~%09~~~%25~~~%05%01u~%01~~~%06%01s~%05~~~:1.40~~~%07%01s~%04~~~:1.7~~~~, b2 ~AUTH EXTERNAL%0D%0ABEGIN%0D%0Al%01~%01~~~~%01~~~@~~~%01%01o~%02~~~/p~~~~~~%02%01s~%07~~~org.a.I~%03%01s~%01~~~A~~~~~~~%06%01s~%07~~~org.a.T~, DBPR%02%01
+unix:path=/bus /p --filter --talk=org.a.T --sessions=2; fails 1; arrival 0, arrival 0, piece c1 A, piece c2 ~AUTH EXTERNAL%0D%0ABEGIN%0D, piece c2 %0Al%01~%01~~~~%01~~~@~~~%01%01o~%02~~~/p~~~~~~%02%01s~%07~~~org.a.I~%03%01s~%01~~~A~~~~~~~%06%01s~%07~~~org.a.T~, piece b2 OK 00112233445566778899aabbccddeeff%0D%0Al%02%01%01~~~~%09~~~%25~~~%05%01u~%01~~~%06%01s~%05~~~:1.40~~~%07%01s~%04~~~:1.7~~~~, end c2 => Failed, then Ok(0)
+unix:path=/bus /p --filter --talk=org.a.T --sessions=2; refused 1; arrival 0, arrival 0, piece c1 A, piece c2 ~AUTH EXTERNAL%0D%0ABEGIN%0D, piece c2 %0Al%01~%01~~~~%01~~~@~~~%01%01o~%02~~~/p~~~~~~%02%01s~%07~~~org.a.I~%03%01s~%01~~~A~~~~~~~%06%01s~%07~~~org.a.T~, piece b2 OK 00112233445566778899aabbccddeeff%0D%0Al%02%01%01~~~~%09~~~%25~~~%05%01u~%01~~~%06%01s~%05~~~:1.40~~~%07%01s~%04~~~:1.7~~~~, end c2 => Memory, then Ok(0)
+unix:path=/bus /p --filter --talk=org.a.T --sessions=2; ; ListenFails 1 => Err(Listen(0)), None, c1 , b1 , c2 , b2 , DBPR%02%01
+unix:path=/bus /p --filter --talk=org.a.T --sessions=1; ; ConnectFails 1, arrival 0 => Ok(()), None, c1 , b1 , c2 , b2 , DBPR%02%01%04%01~~~%01~~~%0B
+";
+
+fn told_run(alloc: Global, row: &str) -> Result<String, AllocError> {
+    let (words, rest) = row.split_once("; ").unwrap_or((row, ""));
+    let (appends, script) = rest.split_once("; ").unwrap_or(("", rest));
+    let mut net = net_of(alloc, script)?;
+    let mut files = files(alloc, appends);
+    let mut log = MemSink::new(alloc, 999)?;
+    let line = line_of(alloc, words)?;
+    let path = String::from_str(alloc, "/r")?;
+    match serve_recorded(alloc, line, path, &mut files, &mut net, &mut log) {
+        Ok(run) => {
+            let mut told = format!(in alloc; "{:?}, {:?}", run.end, run.failed)?;
+            add_written(alloc, &mut told, &net, "c1 b1 c2 b2")?;
+            let held = held(alloc, &files)?;
+            told.push_str(", ")?;
+            told.push_str(&held)?;
+            Ok(told)
+        }
+        Err(fault) => format!(in alloc; "{fault:?}, then {:?}", first_listen(&mut net)),
+    }
+}
+
+/// What a net answers to a listen.
+fn first_listen(net: &mut MemNet) -> Result<u32, NetFault> {
+    net.listen("/q")
+}
+
+/// The proxy line of words. Bad words are told as if memory had run out.
+fn line_of(alloc: Global, text: &str) -> Result<ProxyLine, AllocError> {
+    let mut words = Vec::new(alloc);
+    for word in text.split(' ') {
+        words.push(String::from_str(alloc, word)?)?;
+    }
+    match read_line(alloc, &words) {
+        Ok(line) => Ok(line),
+        Err(LineRefusal::Bad(_) | LineRefusal::Memory) => Err(AllocError),
+    }
+}
+
+#[test]
+fn a_line_is_served_as_it_is_recorded(rt: HostRuntime) -> Result<(), Fail> {
+    assert_eq!(rt; wrong_row(rt.alloc(), RUNS, &told_run)?, None);
+    Ok(())
+}
