@@ -43,6 +43,7 @@ pub fn read_words<'a, F: Files>(
     ensures stops { IfErr result (λ stop. StopsBy (F.told files.old) (map (λ w. string_bytes w) words.now) stop) }
     ensures cause { IfErr result (λ stop. CausedBy (Rose (F.faults files.old) (F.faults files.new)) stop) }
     ensures count { F.faults files.old ≤ F.faults files.new }
+    ensures kept { (p : List ℕ) → F.told files.new p ≡ F.told files.old p }
 
     // Each file that the words name was read once, in the order of the words, and no other. Where they
     // stop, a front of these was, up to the one that could not be.
@@ -73,6 +74,7 @@ fn expand<'a, F: Files>(
     ensures stops { IfErr result (λ stop. StopsBy (F.told files.old) (map (λ w. string_bytes w) words.now) stop) }
     ensures cause { IfErr result (λ stop. CausedBy (Rose (F.faults files.old) (F.faults files.new)) stop) }
     ensures count { F.faults files.old ≤ F.faults files.new }
+    ensures kept { (p : List ℕ) → F.told files.new p ≡ F.told files.old p }
     ensures read { OnOk result (F.reads files.new ≡ F.reads files.old ++ paths_in (map (λ w. string_bytes w) words.now)) }
     ensures until { IfErr result (λ stop. ReadUntil (paths_in (map (λ w. string_bytes w) words.now)) (F.reads files.old) (F.reads files.new) stop) }
     ensures needed { ReadsNeeded (IsSettled (line_in (F.told files.old) (map (λ w. string_bytes w) words.now))) (needed_by (F.told files.old) (map (λ w. string_bytes w) words.now)) (F.reads files.old) (F.reads files.new) result }
