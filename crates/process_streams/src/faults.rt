@@ -70,7 +70,15 @@ pub fn is_tool_name(word: &str) -> bool
 {
     matches!(
         word,
-        "replay" | "explain" | "twin" | "sample" | "audit" | "within" | "suggest"
+        "replay"
+            | "explain"
+            | "twin"
+            | "sample"
+            | "audit"
+            | "within"
+            | "suggest"
+            | "show"
+            | "compose"
     )
 }
 

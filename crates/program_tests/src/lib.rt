@@ -11,7 +11,11 @@ mod files;
 #[cfg(test)]
 mod meetings;
 #[cfg(test)]
+mod messages;
+#[cfg(test)]
 mod outside;
+#[cfg(test)]
+mod recorded;
 #[cfg(test)]
 mod runs;
 #[cfg(test)]

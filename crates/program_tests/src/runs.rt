@@ -46,11 +46,23 @@ pub fn run_on_net<R: Threads + Sync>(
     net: &mut MemNet,
     room: (usize, usize),
 ) -> Result<Ended, AllocError> {
-    let words = split(alloc, words)?;
     let mut files = MemFiles::new(files);
+    run_files(rt, alloc, words, &mut files, net, room)
+}
+
+/// The same over files that are left to the caller.
+pub fn run_files<R: Threads + Sync>(
+    rt: &R,
+    alloc: Global,
+    words: &str,
+    files: &mut MemFiles,
+    net: &mut MemNet,
+    room: (usize, usize),
+) -> Result<Ended, AllocError> {
+    let words = split(alloc, words)?;
     let mut out = MemSink::new(alloc, room.0)?;
     let mut err = MemSink::new(alloc, room.1)?;
-    let status = run(rt, alloc, &words, &mut files, net, &mut out, &mut err);
+    let status = run(rt, alloc, &words, files, net, &mut out, &mut err);
     let code = status.code;
     Ok(Ended { code, out, err })
 }

@@ -20,6 +20,8 @@ unix:path=/a /p --call=org.a.C=Foo | => 2 error: policy word 2: BadRule
 unix:path=/a /p --colour | => 1 error: word 2: UnknownOption
 unix:path=/a /p --sessions=0 | => 1 error: word 2: BadNumber
 unix:path=/a /p --sessions=1000001 | => 1 error: word 2: BadNumber
+unix:path=/a /p --record= | => 1 error: word 2: UnknownOption
+--record=/r unix:path=/a /p | => 1 error: word 0: OptionBeforeAddress
 unix:path=/a /p unix:path=/b | => 1 error: word 3: NoPath
 unix:path=/a /p --args-file=args | --talk=org.a.T~--talk=org~--see=org.a.S => 2 error: policy word 3: BadName
 unix:path=/a /p --args-file=args --colour | --talk=org.a.T~--talk=org.a.U => 1 error: word 4: UnknownOption

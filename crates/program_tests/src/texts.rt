@@ -6,7 +6,8 @@ use std::alloc::{AllocError, Global};
 use std::test::Fail;
 use std::thread::Threads;
 use tool_words::{
-    audit_words, explain_words, replay_words, sample_words, suggest_words, twin_words, within_words,
+    audit_words, compose_words, explain_words, replay_words, sample_words, show_words,
+    suggest_words, twin_words, within_words,
 };
 
 /// Each option of a policy file, as the help shows it, and a word of it.
@@ -27,10 +28,10 @@ const OPTIONS: [(&str, &str); 10] = [
 ];
 
 /// Each option that a proxy line alone has, as the help shows it.
-const LINE_OPTIONS: [&str; 2] = ["--sessions=N", "--args-file=FILE"];
+const LINE_OPTIONS: [&str; 3] = ["--sessions=N", "--record=FILE", "--args-file=FILE"];
 
 /// Each tool with its words, and what else the program is asked for.
-const TOOLS: [&str; 9] = [
+const TOOLS: [&str; 11] = [
     "replay POLICY RECORDING",
     "explain POLICY RECORDING N",
     "twin POLICY A B",
@@ -38,6 +39,8 @@ const TOOLS: [&str; 9] = [
     "audit POLICY RECORDING..",
     "within A B",
     "suggest RECORDING..",
+    "show FILE",
+    "compose FILE",
     "--help",
     "--version",
 ];
@@ -74,6 +77,8 @@ fn is_taken(alloc: Global, words: &[String]) -> Result<bool, AllocError> {
         [tool, ..] if tool.as_str() == "audit" => audit_words(alloc, words)?.is_some(),
         [tool, ..] if tool.as_str() == "within" => within_words(alloc, words)?.is_some(),
         [tool, ..] if tool.as_str() == "suggest" => suggest_words(alloc, words)?.is_some(),
+        [tool, ..] if tool.as_str() == "show" => show_words(alloc, words)?.is_some(),
+        [tool, ..] if tool.as_str() == "compose" => compose_words(alloc, words)?.is_some(),
         [tool] => tool.starts_with("--"),
         _ => false,
     })

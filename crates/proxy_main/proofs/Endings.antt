@@ -2,8 +2,8 @@
 use Rattle.std.proofs.Common.{◌≡◌, ◌≤◌, ◌<◌, ◌^◌, ◌-◌, inl, inr, ℕ, List, Option, None, Some, IfSome, refl, sym, ◌∙◌, subst, arith}
 use Rattle.link_traits.specs.Told.{added, Part, Rose}
 use Rattle.policy_args.specs.Words.{PolicyOptions}
-use Rattle.recording.specs.Recording.{Recording}
-use Rattle.replay.specs.Output.{output_of_recording}
+use Rattle.recording.specs.Sessions.{Sessions}
+use Rattle.replay.specs.SessionsOutput.{output_of_sessions}
 use Rattle.proxy_main.specs.declared.Stop.{Stop}
 use Rattle.proxy_main.specs.declared.Stop.TheVariants as stop
 use Rattle.proxy_main.specs.Words.{Command}
@@ -30,17 +30,17 @@ work_as a b agrees work settled = subst IsWork (sym (agrees settled)) work
 
 -- ---- a replay
 
-pub done_of : (a : Answer) (o : PolicyOptions) (r : Recording) (out new_out : Option (List ℕ)) → Agrees a (replayed o r) →
-    new_out ≡ added (output_of_recording o r) out → IsDone a out new_out 0
+pub done_of : (a : Answer) (o : PolicyOptions) (r : Sessions) (out new_out : Option (List ℕ)) → Agrees a (replayed o r) →
+    new_out ≡ added (output_of_sessions o r) out → IsDone a out new_out 0
 unfolding replayed
-done_of a o r out new_out agrees got = done_as a (replayed o r) out new_out 0 agrees (λ settled. (refl, (output_of_recording o r, refl, got), λ zero. tt))
+done_of a o r out new_out agrees got = done_as a (replayed o r) out new_out 0 agrees (λ settled. (refl, (output_of_sessions o r, refl, got), λ zero. tt))
 
-pub front_of : (a : Answer) (o : PolicyOptions) (r : Recording) (out new_out : Option (List ℕ)) → Agrees a (replayed o r) →
-    Part out new_out (output_of_recording o r) → IsFront a out new_out
+pub front_of : (a : Answer) (o : PolicyOptions) (r : Sessions) (out new_out : Option (List ℕ)) → Agrees a (replayed o r) →
+    Part out new_out (output_of_sessions o r) → IsFront a out new_out
 unfolding replayed
-front_of a o r out new_out agrees got = front_as a (replayed o r) out new_out agrees (λ settled. (output_of_recording o r, refl, got))
+front_of a o r out new_out agrees got = front_as a (replayed o r) out new_out agrees (λ settled. (output_of_sessions o r, refl, got))
 
-pub work_of : (a : Answer) (o : PolicyOptions) (r : Recording) → Agrees a (replayed o r) → IsSettled a → IsWork a
+pub work_of : (a : Answer) (o : PolicyOptions) (r : Sessions) → Agrees a (replayed o r) → IsSettled a → IsWork a
 unfolding replayed
 work_of a o r agrees settled = work_as a (replayed o r) agrees tt settled
 
@@ -55,7 +55,7 @@ explaining_front (Some bytes) out new_out part some = λ settled. (bytes, refl, 
 rose_later : (a b c : ℕ) → b ≤ c → Rose a b → Rose a c
 rose_later a b c le rose = λ small. let before : b < 2 ^ 64 - 1 = omega arith in let more : a < b = rose before in omega arith
 
-rose_earlier : (a b c : ℕ) → a ≤ b → Rose b c → Rose a c
+pub rose_earlier : (a b c : ℕ) → a ≤ b → Rose b c → Rose a c
 rose_earlier a b c le rose = λ small. let more : b < c = rose small in omega arith
 
 pub said_over : (a b c : ℕ) (old new : Option (List ℕ)) (line : List ℕ) → a ≤ b → Said (Rose b c) old new line → Said (Rose a c) old new line

@@ -1,8 +1,11 @@
 -- How the run of a proxy line ends, and what follows from it.
-use Rattle.std.proofs.Common.{◌≡◌, ◌≤◌, ◌<◌, ◌⊎◌, ◌++◌, inl, inr, ℕ, Bool, true, false, if◌then◌else◌, List, Option, Some, Ok, Err, ap, sym, ◌∙◌, subst, refl, arith}
+use Rattle.std.proofs.Common.{◌≡◌, ◌≤◌, ◌<◌, ◌⊎◌, ◌++◌, inl, inr, ℕ, Bool, true, false, if◌then◌else◌, List, Option, None, Some, Ok, Err, ap, sym, ◌∙◌, subst, refl, arith}
 use Rattle.link_traits.specs.Told.{Rose, ReadFront}
 use Rattle.link_traits.specs.Views.{NetView, RoseAt}
 use Rattle.link_traits.specs.declared.links.Count.TheVariants.{Own as OfNet}
+use Rattle.link_traits.specs.declared.outside.FileFault.{FileFault}
+use Rattle.link_traits.specs.declared.outside.FileFault.TheVariants.{Failed, TooLong as NoRoom, Memory as NoFileMemory}
+use Rattle.policy_args.specs.declared.line.Block.{Block}
 use Rattle.policy_args.specs.declared.line.ProxyLine.{ProxyLine}
 use Rattle.policy_args.specs.Reading.{line_seen}
 use Rattle.proxy_loop.specs.declared.turns.ServerEnd.TheVariants.{Listen, Wait, Memory}
@@ -13,34 +16,35 @@ use Rattle.line_words.specs.declared.reading.LineStop.TheVariants as line_stop
 use Rattle.line_words.specs.Words.{Line, Untold, TooLong, Bad, Reads, line_in}
 use Rattle.line_words.specs.Stops.{IsSettled, Agrees, StopsBy, CausedBy, without}
 use Rattle.line_words.specs.FilesRead.{paths_in, needed_by}
+use Rattle.std.proofs.lemmas.Option.{same_Some}
 use Rattle.proxy_main.specs.declared.Refusal.{Refusal}
-use Rattle.proxy_main.specs.declared.Refusal.TheVariants.{Usage, LineWord, ArgsTooLong, PolicyWord, PolicyTooLong, Recording as BadFile, NoSuchMessage, TooManyEntries}
+use Rattle.proxy_main.specs.declared.Refusal.TheVariants.{Usage, LineWord, ArgsTooLong, PolicyWord, PolicyTooLong, Recording as BadFile, NoSuchMessage, TooManyEntries, Message, Text}
 use Rattle.proxy_main.specs.declared.Stop.{Stop}
 use Rattle.proxy_main.specs.Answers.{refusal_code}
 use Rattle.proxy_main.specs.Lines.{refusal_line, file_line, memory_line, listen_line, wait_line, is_policy_kind}
 use Rattle.proxy_main.specs.Endings.{StopTold, IsTold, ExactlyOfFiles}
 use Rattle.proxy_main.specs.FilesRead.{LineReads}
-use Rattle.proxy_main.specs.LineRuns.{refusal_of, RefusedBy, code_by, words_code, Served, EndSaid, LineServed, LineEnds, Refuses, NoFile, NoMemory, Serves, LineRun, IsLineFree, IsToldAs}
-use Rattle.proxy_main.proofs.Endings.{said_over}
+use Rattle.proxy_main.specs.LineRuns.{refusal_of, RefusedBy, code_by, words_code, Served, ServedBy, EndSaid, FileRecorded, TapeSaid, RecordSaid, record_path, RecordRan, Recorded, Unmade, Unstarted, LineRan, Plain, Records, LineServed, LineEnds, Refuses, NoFile, NoMemory, Serves, LineDone, NotRecordedIn, LineRun, IsLineFree, IsToldAs}
+use Rattle.proxy_main.proofs.Endings.{rose_earlier, said_over}
 
 -- ---- where the words give no line
 
 refused_by : (line this : Line) (refusal : Refusal) → Agrees line this → refusal_of this ≡ Some refusal → RefusedBy line refusal
 refused_by line this refusal h e settled = ap refusal_of (h settled) ∙ e
 
-module _ (told : List ℕ → Option (List ℕ)) (words : List (List ℕ)) (rose : Type 0) (net : NetView) (first last : SinkView) (code : ℕ) where
+module _ (told new_told : List ℕ → Option (List ℕ)) (words : List (List ℕ)) (rose : Type 0) (net : NetView) (first last : SinkView) (code : ℕ) where
   refusal_ends : (refusal : Refusal) → RefusedBy (line_in told words) refusal → IsTold (refusal_code refusal) (refusal_line refusal) (Rose first.faults last.faults) first.told last.told code →
-      LineEnds told words rose (Rose first.faults last.faults) net net first last code
+      LineEnds told new_told words rose (Rose first.faults last.faults) net net first last code
   refusal_ends refusal by (inl t) = Refuses refusal t.0 by refl t.1
   refusal_ends refusal by (inr t) = NoMemory t.0 refl t.1
 
   file_ends : (path : List ℕ) → rose → line_in (without path told) words ≡ Untold → IsTold 4 (file_line path) (Rose first.faults last.faults) first.told last.told code →
-      LineEnds told words rose (Rose first.faults last.faults) net net first last code
+      LineEnds told new_told words rose (Rose first.faults last.faults) net net first last code
   file_ends path cause by (inl t) = NoFile path t.0 cause by refl t.1
   file_ends path cause by (inr t) = NoMemory t.0 refl t.1
 
   pub stop_ends : (why : LineStop) (stop : Stop) → StopsBy told words why → CausedBy rose why → IsToldAs why stop → StopTold (Rose first.faults last.faults) first.told last.told code stop →
-      LineEnds told words rose (Rose first.faults last.faults) net net first last code
+      LineEnds told new_told words rose (Rose first.faults last.faults) net net first last code
   stop_ends (line_stop.File path) stop by cause same t =
       file_ends path.now cause by (subst (λ (s : Stop). StopTold (Rose first.faults last.faults) first.told last.told code s) same t)
   stop_ends line_stop.TooLong stop by cause same t =
@@ -52,17 +56,61 @@ module _ (told : List ℕ → Option (List ℕ)) (words : List (List ℕ)) (rose
 
 -- ---- where a line was served
 
-said_all : (first mid last : SinkView) (code : ℕ) (end : RunEnd) → first.faults ≤ mid.faults → EndSaid (Rose mid.faults last.faults) mid last code end → EndSaid (Rose first.faults last.faults) mid last code end
+pub said_all : (first mid last : SinkView) (code : ℕ) (end : RunEnd) → first.faults ≤ mid.faults → EndSaid (Rose mid.faults last.faults) mid last code end → EndSaid (Rose first.faults last.faults) mid last code end
 said_all first mid last code (Ok done) le s = s
 said_all first mid last code (Err (Listen k)) le s = (s.0, said_over first.faults mid.faults last.faults mid.told last.told listen_line le s.1)
 said_all first mid last code (Err Wait) le s = (s.0, said_over first.faults mid.faults last.faults mid.told last.told wait_line le s.1)
 said_all first mid last code (Err Memory) le s = (s.0, said_over first.faults mid.faults last.faults mid.told last.told memory_line le s.1)
 
-pub served_ends : (told : List ℕ → Option (List ℕ)) (words : List (List ℕ)) (rose : Type 0) (line : ProxyLine) (before after : NetView) (first mid last : SinkView) (end : RunEnd) (code : ℕ) →
-    Agrees (line_in told words) (Reads (line_seen line)) → Served line before after first mid end → first.faults ≤ mid.faults → EndSaid (Rose mid.faults last.faults) mid last code end →
-    LineEnds told words rose (Rose first.faults last.faults) before after first last code
-served_ends told words rose line before after first mid last end code read served le s =
-    Serves (record { line = line; read = read; end = end; mid = mid; served = served; said = said_all first mid last code end le s })
+told_over : (first mid last : SinkView) (code : ℕ) (path : List ℕ) → first.faults ≤ mid.faults → IsTold 4 (file_line path) (Rose mid.faults last.faults) mid.told last.told code →
+    IsTold 4 (file_line path) (Rose first.faults last.faults) mid.told last.told code
+told_over first mid last code path le (inl t) = inl (t.0, said_over first.faults mid.faults last.faults mid.told last.told (file_line path) le t.1)
+told_over first mid last code path le (inr t) = inr (t.0, said_over first.faults mid.faults last.faults mid.told last.told memory_line le t.1)
+
+tape_all : (first mid last : SinkView) (code : ℕ) (path : List ℕ) (failed : Option FileFault) → first.faults ≤ mid.faults → TapeSaid (Rose mid.faults last.faults) mid last code path failed →
+    TapeSaid (Rose first.faults last.faults) mid last code path failed
+tape_all first mid last code path None le s = s
+tape_all first mid last code path (Some Failed) le s = told_over first mid last code path le s
+tape_all first mid last code path (Some NoRoom) le s = told_over first mid last code path le s
+tape_all first mid last code path (Some NoFileMemory) le s = (s.0, said_over first.faults mid.faults last.faults mid.told last.told memory_line le s.1)
+
+pub record_said_all : (first mid last : SinkView) (code : ℕ) (path : List ℕ) (end : RunEnd) (failed : Option FileFault) → first.faults ≤ mid.faults → RecordSaid (Rose mid.faults last.faults) mid last code path end failed →
+    RecordSaid (Rose first.faults last.faults) mid last code path end failed
+record_said_all first mid last code path (Ok done) failed le s = tape_all first mid last code path failed le s
+record_said_all first mid last code path (Err why) failed le s = said_all first mid last code (Err why) le s
+
+-- the file of a recording was not made
+module _ (blocks : List Block) (limit : ℕ) (path : List ℕ) (new_told : List ℕ → Option (List ℕ)) (files : Type 0) (before after : NetView) (first last : SinkView) (code : ℕ) (undone : after ≡ before) where
+  unmade : files → IsTold 4 (file_line path) (Rose first.faults last.faults) first.told last.told code → RecordRan blocks limit path new_told files (Rose first.faults last.faults) before after first last code
+  unmade cause (inl t) = Unmade t.0 cause undone t.1
+  unmade cause (inr t) = Unstarted t.0 undone t.1
+
+  made_not : (fault : FileFault) → (fault ≡ Failed → files) → (fault ≡ NoRoom → ⊥) → TapeSaid (Rose first.faults last.faults) first last code path (Some fault) →
+      RecordRan blocks limit path new_told files (Rose first.faults last.faults) before after first last code
+  made_not Failed cause short t = unmade (cause refl) t
+  made_not NoRoom cause short t = absurd (short refl)
+  made_not NoFileMemory cause short t = Unstarted t.0 undone t.1
+
+  pub not_made : (mid : SinkView) (fault : FileFault) → mid ≡ first → (fault ≡ Failed → files) → (fault ≡ NoRoom → ⊥) → TapeSaid (Rose mid.faults last.faults) mid last code path (Some fault) →
+      RecordRan blocks limit path new_told files (Rose first.faults last.faults) before after first last code
+  not_made mid fault same cause short t = made_not fault cause short (subst (λ (m : SinkView). TapeSaid (Rose m.faults last.faults) m last code path (Some fault)) same t)
+
+-- more than the files' count of faults rose
+record_more : (blocks : List Block) (limit : ℕ) (path : List ℕ) (new_told : List ℕ → Option (List ℕ)) (files more err : Type 0) (before after : NetView) (first last : SinkView) (code : ℕ) → (files → more) →
+    RecordRan blocks limit path new_told files err before after first last code → RecordRan blocks limit path new_told more err before after first last code
+record_more blocks limit path new_told files more err before after first last code f (Recorded end failed mid served file cause short said) = Recorded end failed mid served file (λ is. f (cause is)) short said
+record_more blocks limit path new_told files more err before after first last code f (Unmade is rose net said) = Unmade is (f rose) net said
+record_more blocks limit path new_told files more err before after first last code f (Unstarted is net said) = Unstarted is net said
+
+line_more : (line : ProxyLine) (new_told : List ℕ → Option (List ℕ)) (files more err : Type 0) (before after : NetView) (first last : SinkView) (code : ℕ) → (files → more) →
+    LineRan line new_told files err before after first last code → LineRan line new_told more err before after first last code
+line_more line new_told files more err before after first last code f (Plain none end mid served said) = Plain none end mid served said
+line_more line new_told files more err before after first last code f (Records path is ran) = Records path is (record_more line.blocks.items line.sessions path new_told files more err before after first last code f ran)
+
+pub served_ends : (told new_told : List ℕ → Option (List ℕ)) (words : List (List ℕ)) (a b c : ℕ) (line : ProxyLine) (err : Type 0) (before after : NetView) (first last : SinkView) (code : ℕ) → a ≤ b →
+    Agrees (line_in told words) (Reads (line_seen line)) → LineRan line new_told (Rose b c) err before after first last code → LineEnds told new_told words (Rose a c) err before after first last code
+served_ends told new_told words a b c line err before after first last code le read ran =
+    Serves (record { line = line; read = read; ran = line_more line new_told (Rose b c) (Rose a c) err before after first last code (rose_earlier a b c le) ran })
 
 -- ---- what follows
 
@@ -93,23 +141,48 @@ module _ {A : Type 0} where
   refused_code (BadFile fault) this h e = plain_code 3 this h (inl (omega arith)) e
   refused_code NoSuchMessage this h e = plain_code 9 this h (inr (omega arith)) e
   refused_code TooManyEntries this h e = plain_code 7 this h (inr (omega arith)) e
+  refused_code (Message bad) this h e = plain_code 3 this h (inl (omega arith)) e
+  refused_code (Text bad) this h e = plain_code 3 this h (inl (omega arith)) e
 
-module _ (told : List ℕ → Option (List ℕ)) (words : List (List ℕ)) (files err : Type 0) (before after : NetView) (first last : SinkView) (code : ℕ) where
+module _ (told new_told : List ℕ → Option (List ℕ)) (words : List (List ℕ)) (files err : Type 0) (before after : NetView) (first last : SinkView) (code : ℕ) where
   -- the status of words that gave a line
-  words_read : LineServed told words err before after first last code → IsSettled (line_in told words) → words_code (line_in told words) ≡ 0
+  words_read : LineServed told new_told words files err before after first last code → IsSettled (line_in told words) → words_code (line_in told words) ≡ 0
   words_read s settled = ap words_code (s.read settled)
 
   words_refused : (refusal : Refusal) → RefusedBy (line_in told words) refusal → IsSettled (line_in told words) → words_code (line_in told words) ≡ refusal_code refusal
   words_refused refusal by settled = ap code_by (by settled)
 
-  served_code : LineServed told words err before after first last code → (code ≡ 0) ⊎ ((code ≡ 5) ⊎ (code ≡ 8))
-  served_code s = by s.end s.said
+  end_code : (mid : SinkView) (end : RunEnd) → EndSaid err mid last code end → (code ≡ 0) ⊎ ((code ≡ 4) ⊎ ((code ≡ 5) ⊎ (code ≡ 8)))
+  end_code mid (Ok done) e = inl e.0
+  end_code mid (Err (Listen k)) e = inr (inr (inl e.0))
+  end_code mid (Err Wait) e = inr (inr (inl e.0))
+  end_code mid (Err Memory) e = inr (inr (inr e.0))
+
+  told_code : (path : List ℕ) (mid : SinkView) → IsTold 4 (file_line path) err mid.told last.told code → (code ≡ 0) ⊎ ((code ≡ 4) ⊎ ((code ≡ 5) ⊎ (code ≡ 8)))
+  told_code path mid (inl t) = inr (inl t.0)
+  told_code path mid (inr t) = inr (inr (inr t.0))
+
+  tape_code : (path : List ℕ) (mid : SinkView) (failed : Option FileFault) → TapeSaid err mid last code path failed → (code ≡ 0) ⊎ ((code ≡ 4) ⊎ ((code ≡ 5) ⊎ (code ≡ 8)))
+  tape_code path mid None t = inl t.0
+  tape_code path mid (Some Failed) t = told_code path mid t
+  tape_code path mid (Some NoRoom) t = told_code path mid t
+  tape_code path mid (Some NoFileMemory) t = inr (inr (inr t.0))
+
+  record_code : (path : List ℕ) (mid : SinkView) (end : RunEnd) (failed : Option FileFault) → RecordSaid err mid last code path end failed → (code ≡ 0) ⊎ ((code ≡ 4) ⊎ ((code ≡ 5) ⊎ (code ≡ 8)))
+  record_code path mid (Ok done) failed t = tape_code path mid failed t
+  record_code path mid (Err why) failed t = end_code mid (Err why) t
+
+  served_code : LineServed told new_told words files err before after first last code → (code ≡ 0) ⊎ ((code ≡ 4) ⊎ ((code ≡ 5) ⊎ (code ≡ 8)))
+  served_code s = by s.ran
     where
-      by : (end : RunEnd) → EndSaid err s.mid last code end → (code ≡ 0) ⊎ ((code ≡ 5) ⊎ (code ≡ 8))
-      by (Ok done) e = inl e.0
-      by (Err (Listen k)) e = inr (inl e.0)
-      by (Err Wait) e = inr (inl e.0)
-      by (Err Memory) e = inr (inr e.0)
+      by_record : (path : List ℕ) → RecordRan s.line.blocks.items s.line.sessions path new_told files err before after first last code → (code ≡ 0) ⊎ ((code ≡ 4) ⊎ ((code ≡ 5) ⊎ (code ≡ 8)))
+      by_record path (Recorded end failed mid served file cause short said) = record_code path mid end failed said
+      by_record path (Unmade is rose net said) = inr (inl is)
+      by_record path (Unstarted is net said) = inr (inr (inr is))
+
+      by : LineRan s.line new_told files err before after first last code → (code ≡ 0) ⊎ ((code ≡ 4) ⊎ ((code ≡ 5) ⊎ (code ≡ 8)))
+      by (Plain none end mid served said) = end_code mid end said
+      by (Records path is ran) = by_record path ran
 
   not_small : {A : Type 0} (this other : ℕ) → (this ≡ 1) ⊎ (this ≡ 2) → this ≡ other → (other ≡ 4) ⊎ ((other ≡ 5) ⊎ (other ≡ 8)) → A
   not_small this other (inl a) e (inl b) = absurd (omega arith)
@@ -123,13 +196,12 @@ module _ (told : List ℕ → Option (List ℕ)) (words : List (List ℕ)) (file
   absurd_zero this (inl a) e = absurd (omega arith)
   absurd_zero this (inr a) e = absurd (omega arith)
 
-  not_served : {A : Type 0} (this : ℕ) → (this ≡ 1) ⊎ (this ≡ 2) → code ≡ this → (code ≡ 0) ⊎ ((code ≡ 5) ⊎ (code ≡ 8)) → A
+  not_served : {A : Type 0} (this : ℕ) → (this ≡ 1) ⊎ (this ≡ 2) → code ≡ this → (code ≡ 0) ⊎ ((code ≡ 4) ⊎ ((code ≡ 5) ⊎ (code ≡ 8))) → A
   not_served this small e (inl zero_is) = absurd_zero this small (sym zero_is ∙ e)
-  not_served this small e (inr (inl is)) = not_small this code small (sym e) (inr (inl is))
-  not_served this small e (inr (inr is)) = not_small this code small (sym e) (inr (inr is))
+  not_served this small e (inr is) = not_small this code small (sym e) is
 
   -- a status of refused words is that of the words, unless a file or memory failed
-  exactly : (this : ℕ) → (this ≡ 1) ⊎ (this ≡ 2) → LineEnds told words files err before after first last code → IsSettled (line_in told words) → ExactlyOfFiles code this (words_code (line_in told words) ≡ this)
+  exactly : (this : ℕ) → (this ≡ 1) ⊎ (this ≡ 2) → LineEnds told new_told words files err before after first last code → IsSettled (line_in told words) → ExactlyOfFiles code this (words_code (line_in told words) ≡ this)
   exactly this small (Refuses refusal is by net said) settled = (
     λ e. words_refused refusal by settled ∙ sym is ∙ e,
     λ e. inl (is ∙ sym (words_refused refusal by settled) ∙ e),
@@ -138,62 +210,140 @@ module _ (told : List ℕ → Option (List ℕ)) (words : List (List ℕ)) (file
   exactly this small (NoMemory is net said) settled = (λ e. not_small this code small (sym e) (inr (inr is)), λ e. inr (inr is))
   exactly this small (Serves s) settled = (λ e. not_served this small e (served_code s), λ e. absurd_zero this small (sym (words_read s settled) ∙ e))
 
-  code_4 : LineEnds told words files err before after first last code → code ≡ 4 → files
+  code_4 : LineEnds told new_told words files err before after first last code → code ≡ 4 → files
   code_4 (Refuses refusal is by net said) e = refused_code refusal 4 (inr (inl refl)) (sym is ∙ e)
   code_4 (NoFile path is rose by net said) e = rose
   code_4 (NoMemory is net said) e = absurd (omega arith)
-  code_4 (Serves s) e = by (served_code s)
+  code_4 (Serves s) e = by s.ran
     where
-      by : (code ≡ 0) ⊎ ((code ≡ 5) ⊎ (code ≡ 8)) → files
-      by (inl z) = absurd (omega arith)
-      by (inr (inl z)) = absurd (omega arith)
-      by (inr (inr z)) = absurd (omega arith)
+      by_end : (mid : SinkView) (end : RunEnd) → EndSaid err mid last code end → files
+      by_end mid (Ok done) t = let z : code ≡ 0 = t.0 in absurd (omega arith)
+      by_end mid (Err (Listen k)) t = let z : code ≡ 5 = t.0 in absurd (omega arith)
+      by_end mid (Err Wait) t = let z : code ≡ 5 = t.0 in absurd (omega arith)
+      by_end mid (Err Memory) t = let z : code ≡ 8 = t.0 in absurd (omega arith)
 
-  code_5 : LineEnds told words files err before after first last code → code ≡ 5 → RoseAt OfNet before after
+      by_tape : (path : List ℕ) (mid : SinkView) (failed : Option FileFault) → (failed ≡ Some Failed → files) → (failed ≡ Some NoRoom → ⊥) → TapeSaid err mid last code path failed → files
+      by_tape path mid None cause short t = let z : code ≡ 0 = t.0 in absurd (omega arith)
+      by_tape path mid (Some Failed) cause short t = cause refl
+      by_tape path mid (Some NoRoom) cause short t = absurd (short refl)
+      by_tape path mid (Some NoFileMemory) cause short t = let z : code ≡ 8 = t.0 in absurd (omega arith)
+
+      by_said : (path : List ℕ) (mid : SinkView) (end : RunEnd) (failed : Option FileFault) → (failed ≡ Some Failed → files) → (failed ≡ Some NoRoom → ⊥) → RecordSaid err mid last code path end failed → files
+      by_said path mid (Ok done) failed cause short t = by_tape path mid failed cause short t
+      by_said path mid (Err why) failed cause short t = by_end mid (Err why) t
+
+      by_record : (path : List ℕ) → RecordRan s.line.blocks.items s.line.sessions path new_told files err before after first last code → files
+      by_record path (Recorded end failed mid served file cause short said) = by_said path mid end failed cause short said
+      by_record path (Unmade is rose net said) = rose
+      by_record path (Unstarted is net said) = absurd (omega (arith, is, e))
+
+      by : LineRan s.line new_told files err before after first last code → files
+      by (Plain none end mid served said) = by_end mid end said
+      by (Records path is ran) = by_record path ran
+
+  code_5 : LineEnds told new_told words files err before after first last code → code ≡ 5 → RoseAt OfNet before after
   code_5 (Refuses refusal is by net said) e = refused_code refusal 5 (inr (inr refl)) (sym is ∙ e)
   code_5 (NoFile path is rose by net said) e = absurd (omega arith)
   code_5 (NoMemory is net said) e = absurd (omega arith)
-  code_5 (Serves s) e = by s.end refl s.said
+  code_5 (Serves s) e = by s.ran
     where
-      by : (end : RunEnd) → s.end ≡ end → EndSaid err s.mid last code end → RoseAt OfNet before after
-      by (Ok done) h t = let z : code ≡ 0 = t.0 in absurd (omega arith)
-      by (Err (Listen k)) h t = s.served.listen k h
-      by (Err Wait) h t = s.served.wait h
-      by (Err Memory) h t = let z : code ≡ 8 = t.0 in absurd (omega arith)
+      by_end : (mid : SinkView) (end : RunEnd) → Served s.line before after first mid end → EndSaid err mid last code end → RoseAt OfNet before after
+      by_end mid (Ok done) served t = let z : code ≡ 0 = t.0 in absurd (omega arith)
+      by_end mid (Err (Listen k)) served t = served.listen k refl
+      by_end mid (Err Wait) served t = served.wait refl
+      by_end mid (Err Memory) served t = let z : code ≡ 8 = t.0 in absurd (omega arith)
 
-  completes : LineEnds told words files err before after first last code → IsSettled (line_in told words) → words_code (line_in told words) ≡ 0 → (code ≡ 0) ⊎ IsLineFree code
+      by_told : (path : List ℕ) (mid : SinkView) → IsTold 4 (file_line path) err mid.told last.told code → RoseAt OfNet before after
+      by_told path mid (inl t) = let z : code ≡ 4 = t.0 in absurd (omega arith)
+      by_told path mid (inr t) = let z : code ≡ 8 = t.0 in absurd (omega arith)
+
+      by_tape : (path : List ℕ) (mid : SinkView) (failed : Option FileFault) → TapeSaid err mid last code path failed → RoseAt OfNet before after
+      by_tape path mid None t = let z : code ≡ 0 = t.0 in absurd (omega arith)
+      by_tape path mid (Some Failed) t = by_told path mid t
+      by_tape path mid (Some NoRoom) t = by_told path mid t
+      by_tape path mid (Some NoFileMemory) t = let z : code ≡ 8 = t.0 in absurd (omega arith)
+
+      by_said : (path : List ℕ) (mid : SinkView) (end : RunEnd) (failed : Option FileFault) → Served s.line before after first mid end → RecordSaid err mid last code path end failed → RoseAt OfNet before after
+      by_said path mid (Ok done) failed served t = by_tape path mid failed t
+      by_said path mid (Err why) failed served t = by_end mid (Err why) served t
+
+      by_record : (path : List ℕ) → RecordRan s.line.blocks.items s.line.sessions path new_told files err before after first last code → RoseAt OfNet before after
+      by_record path (Recorded end failed mid served file cause short said) = by_said path mid end failed served said
+      by_record path (Unmade is rose net said) = absurd (omega (arith, is, e))
+      by_record path (Unstarted is net said) = absurd (omega (arith, is, e))
+
+      by : LineRan s.line new_told files err before after first last code → RoseAt OfNet before after
+      by (Plain none end mid served said) = by_end mid end served said
+      by (Records path is ran) = by_record path ran
+
+  completes : LineEnds told new_told words files err before after first last code → IsSettled (line_in told words) → words_code (line_in told words) ≡ 0 → (code ≡ 0) ⊎ IsLineFree code
   completes (Refuses refusal is by net said) settled e = inl (is ∙ sym (words_refused refusal by settled) ∙ e)
   completes (NoFile path is rose by net said) settled e = inr (inl is)
   completes (NoMemory is net said) settled e = inr (inr (inr is))
-  completes (Serves s) settled e = by (served_code s)
-    where
-      by : (code ≡ 0) ⊎ ((code ≡ 5) ⊎ (code ≡ 8)) → (code ≡ 0) ⊎ IsLineFree code
-      by (inl z) = inl z
-      by (inr (inl z)) = inr (inr (inl z))
-      by (inr (inr z)) = inr (inr (inr z))
+  completes (Serves s) settled e = served_code s
 
-  code_0 : LineEnds told words files err before after first last code → code ≡ 0 → (line : ProxyLine) × Agrees (line_in told words) (Reads (line_seen line)) × Served line before after first last (Ok tt)
+  code_0 : LineEnds told new_told words files err before after first last code → code ≡ 0 → LineDone told new_told words before after first last
   code_0 (Refuses refusal is by net said) e = refused_code refusal 0 (inl refl) (sym is ∙ e)
   code_0 (NoFile path is rose by net said) e = absurd (omega arith)
   code_0 (NoMemory is net said) e = absurd (omega arith)
-  code_0 (Serves s) e = by s.end s.served s.said
+  code_0 (Serves s) e = by s.ran
     where
-      by : (end : RunEnd) → Served s.line before after first s.mid end → EndSaid err s.mid last code end → (line : ProxyLine) × Agrees (line_in told words) (Reads (line_seen line)) × Served line before after first last (Ok tt)
-      by (Ok done) h t = (s.line, s.read, subst (λ (x : SinkView). Served s.line before after first x (Ok tt)) (sym t.1) h)
-      by (Err (Listen k)) h t = let z : code ≡ 5 = t.0 in absurd (omega arith)
-      by (Err Wait) h t = let z : code ≡ 5 = t.0 in absurd (omega arith)
-      by (Err Memory) h t = let z : code ≡ 8 = t.0 in absurd (omega arith)
+      at : (mid : SinkView) → last ≡ mid → Served s.line before after first mid (Ok tt) → Served s.line before after first last (Ok tt)
+      at mid same served = subst (λ (x : SinkView). Served s.line before after first x (Ok tt)) (sym same) served
 
-  unserves : LineEnds told words files err before after first last code → (after ≡ before) ⊎ LineServed told words err before after first last code
+      none_is : (path : List ℕ) → record_path s.line ≡ None → record_path s.line ≡ Some path → ⊥
+      none_is path none some = let never : None ≡ Some path = sym none ∙ some in absurd cc
+
+      by_end : (mid : SinkView) (end : RunEnd) → record_path s.line ≡ None → Served s.line before after first mid end → EndSaid err mid last code end → LineDone told new_told words before after first last
+      by_end mid (Ok done) none served t = record { line = s.line; read = s.read; served = at mid t.1 served; recorded = λ path is. absurd (none_is path none is) }
+      by_end mid (Err (Listen k)) none served t = let z : code ≡ 5 = t.0 in absurd (omega arith)
+      by_end mid (Err Wait) none served t = let z : code ≡ 5 = t.0 in absurd (omega arith)
+      by_end mid (Err Memory) none served t = let z : code ≡ 8 = t.0 in absurd (omega arith)
+
+      same_path : (path other : List ℕ) → record_path s.line ≡ Some path → record_path s.line ≡ Some other → path ≡ other
+      same_path path other is that = same_Some path other (sym is ∙ that)
+
+      by_tape : (path : List ℕ) (mid : SinkView) (failed : Option FileFault) → record_path s.line ≡ Some path → Served s.line before after first mid (Ok tt) →
+          FileRecorded s.line.blocks.items before after (new_told path) failed → TapeSaid err mid last code path failed → LineDone told new_told words before after first last
+      by_tape path mid None is served file t = record {
+        line = s.line;
+        read = s.read;
+        served = at mid t.1 served;
+        recorded = λ other that. subst (λ (p : List ℕ). FileRecorded s.line.blocks.items before after (new_told p) None) (same_path path other is that) file;
+      }
+      by_tape path mid (Some Failed) is served file (inl t) = let z : code ≡ 4 = t.0 in absurd (omega arith)
+      by_tape path mid (Some Failed) is served file (inr t) = let z : code ≡ 8 = t.0 in absurd (omega arith)
+      by_tape path mid (Some NoRoom) is served file (inl t) = let z : code ≡ 4 = t.0 in absurd (omega arith)
+      by_tape path mid (Some NoRoom) is served file (inr t) = let z : code ≡ 8 = t.0 in absurd (omega arith)
+      by_tape path mid (Some NoFileMemory) is served file t = let z : code ≡ 8 = t.0 in absurd (omega arith)
+
+      by_said : (path : List ℕ) (mid : SinkView) (end : RunEnd) (failed : Option FileFault) → record_path s.line ≡ Some path → Served s.line before after first mid end →
+          FileRecorded s.line.blocks.items before after (new_told path) failed → RecordSaid err mid last code path end failed → LineDone told new_told words before after first last
+      by_said path mid (Ok done) failed is served file t = by_tape path mid failed is served file t
+      by_said path mid (Err (Listen k)) failed is served file t = let z : code ≡ 5 = t.0 in absurd (omega arith)
+      by_said path mid (Err Wait) failed is served file t = let z : code ≡ 5 = t.0 in absurd (omega arith)
+      by_said path mid (Err Memory) failed is served file t = let z : code ≡ 8 = t.0 in absurd (omega arith)
+
+      by_record : (path : List ℕ) → record_path s.line ≡ Some path → RecordRan s.line.blocks.items s.line.sessions path new_told files err before after first last code → LineDone told new_told words before after first last
+      by_record path at_path (Recorded end failed mid served file cause short said) = by_said path mid end failed at_path served file said
+      by_record path at_path (Unmade is rose net said) = absurd (omega (arith, is, e))
+      by_record path at_path (Unstarted is net said) = absurd (omega (arith, is, e))
+
+      by : LineRan s.line new_told files err before after first last code → LineDone told new_told words before after first last
+      by (Plain none end mid served said) = by_end mid end none served said
+      by (Records path is ran) = by_record path is ran
+
+  unserves : LineEnds told new_told words files err before after first last code → (after ≡ before) ⊎ LineServed told new_told words files err before after first last code
   unserves (Refuses refusal is by net said) = inl net
   unserves (NoFile path is rose by net said) = inl net
   unserves (NoMemory is net said) = inl net
   unserves (Serves s) = inr s
 
-  pub line_run : (reads new_reads : List (List ℕ)) → LineEnds told words files err before after first last code → LineReads (paths_in words) reads new_reads err first.told last.told code →
+  pub line_run : (reads new_reads : List (List ℕ)) → LineEnds told new_told words files err before after first last code → LineReads (paths_in words) reads new_reads err first.told last.told code →
       (after ≡ before) ⊎ (new_reads ≡ reads ++ paths_in words) → ReadFront (needed_by told words) reads new_reads →
-      (IsSettled (line_in told words) → (new_reads ≡ reads ++ needed_by told words) ⊎ ((code ≡ 4) ⊎ (code ≡ 8))) → LineRun told words reads new_reads files err before after first last code
-  line_run reads new_reads ends named read_first needed exactly_needed = record {
+      (IsSettled (line_in told words) → (new_reads ≡ reads ++ needed_by told words) ⊎ ((code ≡ 4) ⊎ (code ≡ 8))) →
+      ((path : List ℕ) → NotRecordedIn (line_in told words) path → new_told path ≡ told path) → LineRun told new_told words reads new_reads files err before after first last code
+  line_run reads new_reads ends named read_first needed exactly_needed others = record {
     ends = ends;
     words_refused = λ settled. exactly 1 (inl refl) ends settled;
     policy_refused = λ settled. exactly 2 (inr refl) ends settled;
@@ -206,4 +356,5 @@ module _ (told : List ℕ → Option (List ℕ)) (words : List (List ℕ)) (file
     reads_first = read_first;
     reads_needed = needed;
     reads_exactly = exactly_needed;
+    others = others;
   }

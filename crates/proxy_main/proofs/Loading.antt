@@ -9,7 +9,7 @@ use Rattle.recording.specs.declared.BadRecording.{BadRecording}
 use Rattle.recording.specs.declared.TheConstants.{RECORDING_LIMIT}
 use Rattle.recording.specs.Recording.{Recording, recording_of}
 use Rattle.proxy_main.specs.declared.Refusal.{Refusal}
-use Rattle.proxy_main.specs.declared.Refusal.TheVariants.{Usage, LineWord, ArgsTooLong, PolicyWord, PolicyTooLong, Recording as BadFile, NoSuchMessage, TooManyEntries}
+use Rattle.proxy_main.specs.declared.Refusal.TheVariants.{Usage, LineWord, ArgsTooLong, PolicyWord, PolicyTooLong, Recording as BadFile, NoSuchMessage, TooManyEntries, Message, Text}
 use Rattle.proxy_main.specs.declared.TheConstants.{POLICY_LIMIT}
 use Rattle.proxy_main.specs.declared.Stop.{Stop}
 use Rattle.proxy_main.specs.declared.Stop.TheVariants as stop
@@ -114,6 +114,8 @@ of_file PolicyTooLong command is = tt
 of_file (BadFile fault) command is = tt
 of_file NoSuchMessage command is = absurd is
 of_file TooManyEntries command is = absurd is
+of_file (Message bad) command is = absurd is
+of_file (Text bad) command is = absurd is
 
 -- what is told of the other recording when it is read, t, is what was told before
 pub twins_loaded : (told : List ℕ → Option (List ℕ)) (t : Option (List ℕ)) (p a b : List ℕ) (o : PolicyOptions) (x y : Recording) →

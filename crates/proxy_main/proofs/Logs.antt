@@ -1,44 +1,51 @@
 -- What a run's log may be.
-use Rattle.std.proofs.Common.{◌≡◌, ◌⊎◌, inl, inr, ℕ, Bool, true, false, if◌then◌else◌, nat_lt, length, List, [], ◌∷◌, Option, None, Some, Result, Ok, Err, IfSome, IfErr, OnOk, refl, ap, sym, ◌∙◌}
-use Rattle.std.proofs.lemmas.Bool.{true≢false, cond-false}
+use Rattle.std.proofs.Common.{◌≡◌, ◌⊎◌, ◌==◌, inl, inr, ℕ, Bool, true, false, not, if◌then◌else◌, map, nat_lt, length, List, [], ◌∷◌, Option, None, Some, Result, Ok, Err, IfSome, IfErr, OnOk, refl, ap, sym, ◌∙◌}
+use Rattle.std.proofs.lemmas.Bool.{true≢false}
+use Rattle.std.proofs.lemmas.Grind.{flat_map-append}
 use Rattle.link_traits.specs.Told.{added, Part}
 use Rattle.link_traits.proofs.Parts.{added-none, part_none, part_so_far}
 use Rattle.policy_args.specs.Words.{PolicyOptions}
 use Rattle.recording.specs.Recording.{Recording}
-use Rattle.replay.specs.Output.{log_of_recording}
-use Rattle.replay.specs.Logging.{WholeLines}
+use Rattle.recording.specs.Sessions.{Sessions}
+use Rattle.replay.specs.Output.{history_of}
+use Rattle.replay.specs.Logging.{WholeSessionLines}
+use Rattle.replay.specs.declared.session_notes.SessionNote.{SessionNote}
+use Rattle.explain_log.specs.Lines.{log_line}
+use Rattle.replay.specs.SessionsOutput.{in_session, log_of_sessions, noted_in, only_session, session_log, session_mode, sessions_noted}
+use Rattle.policy_view.specs.Notes.{notes}
 use Rattle.replay.specs.Explained.{explained}
 use Rattle.suggestion.specs.Suggestion.{policy_for, suggestion_of}
 use Rattle.proxy_main.specs.declared.Refusal.{Refusal}
 use Rattle.proxy_main.specs.declared.Refusal.TheVariants.{TooManyEntries}
-use Rattle.proxy_main.specs.Words.{Command, Replay, Explain, Twin, Sample, Audit, Within, Suggest, Help, Version}
-use Rattle.proxy_main.specs.Answers.{Answer, Refused, Wrote, audited, suggesting, then_go, then_read, then_recordings, replayed, explaining, answer_to, Agrees, log_of, checked_policy, checked_recording, asks_for_log, may_ask_for_log, may_log, IsLog}
+use Rattle.proxy_main.specs.Words.{Command, Replay, Explain, Twin, Sample, Audit, Within, Suggest, Show, Compose, Help, Version}
+use Rattle.proxy_main.specs.Answers.{Answer, Refused, Wrote, audited, suggesting, then_go, then_read, then_recordings, replayed, explaining, answer_to, Agrees, log_of, checked_policy, checked_recording, asks_for_log, may_ask_for_log, may_log, IsLog, checked_message, checked_text, checked_sessions}
 use Rattle.proxy_main.specs.declared.Stop.{Stop}
 use Rattle.proxy_main.specs.declared.Stop.TheVariants as stop
-use Rattle.proxy_main.specs.Loads.{CausedBy, KeepsLog, IsLogged, IsLogFront, IsLogInLines}
+use Rattle.proxy_main.specs.Loads.{CausedBy, KeepsLog, IsLogged, IsLogFront, IsLogInLines, WholeLinesOf}
 
 -- options that ask for no log give none
-not_asked : (o : PolicyOptions) (r : Recording) → o.log ≡ false → log_of_recording o r ≡ []
-unfolding log_of_recording
-not_asked o r is = cond-false o.log _ _ is
+none_of_many : (o : PolicyOptions) (r : Sessions) → o.log ≡ false → log_of_sessions o r ≡ []
+unfolding log_of_sessions noted_in
+none_of_many o r is =
+    ap (λ (asked : Bool). session_log (if not asked then [] else (if r.version == 1 then map (in_session 1) (notes o.policy (history_of o (only_session r))) else sessions_noted o.policy (session_mode o r.auth) [] r.events))) is
 
 -- the answer of a replay has a log only where it is asked for
-replay_unasked : (o : PolicyOptions) (recording : Result Recording Refusal) → o.log ≡ false → log_of (then_go recording (replayed o)) ≡ []
+replay_unasked : (o : PolicyOptions) (recording : Result Sessions Refusal) → o.log ≡ false → log_of (then_go recording (replayed o)) ≡ []
 unfolding replayed
-replay_unasked o (Ok r) is = not_asked o r is
+replay_unasked o (Ok r) is = none_of_many o r is
 replay_unasked o (Err refusal) is = refl
 
-read_unasked : (o : PolicyOptions) (recording : Option (List ℕ)) → o.log ≡ false → log_of (then_read recording checked_recording (replayed o)) ≡ []
+read_unasked : (o : PolicyOptions) (recording : Option (List ℕ)) → o.log ≡ false → log_of (then_read recording checked_sessions (replayed o)) ≡ []
 read_unasked o None is = refl
-read_unasked o (Some bytes) is = replay_unasked o (checked_recording bytes) is
+read_unasked o (Some bytes) is = replay_unasked o (checked_sessions bytes) is
 
 checked_unasked : (policy : Result PolicyOptions Refusal) (recording : Option (List ℕ)) → asks_for_log policy ≡ false →
-    log_of (then_go policy (λ o. then_read recording checked_recording (replayed o))) ≡ []
+    log_of (then_go policy (λ o. then_read recording checked_sessions (replayed o))) ≡ []
 checked_unasked (Ok o) recording is = read_unasked o recording is
 checked_unasked (Err refusal) recording is = refl
 
 answer_unasked : (policy recording : Option (List ℕ)) → may_ask_for_log policy ≡ false →
-    log_of (then_read policy checked_policy (λ o. then_read recording checked_recording (replayed o))) ≡ []
+    log_of (then_read policy checked_policy (λ o. then_read recording checked_sessions (replayed o))) ≡ []
 answer_unasked None recording is = refl
 answer_unasked (Some bytes) recording is = checked_unasked (checked_policy bytes) recording is
 
@@ -77,6 +84,8 @@ unasked told (Some (Sample n seed)) is = refl
 unasked told (Some (Audit p ps)) is = read_none (told p) checked_policy _ (λ o. recordings_none told ps (audited o) (λ xs. refl))
 unasked told (Some (Within a b)) is = read_none (told a) checked_policy _ (λ o. read_none (told b) checked_policy _ (λ other. refl))
 unasked told (Some (Suggest ps)) is = recordings_none told ps suggesting suggesting-none
+unasked told (Some (Show message)) is = read_none (told message) checked_message _ (λ bytes. refl)
+unasked told (Some (Compose text)) is = read_none (told text) checked_text _ (λ bytes. refl)
 unasked told (Some Help) is = refl
 unasked told (Some Version) is = refl
 
@@ -91,9 +100,11 @@ lines_none told command err new_err same =
     (log_of (answer_to told command), record { settled = λ settled. refl; unasked = unasked told command }, inl same)
 
 -- whole lines are a front of the log
-lines_part : (err new_err : Option (List ℕ)) (log : List ℕ) → (new_err ≡ err) ⊎ WholeLines err new_err log → Part err new_err log
+lines_part : (err new_err : Option (List ℕ)) (log : List ℕ) → (new_err ≡ err) ⊎ WholeLinesOf err new_err log → Part err new_err log
 lines_part err new_err log (inl same) = part_none err new_err log same
-lines_part err new_err log (inr lines) = part_so_far err new_err log _ _ lines.is lines.split
+lines_part err new_err log (inr (noted, is, lines)) =
+    part_so_far err new_err log _ _ lines.is
+    (sym is ∙ ap session_log lines.split ∙ flat_map-append (λ (n : SessionNote). log_line n.session n.note) lines.written lines.others)
 
 pub lines_front : (told : List ℕ → Option (List ℕ)) (command : Option Command) (err new_err : Option (List ℕ)) → IsLogInLines told command err new_err → IsLogFront told command err new_err
 lines_front told command err new_err lines = (lines.0, lines.1, lines_part err new_err lines.0 lines.2)
@@ -135,25 +146,26 @@ asks_where_told : (policy : Option (List ℕ)) (o : PolicyOptions) → IfSome po
 asks_where_told None o is none = absurd (true≢false none)
 asks_where_told (Some bytes) o is none = ap asks_for_log (sym is) ∙ none
 
-log_played : (told : List ℕ → Option (List ℕ)) (p r : List ℕ) (o : PolicyOptions) (recording : Recording) → Agrees (answer_to told (Some (Replay p r))) (replayed o recording) →
-    IfSome (told p) (λ bytes. checked_policy bytes ≡ Ok o) → IsLog told (Some (Replay p r)) (log_of_recording o recording)
+log_played : (told : List ℕ → Option (List ℕ)) (p r : List ℕ) (o : PolicyOptions) (recording : Sessions) → Agrees (answer_to told (Some (Replay p r))) (replayed o recording) →
+    IfSome (told p) (λ bytes. checked_policy bytes ≡ Ok o) → IsLog told (Some (Replay p r)) (log_of_sessions o recording)
 unfolding replayed
 log_played told p r o recording agrees is = record {
   settled = λ settled. sym (ap log_of (agrees settled));
-  unasked = λ none. not_asked o recording (asks_where_told (told p) o is none);
+  unasked = λ none. none_of_many o recording (asks_where_told (told p) o is none);
 }
 
-pub logged_of : (told : List ℕ → Option (List ℕ)) (p r : List ℕ) (o : PolicyOptions) (recording : Recording) (err new_err : Option (List ℕ)) → Agrees (answer_to told (Some (Replay p r))) (replayed o recording) →
-    IfSome (told p) (λ bytes. checked_policy bytes ≡ Ok o) → new_err ≡ added (log_of_recording o recording) err → IsLogged told (Some (Replay p r)) err new_err
-logged_of told p r o recording err new_err agrees is got = (log_of_recording o recording, log_played told p r o recording agrees is, got)
+pub logged_of : (told : List ℕ → Option (List ℕ)) (p r : List ℕ) (o : PolicyOptions) (recording : Sessions) (err new_err : Option (List ℕ)) → Agrees (answer_to told (Some (Replay p r))) (replayed o recording) →
+    IfSome (told p) (λ bytes. checked_policy bytes ≡ Ok o) → new_err ≡ added (log_of_sessions o recording) err → IsLogged told (Some (Replay p r)) err new_err
+logged_of told p r o recording err new_err agrees is got = (log_of_sessions o recording, log_played told p r o recording agrees is, got)
 
-pub log_front_of : (told : List ℕ → Option (List ℕ)) (p r : List ℕ) (o : PolicyOptions) (recording : Recording) (err new_err : Option (List ℕ)) → Agrees (answer_to told (Some (Replay p r))) (replayed o recording) →
-    IfSome (told p) (λ bytes. checked_policy bytes ≡ Ok o) → Part err new_err (log_of_recording o recording) → IsLogFront told (Some (Replay p r)) err new_err
-log_front_of told p r o recording err new_err agrees is got = (log_of_recording o recording, log_played told p r o recording agrees is, got)
+pub log_front_of : (told : List ℕ → Option (List ℕ)) (p r : List ℕ) (o : PolicyOptions) (recording : Sessions) (err new_err : Option (List ℕ)) → Agrees (answer_to told (Some (Replay p r))) (replayed o recording) →
+    IfSome (told p) (λ bytes. checked_policy bytes ≡ Ok o) → Part err new_err (log_of_sessions o recording) → IsLogFront told (Some (Replay p r)) err new_err
+log_front_of told p r o recording err new_err agrees is got = (log_of_sessions o recording, log_played told p r o recording agrees is, got)
 
-pub log_lines_of : (told : List ℕ → Option (List ℕ)) (p r : List ℕ) (o : PolicyOptions) (recording : Recording) (err new_err : Option (List ℕ)) → Agrees (answer_to told (Some (Replay p r))) (replayed o recording) →
-    IfSome (told p) (λ bytes. checked_policy bytes ≡ Ok o) → WholeLines err new_err (log_of_recording o recording) → IsLogInLines told (Some (Replay p r)) err new_err
-log_lines_of told p r o recording err new_err agrees is lines = (log_of_recording o recording, log_played told p r o recording agrees is, inr lines)
+pub log_lines_of : (told : List ℕ → Option (List ℕ)) (p r : List ℕ) (o : PolicyOptions) (recording : Sessions) (err new_err : Option (List ℕ)) → Agrees (answer_to told (Some (Replay p r))) (replayed o recording) →
+    IfSome (told p) (λ bytes. checked_policy bytes ≡ Ok o) → WholeSessionLines err new_err (noted_in o recording) → IsLogInLines told (Some (Replay p r)) err new_err
+unfolding log_of_sessions
+log_lines_of told p r o recording err new_err agrees is lines = (log_of_sessions o recording, log_played told p r o recording agrees is, inr (noted_in o recording, refl, lines))
 
 asked_where_told : (policy : Option (List ℕ)) (o : PolicyOptions) → IfSome policy (λ bytes. checked_policy bytes ≡ Ok o) → o.log ≡ true → may_ask_for_log policy ≡ true
 asked_where_told None o is asked = refl

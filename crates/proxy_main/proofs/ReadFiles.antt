@@ -4,15 +4,12 @@ use Rattle.std.proofs.Math.Seq.{take-append-add}
 use Rattle.std.proofs.lemmas.List.{append-nil}
 use Rattle.std.specs.Prelude.{◌==◌, ◌||◌}
 use Rattle.link_traits.specs.Told.{ReadFront, ReadTo, Rose}
-use Rattle.proxy_loop.specs.declared.turns.ServerEnd.TheVariants.{Listen, Wait, Memory as NoMemory}
-use Rattle.proxy_loop.specs.Sinks.{SinkView}
-use Rattle.proxy_run.specs.Runs.{RunEnd}
 use Rattle.line_words.specs.declared.reading.LineStop.{LineStop}
 use Rattle.line_words.specs.declared.reading.LineStop.TheVariants as line_stop
 use Rattle.line_words.specs.FilesRead.{ReadUntil as LineReadUntil}
 use Rattle.line_words.proofs.ReadLaws.{read_all}
 use Rattle.proxy_main.specs.declared.Refusal.{Refusal}
-use Rattle.proxy_main.specs.declared.Refusal.TheVariants.{Usage, LineWord, ArgsTooLong, PolicyWord, PolicyTooLong, Recording, NoSuchMessage, TooManyEntries}
+use Rattle.proxy_main.specs.declared.Refusal.TheVariants.{Usage, LineWord, ArgsTooLong, PolicyWord, PolicyTooLong, Recording, NoSuchMessage, TooManyEntries, Message, Text}
 use Rattle.proxy_main.specs.declared.Stop.{Stop}
 use Rattle.proxy_main.specs.declared.Stop.TheVariants.{Refused as Refuses, File, Output, Log, Memory}
 use Rattle.proxy_main.specs.Words.{Command}
@@ -20,8 +17,8 @@ use Rattle.proxy_main.specs.Answers.{refusal_code}
 use Rattle.proxy_main.specs.Lines.{refusal_line, file_line}
 use Rattle.proxy_main.specs.Loads.{KeepsLog}
 use Rattle.proxy_main.specs.Endings.{Said, IsTold, StopTold}
-use Rattle.proxy_main.specs.LineRuns.{EndSaid, IsToldAs}
-use Rattle.proxy_main.specs.FilesRead.{paths_of, EndsAtPolicy, ToolReads, LineReads, IsOfPolicy, IsOfRecording, StopsAt, StopsWork, ReadBefore, ReadUntil}
+use Rattle.proxy_main.specs.LineRuns.{IsToldAs}
+use Rattle.proxy_main.specs.FilesRead.{paths_of, EndsAtPolicy, ToolReads, LineReads, IsOfPolicy, IsOfInput, StopsAt, StopsWork, ReadBefore, ReadUntil}
 use Rattle.proxy_main.proofs.Endings.{said_first}
 use Rattle.proxy_main.proofs.LineEndings.{refused_code}
 
@@ -60,7 +57,7 @@ module _ (policies : ℕ) (before after reads now new_reads : List (List ℕ)) (
   front : ReadFront (before ++ path ∷ after) reads new_reads
   front = to_front path (before ++ path ∷ after) reads new_reads (to_path path refl)
 
-  refused_recording : (refusal : Refusal) → IsOfRecording refusal → ReadBefore policies (before ++ path ∷ after) reads new_reads refusal
+  refused_recording : (refusal : Refusal) → IsOfInput refusal → ReadBefore policies (before ++ path ∷ after) reads new_reads refusal
   refused_recording Usage h = absurd h
   refused_recording (LineWord bad) h = absurd h
   refused_recording ArgsTooLong h = absurd h
@@ -69,8 +66,10 @@ module _ (policies : ℕ) (before after reads now new_reads : List (List ℕ)) (
   refused_recording (Recording fault) h = front
   refused_recording NoSuchMessage h = absurd h
   refused_recording TooManyEntries h = absurd h
+  refused_recording (Message bad) h = front
+  refused_recording (Text bad) h = front
 
-  pub recording_stops : (s : Stop) → StopsAt IsOfRecording path s → ReadUntil policies (before ++ path ∷ after) reads new_reads s
+  pub recording_stops : (s : Stop) → StopsAt IsOfInput path s → ReadUntil policies (before ++ path ∷ after) reads new_reads s
   recording_stops (Refuses refusal) h = refused_recording refusal h
   recording_stops (File p) h = to_path p.now h
   recording_stops Output h = absurd h
@@ -91,6 +90,8 @@ module _ (policies : ℕ) (after reads new_reads : List (List ℕ)) (path : List
   refused_policy (Recording fault) h = absurd h
   refused_policy NoSuchMessage h = absurd h
   refused_policy TooManyEntries h = absurd h
+  refused_policy (Message bad) h = absurd h
+  refused_policy (Text bad) h = absurd h
 
   pub policy_stops : (s : Stop) → StopsAt IsOfPolicy path s → ReadUntil (suc policies) (path ∷ after) reads new_reads s
   policy_stops (Refuses refusal) h = refused_policy refusal h
@@ -136,6 +137,8 @@ module _ (policies all_policies : ℕ) (named reads now new_reads : List (List �
   later_refused (Recording fault) h = later_front h
   later_refused NoSuchMessage h = later_all h
   later_refused TooManyEntries h = later_all h
+  later_refused (Message bad) h = later_front h
+  later_refused (Text bad) h = later_front h
 
   pub later_stops : (s : Stop) → ReadUntil policies named now new_reads s → ReadUntil all_policies (path ∷ named) reads new_reads s
   later_stops (Refuses refusal) h = later_refused refusal h
@@ -155,6 +158,8 @@ module _ (policies : ℕ) (named reads new_reads : List (List ℕ)) (all : new_r
   refused_work (Recording fault) h = absurd h
   refused_work NoSuchMessage h = all
   refused_work TooManyEntries h = all
+  refused_work (Message bad) h = absurd h
+  refused_work (Text bad) h = absurd h
 
   pub work_stops : (s : Stop) → StopsWork s → ReadUntil policies named reads new_reads s
   work_stops (Refuses refusal) h = refused_work refusal h
@@ -234,6 +239,8 @@ module _ (policies : ℕ) (named reads new_reads : List (List ℕ)) (rose : Type
   refusal_reads (Recording fault) h is = reads_front h 3 is refl (λ two. omega arith) (λ four. omega arith)
   refusal_reads NoSuchMessage h is = reads_all h (λ two. omega arith) (λ four. omega arith)
   refusal_reads TooManyEntries h is = reads_all h (λ two. omega arith) (λ four. omega arith)
+  refusal_reads (Message bad) h is = reads_front h 3 is refl (λ two. omega arith) (λ four. omega arith)
+  refusal_reads (Text bad) h is = reads_front h 3 is refl (λ two. omega arith) (λ four. omega arith)
 
   refusal_front : (refusal : Refusal) → ReadBefore policies named reads new_reads refusal → ReadFront named reads new_reads
   refusal_front Usage h = h
@@ -244,6 +251,8 @@ module _ (policies : ℕ) (named reads new_reads : List (List ℕ)) (rose : Type
   refusal_front (Recording fault) h = h
   refusal_front NoSuchMessage h = read_all named reads new_reads h
   refusal_front TooManyEntries h = read_all named reads new_reads h
+  refusal_front (Message bad) h = h
+  refusal_front (Text bad) h = h
 
 -- the count of err's faults is a at the start, b behind the work and c behind the line
 pub stop_reads : (told : List ℕ → Option (List ℕ)) (command : Option Command) (policies : ℕ) (named reads new_reads : List (List ℕ)) (err between new_err : Option (List ℕ)) (a b c code : ℕ) (s : Stop) → a ≤ b →
@@ -287,7 +296,7 @@ module _ (named reads new_reads : List (List ℕ)) (rose : Type 0) (err new_err 
   line_to path to (inl t) = record {
     front = to_front path named reads new_reads to;
     all = by;
-    last = λ is. (path, to, t.1);
+    last = λ is. inl (path, to, t.1);
   }
     where
       by : (code ≡ 0) ⊎ (code ≡ 5) → new_reads ≡ reads ++ named
@@ -300,12 +309,6 @@ module _ (named reads new_reads : List (List ℕ)) (rose : Type 0) (err new_err 
   line_stop_reads (line_stop.Bad bad) stop until same t = line_refused (LineWord bad) until (subst (λ (s : Stop). StopTold rose err new_err code s) same t)
   line_stop_reads line_stop.Memory stop until same t = let m = subst (λ (s : Stop). StopTold rose err new_err code s) same t in line_memory until m.0
 
-  -- all were read where the line is served
-  line_all : new_reads ≡ reads ++ named → (code ≡ 4 → ⊥) → LineReads named reads new_reads rose err new_err code
-  line_all all no_4 = record { front = read_all named reads new_reads all; all = λ served. all; last = λ is. absurd (no_4 is) }
-
-  pub line_end_reads : (said : Type 0) (mid last : SinkView) (end : RunEnd) → new_reads ≡ reads ++ named → EndSaid said mid last code end → LineReads named reads new_reads rose err new_err code
-  line_end_reads said mid last (Ok done) all e = line_all all (λ four. omega (arith, e.0, four))
-  line_end_reads said mid last (Err (Listen k)) all e = line_all all (λ four. omega (arith, e.0, four))
-  line_end_reads said mid last (Err Wait) all e = line_all all (λ four. omega (arith, e.0, four))
-  line_end_reads said mid last (Err NoMemory) all e = line_all all (λ four. omega (arith, e.0, four))
+  -- all were read where the line is run
+  pub line_all : new_reads ≡ reads ++ named → LineReads named reads new_reads rose err new_err code
+  line_all all = record { front = read_all named reads new_reads all; all = λ served. all; last = λ is. inr all }

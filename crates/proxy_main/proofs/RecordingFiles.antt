@@ -8,7 +8,7 @@ use Rattle.proxy_main.specs.declared.Stop.TheVariants as stop
 use Rattle.proxy_main.specs.Words.{Audit, Within}
 use Rattle.proxy_main.specs.Answers.{Answer, Contained, Untold, Agrees, IsSettled, answer_to, audited, checked_policy, checked_recording, then_contain, then_recordings, without}
 use Rattle.proxy_main.specs.Loads.{LoadStops, StopsBy}
-use Rattle.proxy_main.specs.FilesRead.{IsOfPolicy, IsOfRecording, NeededUntil, ReadUntil, StopsAt, behind, recordings_up_to_bad, up_to_bad}
+use Rattle.proxy_main.specs.FilesRead.{IsOfPolicy, IsOfInput, NeededUntil, ReadUntil, StopsAt, behind, recordings_up_to_bad, up_to_bad}
 use Rattle.proxy_main.specs.ManyFiles.{AreGood, IsTold, OneStops, StopsIn}
 use Rattle.proxy_main.proofs.Loading.{agrees-then, of_file, read_err, read_ok, untold-first, untold-second, without-path}
 use Rattle.proxy_main.proofs.Needed.{before_needed, good, last, needed_until, this_needed}
@@ -35,7 +35,7 @@ module _ (told : List ℕ → Option (List ℕ)) (p : List ℕ) (ps reads new_re
   first_stops stop.Log is = absurd is
   first_stops stop.Memory is = tt
 
-  pub stops-first : new_reads ≡ reads ++ p ∷ [] → (s : Stop) → LoadStops checked_recording (told p) p s → StopsAt IsOfRecording p s → StopsIn told (p ∷ ps) reads new_reads s
+  pub stops-first : new_reads ≡ reads ++ p ∷ [] → (s : Stop) → LoadStops checked_recording (told p) p s → StopsAt IsOfInput p s → StopsIn told (p ∷ ps) reads new_reads s
   stops-first next s is at = record {
     stops = first_stops s is;
     until = recording_stops 0 [] ps reads reads new_reads p (none_named reads) next s at;
@@ -93,7 +93,7 @@ module _ (start mid : List ℕ → Option (List ℕ)) (kept : IsTold mid start) 
       subst (λ (ps : List (List ℕ)). StopsIn told ps reads new_reads s) (sym names) (stops-later told p others reads now new_reads x (as_told told same) next s (h told (still told same)))
 
 pub step_first : (start : List ℕ → Option (List ℕ)) (p : List ℕ) (paths others reads new_reads : List (List ℕ)) → paths ≡ p ∷ others → new_reads ≡ reads ++ p ∷ [] → (s : Stop) →
-    LoadStops checked_recording (start p) p s → StopsAt IsOfRecording p s → (told : List ℕ → Option (List ℕ)) → IsTold told start → StopsIn told paths reads new_reads s
+    LoadStops checked_recording (start p) p s → StopsAt IsOfInput p s → (told : List ℕ → Option (List ℕ)) → IsTold told start → StopsIn told paths reads new_reads s
 step_first start p paths others reads new_reads names next s is at told same =
     subst (λ (ps : List (List ℕ)). StopsIn told ps reads new_reads s) (sym names)
     (stops-first told p others reads new_reads next s (subst (λ (t : Option (List ℕ)). LoadStops checked_recording t p s) (sym (same p)) is) at)

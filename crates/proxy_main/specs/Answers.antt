@@ -6,12 +6,15 @@ use Rattle.std.specs.Prelude.{◌≡◌, ◌≢◌, ◌⊎◌, ℕ, Bool, true, 
 use Rattle.std.specs.Fmt.{decimal}
 use Rattle.policy_args.specs.declared.BadWord.{BadWord}
 use Rattle.audit.specs.Audit.{audit_of}
+use Rattle.message_files.specs.Files.{text_shown, bytes_composed}
 use Rattle.policy_args.specs.Policy.{Policy}
 use Rattle.policy_args.specs.Requests.{Within}
 use Rattle.policy_args.specs.Words.{PolicyOptions, options_of, words_in, ◌>>=◌}
 use Rattle.policy_within.specs.Within.{answer_of as within_answer}
 use Rattle.recording.specs.Recording.{Recording, recording_of}
-use Rattle.replay.specs.Output.{output_of_recording, log_of_recording}
+use Rattle.recording.specs.Sessions.{Sessions, sessions_of}
+use Rattle.replay.specs.Output.{output_of_recording}
+use Rattle.replay.specs.SessionsOutput.{output_of_sessions, log_of_sessions}
 use Rattle.replay.specs.Explained.{explained}
 use Rattle.replay.specs.Twins.{compared_under, part_of_recording, Compares}
 use Rattle.replay.specs.declared.comparing.TwinAnswer.{TwinAnswer}
@@ -20,12 +23,12 @@ use Rattle.sample.specs.Summary.{sample_history, sample_options, summary_of}
 use Rattle.suggestion.specs.Suggestion.{policy_for, suggestion_of}
 pub use Rattle.line_words.specs.Stops.{without}
 use Rattle.proxy_main.specs.declared.Refusal.{Refusal}
-use Rattle.proxy_main.specs.declared.Refusal.TheVariants.{Usage, LineWord, ArgsTooLong, PolicyWord, PolicyTooLong, Recording as BadFile, NoSuchMessage, TooManyEntries}
+use Rattle.proxy_main.specs.declared.Refusal.TheVariants.{Usage, LineWord, ArgsTooLong, PolicyWord, PolicyTooLong, Recording as BadFile, NoSuchMessage, TooManyEntries, Message as BadMessageFile, Text as BadTextFile}
 use Rattle.proxy_main.specs.declared.TheConstants.{POLICY_LIMIT}
 use Rattle.proxy_main.specs.declared.texts.TheConstants.{HELP, VERSION}
 use Rattle.proxy_main.specs.Lines.{is_policy_kind}
 use Rattle.proxy_main.specs.WithinText.{within_text}
-use Rattle.proxy_main.specs.Words.{Command, Replay, Explain, Twin, Sample, Audit, Within as IsWithin, Suggest, Help, Version, reading}
+use Rattle.proxy_main.specs.Words.{Command, Replay, Explain, Twin, Sample, Audit, Within as IsWithin, Suggest, Show, Compose, Help, Version, reading}
 
 pub data Answer : Type 0 where
   -- a file is needed of which nothing is told: the answer is not settled
@@ -68,10 +71,22 @@ checked_policy bytes =
 unfoldable pub checked_recording : List ℕ → Result Recording Refusal
 checked_recording bytes = or_refused BadFile (recording_of bytes)
 
+-- a recording of one session or of many: it is refused by its first fault, which may be that it is above its limit
+unfoldable pub checked_sessions : List ℕ → Result Sessions Refusal
+checked_sessions bytes = or_refused BadFile (sessions_of bytes)
+
+-- the file of a message: its text, unless it isn't one valid message
+unfoldable pub checked_message : List ℕ → Result (List ℕ) Refusal
+checked_message bytes = or_refused BadMessageFile (text_shown bytes)
+
+-- the file of a message's text: the message's bytes, unless it is the text of none
+unfoldable pub checked_text : List ℕ → Result (List ℕ) Refusal
+checked_text bytes = or_refused BadTextFile (bytes_composed bytes)
+
 -- ---- answers
 
-unfoldable pub replayed : PolicyOptions → Recording → Answer
-replayed options recording = Wrote (output_of_recording options recording) (log_of_recording options recording)
+unfoldable pub replayed : PolicyOptions → Sessions → Answer
+replayed options sessions = Wrote (output_of_sessions options sessions) (log_of_sessions options sessions)
 
 -- a message of that number is explained, where there is one
 abbrev pub explaining : Option (List ℕ) → Answer
@@ -92,6 +107,10 @@ version_line = codes "zamtigarn " ++ VERSION.now ++ codes "\n"
 -- the policy file and then the recording are read and checked, before the work on both
 abbrev pub then_load : (List ℕ → Option (List ℕ)) → List ℕ → List ℕ → (PolicyOptions → Recording → Answer) → Answer
 then_load told policy recording work = then_read (told policy) checked_policy (λ options. then_read (told recording) checked_recording (λ events. work options events))
+
+-- .. or the recording has one session or many
+abbrev pub then_sessions : (List ℕ → Option (List ℕ)) → List ℕ → List ℕ → (PolicyOptions → Sessions → Answer) → Answer
+then_sessions told policy recording work = then_read (told policy) checked_policy (λ options. then_read (told recording) checked_sessions (work options))
 
 -- .. and then the other recording, before both are compared
 abbrev pub then_compare : (List ℕ → Option (List ℕ)) → List ℕ → PolicyOptions → Recording → Answer
@@ -114,15 +133,21 @@ suggesting recordings = if nat_lt 65535 (length (policy_for recordings).entries)
 abbrev pub then_contain : (List ℕ → Option (List ℕ)) → List ℕ → PolicyOptions → Answer
 then_contain told other one = then_read (told other) checked_policy (λ options. Contained one.policy options.policy)
 
+-- what the one file of a command comes to is written
+abbrev pub then_write : (List ℕ → Option (List ℕ)) → List ℕ → (List ℕ → Result (List ℕ) Refusal) → Answer
+then_write told path check = then_read (told path) check (λ bytes. Wrote bytes [])
+
 abbrev pub answer_to : (List ℕ → Option (List ℕ)) → Option Command → Answer
 answer_to told None = Refused Usage
-answer_to told (Some (Replay policy recording)) = then_load told policy recording replayed
+answer_to told (Some (Replay policy recording)) = then_sessions told policy recording replayed
 answer_to told (Some (Explain policy recording number)) = then_load told policy recording (explained_at number)
 answer_to told (Some (Twin policy one other)) = then_load told policy one (then_compare told other)
 answer_to told (Some (Sample n seed)) = sampled n seed
 answer_to told (Some (Audit policy recordings)) = then_read (told policy) checked_policy (λ options. then_recordings told recordings (audited options))
 answer_to told (Some (IsWithin one other)) = then_read (told one) checked_policy (then_contain told other)
 answer_to told (Some (Suggest recordings)) = then_recordings told recordings suggesting
+answer_to told (Some (Show message)) = then_write told message checked_message
+answer_to told (Some (Compose text)) = then_write told text checked_text
 answer_to told (Some Help) = Wrote HELP.now []
 answer_to told (Some Version) = Wrote version_line []
 
@@ -153,6 +178,8 @@ refusal_code PolicyTooLong = 2
 refusal_code (BadFile fault) = 3
 refusal_code NoSuchMessage = 9
 refusal_code TooManyEntries = 7
+refusal_code (BadMessageFile bad) = 3
+refusal_code (BadTextFile bad) = 3
 
 -- An answer has this status: of two recordings, by whether the same is left of both when all that the policy hides is
 -- erased, and of two policies, by whether the one permits nothing that the other doesn't permit.
@@ -226,6 +253,8 @@ may_log told (Some (Sample n seed)) = false
 may_log told (Some (Audit policy recordings)) = false
 may_log told (Some (IsWithin one other)) = false
 may_log told (Some (Suggest recordings)) = false
+may_log told (Some (Show message)) = false
+may_log told (Some (Compose text)) = false
 may_log told (Some Help) = false
 may_log told (Some Version) = false
 

@@ -3,7 +3,7 @@
 --     0    the whole output was written, and on err the whole log; of two recordings, that they are the same to the policy
 --     1    the words name nothing
 --     2    the policy file is refused
---     3    a recording is refused
+--     3    a recording, or the file of a message or of a text, is refused
 --     4    a file could not be read
 --     6    the output or the log could not be written
 --     7    two recordings differ to the policy, and the whole line that says where was written

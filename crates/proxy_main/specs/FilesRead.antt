@@ -3,10 +3,10 @@
 use Rattle.std.specs.Prelude.{◌≡◌, ◌≤◌, ◌⊎◌, ℕ, zero, suc, List, [], ◌∷◌, ◌++◌, take, Option, Some, None, Result, Ok, Err}
 use Rattle.link_traits.specs.Told.{ReadFront, ReadTo}
 use Rattle.proxy_main.specs.declared.Refusal.{Refusal}
-use Rattle.proxy_main.specs.declared.Refusal.TheVariants.{Usage, LineWord, ArgsTooLong, PolicyWord, PolicyTooLong, Recording, NoSuchMessage, TooManyEntries}
+use Rattle.proxy_main.specs.declared.Refusal.TheVariants.{Usage, LineWord, ArgsTooLong, PolicyWord, PolicyTooLong, Recording, NoSuchMessage, TooManyEntries, Message, Text}
 use Rattle.proxy_main.specs.declared.Stop.{Stop}
 use Rattle.proxy_main.specs.declared.Stop.TheVariants.{Refused as Refuses, File, Output, Log, Memory}
-use Rattle.proxy_main.specs.Words.{Command, Replay, Explain, Twin, Sample, Audit, Within, Suggest, Help, Version}
+use Rattle.proxy_main.specs.Words.{Command, Replay, Explain, Twin, Sample, Audit, Within, Suggest, Show, Compose, Help, Version}
 use Rattle.proxy_main.specs.Answers.{checked_policy, checked_recording}
 use Rattle.proxy_main.specs.Lines.{file_line}
 use Rattle.proxy_main.specs.Endings.{Said}
@@ -21,6 +21,8 @@ paths_of (Some (Sample n seed)) = []
 paths_of (Some (Audit policy recordings)) = policy ∷ recordings
 paths_of (Some (Within one other)) = one ∷ other ∷ []
 paths_of (Some (Suggest recordings)) = recordings
+paths_of (Some (Show message)) = message ∷ []
+paths_of (Some (Compose text)) = text ∷ []
 paths_of (Some Help) = []
 paths_of (Some Version) = []
 
@@ -34,6 +36,8 @@ policies_of (Some (Sample n seed)) = 0
 policies_of (Some (Audit policy recordings)) = 1
 policies_of (Some (Within one other)) = 2
 policies_of (Some (Suggest recordings)) = 0
+policies_of (Some (Show message)) = 0
+policies_of (Some (Compose text)) = 0
 policies_of (Some Help) = 0
 policies_of (Some Version) = 0
 
@@ -60,7 +64,8 @@ up_to_bad zero told paths = recordings_up_to_bad told paths
 up_to_bad (suc policies) told [] = []
 up_to_bad (suc policies) told (policy ∷ others) = policy ∷ behind (told policy) checked_policy (up_to_bad policies told others)
 
--- the files that a command needs: those that it names, up to the first that is bad by what is told of it
+-- The files that a command needs: those that it names, up to the first that is bad by what is told of it. The last one is
+-- needed whatever it holds: so are the recording of a replay, and the file of a message or of a text.
 abbrev pub needed : (List ℕ → Option (List ℕ)) → Option Command → List (List ℕ)
 needed told command = up_to_bad (policies_of command) told (paths_of command)
 
@@ -90,9 +95,10 @@ pub record ToolReads (policies : ℕ) (named reads new_reads : List (List ℕ)) 
 pub record LineReads (named reads new_reads : List (List ℕ)) (err_rose : Type 0) (err new_err : Option (List ℕ)) (code : ℕ) : Type 0 where
   -- Those that were read are a front of those that the words name, and no other file was read.
   pub front : ReadFront named reads new_reads
-  -- With 0 and 5 all were, and with 4 the last is the one that could not be.
+  -- With 0 and 5 all were, and with 4 the last is the one that could not be, or all were, and the file of a recording
+  -- failed.
   pub all : (code ≡ 0) ⊎ (code ≡ 5) → new_reads ≡ reads ++ named
-  pub last : code ≡ 4 → LastFailed named reads new_reads err_rose err new_err
+  pub last : code ≡ 4 → LastFailed named reads new_reads err_rose err new_err ⊎ (new_reads ≡ reads ++ named)
 
 -- ---- why a run stopped
 
@@ -106,17 +112,21 @@ IsOfPolicy PolicyTooLong = Unit {0}
 IsOfPolicy (Recording fault) = ⊥
 IsOfPolicy NoSuchMessage = ⊥
 IsOfPolicy TooManyEntries = ⊥
+IsOfPolicy (Message bad) = ⊥
+IsOfPolicy (Text bad) = ⊥
 
--- a refusal of a recording
-abbrev pub IsOfRecording : Refusal → Type 0
-IsOfRecording Usage = ⊥
-IsOfRecording (LineWord bad) = ⊥
-IsOfRecording ArgsTooLong = ⊥
-IsOfRecording (PolicyWord bad) = ⊥
-IsOfRecording PolicyTooLong = ⊥
-IsOfRecording (Recording fault) = Unit {0}
-IsOfRecording NoSuchMessage = ⊥
-IsOfRecording TooManyEntries = ⊥
+-- a refusal of a recording, or of the file of a message or of a text
+abbrev pub IsOfInput : Refusal → Type 0
+IsOfInput Usage = ⊥
+IsOfInput (LineWord bad) = ⊥
+IsOfInput ArgsTooLong = ⊥
+IsOfInput (PolicyWord bad) = ⊥
+IsOfInput PolicyTooLong = ⊥
+IsOfInput (Recording fault) = Unit {0}
+IsOfInput NoSuchMessage = ⊥
+IsOfInput TooManyEntries = ⊥
+IsOfInput (Message bad) = Unit {0}
+IsOfInput (Text bad) = Unit {0}
 
 -- a refusal of the work on files that were read: of a message's number, or of a policy that would have too many entries
 abbrev pub IsOfWork : Refusal → Type 0
@@ -128,6 +138,8 @@ IsOfWork PolicyTooLong = ⊥
 IsOfWork (Recording fault) = ⊥
 IsOfWork NoSuchMessage = Unit {0}
 IsOfWork TooManyEntries = Unit {0}
+IsOfWork (Message bad) = ⊥
+IsOfWork (Text bad) = ⊥
 
 -- the file at the path is why, or memory
 abbrev pub StopsAt : (Refusal → Type 0) → List ℕ → Stop → Type 0
@@ -155,6 +167,8 @@ ReadBefore policies named reads new_reads PolicyTooLong = EndsAtPolicy policies 
 ReadBefore policies named reads new_reads (Recording fault) = ReadFront named reads new_reads
 ReadBefore policies named reads new_reads NoSuchMessage = new_reads ≡ reads ++ named
 ReadBefore policies named reads new_reads TooManyEntries = new_reads ≡ reads ++ named
+ReadBefore policies named reads new_reads (Message bad) = ReadFront named reads new_reads
+ReadBefore policies named reads new_reads (Text bad) = ReadFront named reads new_reads
 
 -- .. and before a tool's run stopped
 abbrev pub ReadUntil : ℕ → List (List ℕ) → List (List ℕ) → List (List ℕ) → Stop → Type 0

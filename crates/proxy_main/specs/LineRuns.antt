@@ -1,21 +1,26 @@
 -- What holds of the run of a proxy line.
 --
---     0    nothing is left to be served
+--     0    nothing is left to be served, and what was to be recorded was
 --     1    a word is bad, or a file of words is above its limit
 --     2    a word is bad as one of a policy file is
---     4    a file of words could not be read
+--     4    a file of words could not be read, or the file of a recording could not be made or written
 --     5    the net could not listen, or wait
 --     8    memory ran out
-use Rattle.std.specs.Prelude.{◌≡◌, ◌⊎◌, ◌++◌, ℕ, List, Option, Some, None, Ok, Err}
+use Rattle.std.specs.Prelude.{◌≡◌, ◌≢◌, ◌⊎◌, ◌++◌, ℕ, List, Option, Some, None, Ok, Err}
 use Rattle.link_traits.specs.Told.{ReadFront}
 use Rattle.link_traits.specs.Views.{NetView, RoseAt}
 use Rattle.link_traits.specs.declared.links.Count.TheVariants.{Own as OfNet}
+use Rattle.link_traits.specs.declared.outside.FileFault.{FileFault}
+use Rattle.link_traits.specs.declared.outside.FileFault.TheVariants.{Failed, TooLong as NoRoom, Memory as NoFileMemory}
+use Rattle.policy_args.specs.declared.line.Block.{Block}
 use Rattle.policy_args.specs.declared.line.ProxyLine.{ProxyLine}
 use Rattle.policy_args.specs.Reading.{line_seen}
 use Rattle.proxy_loop.specs.declared.turns.ServerEnd.TheVariants.{Listen, Wait, Memory}
 use Rattle.proxy_loop.specs.Sinks.{SinkView}
 use Rattle.proxy_run.specs.Runs.{RunEnd, RunDid, RunLinks}
 use Rattle.proxy_run.specs.Logs.{RunLogs}
+use Rattle.recorded_run.specs.Recordings.{FitsFormat, IsExact, IsReadBack, TellsHistories}
+use Rattle.recorded_run.specs.Runs.{RunAdded, FromNoSessions, LinksRecorded, LinksReplayed}
 use Rattle.line_words.specs.Words.{Line, Untold, TooLong, Bad, Reads, line_in}
 use Rattle.line_words.specs.Stops.{IsSettled, Agrees, without}
 use Rattle.line_words.specs.FilesRead.{paths_in, needed_by}
@@ -27,7 +32,7 @@ use Rattle.proxy_main.specs.declared.Refusal.{Refusal}
 use Rattle.proxy_main.specs.declared.Refusal.TheVariants.{LineWord, ArgsTooLong}
 use Rattle.proxy_main.specs.Answers.{refusal_code}
 use Rattle.proxy_main.specs.Lines.{refusal_line, file_line, memory_line, listen_line, wait_line}
-use Rattle.proxy_main.specs.Endings.{Said, ExactlyOfFiles}
+use Rattle.proxy_main.specs.Endings.{Said, IsTold, ExactlyOfFiles}
 use Rattle.proxy_main.specs.FilesRead.{LineReads}
 
 -- ---- the words
@@ -62,12 +67,15 @@ IsToldAs line_stop.Memory stop = stop ≡ run_stop.Memory
 
 -- A run of a line: listening, and turns; what was written to each link, and to the log; the net's own count rose where listening or
 -- waiting failed.
-pub record Served (line : ProxyLine) (before after : NetView) (first last : SinkView) (end : RunEnd) : Type 0 where
-  pub did : RunDid line.blocks.items line.sessions before after first last end
-  pub links : RunLinks line.blocks.items before after
-  pub log : RunLogs line.blocks.items before after first last
+pub record ServedBy (blocks : List Block) (limit : ℕ) (before after : NetView) (first last : SinkView) (end : RunEnd) : Type 0 where
+  pub did : RunDid blocks limit before after first last end
+  pub links : RunLinks blocks before after
+  pub log : RunLogs blocks before after first last
   pub listen : (k : ℕ) → end ≡ Err (Listen k) → RoseAt OfNet before after
   pub wait : end ≡ Err Wait → RoseAt OfNet before after
+
+abbrev pub Served : ProxyLine → NetView → NetView → SinkView → SinkView → RunEnd → Type 0
+Served line before after first last end = ServedBy line.blocks.items line.sessions before after first last end
 
 -- the status of a server's end, and the line that is said
 abbrev pub EndSaid : Type 0 → SinkView → SinkView → ℕ → RunEnd → Type 0
@@ -76,39 +84,102 @@ EndSaid rose first last code (Err (Listen k)) = (code ≡ 5) × Said rose first.
 EndSaid rose first last code (Err Wait) = (code ≡ 5) × Said rose first.told last.told wait_line
 EndSaid rose first last code (Err Memory) = (code ≡ 8) × Said rose first.told last.told memory_line
 
--- the words gave this line, which was served; what the log got of it comes before the status's line
-pub record LineServed (told : List ℕ → Option (List ℕ)) (words : List (List ℕ)) (err_rose : Type 0) (before after : NetView) (first last : SinkView) (code : ℕ) : Type 0 where
+-- ---- a recording
+
+-- the path of the file in which the sessions of a line are recorded, if they are
+abbrev pub record_path : ProxyLine → Option (List ℕ)
+record_path line = (line_seen line).record_to
+
+-- What the file of a recording holds, and what it tells, of what the net added to its journal in the run. While no
+-- append failed it is the recording of that. A file can have its records, and a reader finds them in it. It tells the
+-- history of each session, and so what was written to its links.
+pub record FileRecorded (blocks : List Block) (before after : NetView) (file : Option (List ℕ)) (failed : Option FileFault) : Type 0 where
+  pub exact : RunAdded before after (λ was since. IsExact file failed since)
+  pub fits : RunAdded before after (FromNoSessions FitsFormat)
+  pub read : RunAdded before after (FromNoSessions (IsReadBack file failed))
+  pub histories : RunAdded before after (λ was since. FromNoSessions (TellsHistories was) was since)
+  pub links : RunAdded before after (LinksRecorded blocks)
+  pub replayed : RunAdded before after (LinksReplayed blocks)
+
+-- the status of a server that is done, and the line that is said, by the first append that failed
+abbrev pub TapeSaid : Type 0 → SinkView → SinkView → ℕ → List ℕ → Option FileFault → Type 0
+TapeSaid rose first last code path None = (code ≡ 0) × (last ≡ first)
+TapeSaid rose first last code path (Some Failed) = IsTold 4 (file_line path) rose first.told last.told code
+TapeSaid rose first last code path (Some NoRoom) = IsTold 4 (file_line path) rose first.told last.told code
+TapeSaid rose first last code path (Some NoFileMemory) = (code ≡ 8) × Said rose first.told last.told memory_line
+
+-- .. and of a server that ended otherwise, too
+abbrev pub RecordSaid : Type 0 → SinkView → SinkView → ℕ → List ℕ → RunEnd → Option FileFault → Type 0
+RecordSaid rose first last code path (Ok done) failed = TapeSaid rose first last code path failed
+RecordSaid rose first last code path (Err why) failed = EndSaid rose first last code (Err why)
+
+-- ---- a line
+
+-- How a line was run that is recorded in the file of a path, by what each path holds then. What the log got of it comes
+-- before the status's line.
+pub data RecordRan (blocks : List Block) (limit : ℕ) (path : List ℕ) (new_told : List ℕ → Option (List ℕ)) (files_rose err_rose : Type 0) (before after : NetView) (first last : SinkView) (code : ℕ) : Type 0 where
+  -- it was served while its net was recorded; an append failed only where the files failed
+  Recorded : (end : RunEnd) (failed : Option FileFault) (mid : SinkView) → ServedBy blocks limit before after first mid end
+      → FileRecorded blocks before after (new_told path) failed
+      → (failed ≡ Some Failed → files_rose) → failed ≢ Some NoRoom
+      → RecordSaid err_rose mid last code path end failed
+      → RecordRan blocks limit path new_told files_rose err_rose before after first last code
+  -- the file failed as it was made, and nothing was done over the net
+  Unmade : code ≡ 4 → files_rose → after ≡ before → Said err_rose first.told last.told (file_line path)
+      → RecordRan blocks limit path new_told files_rose err_rose before after first last code
+  -- memory ran out before anything was done over the net
+  Unstarted : code ≡ 8 → after ≡ before → Said err_rose first.told last.told memory_line
+      → RecordRan blocks limit path new_told files_rose err_rose before after first last code
+
+-- how a line was run, recorded or not
+pub data LineRan (line : ProxyLine) (new_told : List ℕ → Option (List ℕ)) (files_rose err_rose : Type 0) (before after : NetView) (first last : SinkView) (code : ℕ) : Type 0 where
+  Plain : record_path line ≡ None → (end : RunEnd) (mid : SinkView) → Served line before after first mid end
+      → EndSaid err_rose mid last code end → LineRan line new_told files_rose err_rose before after first last code
+  Records : (path : List ℕ) → record_path line ≡ Some path
+      → RecordRan line.blocks.items line.sessions path new_told files_rose err_rose before after first last code
+      → LineRan line new_told files_rose err_rose before after first last code
+
+-- the words gave this line, which was run
+pub record LineServed (told new_told : List ℕ → Option (List ℕ)) (words : List (List ℕ)) (files_rose err_rose : Type 0) (before after : NetView) (first last : SinkView) (code : ℕ) : Type 0 where
   pub line : ProxyLine
   pub read : Agrees (line_in told words) (Reads (line_seen line))
-  pub end : RunEnd
-  pub mid : SinkView
-  pub served : Served line before after first mid end
-  pub said : EndSaid err_rose mid last code end
+  pub ran : LineRan line new_told files_rose err_rose before after first last code
 
 -- how the run of a proxy line ended, by what is told of the files, the counts that rose, the net, and what err tells
-pub data LineEnds (told : List ℕ → Option (List ℕ)) (words : List (List ℕ)) (files_rose err_rose : Type 0) (before after : NetView) (first last : SinkView) (code : ℕ) : Type 0 where
+pub data LineEnds (told new_told : List ℕ → Option (List ℕ)) (words : List (List ℕ)) (files_rose err_rose : Type 0) (before after : NetView) (first last : SinkView) (code : ℕ) : Type 0 where
   -- the words were refused, and nothing was done
   Refuses : (refusal : Refusal) → code ≡ refusal_code refusal → RefusedBy (line_in told words) refusal
       → after ≡ before → Said err_rose first.told last.told (refusal_line refusal)
-      → LineEnds told words files_rose err_rose before after first last code
+      → LineEnds told new_told words files_rose err_rose before after first last code
   -- a file failed without which nothing is settled, and nothing was done
   NoFile : (path : List ℕ) → code ≡ 4 → files_rose → line_in (without path told) words ≡ Untold
       → after ≡ before → Said err_rose first.told last.told (file_line path)
-      → LineEnds told words files_rose err_rose before after first last code
+      → LineEnds told new_told words files_rose err_rose before after first last code
   -- memory ran out before anything was done
   NoMemory : code ≡ 8 → after ≡ before → Said err_rose first.told last.told memory_line
-      → LineEnds told words files_rose err_rose before after first last code
-  -- the line was served
-  Serves : LineServed told words err_rose before after first last code
-      → LineEnds told words files_rose err_rose before after first last code
+      → LineEnds told new_told words files_rose err_rose before after first last code
+  -- the line was run
+  Serves : LineServed told new_told words files_rose err_rose before after first last code
+      → LineEnds told new_told words files_rose err_rose before after first last code
+
+-- the words gave a line that was served to its end and, if it is to be recorded, recorded whole
+pub record LineDone (told new_told : List ℕ → Option (List ℕ)) (words : List (List ℕ)) (before after : NetView) (first last : SinkView) : Type 0 where
+  pub line : ProxyLine
+  pub read : Agrees (line_in told words) (Reads (line_seen line))
+  pub served : Served line before after first last (Ok tt)
+  pub recorded : (path : List ℕ) → record_path line ≡ Some path → FileRecorded line.blocks.items before after (new_told path) None
+
+-- the words give no line that is recorded in the file of this path
+abbrev pub NotRecordedIn : Line → List ℕ → Type 0
+NotRecordedIn words path = (line : ProxyLine) → Agrees words (Reads (line_seen line)) → record_path line ≢ Some path
 
 -- the statuses that a fault of the outside or of memory may give in place of 0
 abbrev pub IsLineFree : ℕ → Type 0
 IsLineFree code = (code ≡ 4) ⊎ ((code ≡ 5) ⊎ (code ≡ 8))
 
-pub record LineRun (told : List ℕ → Option (List ℕ)) (words reads new_reads : List (List ℕ)) (files_rose err_rose : Type 0) (before after : NetView) (first last : SinkView) (code : ℕ) : Type 0 where
+pub record LineRun (told new_told : List ℕ → Option (List ℕ)) (words reads new_reads : List (List ℕ)) (files_rose err_rose : Type 0) (before after : NetView) (first last : SinkView) (code : ℕ) : Type 0 where
   -- It ends in one of four ways, each with its cause and with what the net did and err got.
-  pub ends : LineEnds told words files_rose err_rose before after first last code
+  pub ends : LineEnds told new_told words files_rose err_rose before after first last code
   -- 1 and 2 come exactly where the words are refused so.
   pub words_refused : IsSettled (line_in told words) → ExactlyOfFiles code 1 (words_code (line_in told words) ≡ 1)
   pub policy_refused : IsSettled (line_in told words) → ExactlyOfFiles code 2 (words_code (line_in told words) ≡ 2)
@@ -117,10 +188,11 @@ pub record LineRun (told : List ℕ → Option (List ℕ)) (words reads new_read
   pub net : code ≡ 5 → RoseAt OfNet before after
   -- Unless a file, the net or memory fails, words that give a line end with 0.
   pub complete : IsSettled (line_in told words) → words_code (line_in told words) ≡ 0 → (code ≡ 0) ⊎ IsLineFree code
-  -- With 0 the line was served until nothing was left to be done, or as many turns were taken as may be; err got the log alone.
-  pub done : code ≡ 0 → (line : ProxyLine) × Agrees (line_in told words) (Reads (line_seen line)) × Served line before after first last (Ok tt)
+  -- With 0 the line was served until nothing was left to be done, or as many turns were taken as may be; err got the log
+  -- alone; and the file of a recording is that of the whole run.
+  pub done : code ≡ 0 → LineDone told new_told words before after first last
   -- Unless a line was served, nothing was done over the net.
-  pub unserved : (after ≡ before) ⊎ LineServed told words err_rose before after first last code
+  pub unserved : (after ≡ before) ⊎ LineServed told new_told words files_rose err_rose before after first last code
   -- No file was read beside those that the words name by --args-file: a front of these, each once and in their order; and nothing was done
   -- over the net unless all were.
   pub reads_named : LineReads (paths_in words) reads new_reads err_rose first.told last.told code
@@ -129,3 +201,5 @@ pub record LineRun (told : List ℕ → Option (List ℕ)) (words reads new_read
   -- read that they need, unless a file failed or memory ran out.
   pub reads_needed : ReadFront (needed_by told words) reads new_reads
   pub reads_exactly : IsSettled (line_in told words) → (new_reads ≡ reads ++ needed_by told words) ⊎ ((code ≡ 4) ⊎ (code ≡ 8))
+  -- No file changed but that of a recording.
+  pub others : (path : List ℕ) → NotRecordedIn (line_in told words) path → new_told path ≡ told path

@@ -2,18 +2,20 @@
 use Rattle.std.specs.Prelude.{◌≡◌, ◌⊎◌, ℕ, true, List, Option, Some, None, Result, Ok, Err, IfSome}
 use Rattle.link_traits.specs.Told.{added, Part}
 use Rattle.proxy_main.specs.declared.Refusal.{Refusal}
-use Rattle.proxy_main.specs.declared.Refusal.TheVariants.{Usage, LineWord, ArgsTooLong, PolicyWord, PolicyTooLong, Recording, NoSuchMessage, TooManyEntries}
+use Rattle.proxy_main.specs.declared.Refusal.TheVariants.{Usage, LineWord, ArgsTooLong, PolicyWord, PolicyTooLong, Recording, NoSuchMessage, TooManyEntries, Message, Text}
 use Rattle.proxy_main.specs.declared.Stop.{Stop}
 use Rattle.proxy_main.specs.declared.Stop.TheVariants.{Refused as Refuses, File, Output, Log, Memory}
-use Rattle.proxy_main.specs.Words.{Command, Replay, Explain, Twin, Sample, Audit, Within, Suggest, Help, Version}
+use Rattle.proxy_main.specs.Words.{Command, Replay, Explain, Twin, Sample, Audit, Within, Suggest, Show, Compose, Help, Version}
 use Rattle.policy_args.specs.Words.{PolicyOptions}
 use Rattle.recording.specs.Recording.{Recording as RecordingValue}
-use Rattle.replay.specs.Logging.{WholeLines}
+use Rattle.replay.specs.Logging.{WholeSessionLines}
+use Rattle.replay.specs.SessionsOutput.{session_log}
+use Rattle.replay.specs.declared.session_notes.SessionNote.{SessionNote}
 use Rattle.proxy_main.specs.Answers.{Answer, Untold, Refused, then_load, answer_to, Agrees, without, HasCode, HasOut, IsWork, GivesOutTheSame, IsSettled, may_log, IsLog}
 
 -- ---- one file
 
--- a refusal of a file
+-- a refusal of a policy file or of a recording
 abbrev pub IsOfFile : Refusal → Type 0
 IsOfFile Usage = ⊥
 IsOfFile (LineWord bad) = ⊥
@@ -23,6 +25,8 @@ IsOfFile PolicyTooLong = Unit {0}
 IsOfFile (Recording fault) = Unit {0}
 IsOfFile NoSuchMessage = ⊥
 IsOfFile TooManyEntries = ⊥
+IsOfFile (Message bad) = ⊥
+IsOfFile (Text bad) = ⊥
 
 -- the file at the path is why a run stops: its check refuses what is told of it, or it was not read
 abbrev pub LoadStops : {A : Type 0} → (List ℕ → Result A Refusal) → Option (List ℕ) → List ℕ → Stop → Type 0
@@ -59,6 +63,8 @@ IsExplain (Some (Sample n seed)) = ⊥
 IsExplain (Some (Audit policy recordings)) = ⊥
 IsExplain (Some (Within one other)) = ⊥
 IsExplain (Some (Suggest recordings)) = ⊥
+IsExplain (Some (Show message)) = ⊥
+IsExplain (Some (Compose text)) = ⊥
 IsExplain (Some Help) = ⊥
 IsExplain (Some Version) = ⊥
 
@@ -72,11 +78,43 @@ IsSuggest (Some (Sample n seed)) = ⊥
 IsSuggest (Some (Audit policy recordings)) = ⊥
 IsSuggest (Some (Within one other)) = ⊥
 IsSuggest (Some (Suggest recordings)) = Unit {0}
+IsSuggest (Some (Show message)) = ⊥
+IsSuggest (Some (Compose text)) = ⊥
 IsSuggest (Some Help) = ⊥
 IsSuggest (Some Version) = ⊥
 
--- the words are refused only where they name nothing, a message's number only where they ask for a message, and a
--- policy only where they ask for one
+-- the words ask for a message's text
+abbrev pub IsShow : Option Command → Type 0
+IsShow None = ⊥
+IsShow (Some (Replay policy recording)) = ⊥
+IsShow (Some (Explain policy recording number)) = ⊥
+IsShow (Some (Twin policy one other)) = ⊥
+IsShow (Some (Sample n seed)) = ⊥
+IsShow (Some (Audit policy recordings)) = ⊥
+IsShow (Some (Within one other)) = ⊥
+IsShow (Some (Suggest recordings)) = ⊥
+IsShow (Some (Show message)) = Unit {0}
+IsShow (Some (Compose text)) = ⊥
+IsShow (Some Help) = ⊥
+IsShow (Some Version) = ⊥
+
+-- the words ask for the message of a text
+abbrev pub IsCompose : Option Command → Type 0
+IsCompose None = ⊥
+IsCompose (Some (Replay policy recording)) = ⊥
+IsCompose (Some (Explain policy recording number)) = ⊥
+IsCompose (Some (Twin policy one other)) = ⊥
+IsCompose (Some (Sample n seed)) = ⊥
+IsCompose (Some (Audit policy recordings)) = ⊥
+IsCompose (Some (Within one other)) = ⊥
+IsCompose (Some (Suggest recordings)) = ⊥
+IsCompose (Some (Show message)) = ⊥
+IsCompose (Some (Compose text)) = Unit {0}
+IsCompose (Some Help) = ⊥
+IsCompose (Some Version) = ⊥
+
+-- the words are refused only where they name nothing, a message's number only where they ask for a message, a policy
+-- only where they ask for one, and the file of a message or of a text only where they ask for the other
 abbrev pub IsOfWords : Refusal → Option Command → Type 0
 IsOfWords Usage command = command ≡ None
 IsOfWords (LineWord bad) command = ⊥
@@ -86,6 +124,8 @@ IsOfWords PolicyTooLong command = Unit {0}
 IsOfWords (Recording fault) command = Unit {0}
 IsOfWords NoSuchMessage command = IsExplain command
 IsOfWords TooManyEntries command = IsSuggest command
+IsOfWords (Message bad) command = IsShow command
+IsOfWords (Text bad) command = IsCompose command
 
 -- why a run stops: what is told settles it so, or a file failed without which nothing is settled, or the work had
 -- begun, with a log where it was that which failed
@@ -134,6 +174,8 @@ IsComparison (Some (Sample n seed)) = ⊥
 IsComparison (Some (Audit policy recordings)) = ⊥
 IsComparison (Some (Within one other)) = Unit {0}
 IsComparison (Some (Suggest recordings)) = ⊥
+IsComparison (Some (Show message)) = ⊥
+IsComparison (Some (Compose text)) = ⊥
 IsComparison (Some Help) = ⊥
 IsComparison (Some Version) = ⊥
 
@@ -151,9 +193,13 @@ IsLogged told command err new_err = (log : List ℕ) × IsLog told command log �
 abbrev pub IsLogFront : (List ℕ → Option (List ℕ)) → Option Command → Option (List ℕ) → Option (List ℕ) → Type 0
 IsLogFront told command err new_err = (log : List ℕ) × IsLog told command log × Part err new_err log
 
--- whole lines of the log were written, from the first on, or none
+-- whole lines of these bytes were written, from the first on
+abbrev pub WholeLinesOf : Option (List ℕ) → Option (List ℕ) → List ℕ → Type 0
+WholeLinesOf err new_err log = (noted : List SessionNote) × (session_log noted ≡ log) × WholeSessionLines err new_err noted
+
+-- whole lines of the log were written, or none
 abbrev pub IsLogInLines : (List ℕ → Option (List ℕ)) → Option Command → Option (List ℕ) → Option (List ℕ) → Type 0
-IsLogInLines told command err new_err = (log : List ℕ) × IsLog told command log × ((new_err ≡ err) ⊎ WholeLines err new_err log)
+IsLogInLines told command err new_err = (log : List ℕ) × IsLog told command log × ((new_err ≡ err) ⊎ WholeLinesOf err new_err log)
 
 -- what err got before a run stopped: nothing before the work, all of the log where out failed, and whole lines of it
 -- where memory ran out

@@ -14,7 +14,8 @@ pub record ToolRun (told : List ℕ → Option (List ℕ)) (words reads new_read
   pub ends : Ends told (reading words) files_rose out_rose err_rose out new_out err new_err code
   -- 1 comes exactly where the words aren't the tool's.
   pub usage : Exactly code 1 (reading words ≡ None)
-  -- 2 comes exactly where a policy file is refused, and 3 exactly where a recording is.
+  -- 2 comes exactly where a policy file is refused, and 3 exactly where a recording, or the file of a message or of a
+  -- text, is.
   pub policy : IsSettled (answer_of words told) → ExactlyOfFiles code 2 (HasCode (answer_of words told) 2)
   pub recording : IsSettled (answer_of words told) → ExactlyOfFiles code 3 (HasCode (answer_of words told) 3)
   -- 9 comes exactly where the recording has no message of the number.

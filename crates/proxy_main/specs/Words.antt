@@ -7,16 +7,18 @@
 --     audit POLICY RECORDING..      tells what the policy denies of one recording or more, up to 16, and which of its entries none of them names
 --     within A B                    tells whether the policy A permits nothing that the policy B doesn't permit
 --     suggest RECORDING..           writes the least policy that permits what is asked in one recording or more, up to 16
+--     show FILE                     writes the text of the message that the file holds
+--     compose FILE                  writes the message whose text the file holds
 --     --help                        writes what the program can do
 --     --version                     writes its version
 --
--- The words of a tool are those that its command takes. POLICY, RECORDING, A and B are paths. Each number is decimal,
+-- The words of a tool are those that its command takes. POLICY, RECORDING, A, B and FILE are paths. Each number is decimal,
 -- in digits alone and with no zero in front of others: the N of a sample is at most 100,000, and any other number is
 -- below 2^64. Words of any other form are none of a tool's.
 use Rattle.std.specs.Prelude.{ℕ, ◌-◌, ◌^◌, ◌||◌, nat_le, Bool, false, List, [], ◌∷◌, Option, Some, None, option_map, codes, bytes_eq, if◌then◌else◌}
 use Rattle.policy_args.specs.ProxyLine.{number_of}
 pub use Rattle.process_streams.specs.Faults.{is_tool_name}
-use Rattle.tool_words.specs.Tools.{taken, taken_with, replay_places, explain_places, twin_places, sample_places, within_places, audit_places, suggest_places, more_recordings}
+use Rattle.tool_words.specs.Tools.{taken, taken_with, replay_places, explain_places, twin_places, sample_places, within_places, audit_places, suggest_places, show_places, compose_places, more_recordings}
 
 pub data Command : Type 0 where
   -- the paths of the policy file and of the recording
@@ -33,6 +35,10 @@ pub data Command : Type 0 where
   Within : List ℕ → List ℕ → Command
   -- the paths of the recordings
   Suggest : List (List ℕ) → Command
+  -- the path of the file of a message
+  Show : List ℕ → Command
+  -- the path of the file of a message's text
+  Compose : List ℕ → Command
   -- what the program can do
   Help : Command
   -- its version
@@ -84,6 +90,14 @@ audit_of taken = None
 abbrev pub suggest_of : Option (List (List ℕ)) → Option Command
 suggest_of taken = option_map Suggest taken
 
+abbrev pub show_of : Option (List (List ℕ)) → Option Command
+show_of (Some (message ∷ [])) = Some (Show message)
+show_of taken = None
+
+abbrev pub compose_of : Option (List (List ℕ)) → Option Command
+compose_of (Some (text ∷ [])) = Some (Compose text)
+compose_of taken = None
+
 abbrev pub within_of : Option (List (List ℕ)) → Option Command
 within_of (Some (one ∷ other ∷ [])) = Some (Within one other)
 within_of taken = None
@@ -108,7 +122,9 @@ named_by tool words =
     else (if bytes_eq tool (codes "audit") then audit_of (taken_with (codes "audit") audit_places more_recordings words)
     else (if bytes_eq tool (codes "within") then within_of (taken (codes "within") within_places words)
     else (if bytes_eq tool (codes "suggest") then suggest_of (taken_with (codes "suggest") suggest_places more_recordings words)
-    else alone_of words))))))
+    else (if bytes_eq tool (codes "show") then show_of (taken (codes "show") show_places words)
+    else (if bytes_eq tool (codes "compose") then compose_of (taken (codes "compose") compose_places words)
+    else alone_of words))))))))
 
 -- the command that the words name, where they name one
 abbrev pub reading : List (List ℕ) → Option Command

@@ -6,19 +6,23 @@ ghost use Rattle.policy_args.specs.Seen.{options_seen};
 ghost use Rattle.policy_args.specs.Words.{PolicyOptions};
 ghost use Rattle.recording.specs.Recording.{Recording as RecordingValue, recording_of};
 ghost use Rattle.recording.specs.Seen.{recording_seen, size};
-ghost use Rattle.proxy_main.specs.Words.{Audit, Suggest, Twin, Within};
-ghost use Rattle.proxy_main.specs.Answers.{Answer, Compared, Contained, audited, suggesting, options_in, checked_policy, checked_recording, then_load, answer_to, Agrees, IsSettled};
-ghost use Rattle.proxy_main.specs.FilesRead.{IsOfPolicy, IsOfRecording, StopsAt, ReadUntil, up_to_bad, needed, NeededUntil, ReadsNeeded};
+ghost use Rattle.recording.specs.Sessions.{sessions_of};
+ghost use Rattle.recording.specs.SessionsSeen.{sessions_seen, IsReadable};
+ghost use Rattle.proxy_main.specs.Words.{Audit, Replay, Suggest, Twin, Within};
+ghost use Rattle.proxy_main.specs.Answers.{Answer, Compared, Contained, audited, suggesting, options_in, checked_policy, checked_recording, checked_sessions, replayed, then_load, answer_to, Agrees, IsSettled};
+ghost use Rattle.proxy_main.specs.FilesRead.{IsOfPolicy, IsOfInput, StopsAt, ReadUntil, up_to_bad, needed, NeededUntil, ReadsNeeded};
 ghost use Rattle.proxy_main.specs.Loads.{Loads, FilesStop, StopsBy, CausedBy};
 ghost use Rattle.proxy_main.specs.ManyFiles.{AreGood, IsTold, StopsIn};
 
 use crate::{POLICY_LIMIT, Refusal, Stop};
 use link_traits::{FileFault, Files, read_whole};
 use policy_args::{LineRefusal, Options, read_options, words_of};
-use recording::{BadRecording, RECORDING_LIMIT, Recording, RecordingKind, RecordingRefusal};
+use recording::{
+    BadRecording, RECORDING_LIMIT, Recording, RecordingKind, RecordingRefusal, Sessions, read_any,
+};
 use std::alloc::Global;
 
-/// What a replay works on, and what a message is explained of.
+/// What a message is explained of.
 #[derive(Drop)]
 pub struct Loaded {
     pub options: Options,
@@ -48,6 +52,38 @@ pub fn load<'a, F: Files>(
     match load_policy(alloc, files, policy) {
         Ok(options) => match load_recording(alloc, files, recording) {
             Ok(recording) => Ok(Loaded { options, recording }),
+            Err(stop) => Err(stop),
+        },
+        Err(stop) => Err(stop),
+    }
+}
+
+/// What a replay works on.
+#[derive(Drop)]
+pub struct LoadedSessions {
+    pub options: Options,
+    pub sessions: Sessions,
+}
+
+/// Reads and checks the files of a replay: the policy file, and then the recording, which has one session or many.
+pub fn load_replay<'a, F: Files>(
+    alloc: Global,
+    files: &mut F,
+    policy: &'a str,
+    recording: &'a str,
+) -> Result<LoadedSessions, Stop<'a>>
+    ensures loaded { IfOk result (λ x. Agrees (answer_to (F.told files.old) (Some (Replay policy.now recording.now))) (replayed (options_seen x.options) (sessions_seen x.sessions))) }
+    ensures options { IfOk result (λ x. IfSome (F.told files.old policy.now) (λ bytes. checked_policy bytes ≡ Ok (options_seen x.options))) }
+    ensures readable { IfOk result (λ x. IsReadable (sessions_seen x.sessions)) }
+    ensures stops { IfErr result (λ stop. StopsBy (F.told files.old) (Some (Replay policy.now recording.now)) stop) }
+    ensures cause { IfErr result (λ stop. CausedBy (Rose (F.faults files.old) (F.faults files.new)) ⊥ ⊥ stop) }
+    ensures read { OnOk result (F.reads files.new ≡ F.reads files.old ++ policy.now ∷ recording.now ∷ []) }
+    ensures until { IfErr result (ReadUntil 1 (policy.now ∷ recording.now ∷ []) (F.reads files.old) (F.reads files.new)) }
+    ensures needed { ReadsNeeded (IsSettled (answer_to (F.told files.old) (Some (Replay policy.now recording.now)))) (needed (F.told files.old) (Some (Replay policy.now recording.now))) (F.reads files.old) (F.reads files.new) result }
+{
+    match load_policy(alloc, files, policy) {
+        Ok(options) => match load_sessions(alloc, files, recording) {
+            Ok(sessions) => Ok(LoadedSessions { options, sessions }),
             Err(stop) => Err(stop),
         },
         Err(stop) => Err(stop),
@@ -249,7 +285,7 @@ fn load_recording<'a, F: Files>(
     ensures count { F.faults files.old ≤ F.faults files.new }
     ensures kept { (p : List ℕ) → F.told files.new p ≡ F.told files.old p }
     ensures read { F.reads files.new ≡ F.reads files.old ++ path.now ∷ [] }
-    ensures at { IfErr result (StopsAt IsOfRecording path.now) }
+    ensures at { IfErr result (StopsAt IsOfInput path.now) }
 {
     match read_whole(alloc, files, path, RECORDING_LIMIT) {
         Ok(bytes) => match recording::read(alloc, &bytes) {
@@ -263,11 +299,37 @@ fn load_recording<'a, F: Files>(
     }
 }
 
+/// Reads and checks a recording of one session or of many.
+fn load_sessions<'a, F: Files>(
+    alloc: Global,
+    files: &mut F,
+    path: &'a str,
+) -> Result<Sessions, Stop<'a>>
+    ensures loads { Loads sessions_seen checked_sessions (F.told files.old path.now) path.now result }
+    ensures readable { IfOk result (λ s. IsReadable (sessions_seen s)) }
+    ensures cause { IfErr result (λ stop. CausedBy (Rose (F.faults files.old) (F.faults files.new)) ⊥ ⊥ stop) }
+    ensures count { F.faults files.old ≤ F.faults files.new }
+    ensures read { F.reads files.new ≡ F.reads files.old ++ path.now ∷ [] }
+    ensures at { IfErr result (StopsAt IsOfInput path.now) }
+{
+    match read_whole(alloc, files, path, RECORDING_LIMIT) {
+        Ok(bytes) => match read_any(alloc, &bytes) {
+            Ok(sessions) => Ok(sessions),
+            Err(RecordingRefusal::Bad(fault)) => Err(Stop::Refused(Refusal::Recording(fault))),
+            Err(RecordingRefusal::Memory) => Err(Stop::Memory),
+        },
+        Err(FileFault::TooLong) => Err(Stop::Refused(Refusal::Recording(too_long()))),
+        Err(FileFault::Failed) => Err(Stop::File(path)),
+        Err(FileFault::Memory) => Err(Stop::Memory),
+    }
+}
+
 /// The fault of a recording that was not read, since it is above its limit: the one that reading
 /// would have found.
-#[tactic(auto, unfolding(recording::specs::Recording::recording_of))]
+#[tactic(auto, unfolding(recording::specs::Recording::recording_of, recording::specs::Sessions::sessions_of))]
 fn too_long() -> BadRecording
-    ensures { (bytes : List ℕ) → RECORDING_LIMIT < length bytes → recording_of bytes ≡ Err result }
+    ensures one { (bytes : List ℕ) → RECORDING_LIMIT < length bytes → recording_of bytes ≡ Err result }
+    ensures many { (bytes : List ℕ) → RECORDING_LIMIT < length bytes → sessions_of bytes ≡ Err result }
 {
     BadRecording {
         kind: RecordingKind::TooLong,

@@ -1,7 +1,8 @@
 //! The program behind its command line.
 //!
 //! `ADDRESS PATH [OPTION..]` and further such blocks are a proxy line: the program listens at each PATH, and serves each client that comes
-//! between it and the bus at ADDRESS, by the block's options.
+//! between it and the bus at ADDRESS, by the block's options. With the option `--record=FILE` it records what the links of its
+//! sessions give.
 //!
 //! The tools work on files. `replay POLICY RECORDING` plays a recorded session under a policy, and writes what its
 //! sides get on the standard output; where the policy asks for a log, that is written first, on the standard error.
@@ -10,6 +11,7 @@
 //! where they first differ. `sample N SEED` plays a generated session, and sums it up. `audit POLICY RECORDING..` plays
 //! up to 16, and writes what the policy denies of them. `within A B` writes whether the policy A permits nothing that B
 //! doesn't. `suggest RECORDING..` plays up to 16, and writes the least policy that permits what their clients asked.
+//! `show FILE` writes the text of the message that a file holds, and `compose FILE` the message whose text a file holds.
 //! `--help` and `--version` write what they say.
 //!
 //! A run ends with a status, and with a line on the standard error where the status says that something is wrong.
@@ -20,8 +22,10 @@ mod disk;
 mod disk_files;
 mod files;
 mod lines;
+mod messages;
 mod process;
 mod program;
+mod recorded;
 mod serving;
 mod stops;
 mod texts;
@@ -33,6 +37,7 @@ ghost use Rattle.std.specs.Prelude.{◌≤◌};
 
 pub use disk::{Disk, SystemDisk};
 pub use disk_files::DiskFiles;
+use message_files::{BadMessage, BadTextFile};
 use policy_args::BadWord;
 pub use process::{Start, fault_status, start_process};
 pub use program::run;
@@ -73,6 +78,14 @@ pub enum Refusal {
     /// The policy that is asked for would have more than 65,535 entries.
     #[error("the policy would have too many entries")]
     TooManyEntries,
+    /// The file of `show` isn't one valid message, which may be since it has more than `message_files::MESSAGE_LIMIT`
+    /// bytes.
+    #[error("the message is bad at {}", .0.at)]
+    Message(BadMessage),
+    /// The file of `compose` is no valid message's text, which may be since it has more than
+    /// `message_files::TEXT_LIMIT` bytes.
+    #[error("the file is no message's text")]
+    Text(BadTextFile),
 }
 
 /// Why a run stops before its work is done.
@@ -82,8 +95,8 @@ pub(crate) enum Stop<'a> {
     /// nothing was written.
     #[error("{0}")]
     Refused(Refusal),
-    /// The file at this path, which the words name, was not read.
-    #[error("the file {0} could not be read")]
+    /// The file at this path, which the words name, was not read, or not made or written.
+    #[error("the file {0} failed")]
     File(&'a str),
     /// The output was not written; a front of it may have been. The whole log was written before.
     #[error("the output could not be written")]
@@ -100,7 +113,7 @@ pub(crate) enum Stop<'a> {
 ///
 /// 0: the whole log and the whole output were written, or nothing is left to be served. 1: the words are refused, or a
 /// file of them is too long. 2: a word of a policy, or its NAME or RULE in a proxy line, is refused, or the policy file
-/// is too long. 3: a recording is refused. 4: a file was not read. 5: the net could not listen, or wait. 6: the output
+/// is too long. 3: a recording, or the file of a message or of a text, is refused. 4: a file was not read, or the file of a recording could not be made or written. 5: the net could not listen, or wait. 6: the output
 /// or the log of a tool was not written. 7: the parts differ that the policy leaves of two recordings, or a policy is
 /// not within another. 8: memory ran out. 9: the recording has no message of the number.
 #[derive(Clone, Copy, Debug, PartialEq, Eq)]

@@ -1,11 +1,14 @@
 //! The line on err of each status that has one.
 ghost use Rattle.std.specs.Prelude.{◌≡◌, ◌≤◌, IfOk, string_bytes};
 ghost use Rattle.link_traits.specs.Told.{Rose};
-ghost use Rattle.proxy_main.specs.Lines.{refusal_line, word_line, plain_word_line, line_word_line, is_policy_kind, kind_name, recording_line, fault_name as name_of_fault, file_line};
+ghost use Rattle.proxy_main.specs.Lines.{refusal_line, word_line, plain_word_line, line_word_line, is_policy_kind, kind_name, recording_line, fault_name as name_of_fault, file_line, malformed_name as name_of_malformed, message_fault_name as name_of_message_fault, message_line, bad_text_name as name_of_bad_text, text_fault_name as name_of_text_fault, text_line};
 ghost use Rattle.proxy_main.specs.Endings.{Said};
 
 use crate::Refusal;
+use dbus_header::MalformedKind;
 use link_traits::{Sink, write_all};
+use message_files::{BadMessage, BadTextFile, MessageFault};
+use message_text::BadText;
 use policy_args::{BadWord, WordKind};
 use recording::{BadRecording, RecordingKind};
 use std::alloc::{AllocError, Global};
@@ -23,6 +26,8 @@ pub fn refusal_text(alloc: Global, refusal: Refusal) -> Result<String, AllocErro
         Refusal::Recording(fault) => recording_text(alloc, fault),
         Refusal::NoSuchMessage => String::from_str(alloc, "error: no such message\n"),
         Refusal::TooManyEntries => String::from_str(alloc, "error: too many entries\n"),
+        Refusal::Message(bad) => message_text(alloc, bad),
+        Refusal::Text(bad) => bad_file_text(alloc, bad),
     }
 }
 
@@ -122,5 +127,71 @@ fn fault_name(kind: RecordingKind) -> &'static str
         RecordingKind::BadSession => "BadSession",
         RecordingKind::TooManySessions => "TooManySessions",
         RecordingKind::BadEnd => "BadEnd",
+    }
+}
+
+/// The line of a file that isn't one valid message.
+fn message_text(alloc: Global, bad: BadMessage) -> Result<String, AllocError>
+    ensures { IfOk result (λ text. string_bytes text ≡ message_line bad) }
+{
+    let kind = message_fault_name(bad.kind);
+    let place = bad.at;
+    format!(in alloc; "error: message: {kind} at {place}\n")
+}
+
+/// The name of what is wrong with the file of a message.
+fn message_fault_name(fault: MessageFault) -> &'static str
+    ensures { result.now ≡ name_of_message_fault fault }
+{
+    match fault {
+        MessageFault::TooLong => "TooLong",
+        MessageFault::Cut => "Cut",
+        MessageFault::Extra => "Extra",
+        MessageFault::Malformed(kind) => malformed_name(kind),
+    }
+}
+
+/// The name of what is wrong with bytes that are no valid message.
+fn malformed_name(kind: MalformedKind) -> &'static str
+    ensures { result.now ≡ name_of_malformed kind }
+{
+    match kind {
+        MalformedKind::ByteOrder => "ByteOrder",
+        MalformedKind::MessageType => "MessageType",
+        MalformedKind::Version => "Version",
+        MalformedKind::Length => "Length",
+        MalformedKind::Serial => "Serial",
+        MalformedKind::Fields => "Fields",
+        MalformedKind::Required => "Required",
+        MalformedKind::Body => "Body",
+        MalformedKind::Descriptors => "Descriptors",
+    }
+}
+
+/// The line of a file that is no message's text.
+fn bad_file_text(alloc: Global, bad: BadTextFile) -> Result<String, AllocError>
+    ensures { IfOk result (λ text. string_bytes text ≡ text_line bad) }
+{
+    let kind = text_fault_name(bad);
+    format!(in alloc; "error: text: {kind}\n")
+}
+
+/// The name of what is wrong with the file of a text.
+fn text_fault_name(fault: BadTextFile) -> &'static str
+    ensures { result.now ≡ name_of_text_fault fault }
+{
+    match fault {
+        BadTextFile::TooLong => "TooLong",
+        BadTextFile::Text(bad) => bad_text_name(bad),
+    }
+}
+
+/// The name of what is wrong with a text.
+fn bad_text_name(bad: BadText) -> &'static str
+    ensures { result.now ≡ name_of_bad_text bad }
+{
+    match bad {
+        BadText::Form => "Form",
+        BadText::NotValid => "NotValid",
     }
 }

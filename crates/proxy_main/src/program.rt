@@ -30,7 +30,7 @@ pub fn run<R: Threads + Sync, F: Files, N: Net, O: Sink, E: Sink>(
     ensures net { names_tool (map (λ w. string_bytes w) words.now) ≡ true → net.new ≡ net.old }
 
     // A proxy line.
-    ensures line { names_tool (map (λ w. string_bytes w) words.now) ≡ false → LineRun (F.told files.old) (map (λ w. string_bytes w) words.now) (F.reads files.old) (F.reads files.new) (Rose (F.faults files.old) (F.faults files.new)) (Rose (E.faults err.old) (E.faults err.new)) (N.view net.old) (N.view net.new) (sink_of (E.told err.old) (E.faults err.old)) (sink_of (E.told err.new) (E.faults err.new)) result.code }
+    ensures line { names_tool (map (λ w. string_bytes w) words.now) ≡ false → LineRun (F.told files.old) (F.told files.new) (map (λ w. string_bytes w) words.now) (F.reads files.old) (F.reads files.new) (Rose (F.faults files.old) (F.faults files.new)) (Rose (E.faults err.old) (E.faults err.new)) (N.view net.old) (N.view net.new) (sink_of (E.told err.old) (E.faults err.old)) (sink_of (E.told err.new) (E.faults err.new)) result.code }
     ensures out { names_tool (map (λ w. string_bytes w) words.now) ≡ false → out.new ≡ out.old }
 {
     match tool(rt, &OpenGate, alloc, words, files, out, err) {

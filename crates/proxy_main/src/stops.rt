@@ -75,6 +75,8 @@ fn code(refusal: Refusal) -> u8
         Refusal::Recording(_) => 3,
         Refusal::NoSuchMessage => 9,
         Refusal::TooManyEntries => 7,
+        Refusal::Message(_) => 3,
+        Refusal::Text(_) => 3,
     }
 }
 

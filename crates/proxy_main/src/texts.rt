@@ -14,6 +14,8 @@ Usage:
   zamtigarn audit POLICY RECORDING..    counts what a policy denies of recordings, and tells which of its entries they don't name
   zamtigarn within A B                  tells whether a policy permits nothing that another doesn't
   zamtigarn suggest RECORDING..         writes the least policy that permits what the applications of recordings asked
+  zamtigarn show FILE                   writes the text of the message that a file holds
+  zamtigarn compose FILE                writes the message whose text a file holds
   zamtigarn --help                      writes this text
   zamtigarn --version                   writes the version
 
@@ -33,14 +35,15 @@ NAME is a well-known bus name, or N.* for N and all names below it. RULE is [MET
 and PROP is INTERFACE.PROPERTY[@PATH].
 Among the words of blocks alone:
   --sessions=N           N clients are served in all, and then the program ends
+  --record=FILE          what the links of all sessions give is recorded in FILE, which replay plays
   --args-file=FILE       stands for the words of FILE, each ended by a NUL
 
 Status:
   0  the output was written, or nothing is left to be served
   1  the words are none of these
   2  a policy is refused
-  3  a recording is refused
-  4  a file could not be read
+  3  a recording, or the file of a message or of a text, is refused
+  4  a file could not be read, or the file of a recording could not be written
   5  the proxy could not listen, or wait
   6  the output or the log of a tool could not be written
   7  the two recordings differ to the policy, the policy is not within the other, or the policy

@@ -1,17 +1,17 @@
 //! The words of the command line.
 ghost use Rattle.std.specs.Prelude.{◌≡◌, ◌≤◌, [], ◌∷◌, map, option_map, string_bytes, codes, IfOk, IfSome};
 ghost use Rattle.policy_args.specs.ProxyLine.{has_leading_zero as begins_with_zero};
-ghost use Rattle.tool_words.specs.Tools.{taken, taken_with, replay_places, explain_places, twin_places, sample_places, within_places, audit_places, suggest_places, more_recordings};
-ghost use Rattle.proxy_main.specs.Words.{asks_alone as asks_for_text, names_tool, reading, named_by, alone_of, text_of, replay_of, explain_of, twin_of, sample_of, audit_of, within_of, suggest_of, number_within};
+ghost use Rattle.tool_words.specs.Tools.{taken, taken_with, replay_places, explain_places, twin_places, sample_places, within_places, audit_places, suggest_places, show_places, compose_places, more_recordings};
+ghost use Rattle.proxy_main.specs.Words.{asks_alone as asks_for_text, names_tool, reading, named_by, alone_of, text_of, replay_of, explain_of, twin_of, sample_of, audit_of, within_of, suggest_of, show_of, compose_of, number_within};
 ghost use Rattle.proxy_main.specs.Read.{command_of, HasFewDraws, worth_within};
 
 use process_streams::is_tool_name;
 use sample::MOST_DRAWS;
 use std::alloc::{AllocError, Global};
 use tool_words::{
-    AuditWords, ExplainWords, ReplayWords, SampleWords, SuggestWords, TwinWords, WithinWords,
-    audit_words, explain_words, replay_words, sample_words, suggest_words, twin_words,
-    within_words,
+    AuditWords, ComposeWords, ExplainWords, ReplayWords, SampleWords, ShowWords, SuggestWords,
+    TwinWords, WithinWords, audit_words, compose_words, explain_words, replay_words, sample_words,
+    show_words, suggest_words, twin_words, within_words,
 };
 
 /// The words of a command.
@@ -52,6 +52,14 @@ pub enum CommandWords<'a> {
     /// The paths of recordings.
     Suggest {
         recordings: Vec<&'a str>,
+    },
+    /// The path of the file of a message.
+    Show {
+        message: &'a str,
+    },
+    /// The path of the file of a message's text.
+    Compose {
+        text: &'a str,
     },
     /// What the program can do.
     Help,
@@ -119,6 +127,12 @@ fn read_tool<'a>(
     }
     if tool == "suggest" {
         return Ok(read_suggest(suggest_words(alloc, words)?));
+    }
+    if tool == "show" {
+        return Ok(read_show(show_words(alloc, words)?));
+    }
+    if tool == "compose" {
+        return Ok(read_compose(compose_words(alloc, words)?));
     }
     Ok(read_alone(words))
 }
@@ -205,6 +219,26 @@ fn read_suggest<'a>(words: Option<SuggestWords<'a>>) -> Option<CommandWords<'a>>
     Some(CommandWords::Suggest {
         recordings: words.recordings,
     })
+}
+
+/// The reading of the words of `show`.
+fn read_show<'a>(words: Option<ShowWords<'a>>) -> Option<CommandWords<'a>>
+    ensures words { option_map command_of result ≡ show_of (option_map (λ w. w.message.now ∷ []) words.entry) }
+    ensures few { IfSome result HasFewDraws }
+{
+    let words = words?;
+    Some(CommandWords::Show {
+        message: words.message,
+    })
+}
+
+/// The reading of the words of `compose`.
+fn read_compose<'a>(words: Option<ComposeWords<'a>>) -> Option<CommandWords<'a>>
+    ensures words { option_map command_of result ≡ compose_of (option_map (λ w. w.text.now ∷ []) words.entry) }
+    ensures few { IfSome result HasFewDraws }
+{
+    let words = words?;
+    Some(CommandWords::Compose { text: words.text })
 }
 
 /// The reading of a word that stands alone.

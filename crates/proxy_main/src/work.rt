@@ -3,7 +3,7 @@ ghost use Rattle.std.specs.Prelude.{◌≡◌, ◌≤◌, ◌⊎◌, ◌++◌, �
 ghost use Rattle.link_traits.specs.Told.{Rose, added};
 ghost use Rattle.policy_args.specs.Seen.{options_seen};
 ghost use Rattle.recording.specs.Seen.{recording_seen};
-ghost use Rattle.proxy_main.specs.Words.{Command, reading, Replay, Explain, Twin, Sample, Audit, Within, Suggest};
+ghost use Rattle.proxy_main.specs.Words.{Command, reading, Replay, Explain, Twin, Sample, Audit, Within, Suggest, Show, Compose};
 ghost use Rattle.proxy_main.specs.WithinText.{within_code, within_text};
 ghost use Rattle.proxy_main.specs.Read.{command_of, HasFewDraws};
 ghost use Rattle.proxy_main.specs.Answers.{Wrote, Compared, Contained, Agrees, audited, suggesting, answer_of, answer_to, IsSettled, IsWork, sampled, twin_code, twin_line, version_line};
@@ -11,7 +11,8 @@ ghost use Rattle.proxy_main.specs.FilesRead.{paths_of, policies_of, needed, Read
 ghost use Rattle.proxy_main.specs.Loads.{StopsBy, CausedBy, Keeps, KeepsLog, IsDone, IsEnd, IsLogged, IsSuggest};
 
 use crate::containment::containment_text;
-use crate::files::{load, load_audit, load_policies, load_suggested, load_twins};
+use crate::files::{load, load_audit, load_policies, load_replay, load_suggested, load_twins};
+use crate::messages::{work_compose, work_show, write_bytes};
 use crate::texts::{HELP, VERSION};
 use crate::words::{CommandWords, read_words};
 use crate::{Refusal, Status, Stop};
@@ -21,7 +22,7 @@ use policy_args::{Options, Policy};
 use policy_suggest::SuggestRefusal;
 use policy_within::{WithinAnswer, within};
 use recording::Recording;
-use replay::{ExplainFault, ReplayFault, TwinAnswer, explain, replay, twin};
+use replay::{ExplainFault, ReplayFault, TwinAnswer, explain, replay_sessions, twin};
 use sample::{MOST_DRAWS, SampleFault, summary};
 use std::alloc::{AllocError, Global};
 use std::thread::Threads;
@@ -99,6 +100,8 @@ fn work_command<'a, R: Threads + Sync, G: Gate + Sync, F: Files, O: Sink, E: Sin
         CommandWords::Suggest { recordings } => {
             work_suggest(rt, gate, alloc, &recordings, files, out)
         }
+        CommandWords::Show { message } => work_show(alloc, message, files, out),
+        CommandWords::Compose { text } => work_compose(alloc, text, files, out),
         CommandWords::Help => work_text(HELP, out),
         CommandWords::Version => work_version(alloc, out),
     }
@@ -125,8 +128,8 @@ fn work_replay<'a, F: Files, O: Sink, E: Sink>(
     ensures until { IfErr result (ReadUntil (policies_of (Some (Replay policy.now recording.now))) (paths_of (Some (Replay policy.now recording.now))) (F.reads files.old) (F.reads files.new)) }
     ensures needed { ReadsNeeded (IsSettled (answer_to (F.told files.old) (Some (Replay policy.now recording.now)))) (needed (F.told files.old) (Some (Replay policy.now recording.now))) (F.reads files.old) (F.reads files.new) result }
 {
-    match load(alloc, files, policy, recording) {
-        Ok(loaded) => match replay(alloc, &loaded.options, &loaded.recording, out, err) {
+    match load_replay(alloc, files, policy, recording) {
+        Ok(loaded) => match replay_sessions(alloc, &loaded.options, &loaded.sessions, out, err) {
             Ok(()) => Ok(Status { code: 0 }),
             Err(ReplayFault::Out) => Err(Stop::Output),
             Err(ReplayFault::Err) => Err(Stop::Log),
@@ -479,8 +482,5 @@ fn work_text<'a, O: Sink>(text: &str, out: &mut O) -> Result<Status, Stop<'a>>
     ensures keeps { IfErr result (λ stop. Keeps (Wrote text.now []) (O.told out.old) (O.told out.new) stop) }
     ensures work { IfErr result StopsWork }
 {
-    match write_all(out, text.as_bytes()) {
-        Ok(()) => Ok(Status { code: 0 }),
-        Err(_) => Err(Stop::Output),
-    }
+    write_bytes(text.as_bytes(), out)
 }

@@ -1,7 +1,7 @@
 -- Worked examples of the words that a command takes.
-use Rattle.std.proofs.Common.{◌≡◌, List, [], ◌∷◌, Option, Some, None, codes, map, refl}
+use Rattle.std.proofs.Common.{◌≡◌, List, [], ◌∷◌, ◌++◌, Option, Some, None, codes, map, refl}
 use Rattle.clap.specs.Words.{Text}
-use Rattle.tool_words.specs.Tools.{replay_places, explain_places, twin_places, sample_places, within_places, audit_places, suggest_places, more_recordings, taken, taken_with}
+use Rattle.tool_words.specs.Tools.{replay_places, explain_places, twin_places, sample_places, within_places, audit_places, suggest_places, show_places, compose_places, more_recordings, taken, taken_with}
 use Rattle.tool_words.proofs.OnLiterals.{words_on_literals}
 
 abbrev replay : List Text → Option (List Text)
@@ -41,6 +41,12 @@ draws = refl
 policies : taken (codes "within") within_places (codes "within" ∷ codes "a" ∷ codes "b" ∷ []) ≡ Some (codes "a" ∷ codes "b" ∷ [])
 unfolding words_on_literals
 policies = refl
+
+files : map (taken (codes "show") show_places) ((codes "show" ∷ codes "m" ∷ []) ∷ (codes "show" ∷ []) ∷ (codes "show" ∷ codes "m" ∷ codes "n" ∷ []) ∷ [])
+    ++ map (taken (codes "compose") compose_places) ((codes "compose" ∷ codes "-t" ∷ []) ∷ (codes "compose" ∷ codes "--" ∷ codes "-t" ∷ []) ∷ [])
+    ≡ Some (codes "m" ∷ []) ∷ None ∷ None ∷ None ∷ Some (codes "-t" ∷ []) ∷ []
+unfolding words_on_literals
+files = refl
 
 -- one recording or more, up to 16
 abbrev audit : List Text → Option (List Text)

@@ -10,7 +10,7 @@ use Rattle.clap.specs.Faults.{built_fault, long_fault, react_fault, short_fault,
 use Rattle.clap.specs.declared.error.kind.ErrorKind.TheVariants.{DisplayHelp, TooManyValues, UnknownArgument}
 use Rattle.clap.proofs.FaultLemmas.{leaf_fault}
 use Rattle.clap.proofs.OnLiterals.{clap_on_literals}
-use Rattle.tool_words.specs.Tools.{command_of, command_with, filled_at, replay_places, explain_places, twin_places, sample_places, within_places, audit_places, suggest_places, more_recordings, taken, taken_with, unless_faulty, words_at}
+use Rattle.tool_words.specs.Tools.{command_of, command_with, filled_at, replay_places, explain_places, twin_places, sample_places, within_places, audit_places, suggest_places, show_places, compose_places, more_recordings, taken, taken_with, unless_faulty, words_at}
 use Rattle.tool_words.specs.Operands.{AllUtf8, IsOneWordEach, IsOneWordAtMost, is_between, of_count, operands}
 use Rattle.tool_words.proofs.WordKinds.{Faulty, faulty_as}
 use Rattle.tool_words.proofs.Walking.{OneEach, behind, or_else_faulty, outcome, read, standing}
@@ -248,6 +248,36 @@ within_one_each = one_word_each (codes "within") within_places (record {
   full = λ a b. unknown;
   ends = (λ t. refl, λ a. (λ t. refl, λ b. (λ t. refl, λ c. tt)));
   over = over_number 2;
+})
+
+pub show_one_each : IsOneWordEach (codes "show") show_places
+unfolding clap_on_literals
+show_one_each = one_word_each (codes "show") show_places (record {
+  is_simple = refl;
+  named = refl;
+  leaf = refl;
+  long = λ name. refl;
+  short = λ c. refl;
+  keeps = refl;
+  takes = (λ word t. (refl, refl), λ a. tt);
+  full = λ a. unknown;
+  ends = (λ t. refl, λ a. (λ t. refl, λ b. tt));
+  over = over_number 1;
+})
+
+pub compose_one_each : IsOneWordEach (codes "compose") compose_places
+unfolding clap_on_literals
+compose_one_each = one_word_each (codes "compose") compose_places (record {
+  is_simple = refl;
+  named = refl;
+  leaf = refl;
+  long = λ name. refl;
+  short = λ c. refl;
+  keeps = refl;
+  takes = (λ word t. (refl, refl), λ a. tt);
+  full = λ a. unknown;
+  ends = (λ t. refl, λ a. (λ t. refl, λ b. tt));
+  over = over_number 1;
 })
 
 pub audit_at_most : IsOneWordAtMost (codes "audit") audit_places more_recordings

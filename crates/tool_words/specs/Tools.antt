@@ -7,6 +7,8 @@
 --     audit POLICY RECORDING..
 --     within A B
 --     suggest RECORDING..
+--     show FILE
+--     compose FILE
 --
 -- The first word is the tool's name. Each place after it is for one word, which has to be there. Of recordings there are up to 16 places, of
 -- which the first alone has to be filled. There is no option but the wish for help that every command has, and no command takes that.
@@ -85,7 +87,13 @@ audit_places = codes "POLICY" ∷ codes "RECORDING" ∷ []
 abbrev pub suggest_places : List Text
 suggest_places = codes "RECORDING" ∷ []
 
--- the places of the others
+abbrev pub show_places : List Text
+show_places = codes "FILE" ∷ []
+
+abbrev pub compose_places : List Text
+compose_places = codes "FILE" ∷ []
+
+-- the places of the other recordings
 abbrev pub more_recordings : List Text
 more_recordings =
     codes "RECORDING2" ∷ codes "RECORDING3" ∷ codes "RECORDING4" ∷ codes "RECORDING5" ∷ codes "RECORDING6" ∷ codes "RECORDING7" ∷ codes "RECORDING8"

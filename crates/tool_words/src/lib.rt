@@ -7,7 +7,7 @@
 ghost use Rattle.std.specs.Prelude.{◌≡◌, ◌↔◌, ◌≤◌, ◌+◌, ◌++◌, [], ◌∷◌, List, Option, IfOk, OnOk, drop, fold, map, length, option_map, option_to_list, string_bytes, codes, true, false, IsTrue};
 ghost use Rattle.clap.specs.Words.{Row, Text, app_of, first_of, found_of, is_simple_and_free, kind_of, new_rule, rows_of, rule_of, with_rule};
 ghost use Rattle.tool_words.specs.Operands.{IsOneWordAtMost, IsOneWordEach, is_between, of_count, of_number, operands};
-ghost use Rattle.tool_words.specs.Tools.{Parses, command_of, command_with, filled_at, required_word, replay_places, explain_places, twin_places, sample_places, within_places, audit_places, suggest_places, more_recordings, read_of, taken, taken_by, taken_with, words_at, words_found};
+ghost use Rattle.tool_words.specs.Tools.{Parses, command_of, command_with, filled_at, required_word, replay_places, explain_places, twin_places, sample_places, within_places, audit_places, suggest_places, show_places, compose_places, more_recordings, read_of, taken, taken_by, taken_with, words_at, words_found};
 
 use clap::error::ErrorKind;
 use clap::{Arg, ArgMatches, Command, Error};
@@ -67,6 +67,20 @@ pub struct AuditWords<'a> {
 pub struct SuggestWords<'a> {
     /// The paths of the recordings, 1 to 16.
     pub recordings: Vec<&'a str>,
+}
+
+/// The words of `show FILE`.
+#[derive(Clone, Copy, Debug, PartialEq, Eq)]
+pub struct ShowWords<'a> {
+    /// The path of the file of a message.
+    pub message: &'a str,
+}
+
+/// The words of `compose FILE`.
+#[derive(Clone, Copy, Debug, PartialEq, Eq)]
+pub struct ComposeWords<'a> {
+    /// The path of the file of a message's text.
+    pub text: &'a str,
 }
 
 /// The places of further recordings: 15 beside the first.
@@ -273,6 +287,55 @@ pub fn suggest_words(
         Some(recordings) => Ok(Some(SuggestWords { recordings })),
         None => Ok(None),
     }
+}
+
+/// The words of `show FILE`, the tool's name in front, where its command takes them. It fails where memory is refused.
+pub fn show_words(alloc: Global, words: &[String]) -> Result<Option<ShowWords<'_>>, AllocError>
+    // They are what the command finds.
+    ensures found { IfOk result (λ r. option_map (λ w. w.message.now ∷ []) r ≡ taken (codes "show") show_places (map (λ w. string_bytes w) words.now)) }
+
+    // They are all words behind the tool's name but a first `--`, where in front of that no word is
+    // an option, and where there is one.
+    ensures plain { IfOk result (λ r. option_map (λ w. w.message.now ∷ []) r ≡ of_number 1 (operands (drop 1 (map (λ w. string_bytes w) words.now)))) }
+{
+    match matches_of(alloc, "show", &["FILE"], words)? {
+        Some(matches) => Ok(show_place(&matches)),
+        None => Ok(None),
+    }
+}
+
+/// The word in the place of `show`.
+fn show_place<'a>(matches: &ArgMatches<'a>) -> Option<ShowWords<'a>>
+    ensures { option_map (λ w. w.message.now ∷ []) result ≡ words_at show_places (rows_of (found_of matches.now)) }
+{
+    let message = word_at(matches, "FILE")?;
+    Some(ShowWords { message })
+}
+
+/// The words of `compose FILE`, the tool's name in front, where its command takes them. It fails where memory is refused.
+pub fn compose_words(
+    alloc: Global,
+    words: &[String],
+) -> Result<Option<ComposeWords<'_>>, AllocError>
+    // They are what the command finds.
+    ensures found { IfOk result (λ r. option_map (λ w. w.text.now ∷ []) r ≡ taken (codes "compose") compose_places (map (λ w. string_bytes w) words.now)) }
+
+    // They are all words behind the tool's name but a first `--`, where in front of that no word is
+    // an option, and where there is one.
+    ensures plain { IfOk result (λ r. option_map (λ w. w.text.now ∷ []) r ≡ of_number 1 (operands (drop 1 (map (λ w. string_bytes w) words.now)))) }
+{
+    match matches_of(alloc, "compose", &["FILE"], words)? {
+        Some(matches) => Ok(compose_place(&matches)),
+        None => Ok(None),
+    }
+}
+
+/// The word in the place of `compose`.
+fn compose_place<'a>(matches: &ArgMatches<'a>) -> Option<ComposeWords<'a>>
+    ensures { option_map (λ w. w.text.now ∷ []) result ≡ words_at compose_places (rows_of (found_of matches.now)) }
+{
+    let text = word_at(matches, "FILE")?;
+    Some(ComposeWords { text })
 }
 
 /// What the command of a tool finds, where it takes the words. It fails where memory is refused.

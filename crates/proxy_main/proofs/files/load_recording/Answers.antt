@@ -20,4 +20,4 @@ returns-in-Err-Bad-clause-loads g c =
     (read_told RECORDING_LIMIT _ c.in-Ok.bytes.items checked_recording (Err (BadFile c.in-Err-Bad.fault)) c.in-Ok.ensures.given (recording_read _ _ exact), tt)
 
 pub returns-in-Err-TooLong-clause-loads : goal.returns-in-Err-TooLong-clause-loads
-returns-in-Err-TooLong-clause-loads g c = (recording_long _ c.too_long.result c.too_long.ensures (c.in-Err-TooLong.ensures.too_long (ap Err c.in-Err-TooLong.field-0-is)), tt)
+returns-in-Err-TooLong-clause-loads g c = (recording_long _ c.too_long.result c.too_long.ensures.one (c.in-Err-TooLong.ensures.too_long (ap Err c.in-Err-TooLong.field-0-is)), tt)

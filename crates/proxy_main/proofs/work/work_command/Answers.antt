@@ -115,3 +115,18 @@ returns-in-Help-clause-needed g c = none_named _ _ (g.F.Files.told c.args.files.
 
 pub returns-in-Version-clause-needed : goal.returns-in-Version-clause-needed
 returns-in-Version-clause-needed g c = none_named _ _ (g.F.Files.told c.args.files.now) (g.F.Files.reads c.args.files.now) c.work_version.result c.in-Version.is refl
+
+pub returns-in-Show-clause-log : goal.returns-in-Show-clause-log
+returns-in-Show-clause-log g c =
+    let unasked = ap (λ (w : CommandWords). may_log (g.F.Files.told c.args.files.now) (Some (command_of w))) c.in-Show.is in
+    quiet_stop c.work_show.result (g.F.Files.told c.args.files.now) _ _ _ _ _ unasked c.work_show.ensures.cause refl
+
+pub returns-in-Compose-clause-log : goal.returns-in-Compose-clause-log
+returns-in-Compose-clause-log g c =
+    let unasked = ap (λ (w : CommandWords). may_log (g.F.Files.told c.args.files.now) (Some (command_of w))) c.in-Compose.is in
+    quiet_stop c.work_compose.result (g.F.Files.told c.args.files.now) _ _ _ _ _ unasked c.work_compose.ensures.cause refl
+
+pub returns-in-Help-clause-logged : goal.returns-in-Help-clause-logged
+returns-in-Help-clause-logged g c =
+    let unasked = ap (λ (w : CommandWords). may_log (g.F.Files.told c.args.files.now) (Some (command_of w))) c.in-Help.is in
+    quiet_done c.work_text.result (g.F.Files.told c.args.files.now) _ _ unasked
