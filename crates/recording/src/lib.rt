@@ -27,7 +27,7 @@ pub use laws::{
 pub use reading::read;
 pub use session_reading::read_any;
 pub use session_writing::{finished_record, session_bytes_head, session_file_head, stopped_record};
-pub use sessions::{SessionEvent, Sessions, What, migrate};
+pub use sessions::{SessionEvent, Sessions, What, migrate, share_event};
 use std::alloc::AllocError;
 use thiserror::Error;
 pub use writing::write;

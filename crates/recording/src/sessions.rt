@@ -62,12 +62,12 @@ fn migrate_event(event: &Event) -> Result<SessionEvent, AllocError>
 {
     Ok(SessionEvent {
         session: ONE_SESSION,
-        what: What::Event(shared(event)?),
+        what: What::Event(share_event(event)?),
     })
 }
 
-/// The event again, which shares its bytes.
-fn shared(event: &Event) -> Result<Event, AllocError>
+/// The same event, which shares its bytes with this one.
+pub fn share_event(event: &Event) -> Result<Event, AllocError>
     ensures { IfOk result (λ e. seen e ≡ seen event.now) }
 {
     match event {

@@ -1,0 +1,3 @@
+pub mod OneSession
+pub mod Listing
+pub mod Counting
