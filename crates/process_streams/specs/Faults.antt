@@ -18,7 +18,7 @@ abbrev pub is_tool_name : List ℕ → Bool
 is_tool_name word =
     bytes_eq word (codes "replay") || bytes_eq word (codes "explain") || bytes_eq word (codes "twin") || bytes_eq word (codes "sample")
     || bytes_eq word (codes "audit") || bytes_eq word (codes "within") || bytes_eq word (codes "suggest")
-    || bytes_eq word (codes "show") || bytes_eq word (codes "compose")
+    || bytes_eq word (codes "show") || bytes_eq word (codes "compose") || bytes_eq word (codes "session") || bytes_eq word (codes "sessions")
 
 -- whether the first of these words names a tool
 abbrev pub begins_tool : List (List ℕ) → Bool

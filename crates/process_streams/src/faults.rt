@@ -79,6 +79,8 @@ pub fn is_tool_name(word: &str) -> bool
             | "suggest"
             | "show"
             | "compose"
+            | "session"
+            | "sessions"
     )
 }
 

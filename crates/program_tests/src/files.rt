@@ -52,6 +52,17 @@ sample 1 01 => 1 0 error: usage
 sample 1 x => 1 0 error: usage
 sample 1 -1 => 1 0 error: usage
 sample 1 18446744073709551616 => 1 0 error: usage
+session recording 1 => 0 6 
+session recording 2 => 9 0 error: no such session
+session => 1 0 error: usage
+session recording => 1 0 error: usage
+session recording 1 more => 1 0 error: usage
+session missing x => 1 0 error: usage
+session missing 1 => 4 0 error: file missing
+sessions recording => 0 40 
+sessions => 1 0 error: usage
+sessions recording 1 => 1 0 error: usage
+sessions missing => 4 0 error: file missing
 ";
 
 /// Words with dashes, and the same: a word that begins with a dash is no word of a tool, unless it is a dash alone or stands behind `--`.
@@ -91,6 +102,11 @@ twin -- policy recording recording => 0 5
 sample - 1 => 1 0 error: usage
 sample 1 -h => 1 0 error: usage
 sample --version => 1 0 error: usage
+session -recording 1 => 1 0 error: usage
+session recording -1 => 1 0 error: usage
+session -- recording 1 => 0 6 
+sessions --help => 1 0 error: usage
+sessions - => 4 0 error: file -
 sample -- 3 1 => 0 77 
 ";
 

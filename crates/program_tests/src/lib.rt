@@ -23,6 +23,8 @@ mod sampling;
 #[cfg(test)]
 mod serving;
 #[cfg(test)]
+mod sessions;
+#[cfg(test)]
 mod suggestions;
 #[cfg(test)]
 mod texts;

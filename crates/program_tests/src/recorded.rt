@@ -23,7 +23,7 @@ unix:path=/bus /p --filter --record=/q unix:path=/bus2 /p2 --record=/r --session
 ";
 
 /// The policy of the sessions, as the words of a file.
-const POLICY: &[u8] = b"--filter\0--talk=org.a.T\0";
+pub const POLICY: &[u8] = b"--filter\0--talk=org.a.T\0";
 
 /// A line, the appends, and a script, and what a replay of the file that it makes writes: of session 1 that its first byte is not
 /// the one that a client has to send, and of session 2 what went to either side and that the client's end came.
@@ -33,14 +33,14 @@ unix:path=/bus /p --filter --talk=org.a.T --record=/r --sessions=2; ; arrival 0,
 
 /// What a run over no files and the net of a script ended with.
 #[derive(Drop)]
-struct Run {
-    ended: Ended,
-    files: MemFiles,
-    net: MemNet,
+pub struct Run {
+    pub ended: Ended,
+    pub files: MemFiles,
+    pub net: MemNet,
 }
 
 /// A run of the words in front of a row, whose appends and script follow.
-fn run_row<R: Threads + Sync>(rt: &R, alloc: Global, row: &str) -> Result<Run, AllocError> {
+pub fn run_row<R: Threads + Sync>(rt: &R, alloc: Global, row: &str) -> Result<Run, AllocError> {
     let (words, rest) = row.split_once("; ").unwrap_or((row, ""));
     let (appends, script) = rest.split_once("; ").unwrap_or(("", rest));
     let mut net = net_of(alloc, script)?;
@@ -63,7 +63,7 @@ fn set_appends(files: &mut MemFiles, words: &str) {
 }
 
 /// The bytes of the file of the recording, or none if there is no file.
-fn held(alloc: Global, files: &MemFiles) -> Result<Vec<u8>, AllocError> {
+pub fn held(alloc: Global, files: &MemFiles) -> Result<Vec<u8>, AllocError> {
     match files.files.first() {
         Some(file) => Vec::from_slice(alloc, &file.bytes),
         None => Ok(Vec::new(alloc)),
@@ -137,7 +137,7 @@ DBPR%03~ => 3 error: recording: BadVersion at 4, 3 error: recording: BadVersion 
 ";
 
 /// What a tool says of a recording: its status, and what it writes or its line.
-fn told_by<R: Threads + Sync>(
+pub fn told_by<R: Threads + Sync>(
     rt: &R,
     alloc: Global,
     words: &str,

@@ -6,8 +6,8 @@ use std::alloc::{AllocError, Global};
 use std::test::Fail;
 use std::thread::Threads;
 use tool_words::{
-    audit_words, compose_words, explain_words, replay_words, sample_words, show_words,
-    suggest_words, twin_words, within_words,
+    audit_words, compose_words, explain_words, replay_words, sample_words, session_words,
+    sessions_words, show_words, suggest_words, twin_words, within_words,
 };
 
 /// Each option of a policy file, as the help shows it, and a word of it.
@@ -31,7 +31,7 @@ const OPTIONS: [(&str, &str); 10] = [
 const LINE_OPTIONS: [&str; 3] = ["--sessions=N", "--record=FILE", "--args-file=FILE"];
 
 /// Each tool with its words, and what else the program is asked for.
-const TOOLS: [&str; 11] = [
+const TOOLS: [&str; 13] = [
     "replay POLICY RECORDING",
     "explain POLICY RECORDING N",
     "twin POLICY A B",
@@ -41,6 +41,8 @@ const TOOLS: [&str; 11] = [
     "suggest RECORDING..",
     "show FILE",
     "compose FILE",
+    "session RECORDING N",
+    "sessions RECORDING",
     "--help",
     "--version",
 ];
@@ -79,6 +81,8 @@ fn is_taken(alloc: Global, words: &[String]) -> Result<bool, AllocError> {
         [tool, ..] if tool.as_str() == "suggest" => suggest_words(alloc, words)?.is_some(),
         [tool, ..] if tool.as_str() == "show" => show_words(alloc, words)?.is_some(),
         [tool, ..] if tool.as_str() == "compose" => compose_words(alloc, words)?.is_some(),
+        [tool, ..] if tool.as_str() == "session" => session_words(alloc, words)?.is_some(),
+        [tool, ..] if tool.as_str() == "sessions" => sessions_words(alloc, words)?.is_some(),
         [tool] => tool.starts_with("--"),
         _ => false,
     })

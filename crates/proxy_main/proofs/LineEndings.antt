@@ -18,7 +18,7 @@ use Rattle.line_words.specs.Stops.{IsSettled, Agrees, StopsBy, CausedBy, without
 use Rattle.line_words.specs.FilesRead.{paths_in, needed_by}
 use Rattle.std.proofs.lemmas.Option.{same_Some}
 use Rattle.proxy_main.specs.declared.Refusal.{Refusal}
-use Rattle.proxy_main.specs.declared.Refusal.TheVariants.{Usage, LineWord, ArgsTooLong, PolicyWord, PolicyTooLong, Recording as BadFile, NoSuchMessage, TooManyEntries, Message, Text}
+use Rattle.proxy_main.specs.declared.Refusal.TheVariants.{Usage, LineWord, ArgsTooLong, PolicyWord, PolicyTooLong, Recording as BadFile, NoSuchMessage, NoSuchSession, TooManyEntries, Message, Text}
 use Rattle.proxy_main.specs.declared.Stop.{Stop}
 use Rattle.proxy_main.specs.Answers.{refusal_code}
 use Rattle.proxy_main.specs.Lines.{refusal_line, file_line, memory_line, listen_line, wait_line, is_policy_kind}
@@ -140,6 +140,7 @@ module _ {A : Type 0} where
   refused_code PolicyTooLong this h e = plain_code 2 this h (inl (omega arith)) e
   refused_code (BadFile fault) this h e = plain_code 3 this h (inl (omega arith)) e
   refused_code NoSuchMessage this h e = plain_code 9 this h (inr (omega arith)) e
+  refused_code NoSuchSession this h e = plain_code 9 this h (inr (omega arith)) e
   refused_code TooManyEntries this h e = plain_code 7 this h (inr (omega arith)) e
   refused_code (Message bad) this h e = plain_code 3 this h (inl (omega arith)) e
   refused_code (Text bad) this h e = plain_code 3 this h (inl (omega arith)) e

@@ -9,7 +9,7 @@ use Rattle.recording.specs.declared.BadRecording.{BadRecording}
 use Rattle.recording.specs.declared.TheConstants.{RECORDING_LIMIT}
 use Rattle.recording.specs.Recording.{Recording, recording_of}
 use Rattle.proxy_main.specs.declared.Refusal.{Refusal}
-use Rattle.proxy_main.specs.declared.Refusal.TheVariants.{Usage, LineWord, ArgsTooLong, PolicyWord, PolicyTooLong, Recording as BadFile, NoSuchMessage, TooManyEntries, Message, Text}
+use Rattle.proxy_main.specs.declared.Refusal.TheVariants.{Usage, LineWord, ArgsTooLong, PolicyWord, PolicyTooLong, Recording as BadFile, NoSuchMessage, NoSuchSession, TooManyEntries, Message, Text}
 use Rattle.proxy_main.specs.declared.TheConstants.{POLICY_LIMIT}
 use Rattle.proxy_main.specs.declared.Stop.{Stop}
 use Rattle.proxy_main.specs.declared.Stop.TheVariants as stop
@@ -113,6 +113,7 @@ of_file (PolicyWord bad) command is = tt
 of_file PolicyTooLong command is = tt
 of_file (BadFile fault) command is = tt
 of_file NoSuchMessage command is = absurd is
+of_file NoSuchSession command is = absurd is
 of_file TooManyEntries command is = absurd is
 of_file (Message bad) command is = absurd is
 of_file (Text bad) command is = absurd is

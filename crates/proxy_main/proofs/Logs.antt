@@ -14,11 +14,12 @@ use Rattle.explain_log.specs.Lines.{log_line}
 use Rattle.replay.specs.SessionsOutput.{in_session, log_of_sessions, noted_in, only_session, session_log, session_mode, sessions_noted}
 use Rattle.policy_view.specs.Notes.{notes}
 use Rattle.replay.specs.Explained.{explained}
+use Rattle.session_files.specs.OneSession.{session_file_of}
 use Rattle.suggestion.specs.Suggestion.{policy_for, suggestion_of}
 use Rattle.proxy_main.specs.declared.Refusal.{Refusal}
 use Rattle.proxy_main.specs.declared.Refusal.TheVariants.{TooManyEntries}
-use Rattle.proxy_main.specs.Words.{Command, Replay, Explain, Twin, Sample, Audit, Within, Suggest, Show, Compose, Help, Version}
-use Rattle.proxy_main.specs.Answers.{Answer, Refused, Wrote, audited, suggesting, then_go, then_read, then_recordings, replayed, explaining, answer_to, Agrees, log_of, checked_policy, checked_recording, asks_for_log, may_ask_for_log, may_log, IsLog, checked_message, checked_text, checked_sessions}
+use Rattle.proxy_main.specs.Words.{Command, Replay, Explain, Twin, Sample, Audit, Within, Suggest, Show, Compose, Session, ListSessions, Help, Version}
+use Rattle.proxy_main.specs.Answers.{Answer, Refused, Wrote, audited, extracted, extracting, listed, suggesting, then_go, then_read, then_recordings, replayed, explaining, answer_to, Agrees, log_of, checked_policy, checked_recording, asks_for_log, may_ask_for_log, may_log, IsLog, checked_message, checked_text, checked_sessions}
 use Rattle.proxy_main.specs.declared.Stop.{Stop}
 use Rattle.proxy_main.specs.declared.Stop.TheVariants as stop
 use Rattle.proxy_main.specs.Loads.{CausedBy, KeepsLog, IsLogged, IsLogFront, IsLogInLines, WholeLinesOf}
@@ -75,6 +76,18 @@ suggesting-none xs = by (nat_lt 65535 (length (policy_for xs).entries))
     by true = refl
     by false = refl
 
+extracted-none : (file : Option (List ℕ)) → log_of (extracted file) ≡ []
+extracted-none None = refl
+extracted-none (Some bytes) = refl
+
+extracting-none : (number : ℕ) (s : Sessions) → log_of (extracting number s) ≡ []
+unfolding extracting
+extracting-none number s = extracted-none (session_file_of s number)
+
+listed-none : (s : Sessions) → log_of (listed s) ≡ []
+unfolding listed
+listed-none s = refl
+
 unasked : (told : List ℕ → Option (List ℕ)) (command : Option Command) → may_log told command ≡ false → log_of (answer_to told command) ≡ []
 unasked told None is = refl
 unasked told (Some (Replay p r)) is = answer_unasked (told p) (told r) is
@@ -86,6 +99,8 @@ unasked told (Some (Within a b)) is = read_none (told a) checked_policy _ (λ o.
 unasked told (Some (Suggest ps)) is = recordings_none told ps suggesting suggesting-none
 unasked told (Some (Show message)) is = read_none (told message) checked_message _ (λ bytes. refl)
 unasked told (Some (Compose text)) is = read_none (told text) checked_text _ (λ bytes. refl)
+unasked told (Some (Session recording number)) is = read_none (told recording) checked_sessions _ (λ s. extracting-none number s)
+unasked told (Some (ListSessions recording)) is = read_none (told recording) checked_sessions _ listed-none
 unasked told (Some Help) is = refl
 unasked told (Some Version) is = refl
 

@@ -9,7 +9,7 @@ use Rattle.line_words.specs.declared.reading.LineStop.TheVariants as line_stop
 use Rattle.line_words.specs.FilesRead.{ReadUntil as LineReadUntil}
 use Rattle.line_words.proofs.ReadLaws.{read_all}
 use Rattle.proxy_main.specs.declared.Refusal.{Refusal}
-use Rattle.proxy_main.specs.declared.Refusal.TheVariants.{Usage, LineWord, ArgsTooLong, PolicyWord, PolicyTooLong, Recording, NoSuchMessage, TooManyEntries, Message, Text}
+use Rattle.proxy_main.specs.declared.Refusal.TheVariants.{Usage, LineWord, ArgsTooLong, PolicyWord, PolicyTooLong, Recording, NoSuchMessage, NoSuchSession, TooManyEntries, Message, Text}
 use Rattle.proxy_main.specs.declared.Stop.{Stop}
 use Rattle.proxy_main.specs.declared.Stop.TheVariants.{Refused as Refuses, File, Output, Log, Memory}
 use Rattle.proxy_main.specs.Words.{Command}
@@ -65,6 +65,7 @@ module _ (policies : ℕ) (before after reads now new_reads : List (List ℕ)) (
   refused_recording PolicyTooLong h = absurd h
   refused_recording (Recording fault) h = front
   refused_recording NoSuchMessage h = absurd h
+  refused_recording NoSuchSession h = absurd h
   refused_recording TooManyEntries h = absurd h
   refused_recording (Message bad) h = front
   refused_recording (Text bad) h = front
@@ -89,6 +90,7 @@ module _ (policies : ℕ) (after reads new_reads : List (List ℕ)) (path : List
   refused_policy PolicyTooLong h = at_first
   refused_policy (Recording fault) h = absurd h
   refused_policy NoSuchMessage h = absurd h
+  refused_policy NoSuchSession h = absurd h
   refused_policy TooManyEntries h = absurd h
   refused_policy (Message bad) h = absurd h
   refused_policy (Text bad) h = absurd h
@@ -136,6 +138,7 @@ module _ (policies all_policies : ℕ) (named reads now new_reads : List (List �
   later_refused PolicyTooLong h = later_policy h
   later_refused (Recording fault) h = later_front h
   later_refused NoSuchMessage h = later_all h
+  later_refused NoSuchSession h = later_all h
   later_refused TooManyEntries h = later_all h
   later_refused (Message bad) h = later_front h
   later_refused (Text bad) h = later_front h
@@ -157,6 +160,7 @@ module _ (policies : ℕ) (named reads new_reads : List (List ℕ)) (all : new_r
   refused_work PolicyTooLong h = absurd h
   refused_work (Recording fault) h = absurd h
   refused_work NoSuchMessage h = all
+  refused_work NoSuchSession h = all
   refused_work TooManyEntries h = all
   refused_work (Message bad) h = absurd h
   refused_work (Text bad) h = absurd h
@@ -238,6 +242,7 @@ module _ (policies : ℕ) (named reads new_reads : List (List ℕ)) (rose : Type
   refusal_reads PolicyTooLong h is = reads_policy h is
   refusal_reads (Recording fault) h is = reads_front h 3 is refl (λ two. omega arith) (λ four. omega arith)
   refusal_reads NoSuchMessage h is = reads_all h (λ two. omega arith) (λ four. omega arith)
+  refusal_reads NoSuchSession h is = reads_all h (λ two. omega arith) (λ four. omega arith)
   refusal_reads TooManyEntries h is = reads_all h (λ two. omega arith) (λ four. omega arith)
   refusal_reads (Message bad) h is = reads_front h 3 is refl (λ two. omega arith) (λ four. omega arith)
   refusal_reads (Text bad) h is = reads_front h 3 is refl (λ two. omega arith) (λ four. omega arith)
@@ -250,6 +255,7 @@ module _ (policies : ℕ) (named reads new_reads : List (List ℕ)) (rose : Type
   refusal_front PolicyTooLong h = record { count = h.count; are = h.are }
   refusal_front (Recording fault) h = h
   refusal_front NoSuchMessage h = read_all named reads new_reads h
+  refusal_front NoSuchSession h = read_all named reads new_reads h
   refusal_front TooManyEntries h = read_all named reads new_reads h
   refusal_front (Message bad) h = h
   refusal_front (Text bad) h = h

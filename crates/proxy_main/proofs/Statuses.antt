@@ -1,8 +1,8 @@
 -- Whatever the ending, what its status says of the answer.
 use Rattle.std.proofs.Common.{◌≡◌, ◌⊎◌, inl, inr, ℕ, List, Option, Some, None, sym, ◌∙◌, subst, arith}
 use Rattle.proxy_main.specs.declared.Refusal.{Refusal}
-use Rattle.proxy_main.specs.declared.Refusal.TheVariants.{Usage, LineWord, ArgsTooLong, PolicyWord, PolicyTooLong, Recording as BadFile, NoSuchMessage, TooManyEntries, Message, Text}
-use Rattle.proxy_main.specs.Words.{Command, Replay, Explain, Twin, Sample, Audit, Within, Suggest, Show, Compose, Help, Version}
+use Rattle.proxy_main.specs.declared.Refusal.TheVariants.{Usage, LineWord, ArgsTooLong, PolicyWord, PolicyTooLong, Recording as BadFile, NoSuchMessage, NoSuchSession, TooManyEntries, Message, Text}
+use Rattle.proxy_main.specs.Words.{Command, Replay, Explain, Twin, Sample, Audit, Within, Suggest, Show, Compose, Session, ListSessions, Help, Version}
 use Rattle.proxy_main.specs.Answers.{Answer, Untold, Refused, Wrote, Compared, Contained, answer_to, IsSettled, HasCode, IsWork, refusal_code}
 use Rattle.proxy_main.specs.Loads.{IsComparison, IsDone, IsEnd, IsLogged, IsOfWords, IsSuggest}
 use Rattle.proxy_main.specs.Endings.{Ends, Done, Refuses, NoFile, OutFails, LogFails, NoMemory, IsFree, ExactlyOfFiles, ExactlyOfWork}
@@ -42,6 +42,7 @@ refused-no (PolicyWord bad) command code is words seven = absurd (omega arith)
 refused-no PolicyTooLong command code is words seven = absurd (omega arith)
 refused-no (BadFile fault) command code is words seven = absurd (omega arith)
 refused-no NoSuchMessage command code is words seven = absurd (omega arith)
+refused-no NoSuchSession command code is words seven = absurd (omega arith)
 refused-no TooManyEntries command code is words seven = words
 refused-no (Message bad) command code is words seven = absurd (omega arith)
 refused-no (Text bad) command code is words seven = absurd (omega arith)
@@ -54,6 +55,7 @@ refused-none (PolicyWord bad) command code is words none = omega arith
 refused-none PolicyTooLong command code is words none = omega arith
 refused-none (BadFile fault) command code is words none = omega arith
 refused-none NoSuchMessage command code is words none = omega arith
+refused-none NoSuchSession command code is words none = omega arith
 refused-none TooManyEntries command code is words none = omega arith
 refused-none (Message bad) command code is words none = omega arith
 refused-none (Text bad) command code is words none = omega arith
@@ -70,6 +72,8 @@ one-no (Some (Within one other)) suggest comparison = suggest
 one-no (Some (Suggest recordings)) suggest comparison = comparison
 one-no (Some (Show message)) suggest comparison = suggest
 one-no (Some (Compose text)) suggest comparison = suggest
+one-no (Some (Session recording number)) suggest comparison = suggest
+one-no (Some (ListSessions recording)) suggest comparison = suggest
 one-no (Some Help) suggest comparison = suggest
 one-no (Some Version) suggest comparison = suggest
 

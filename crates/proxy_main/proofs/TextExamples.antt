@@ -17,6 +17,8 @@ help_text : HELP.now
     ++ codes "  zamtigarn suggest RECORDING..         writes the least policy that permits what the applications of recordings asked\n"
     ++ codes "  zamtigarn show FILE                   writes the text of the message that a file holds\n"
     ++ codes "  zamtigarn compose FILE                writes the message whose text a file holds\n"
+    ++ codes "  zamtigarn session RECORDING N         writes session N of a recording of many, as a recording of its own\n"
+    ++ codes "  zamtigarn sessions RECORDING          lists the sessions of a recording\n"
     ++ codes "  zamtigarn --help                      writes this text\n"
     ++ codes "  zamtigarn --version                   writes the version\n"
     ++ codes "\n"
@@ -50,5 +52,5 @@ help_text : HELP.now
     ++ codes "  7  the two recordings differ to the policy, the policy is not within the other, or the policy\n"
     ++ codes "     that is asked for would have more than 65,535 entries\n"
     ++ codes "  8  memory was refused\n"
-    ++ codes "  9  the recording has no message of the number N\n"
+    ++ codes "  9  the recording has no message, or no session, of the number N\n"
 help_text = refl

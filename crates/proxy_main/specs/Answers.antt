@@ -19,16 +19,18 @@ use Rattle.replay.specs.Explained.{explained}
 use Rattle.replay.specs.Twins.{compared_under, part_of_recording, Compares}
 use Rattle.replay.specs.declared.comparing.TwinAnswer.{TwinAnswer}
 use Rattle.replay.specs.declared.comparing.TwinAnswer.TheVariants.{Same, Differ}
+use Rattle.session_files.specs.Listing.{listing_of}
+use Rattle.session_files.specs.OneSession.{session_file_of}
 use Rattle.sample.specs.Summary.{sample_history, sample_options, summary_of}
 use Rattle.suggestion.specs.Suggestion.{policy_for, suggestion_of}
 pub use Rattle.line_words.specs.Stops.{without}
 use Rattle.proxy_main.specs.declared.Refusal.{Refusal}
-use Rattle.proxy_main.specs.declared.Refusal.TheVariants.{Usage, LineWord, ArgsTooLong, PolicyWord, PolicyTooLong, Recording as BadFile, NoSuchMessage, TooManyEntries, Message as BadMessageFile, Text as BadTextFile}
+use Rattle.proxy_main.specs.declared.Refusal.TheVariants.{Usage, LineWord, ArgsTooLong, PolicyWord, PolicyTooLong, Recording as BadFile, NoSuchMessage, NoSuchSession, TooManyEntries, Message as BadMessageFile, Text as BadTextFile}
 use Rattle.proxy_main.specs.declared.TheConstants.{POLICY_LIMIT}
 use Rattle.proxy_main.specs.declared.texts.TheConstants.{HELP, VERSION}
 use Rattle.proxy_main.specs.Lines.{is_policy_kind}
 use Rattle.proxy_main.specs.WithinText.{within_text}
-use Rattle.proxy_main.specs.Words.{Command, Replay, Explain, Twin, Sample, Audit, Within as IsWithin, Suggest, Show, Compose, Help, Version, reading}
+use Rattle.proxy_main.specs.Words.{Command, Replay, Explain, Twin, Sample, Audit, Within as IsWithin, Suggest, Show, Compose, Session, ListSessions, Help, Version, reading}
 
 pub data Answer : Type 0 where
   -- a file is needed of which nothing is told: the answer is not settled
@@ -137,6 +139,18 @@ then_contain told other one = then_read (told other) checked_policy (λ options.
 abbrev pub then_write : (List ℕ → Option (List ℕ)) → List ℕ → (List ℕ → Result (List ℕ) Refusal) → Answer
 then_write told path check = then_read (told path) check (λ bytes. Wrote bytes [])
 
+-- the file of the session of a number, if the recording has that session
+abbrev pub extracted : Option (List ℕ) → Answer
+extracted None = Refused NoSuchSession
+extracted (Some bytes) = Wrote bytes []
+
+unfoldable pub extracting : ℕ → Sessions → Answer
+extracting number sessions = extracted (session_file_of sessions number)
+
+-- the sessions of a recording, a line for each
+unfoldable pub listed : Sessions → Answer
+listed sessions = Wrote (listing_of sessions) []
+
 abbrev pub answer_to : (List ℕ → Option (List ℕ)) → Option Command → Answer
 answer_to told None = Refused Usage
 answer_to told (Some (Replay policy recording)) = then_sessions told policy recording replayed
@@ -148,6 +162,8 @@ answer_to told (Some (IsWithin one other)) = then_read (told one) checked_policy
 answer_to told (Some (Suggest recordings)) = then_recordings told recordings suggesting
 answer_to told (Some (Show message)) = then_write told message checked_message
 answer_to told (Some (Compose text)) = then_write told text checked_text
+answer_to told (Some (Session recording number)) = then_read (told recording) checked_sessions (extracting number)
+answer_to told (Some (ListSessions recording)) = then_read (told recording) checked_sessions listed
 answer_to told (Some Help) = Wrote HELP.now []
 answer_to told (Some Version) = Wrote version_line []
 
@@ -177,6 +193,7 @@ refusal_code (PolicyWord bad) = 2
 refusal_code PolicyTooLong = 2
 refusal_code (BadFile fault) = 3
 refusal_code NoSuchMessage = 9
+refusal_code NoSuchSession = 9
 refusal_code TooManyEntries = 7
 refusal_code (BadMessageFile bad) = 3
 refusal_code (BadTextFile bad) = 3
@@ -255,6 +272,8 @@ may_log told (Some (IsWithin one other)) = false
 may_log told (Some (Suggest recordings)) = false
 may_log told (Some (Show message)) = false
 may_log told (Some (Compose text)) = false
+may_log told (Some (Session recording number)) = false
+may_log told (Some (ListSessions recording)) = false
 may_log told (Some Help) = false
 may_log told (Some Version) = false
 

@@ -8,7 +8,7 @@
 --     6    the output or the log could not be written
 --     7    two recordings differ to the policy, and the whole line that says where was written
 --     8    memory ran out
---     9    the recording has no message of the number
+--     9    the recording has no message, or no session, of the number
 --
 -- The log is written before the output. A fault of err while a status's line is said changes no status: err got a front
 -- of that line. Only what is told of the files settles what they hold.

@@ -3,10 +3,10 @@
 use Rattle.std.specs.Prelude.{◌≡◌, ◌≤◌, ◌⊎◌, ℕ, zero, suc, List, [], ◌∷◌, ◌++◌, take, Option, Some, None, Result, Ok, Err}
 use Rattle.link_traits.specs.Told.{ReadFront, ReadTo}
 use Rattle.proxy_main.specs.declared.Refusal.{Refusal}
-use Rattle.proxy_main.specs.declared.Refusal.TheVariants.{Usage, LineWord, ArgsTooLong, PolicyWord, PolicyTooLong, Recording, NoSuchMessage, TooManyEntries, Message, Text}
+use Rattle.proxy_main.specs.declared.Refusal.TheVariants.{Usage, LineWord, ArgsTooLong, PolicyWord, PolicyTooLong, Recording, NoSuchMessage, NoSuchSession, TooManyEntries, Message, Text}
 use Rattle.proxy_main.specs.declared.Stop.{Stop}
 use Rattle.proxy_main.specs.declared.Stop.TheVariants.{Refused as Refuses, File, Output, Log, Memory}
-use Rattle.proxy_main.specs.Words.{Command, Replay, Explain, Twin, Sample, Audit, Within, Suggest, Show, Compose, Help, Version}
+use Rattle.proxy_main.specs.Words.{Command, Replay, Explain, Twin, Sample, Audit, Within, Suggest, Show, Compose, Session, ListSessions, Help, Version}
 use Rattle.proxy_main.specs.Answers.{checked_policy, checked_recording}
 use Rattle.proxy_main.specs.Lines.{file_line}
 use Rattle.proxy_main.specs.Endings.{Said}
@@ -23,6 +23,8 @@ paths_of (Some (Within one other)) = one ∷ other ∷ []
 paths_of (Some (Suggest recordings)) = recordings
 paths_of (Some (Show message)) = message ∷ []
 paths_of (Some (Compose text)) = text ∷ []
+paths_of (Some (Session recording number)) = recording ∷ []
+paths_of (Some (ListSessions recording)) = recording ∷ []
 paths_of (Some Help) = []
 paths_of (Some Version) = []
 
@@ -38,6 +40,8 @@ policies_of (Some (Within one other)) = 2
 policies_of (Some (Suggest recordings)) = 0
 policies_of (Some (Show message)) = 0
 policies_of (Some (Compose text)) = 0
+policies_of (Some (Session recording number)) = 0
+policies_of (Some (ListSessions recording)) = 0
 policies_of (Some Help) = 0
 policies_of (Some Version) = 0
 
@@ -65,7 +69,7 @@ up_to_bad (suc policies) told [] = []
 up_to_bad (suc policies) told (policy ∷ others) = policy ∷ behind (told policy) checked_policy (up_to_bad policies told others)
 
 -- The files that a command needs: those that it names, up to the first that is bad by what is told of it. The last one is
--- needed whatever it holds: so are the recording of a replay, and the file of a message or of a text.
+-- needed whatever it holds: so are the recording of a replay or of one session, and the file of a message or of a text.
 abbrev pub needed : (List ℕ → Option (List ℕ)) → Option Command → List (List ℕ)
 needed told command = up_to_bad (policies_of command) told (paths_of command)
 
@@ -111,6 +115,7 @@ IsOfPolicy (PolicyWord bad) = Unit {0}
 IsOfPolicy PolicyTooLong = Unit {0}
 IsOfPolicy (Recording fault) = ⊥
 IsOfPolicy NoSuchMessage = ⊥
+IsOfPolicy NoSuchSession = ⊥
 IsOfPolicy TooManyEntries = ⊥
 IsOfPolicy (Message bad) = ⊥
 IsOfPolicy (Text bad) = ⊥
@@ -124,11 +129,13 @@ IsOfInput (PolicyWord bad) = ⊥
 IsOfInput PolicyTooLong = ⊥
 IsOfInput (Recording fault) = Unit {0}
 IsOfInput NoSuchMessage = ⊥
+IsOfInput NoSuchSession = ⊥
 IsOfInput TooManyEntries = ⊥
 IsOfInput (Message bad) = Unit {0}
 IsOfInput (Text bad) = Unit {0}
 
--- a refusal of the work on files that were read: of a message's number, or of a policy that would have too many entries
+-- a refusal of the work on files that were read: of the number of a message or of a session, or of a policy that would
+-- have too many entries
 abbrev pub IsOfWork : Refusal → Type 0
 IsOfWork Usage = ⊥
 IsOfWork (LineWord bad) = ⊥
@@ -137,6 +144,7 @@ IsOfWork (PolicyWord bad) = ⊥
 IsOfWork PolicyTooLong = ⊥
 IsOfWork (Recording fault) = ⊥
 IsOfWork NoSuchMessage = Unit {0}
+IsOfWork NoSuchSession = Unit {0}
 IsOfWork TooManyEntries = Unit {0}
 IsOfWork (Message bad) = ⊥
 IsOfWork (Text bad) = ⊥
@@ -166,6 +174,7 @@ ReadBefore policies named reads new_reads (PolicyWord bad) = EndsAtPolicy polici
 ReadBefore policies named reads new_reads PolicyTooLong = EndsAtPolicy policies named reads new_reads
 ReadBefore policies named reads new_reads (Recording fault) = ReadFront named reads new_reads
 ReadBefore policies named reads new_reads NoSuchMessage = new_reads ≡ reads ++ named
+ReadBefore policies named reads new_reads NoSuchSession = new_reads ≡ reads ++ named
 ReadBefore policies named reads new_reads TooManyEntries = new_reads ≡ reads ++ named
 ReadBefore policies named reads new_reads (Message bad) = ReadFront named reads new_reads
 ReadBefore policies named reads new_reads (Text bad) = ReadFront named reads new_reads

@@ -2,10 +2,10 @@
 use Rattle.std.specs.Prelude.{◌≡◌, ◌⊎◌, ℕ, true, List, Option, Some, None, Result, Ok, Err, IfSome}
 use Rattle.link_traits.specs.Told.{added, Part}
 use Rattle.proxy_main.specs.declared.Refusal.{Refusal}
-use Rattle.proxy_main.specs.declared.Refusal.TheVariants.{Usage, LineWord, ArgsTooLong, PolicyWord, PolicyTooLong, Recording, NoSuchMessage, TooManyEntries, Message, Text}
+use Rattle.proxy_main.specs.declared.Refusal.TheVariants.{Usage, LineWord, ArgsTooLong, PolicyWord, PolicyTooLong, Recording, NoSuchMessage, NoSuchSession, TooManyEntries, Message, Text}
 use Rattle.proxy_main.specs.declared.Stop.{Stop}
 use Rattle.proxy_main.specs.declared.Stop.TheVariants.{Refused as Refuses, File, Output, Log, Memory}
-use Rattle.proxy_main.specs.Words.{Command, Replay, Explain, Twin, Sample, Audit, Within, Suggest, Show, Compose, Help, Version}
+use Rattle.proxy_main.specs.Words.{Command, Replay, Explain, Twin, Sample, Audit, Within, Suggest, Show, Compose, Session, ListSessions, Help, Version}
 use Rattle.policy_args.specs.Words.{PolicyOptions}
 use Rattle.recording.specs.Recording.{Recording as RecordingValue}
 use Rattle.replay.specs.Logging.{WholeSessionLines}
@@ -24,6 +24,7 @@ IsOfFile (PolicyWord bad) = Unit {0}
 IsOfFile PolicyTooLong = Unit {0}
 IsOfFile (Recording fault) = Unit {0}
 IsOfFile NoSuchMessage = ⊥
+IsOfFile NoSuchSession = ⊥
 IsOfFile TooManyEntries = ⊥
 IsOfFile (Message bad) = ⊥
 IsOfFile (Text bad) = ⊥
@@ -65,6 +66,8 @@ IsExplain (Some (Within one other)) = ⊥
 IsExplain (Some (Suggest recordings)) = ⊥
 IsExplain (Some (Show message)) = ⊥
 IsExplain (Some (Compose text)) = ⊥
+IsExplain (Some (Session recording number)) = ⊥
+IsExplain (Some (ListSessions recording)) = ⊥
 IsExplain (Some Help) = ⊥
 IsExplain (Some Version) = ⊥
 
@@ -80,6 +83,8 @@ IsSuggest (Some (Within one other)) = ⊥
 IsSuggest (Some (Suggest recordings)) = Unit {0}
 IsSuggest (Some (Show message)) = ⊥
 IsSuggest (Some (Compose text)) = ⊥
+IsSuggest (Some (Session recording number)) = ⊥
+IsSuggest (Some (ListSessions recording)) = ⊥
 IsSuggest (Some Help) = ⊥
 IsSuggest (Some Version) = ⊥
 
@@ -95,6 +100,8 @@ IsShow (Some (Within one other)) = ⊥
 IsShow (Some (Suggest recordings)) = ⊥
 IsShow (Some (Show message)) = Unit {0}
 IsShow (Some (Compose text)) = ⊥
+IsShow (Some (Session recording number)) = ⊥
+IsShow (Some (ListSessions recording)) = ⊥
 IsShow (Some Help) = ⊥
 IsShow (Some Version) = ⊥
 
@@ -110,11 +117,31 @@ IsCompose (Some (Within one other)) = ⊥
 IsCompose (Some (Suggest recordings)) = ⊥
 IsCompose (Some (Show message)) = ⊥
 IsCompose (Some (Compose text)) = Unit {0}
+IsCompose (Some (Session recording number)) = ⊥
+IsCompose (Some (ListSessions recording)) = ⊥
 IsCompose (Some Help) = ⊥
 IsCompose (Some Version) = ⊥
 
--- the words are refused only where they name nothing, a message's number only where they ask for a message, a policy
--- only where they ask for one, and the file of a message or of a text only where they ask for the other
+-- the words ask for one session of a recording
+abbrev pub IsSession : Option Command → Type 0
+IsSession None = ⊥
+IsSession (Some (Replay policy recording)) = ⊥
+IsSession (Some (Explain policy recording number)) = ⊥
+IsSession (Some (Twin policy one other)) = ⊥
+IsSession (Some (Sample n seed)) = ⊥
+IsSession (Some (Audit policy recordings)) = ⊥
+IsSession (Some (Within one other)) = ⊥
+IsSession (Some (Suggest recordings)) = ⊥
+IsSession (Some (Show message)) = ⊥
+IsSession (Some (Compose text)) = ⊥
+IsSession (Some (Session recording number)) = Unit {0}
+IsSession (Some (ListSessions recording)) = ⊥
+IsSession (Some Help) = ⊥
+IsSession (Some Version) = ⊥
+
+-- the words are refused only if they name nothing, a message's number only if they ask for a message, a session's only
+-- if they ask for a session, a policy only if they ask for one, and the file of a message or of a text only if they ask
+-- for the other
 abbrev pub IsOfWords : Refusal → Option Command → Type 0
 IsOfWords Usage command = command ≡ None
 IsOfWords (LineWord bad) command = ⊥
@@ -123,6 +150,7 @@ IsOfWords (PolicyWord bad) command = Unit {0}
 IsOfWords PolicyTooLong command = Unit {0}
 IsOfWords (Recording fault) command = Unit {0}
 IsOfWords NoSuchMessage command = IsExplain command
+IsOfWords NoSuchSession command = IsSession command
 IsOfWords TooManyEntries command = IsSuggest command
 IsOfWords (Message bad) command = IsShow command
 IsOfWords (Text bad) command = IsCompose command
@@ -176,6 +204,8 @@ IsComparison (Some (Within one other)) = Unit {0}
 IsComparison (Some (Suggest recordings)) = ⊥
 IsComparison (Some (Show message)) = ⊥
 IsComparison (Some (Compose text)) = ⊥
+IsComparison (Some (Session recording number)) = ⊥
+IsComparison (Some (ListSessions recording)) = ⊥
 IsComparison (Some Help) = ⊥
 IsComparison (Some Version) = ⊥
 

@@ -5,7 +5,7 @@ use Rattle.std.specs.List.{list_all}
 use Rattle.policy_args.specs.ProxyLine.{digits_worth}
 use Rattle.proxy_main.specs.declared.words.CommandWords.{CommandWords}
 use Rattle.proxy_main.specs.declared.words.CommandWords.TheVariants as words
-use Rattle.proxy_main.specs.Words.{Command, Replay, Explain, Twin, Sample, Audit, Within, Suggest, Show, Compose, Help, Version, most_draws}
+use Rattle.proxy_main.specs.Words.{Command, Replay, Explain, Twin, Sample, Audit, Within, Suggest, Show, Compose, Session, ListSessions, Help, Version, most_draws}
 
 -- the command that they name
 abbrev pub command_of : CommandWords → Command
@@ -18,6 +18,8 @@ command_of (words.Within one other) = Within one.now other.now
 command_of (words.Suggest recordings) = Suggest (map (λ path. path.now) recordings.items)
 command_of (words.Show message) = Show message.now
 command_of (words.Compose text) = Compose text.now
+command_of (words.Session recording number) = Session recording.now number
+command_of (words.ListSessions recording) = ListSessions recording.now
 command_of words.Help = Help
 command_of words.Version = Version
 
@@ -32,6 +34,8 @@ HasFewDraws (words.Within one other) = Unit {0}
 HasFewDraws (words.Suggest recordings) = Unit {0}
 HasFewDraws (words.Show message) = Unit {0}
 HasFewDraws (words.Compose text) = Unit {0}
+HasFewDraws (words.Session recording number) = Unit {0}
+HasFewDraws (words.ListSessions recording) = Unit {0}
 HasFewDraws words.Help = Unit {0}
 HasFewDraws words.Version = Unit {0}
 

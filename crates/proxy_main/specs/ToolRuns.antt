@@ -18,7 +18,7 @@ pub record ToolRun (told : List ℕ → Option (List ℕ)) (words reads new_read
   -- text, is.
   pub policy : IsSettled (answer_of words told) → ExactlyOfFiles code 2 (HasCode (answer_of words told) 2)
   pub recording : IsSettled (answer_of words told) → ExactlyOfFiles code 3 (HasCode (answer_of words told) 3)
-  -- 9 comes exactly where the recording has no message of the number.
+  -- 9 comes exactly where the recording has no message, or no session, of the number.
   pub missing : IsSettled (answer_of words told) → ExactlyOfFiles code 9 (HasCode (answer_of words told) 9)
   -- 0 comes exactly where the answer is a whole output, two recordings are the same to the policy, or a policy is
   -- within another. 7 comes exactly where the recordings differ, the policy is not within the other, or a policy that

@@ -9,6 +9,8 @@
 --     suggest RECORDING..           writes the least policy that permits what is asked in one recording or more, up to 16
 --     show FILE                     writes the text of the message that the file holds
 --     compose FILE                  writes the message whose text the file holds
+--     session RECORDING N           writes session N of the recording, as a recording of its own
+--     sessions RECORDING            lists the sessions of the recording
 --     --help                        writes what the program can do
 --     --version                     writes its version
 --
@@ -18,7 +20,7 @@
 use Rattle.std.specs.Prelude.{ℕ, ◌-◌, ◌^◌, ◌||◌, nat_le, Bool, false, List, [], ◌∷◌, Option, Some, None, option_map, codes, bytes_eq, if◌then◌else◌}
 use Rattle.policy_args.specs.ProxyLine.{number_of}
 pub use Rattle.process_streams.specs.Faults.{is_tool_name}
-use Rattle.tool_words.specs.Tools.{taken, taken_with, replay_places, explain_places, twin_places, sample_places, within_places, audit_places, suggest_places, show_places, compose_places, more_recordings}
+use Rattle.tool_words.specs.Tools.{taken, taken_with, replay_places, explain_places, twin_places, sample_places, within_places, audit_places, suggest_places, show_places, compose_places, session_places, sessions_places, more_recordings}
 
 pub data Command : Type 0 where
   -- the paths of the policy file and of the recording
@@ -39,6 +41,10 @@ pub data Command : Type 0 where
   Show : List ℕ → Command
   -- the path of the file of a message's text
   Compose : List ℕ → Command
+  -- the path of a recording, and the number of a session
+  Session : List ℕ → ℕ → Command
+  -- the path of a recording
+  ListSessions : List ℕ → Command
   -- what the program can do
   Help : Command
   -- its version
@@ -98,6 +104,14 @@ abbrev pub compose_of : Option (List (List ℕ)) → Option Command
 compose_of (Some (text ∷ [])) = Some (Compose text)
 compose_of taken = None
 
+abbrev pub session_of : Option (List (List ℕ)) → Option Command
+session_of (Some (recording ∷ number ∷ [])) = option_map (Session recording) (number_within greatest number)
+session_of taken = None
+
+abbrev pub list_sessions_of : Option (List (List ℕ)) → Option Command
+list_sessions_of (Some (recording ∷ [])) = Some (ListSessions recording)
+list_sessions_of taken = None
+
 abbrev pub within_of : Option (List (List ℕ)) → Option Command
 within_of (Some (one ∷ other ∷ [])) = Some (Within one other)
 within_of taken = None
@@ -124,7 +138,9 @@ named_by tool words =
     else (if bytes_eq tool (codes "suggest") then suggest_of (taken_with (codes "suggest") suggest_places more_recordings words)
     else (if bytes_eq tool (codes "show") then show_of (taken (codes "show") show_places words)
     else (if bytes_eq tool (codes "compose") then compose_of (taken (codes "compose") compose_places words)
-    else alone_of words))))))))
+    else (if bytes_eq tool (codes "session") then session_of (taken (codes "session") session_places words)
+    else (if bytes_eq tool (codes "sessions") then list_sessions_of (taken (codes "sessions") sessions_places words)
+    else alone_of words))))))))))
 
 -- the command that the words name, where they name one
 abbrev pub reading : List (List ℕ) → Option Command

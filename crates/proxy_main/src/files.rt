@@ -6,8 +6,10 @@ ghost use Rattle.policy_args.specs.Seen.{options_seen};
 ghost use Rattle.policy_args.specs.Words.{PolicyOptions};
 ghost use Rattle.recording.specs.Recording.{Recording as RecordingValue, recording_of};
 ghost use Rattle.recording.specs.Seen.{recording_seen, size};
+ghost use Rattle.recording.specs.Gives.{GivesUnlessMemory};
 ghost use Rattle.recording.specs.Sessions.{sessions_of};
 ghost use Rattle.recording.specs.SessionsSeen.{sessions_seen, IsReadable};
+ghost use Rattle.session_files.specs.OneSession.{IsOfFile};
 ghost use Rattle.proxy_main.specs.Words.{Audit, Replay, Suggest, Twin, Within};
 ghost use Rattle.proxy_main.specs.Answers.{Answer, Compared, Contained, audited, suggesting, options_in, checked_policy, checked_recording, checked_sessions, replayed, then_load, answer_to, Agrees, IsSettled};
 ghost use Rattle.proxy_main.specs.FilesRead.{IsOfPolicy, IsOfInput, StopsAt, ReadUntil, up_to_bad, needed, NeededUntil, ReadsNeeded};
@@ -300,20 +302,21 @@ fn load_recording<'a, F: Files>(
 }
 
 /// Reads and checks a recording of one session or of many.
-fn load_sessions<'a, F: Files>(
+pub fn load_sessions<'a, F: Files>(
     alloc: Global,
     files: &mut F,
     path: &'a str,
 ) -> Result<Sessions, Stop<'a>>
     ensures loads { Loads sessions_seen checked_sessions (F.told files.old path.now) path.now result }
     ensures readable { IfOk result (λ s. IsReadable (sessions_seen s)) }
+    ensures of_file { IfOk result (λ s. IsOfFile (sessions_seen s)) }
     ensures cause { IfErr result (λ stop. CausedBy (Rose (F.faults files.old) (F.faults files.new)) ⊥ ⊥ stop) }
     ensures count { F.faults files.old ≤ F.faults files.new }
     ensures read { F.reads files.new ≡ F.reads files.old ++ path.now ∷ [] }
     ensures at { IfErr result (StopsAt IsOfInput path.now) }
 {
     match read_whole(alloc, files, path, RECORDING_LIMIT) {
-        Ok(bytes) => match read_any(alloc, &bytes) {
+        Ok(bytes) => match sessions_in(alloc, &bytes) {
             Ok(sessions) => Ok(sessions),
             Err(RecordingRefusal::Bad(fault)) => Err(Stop::Refused(Refusal::Recording(fault))),
             Err(RecordingRefusal::Memory) => Err(Stop::Memory),
@@ -322,6 +325,15 @@ fn load_sessions<'a, F: Files>(
         Err(FileFault::Failed) => Err(Stop::File(path)),
         Err(FileFault::Memory) => Err(Stop::Memory),
     }
+}
+
+/// The recording of one session or of many that the bytes of a file are.
+fn sessions_in(alloc: Global, bytes: &[u8]) -> Result<Sessions, RecordingRefusal>
+    ensures exact { GivesUnlessMemory sessions_seen result (sessions_of bytes.now) }
+    ensures readable { IfOk result (λ s. IsReadable (sessions_seen s)) }
+    ensures of_file { IfOk result (λ s. IsOfFile (sessions_seen s)) }
+{
+    read_any(alloc, bytes)
 }
 
 /// The fault of a recording that was not read, since it is above its limit: the one that reading

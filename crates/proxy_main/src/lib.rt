@@ -12,6 +12,8 @@
 //! up to 16, and writes what the policy denies of them. `within A B` writes whether the policy A permits nothing that B
 //! doesn't. `suggest RECORDING..` plays up to 16, and writes the least policy that permits what their clients asked.
 //! `show FILE` writes the text of the message that a file holds, and `compose FILE` the message whose text a file holds.
+//! `session RECORDING N` writes one session of a recording of many as a recording of its own, and `sessions RECORDING` lists
+//! the sessions that it has.
 //! `--help` and `--version` write what they say.
 //!
 //! A run ends with a status, and with a line on the standard error where the status says that something is wrong.
@@ -27,6 +29,7 @@ mod process;
 mod program;
 mod recorded;
 mod serving;
+mod sessions;
 mod stops;
 mod texts;
 mod tools;
@@ -75,6 +78,9 @@ pub enum Refusal {
     /// The recording has no message of the number.
     #[error("the recording has no message of the number")]
     NoSuchMessage,
+    /// The recording has no session of the number.
+    #[error("the recording has no session of the number")]
+    NoSuchSession,
     /// The policy that is asked for would have more than 65,535 entries.
     #[error("the policy would have too many entries")]
     TooManyEntries,
@@ -91,8 +97,8 @@ pub enum Refusal {
 /// Why a run stops before its work is done.
 #[derive(Clone, Copy, Debug, PartialEq, Eq, Error)]
 pub(crate) enum Stop<'a> {
-    /// The words, a file, the number of a message, or a policy with too many entries are refused, and
-    /// nothing was written.
+    /// The words, a file, the number of a message or of a session, or a policy with too many entries are refused,
+    /// and nothing was written.
     #[error("{0}")]
     Refused(Refusal),
     /// The file at this path, which the words name, was not read, or not made or written.
@@ -115,7 +121,7 @@ pub(crate) enum Stop<'a> {
 /// file of them is too long. 2: a word of a policy, or its NAME or RULE in a proxy line, is refused, or the policy file
 /// is too long. 3: a recording, or the file of a message or of a text, is refused. 4: a file was not read, or the file of a recording could not be made or written. 5: the net could not listen, or wait. 6: the output
 /// or the log of a tool was not written. 7: the parts differ that the policy leaves of two recordings, or a policy is
-/// not within another. 8: memory ran out. 9: the recording has no message of the number.
+/// not within another. 8: memory ran out. 9: the recording has no message, or no session, of the number.
 #[derive(Clone, Copy, Debug, PartialEq, Eq)]
 pub struct Status {
     /// The number that the process ends with.

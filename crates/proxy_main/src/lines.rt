@@ -25,6 +25,7 @@ pub fn refusal_text(alloc: Global, refusal: Refusal) -> Result<String, AllocErro
         Refusal::PolicyTooLong => String::from_str(alloc, "error: policy file too long\n"),
         Refusal::Recording(fault) => recording_text(alloc, fault),
         Refusal::NoSuchMessage => String::from_str(alloc, "error: no such message\n"),
+        Refusal::NoSuchSession => String::from_str(alloc, "error: no such session\n"),
         Refusal::TooManyEntries => String::from_str(alloc, "error: too many entries\n"),
         Refusal::Message(bad) => message_text(alloc, bad),
         Refusal::Text(bad) => bad_file_text(alloc, bad),

@@ -74,6 +74,7 @@ fn code(refusal: Refusal) -> u8
         Refusal::PolicyTooLong => 2,
         Refusal::Recording(_) => 3,
         Refusal::NoSuchMessage => 9,
+        Refusal::NoSuchSession => 9,
         Refusal::TooManyEntries => 7,
         Refusal::Message(_) => 3,
         Refusal::Text(_) => 3,

@@ -16,6 +16,8 @@ Usage:
   zamtigarn suggest RECORDING..         writes the least policy that permits what the applications of recordings asked
   zamtigarn show FILE                   writes the text of the message that a file holds
   zamtigarn compose FILE                writes the message whose text a file holds
+  zamtigarn session RECORDING N         writes session N of a recording of many, as a recording of its own
+  zamtigarn sessions RECORDING          lists the sessions of a recording
   zamtigarn --help                      writes this text
   zamtigarn --version                   writes the version
 
@@ -49,5 +51,5 @@ Status:
   7  the two recordings differ to the policy, the policy is not within the other, or the policy
      that is asked for would have more than 65,535 entries
   8  memory was refused
-  9  the recording has no message of the number N
+  9  the recording has no message, or no session, of the number N
 ";

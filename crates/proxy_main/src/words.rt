@@ -1,17 +1,18 @@
 //! The words of the command line.
 ghost use Rattle.std.specs.Prelude.{◌≡◌, ◌≤◌, [], ◌∷◌, map, option_map, string_bytes, codes, IfOk, IfSome};
 ghost use Rattle.policy_args.specs.ProxyLine.{has_leading_zero as begins_with_zero};
-ghost use Rattle.tool_words.specs.Tools.{taken, taken_with, replay_places, explain_places, twin_places, sample_places, within_places, audit_places, suggest_places, show_places, compose_places, more_recordings};
-ghost use Rattle.proxy_main.specs.Words.{asks_alone as asks_for_text, names_tool, reading, named_by, alone_of, text_of, replay_of, explain_of, twin_of, sample_of, audit_of, within_of, suggest_of, show_of, compose_of, number_within};
+ghost use Rattle.tool_words.specs.Tools.{taken, taken_with, replay_places, explain_places, twin_places, sample_places, within_places, audit_places, suggest_places, show_places, compose_places, session_places, sessions_places, more_recordings};
+ghost use Rattle.proxy_main.specs.Words.{asks_alone as asks_for_text, names_tool, reading, named_by, alone_of, text_of, replay_of, explain_of, twin_of, sample_of, audit_of, within_of, suggest_of, show_of, compose_of, session_of, list_sessions_of, number_within};
 ghost use Rattle.proxy_main.specs.Read.{command_of, HasFewDraws, worth_within};
 
 use process_streams::is_tool_name;
 use sample::MOST_DRAWS;
 use std::alloc::{AllocError, Global};
 use tool_words::{
-    AuditWords, ComposeWords, ExplainWords, ReplayWords, SampleWords, ShowWords, SuggestWords,
-    TwinWords, WithinWords, audit_words, compose_words, explain_words, replay_words, sample_words,
-    show_words, suggest_words, twin_words, within_words,
+    AuditWords, ComposeWords, ExplainWords, ReplayWords, SampleWords, SessionWords, SessionsWords,
+    ShowWords, SuggestWords, TwinWords, WithinWords, audit_words, compose_words, explain_words,
+    replay_words, sample_words, session_words, sessions_words, show_words, suggest_words,
+    twin_words, within_words,
 };
 
 /// The words of a command.
@@ -60,6 +61,15 @@ pub enum CommandWords<'a> {
     /// The path of the file of a message's text.
     Compose {
         text: &'a str,
+    },
+    /// The path of a recording, and the number of the session that is taken out of it.
+    Session {
+        recording: &'a str,
+        number: u64,
+    },
+    /// The path of the recording whose sessions are listed.
+    ListSessions {
+        recording: &'a str,
     },
     /// What the program can do.
     Help,
@@ -133,6 +143,12 @@ fn read_tool<'a>(
     }
     if tool == "compose" {
         return Ok(read_compose(compose_words(alloc, words)?));
+    }
+    if tool == "session" {
+        return Ok(read_session(session_words(alloc, words)?));
+    }
+    if tool == "sessions" {
+        return Ok(read_sessions(sessions_words(alloc, words)?));
     }
     Ok(read_alone(words))
 }
@@ -239,6 +255,29 @@ fn read_compose<'a>(words: Option<ComposeWords<'a>>) -> Option<CommandWords<'a>>
 {
     let words = words?;
     Some(CommandWords::Compose { text: words.text })
+}
+
+/// The reading of the words of `session`.
+fn read_session<'a>(words: Option<SessionWords<'a>>) -> Option<CommandWords<'a>>
+    ensures words { option_map command_of result ≡ session_of (option_map (λ w. w.recording.now ∷ w.number.now ∷ []) words.entry) }
+    ensures few { IfSome result HasFewDraws }
+{
+    let words = words?;
+    Some(CommandWords::Session {
+        recording: words.recording,
+        number: read_number(words.number, u64::MAX)?,
+    })
+}
+
+/// The reading of the words of `sessions`.
+fn read_sessions<'a>(words: Option<SessionsWords<'a>>) -> Option<CommandWords<'a>>
+    ensures words { option_map command_of result ≡ list_sessions_of (option_map (λ w. w.recording.now ∷ []) words.entry) }
+    ensures few { IfSome result HasFewDraws }
+{
+    let words = words?;
+    Some(CommandWords::ListSessions {
+        recording: words.recording,
+    })
 }
 
 /// The reading of a word that stands alone.

@@ -13,6 +13,7 @@ ghost use Rattle.proxy_main.specs.Loads.{StopsBy, CausedBy, Keeps, KeepsLog, IsD
 use crate::containment::containment_text;
 use crate::files::{load, load_audit, load_policies, load_replay, load_suggested, load_twins};
 use crate::messages::{work_compose, work_show, write_bytes};
+use crate::sessions::{work_session, work_sessions};
 use crate::texts::{HELP, VERSION};
 use crate::words::{CommandWords, read_words};
 use crate::{Refusal, Status, Stop};
@@ -102,6 +103,10 @@ fn work_command<'a, R: Threads + Sync, G: Gate + Sync, F: Files, O: Sink, E: Sin
         }
         CommandWords::Show { message } => work_show(alloc, message, files, out),
         CommandWords::Compose { text } => work_compose(alloc, text, files, out),
+        CommandWords::Session { recording, number } => {
+            work_session(alloc, recording, number, files, out)
+        }
+        CommandWords::ListSessions { recording } => work_sessions(alloc, recording, files, out),
         CommandWords::Help => work_text(HELP, out),
         CommandWords::Version => work_version(alloc, out),
     }

@@ -1,7 +1,7 @@
 -- Worked examples of the words that a command takes.
 use Rattle.std.proofs.Common.{◌≡◌, List, [], ◌∷◌, ◌++◌, Option, Some, None, codes, map, refl}
 use Rattle.clap.specs.Words.{Text}
-use Rattle.tool_words.specs.Tools.{replay_places, explain_places, twin_places, sample_places, within_places, audit_places, suggest_places, show_places, compose_places, more_recordings, taken, taken_with}
+use Rattle.tool_words.specs.Tools.{replay_places, explain_places, twin_places, sample_places, within_places, audit_places, suggest_places, show_places, compose_places, session_places, sessions_places, more_recordings, taken, taken_with}
 use Rattle.tool_words.proofs.OnLiterals.{words_on_literals}
 
 abbrev replay : List Text → Option (List Text)
@@ -47,6 +47,12 @@ files : map (taken (codes "show") show_places) ((codes "show" ∷ codes "m" ∷ 
     ≡ Some (codes "m" ∷ []) ∷ None ∷ None ∷ None ∷ Some (codes "-t" ∷ []) ∷ []
 unfolding words_on_literals
 files = refl
+
+one_recording : taken (codes "session") session_places (codes "session" ∷ codes "r" ∷ codes "2" ∷ []) ∷ taken (codes "session") session_places (codes "session" ∷ codes "r" ∷ [])
+    ∷ taken (codes "sessions") sessions_places (codes "sessions" ∷ codes "r" ∷ []) ∷ taken (codes "sessions") sessions_places (codes "sessions" ∷ codes "r" ∷ codes "2" ∷ []) ∷ []
+    ≡ Some (codes "r" ∷ codes "2" ∷ []) ∷ None ∷ Some (codes "r" ∷ []) ∷ None ∷ []
+unfolding words_on_literals
+one_recording = refl
 
 -- one recording or more, up to 16
 abbrev audit : List Text → Option (List Text)

@@ -10,7 +10,7 @@ use Rattle.clap.specs.Faults.{built_fault, long_fault, react_fault, short_fault,
 use Rattle.clap.specs.declared.error.kind.ErrorKind.TheVariants.{DisplayHelp, TooManyValues, UnknownArgument}
 use Rattle.clap.proofs.FaultLemmas.{leaf_fault}
 use Rattle.clap.proofs.OnLiterals.{clap_on_literals}
-use Rattle.tool_words.specs.Tools.{command_of, command_with, filled_at, replay_places, explain_places, twin_places, sample_places, within_places, audit_places, suggest_places, show_places, compose_places, more_recordings, taken, taken_with, unless_faulty, words_at}
+use Rattle.tool_words.specs.Tools.{command_of, command_with, filled_at, replay_places, explain_places, twin_places, sample_places, within_places, audit_places, suggest_places, show_places, compose_places, session_places, sessions_places, more_recordings, taken, taken_with, unless_faulty, words_at}
 use Rattle.tool_words.specs.Operands.{AllUtf8, IsOneWordEach, IsOneWordAtMost, is_between, of_count, operands}
 use Rattle.tool_words.proofs.WordKinds.{Faulty, faulty_as}
 use Rattle.tool_words.proofs.Walking.{OneEach, behind, or_else_faulty, outcome, read, standing}
@@ -268,6 +268,36 @@ show_one_each = one_word_each (codes "show") show_places (record {
 pub compose_one_each : IsOneWordEach (codes "compose") compose_places
 unfolding clap_on_literals
 compose_one_each = one_word_each (codes "compose") compose_places (record {
+  is_simple = refl;
+  named = refl;
+  leaf = refl;
+  long = λ name. refl;
+  short = λ c. refl;
+  keeps = refl;
+  takes = (λ word t. (refl, refl), λ a. tt);
+  full = λ a. unknown;
+  ends = (λ t. refl, λ a. (λ t. refl, λ b. tt));
+  over = over_number 1;
+})
+
+pub session_one_each : IsOneWordEach (codes "session") session_places
+unfolding clap_on_literals
+session_one_each = one_word_each (codes "session") session_places (record {
+  is_simple = refl;
+  named = refl;
+  leaf = refl;
+  long = λ name. refl;
+  short = λ c. refl;
+  keeps = refl;
+  takes = (λ word t. (refl, refl), λ a. (λ word t. (refl, refl), λ b. tt));
+  full = λ a b. unknown;
+  ends = (λ t. refl, λ a. (λ t. refl, λ b. (λ t. refl, λ c. tt)));
+  over = over_number 2;
+})
+
+pub sessions_one_each : IsOneWordEach (codes "sessions") sessions_places
+unfolding clap_on_literals
+sessions_one_each = one_word_each (codes "sessions") sessions_places (record {
   is_simple = refl;
   named = refl;
   leaf = refl;

@@ -9,6 +9,8 @@
 --     suggest RECORDING..
 --     show FILE
 --     compose FILE
+--     session RECORDING N
+--     sessions RECORDING
 --
 -- The first word is the tool's name. Each place after it is for one word, which has to be there. Of recordings there are up to 16 places, of
 -- which the first alone has to be filled. There is no option but the wish for help that every command has, and no command takes that.
@@ -92,6 +94,12 @@ show_places = codes "FILE" ∷ []
 
 abbrev pub compose_places : List Text
 compose_places = codes "FILE" ∷ []
+
+abbrev pub session_places : List Text
+session_places = codes "RECORDING" ∷ codes "N" ∷ []
+
+abbrev pub sessions_places : List Text
+sessions_places = codes "RECORDING" ∷ []
 
 -- the places of the other recordings
 abbrev pub more_recordings : List Text

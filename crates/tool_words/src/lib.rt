@@ -7,7 +7,7 @@
 ghost use Rattle.std.specs.Prelude.{◌≡◌, ◌↔◌, ◌≤◌, ◌+◌, ◌++◌, [], ◌∷◌, List, Option, IfOk, OnOk, drop, fold, map, length, option_map, option_to_list, string_bytes, codes, true, false, IsTrue};
 ghost use Rattle.clap.specs.Words.{Row, Text, app_of, first_of, found_of, is_simple_and_free, kind_of, new_rule, rows_of, rule_of, with_rule};
 ghost use Rattle.tool_words.specs.Operands.{IsOneWordAtMost, IsOneWordEach, is_between, of_count, of_number, operands};
-ghost use Rattle.tool_words.specs.Tools.{Parses, command_of, command_with, filled_at, required_word, replay_places, explain_places, twin_places, sample_places, within_places, audit_places, suggest_places, show_places, compose_places, more_recordings, read_of, taken, taken_by, taken_with, words_at, words_found};
+ghost use Rattle.tool_words.specs.Tools.{Parses, command_of, command_with, filled_at, required_word, replay_places, explain_places, twin_places, sample_places, within_places, audit_places, suggest_places, show_places, compose_places, session_places, sessions_places, more_recordings, read_of, taken, taken_by, taken_with, words_at, words_found};
 
 use clap::error::ErrorKind;
 use clap::{Arg, ArgMatches, Command, Error};
@@ -81,6 +81,22 @@ pub struct ShowWords<'a> {
 pub struct ComposeWords<'a> {
     /// The path of the file of a message's text.
     pub text: &'a str,
+}
+
+/// The words of `session RECORDING N`.
+#[derive(Clone, Copy, Debug, PartialEq, Eq)]
+pub struct SessionWords<'a> {
+    /// The path of the recording.
+    pub recording: &'a str,
+    /// The number of a session.
+    pub number: &'a str,
+}
+
+/// The words of `sessions RECORDING`.
+#[derive(Clone, Copy, Debug, PartialEq, Eq)]
+pub struct SessionsWords<'a> {
+    /// The path of the recording.
+    pub recording: &'a str,
 }
 
 /// The places of further recordings: 15 beside the first.
@@ -336,6 +352,59 @@ fn compose_place<'a>(matches: &ArgMatches<'a>) -> Option<ComposeWords<'a>>
 {
     let text = word_at(matches, "FILE")?;
     Some(ComposeWords { text })
+}
+
+/// The words of `session RECORDING N`, the tool's name in front, where its command takes them. It fails where memory is refused.
+pub fn session_words(
+    alloc: Global,
+    words: &[String],
+) -> Result<Option<SessionWords<'_>>, AllocError>
+    // They are what the command finds.
+    ensures found { IfOk result (λ r. option_map (λ w. w.recording.now ∷ w.number.now ∷ []) r ≡ taken (codes "session") session_places (map (λ w. string_bytes w) words.now)) }
+
+    // They are all words behind the tool's name but a first `--`, where in front of that no word is
+    // an option, and where they are as many as the places.
+    ensures plain { IfOk result (λ r. option_map (λ w. w.recording.now ∷ w.number.now ∷ []) r ≡ of_number 2 (operands (drop 1 (map (λ w. string_bytes w) words.now)))) }
+{
+    match matches_of(alloc, "session", &["RECORDING", "N"], words)? {
+        Some(matches) => Ok(session_places(&matches)),
+        None => Ok(None),
+    }
+}
+
+/// The words in the places of `session`.
+fn session_places<'a>(matches: &ArgMatches<'a>) -> Option<SessionWords<'a>>
+    ensures { option_map (λ w. w.recording.now ∷ w.number.now ∷ []) result ≡ words_at session_places (rows_of (found_of matches.now)) }
+{
+    let recording = word_at(matches, "RECORDING")?;
+    let number = word_at(matches, "N")?;
+    Some(SessionWords { recording, number })
+}
+
+/// The words of `sessions RECORDING`, the tool's name in front, where its command takes them. It fails where memory is refused.
+pub fn sessions_words(
+    alloc: Global,
+    words: &[String],
+) -> Result<Option<SessionsWords<'_>>, AllocError>
+    // They are what the command finds.
+    ensures found { IfOk result (λ r. option_map (λ w. w.recording.now ∷ []) r ≡ taken (codes "sessions") sessions_places (map (λ w. string_bytes w) words.now)) }
+
+    // They are all words behind the tool's name but a first `--`, where in front of that no word is
+    // an option, and where there is one.
+    ensures plain { IfOk result (λ r. option_map (λ w. w.recording.now ∷ []) r ≡ of_number 1 (operands (drop 1 (map (λ w. string_bytes w) words.now)))) }
+{
+    match matches_of(alloc, "sessions", &["RECORDING"], words)? {
+        Some(matches) => Ok(sessions_place(&matches)),
+        None => Ok(None),
+    }
+}
+
+/// The word in the place of `sessions`.
+fn sessions_place<'a>(matches: &ArgMatches<'a>) -> Option<SessionsWords<'a>>
+    ensures { option_map (λ w. w.recording.now ∷ []) result ≡ words_at sessions_places (rows_of (found_of matches.now)) }
+{
+    let recording = word_at(matches, "RECORDING")?;
+    Some(SessionsWords { recording })
 }
 
 /// What the command of a tool finds, where it takes the words. It fails where memory is refused.

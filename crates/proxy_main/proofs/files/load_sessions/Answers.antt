@@ -8,10 +8,10 @@ use Rattle.proxy_main.proofs.Loading.{read_told}
 use Rattle.proxy_main.proofs.Replaying.{sessions_long, sessions_read}
 use Rattle.proxy_main.proofs.files.load_sessions.Goals as goal
 
-pub returns-in-Ok-read_any-clause-loads : goal.returns-in-Ok-read_any-clause-loads
-returns-in-Ok-read_any-clause-loads g c =
-    let exact : sessions_of c.in-Ok.bytes.items ≡ Ok (sessions_seen c.in-Ok-read_any.sessions) = ap sessions_of (sym c.deref.ensures.value) ∙ c.in-Ok-read_any.ensures.exact in
-    read_told RECORDING_LIMIT _ c.in-Ok.bytes.items checked_sessions (Ok (sessions_seen c.in-Ok-read_any.sessions)) c.in-Ok.ensures.given (sessions_read _ _ exact)
+pub returns-in-Ok-sessions_in-clause-loads : goal.returns-in-Ok-sessions_in-clause-loads
+returns-in-Ok-sessions_in-clause-loads g c =
+    let exact : sessions_of c.in-Ok.bytes.items ≡ Ok (sessions_seen c.in-Ok-sessions_in.sessions) = ap sessions_of (sym c.deref.ensures.value) ∙ c.in-Ok-sessions_in.ensures.exact in
+    read_told RECORDING_LIMIT _ c.in-Ok.bytes.items checked_sessions (Ok (sessions_seen c.in-Ok-sessions_in.sessions)) c.in-Ok.ensures.given (sessions_read _ _ exact)
 
 pub returns-in-Err-Bad-clause-loads : goal.returns-in-Err-Bad-clause-loads
 returns-in-Err-Bad-clause-loads g c =

@@ -126,7 +126,27 @@ returns-in-Compose-clause-log g c =
     let unasked = ap (λ (w : CommandWords). may_log (g.F.Files.told c.args.files.now) (Some (command_of w))) c.in-Compose.is in
     quiet_stop c.work_compose.result (g.F.Files.told c.args.files.now) _ _ _ _ _ unasked c.work_compose.ensures.cause refl
 
+pub returns-in-Session-clause-log : goal.returns-in-Session-clause-log
+returns-in-Session-clause-log g c =
+    let unasked = ap (λ (w : CommandWords). may_log (g.F.Files.told c.args.files.now) (Some (command_of w))) c.in-Session.is in
+    quiet_stop c.work_session.result (g.F.Files.told c.args.files.now) _ _ _ _ _ unasked c.work_session.ensures.cause refl
+
+pub returns-in-ListSessions-clause-log : goal.returns-in-ListSessions-clause-log
+returns-in-ListSessions-clause-log g c =
+    let unasked = ap (λ (w : CommandWords). may_log (g.F.Files.told c.args.files.now) (Some (command_of w))) c.in-ListSessions.is in
+    quiet_stop c.work_sessions.result (g.F.Files.told c.args.files.now) _ _ _ _ _ unasked c.work_sessions.ensures.cause refl
+
 pub returns-in-Help-clause-logged : goal.returns-in-Help-clause-logged
 returns-in-Help-clause-logged g c =
     let unasked = ap (λ (w : CommandWords). may_log (g.F.Files.told c.args.files.now) (Some (command_of w))) c.in-Help.is in
     quiet_done c.work_text.result (g.F.Files.told c.args.files.now) _ _ unasked
+
+pub returns-in-Session-clause-logged : goal.returns-in-Session-clause-logged
+returns-in-Session-clause-logged g c =
+    let unasked = ap (λ (w : CommandWords). may_log (g.F.Files.told c.args.files.now) (Some (command_of w))) c.in-Session.is in
+    quiet_done c.work_session.result (g.F.Files.told c.args.files.now) _ _ unasked
+
+pub returns-in-ListSessions-clause-logged : goal.returns-in-ListSessions-clause-logged
+returns-in-ListSessions-clause-logged g c =
+    let unasked = ap (λ (w : CommandWords). may_log (g.F.Files.told c.args.files.now) (Some (command_of w))) c.in-ListSessions.is in
+    quiet_done c.work_sessions.result (g.F.Files.told c.args.files.now) _ _ unasked
