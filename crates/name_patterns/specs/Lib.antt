@@ -1,2 +1,4 @@
 pub mod Cuts
+pub mod PatternIndex
 pub mod Patterns
+pub mod Ranks

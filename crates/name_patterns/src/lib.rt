@@ -1,7 +1,7 @@
 //! Patterns of bus names: one well-known name, or a name with all names below it.
 //!
 //! A pattern is what the option of a policy entry names, as in `--talk=NAME`, where NAME "can also have a wildcard
-//! suffix .*" (xdg-dbus-proxy(1), "Filtering").
+//! suffix .*" (xdg-dbus-proxy(1), "Filtering"). An index finds the patterns that cover a name without a pass over all.
 #![tactic(auto)]
 
 ghost use Rattle.std.specs.Prelude.{◌≡◌, ◌≤◌, true, None, Some, IfOk, IfErr, IsSome, option_map, codes, length};
@@ -12,7 +12,12 @@ ghost use Rattle.name_patterns.specs.Cuts.{before_end, rest_covered};
 ghost use Rattle.name_patterns.specs.Patterns.{covers as pattern_covers, is_pattern, is_subtree_name as is_name_of_subtree, pattern_of};
 ghost use Rattle.name_patterns.specs.declared.BadPattern.TheVariants.{Form, Memory};
 
+mod covering;
+mod index;
+
+pub use covering::Covering;
 use dbus_names::is_well_known;
+pub use index::{PatternIndex, Steps};
 use std::alloc::{AllocError, Global};
 use std::marker::Model;
 use thiserror::Error;

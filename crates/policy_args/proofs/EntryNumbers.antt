@@ -1,61 +1,14 @@
 -- The numbers of the entries that pass a test.
-use Rattle.std.proofs.Common.{◌≡◌, ℕ, zero, suc, ◌+◌, ◌-◌, ◌≤◌, Bool, true, false, not, ◌&&◌, ◌||◌, nat_le, List, [], ◌∷◌, ◌++◌, length, Some, if◌then◌else◌, refl, ap, ap₂, sym, ◌∙◌, arith, slice_get}
+use Rattle.std.proofs.Common.{◌≡◌, ℕ, zero, suc, ◌+◌, ◌-◌, ◌≤◌, Bool, true, false, not, ◌&&◌, ◌||◌, nat_le, List, [], ◌∷◌, length, Some, if◌then◌else◌, refl, ap, ap₂, sym, ◌∙◌, arith, slice_get}
 use Rattle.std.specs.List.{list_all, list_any}
-use Rattle.std.specs.Prelude.{IsPermutation}
 use Rattle.std.proofs.lemmas.Bool.{and_parts}
 use Rattle.std.proofs.lemmas.Bool.Decides.{nat_tests}
-use Rattle.std.proofs.lemmas.List.Sorted.{IsPermutation-refl, IsPermutation-cons, IsPermutation-middle, IsPermutation-sym, IsPermutation-trans, list_any-IsPermutation}
+use Rattle.std.proofs.lemmas.List.Sorted.{list_any-IsPermutation}
 use Rattle.policy_args.specs.Covering.{AreCovering, is_number, passes, passes_at}
 use Rattle.policy_args.specs.Levels.{numbers_where}
 use Rattle.policy_args.specs.Policy.{entry_at}
 use Rattle.policy_args.specs.declared.entry.Entry.{Entry}
 use Rattle.name_patterns.specs.Patterns.{covers}
-
--- one more entry
-pub numbers-last : (test : Entry → Bool) (n : ℕ) (es : List Entry) (e : Entry) →
-    numbers_where test n (es ++ e ∷ []) ≡ (if test e then numbers_where test n es ++ (n + length es) ∷ [] else numbers_where test n es)
-numbers-last test n [] e = ap (λ k. if test e then k ∷ [] else []) (omega arith)
-numbers-last test n (x ∷ es) e =
-    ap (λ ks. if test x then n ∷ ks else ks) (numbers-last test (n + 1) es e) ∙ by (test x) (test e)
-    ∙ ap (λ k. if test e then (if test x then n ∷ numbers_where test (n + 1) es else numbers_where test (n + 1) es) ++ k ∷ [] else (if test x then n ∷ numbers_where test (n + 1) es else numbers_where test (n + 1) es)) next
-  where
-    next : n + 1 + length es ≡ n + length (x ∷ es)
-    next = omega arith
-
-    by : (a b : Bool) →
-        (if a then n ∷ (if b then numbers_where test (n + 1) es ++ (n + 1 + length es) ∷ [] else numbers_where test (n + 1) es) else (if b then numbers_where test (n + 1) es ++ (n + 1 + length es) ∷ [] else numbers_where test (n + 1) es))
-        ≡ (if b then (if a then n ∷ numbers_where test (n + 1) es else numbers_where test (n + 1) es) ++ (n + 1 + length es) ∷ [] else (if a then n ∷ numbers_where test (n + 1) es else numbers_where test (n + 1) es))
-    by true true = refl
-    by true false = refl
-    by false true = refl
-    by false false = refl
-
--- a test that says the same
-pub numbers-same : (p q : Entry → Bool) (n : ℕ) (es : List Entry) → ((e : Entry) → p e ≡ q e) → numbers_where p n es ≡ numbers_where q n es
-numbers-same p q n [] same = refl
-numbers-same p q n (e ∷ es) same = ap₂ (λ b ks. if b then n ∷ ks else ks) (same e) (numbers-same p q (n + 1) es same)
-
--- a test that none passes
-pub numbers-none : (p : Entry → Bool) (n : ℕ) (es : List Entry) → ((e : Entry) → p e ≡ false) → numbers_where p n es ≡ []
-numbers-none p n [] none = refl
-numbers-none p n (e ∷ es) none = ap (λ b. if b then n ∷ numbers_where p (n + 1) es else numbers_where p (n + 1) es) (none e) ∙ numbers-none p (n + 1) es none
-
-true-false : true ≡ false → ⊥
-true-false is = absurd cc
-
--- one of two tests that no entry passes both
-pub numbers-or : (p q : Entry → Bool) (n : ℕ) (es : List Entry) → ((e : Entry) → p e ≡ true → q e ≡ false) →
-    IsPermutation (numbers_where (λ e. p e || q e) n es) (numbers_where p n es ++ numbers_where q n es)
-numbers-or p q n [] apart = IsPermutation-refl []
-numbers-or p q n (e ∷ es) apart = by (p e) (q e) refl refl (numbers-or p q (n + 1) es apart)
-  where
-    by : (a b : Bool) → p e ≡ a → q e ≡ b → IsPermutation (numbers_where (λ x. p x || q x) (n + 1) es) (numbers_where p (n + 1) es ++ numbers_where q (n + 1) es) →
-        IsPermutation (if a || b then n ∷ numbers_where (λ x. p x || q x) (n + 1) es else numbers_where (λ x. p x || q x) (n + 1) es)
-        ((if a then n ∷ numbers_where p (n + 1) es else numbers_where p (n + 1) es) ++ (if b then n ∷ numbers_where q (n + 1) es else numbers_where q (n + 1) es))
-    by true true pe qe rest = absurd (true-false (sym qe ∙ apart e pe))
-    by true false pe qe rest = IsPermutation-cons n _ _ rest
-    by false true pe qe rest = IsPermutation-trans _ _ _ (IsPermutation-cons n _ _ rest) (IsPermutation-sym _ _ (IsPermutation-middle (numbers_where p (n + 1) es) n (numbers_where q (n + 1) es)))
-    by false false pe qe rest = rest
 
 -- ---- tests of the entries by their numbers
 

@@ -9,14 +9,12 @@ pub mod EntryNumbers
 pub mod EntryReading
 pub mod FileWords
 pub mod Fronts
-pub mod LevelJoins
-pub mod NameFronts
-pub mod NameIndexes
+pub mod NextCovering
 pub mod Numbers
 pub mod PermitsLaws
 pub mod PolicyExamples
 pub mod PolicyLevels
-pub mod Prefixes
+pub mod RankedEntries
 pub mod ReadingLine
 pub mod Scanning
 pub mod WordOf

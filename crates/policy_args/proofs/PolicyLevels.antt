@@ -11,9 +11,9 @@ use Rattle.policy_args.specs.Policy.{Policy, at_least, given_by, granted, greate
 use Rattle.dbus_names.specs.Names.{is_bus}
 
 -- the bus itself may be talked to
-pub level-bus : (policy : Policy) (name : List ℕ) → is_bus name ≡ true → greater Talk (granted policy.entries name) ≡ level policy name
+pub level-is : (policy : Policy) (name : List ℕ) → (if is_bus name then greater Talk (granted policy.entries name) else granted policy.entries name) ≡ level policy name
 unfolding level
-level-bus policy name is = ap (λ b. if b then greater Talk (granted policy.entries name) else granted policy.entries name) (sym is)
+level-is policy name = refl
 
 pub level-other : (policy : Policy) (name : List ℕ) → is_bus name ≡ false → granted policy.entries name ≡ level policy name
 unfolding level

@@ -1,5 +1,5 @@
 -- The numbers of the entries that cover a name.
-use Rattle.std.specs.Prelude.{ℕ, Bool, false, ◌&&◌, nat_le, List, Option, Some, None, IsPermutation}
+use Rattle.std.specs.Prelude.{ℕ, ◌-◌, Bool, false, ◌&&◌, nat_le, List, Option, Some, None, drop, slice_get, IsPermutation}
 use Rattle.name_patterns.specs.Patterns.{covers}
 use Rattle.policy_args.specs.Levels.{numbers_where}
 use Rattle.policy_args.specs.Policy.{entry_at}
@@ -8,6 +8,14 @@ use Rattle.policy_args.specs.declared.entry.Entry.{Entry}
 -- the numbers, from 1, of all entries that cover the name, each once, in any order
 abbrev pub AreCovering : List Entry → List ℕ → List ℕ → Type 0
 AreCovering entries name numbers = IsPermutation (numbers_where (λ e. covers e.pattern name) 1 entries) numbers
+
+-- the numbers, from one on, of the entries that cover the name, ascending
+abbrev pub covering_from : List Entry → List ℕ → ℕ → List ℕ
+covering_from entries name from = numbers_where (λ e. covers e.pattern name) from (drop (from - 1) entries)
+
+-- the least of them
+abbrev pub next_covering : List Entry → List ℕ → ℕ → Option ℕ
+next_covering entries name from = slice_get (covering_from entries name from) 0
 
 abbrev pub passes : (Entry → Bool) → Option Entry → Bool
 passes test None = false

@@ -1,9 +1,9 @@
 pub mod Addresses
 pub mod Covering
 pub mod Distinct
+pub mod EntryRanks
 pub mod Gives
 pub mod Levels
-pub mod NameIndex
 pub mod Policy
 pub mod ProxyLine
 pub mod Reading

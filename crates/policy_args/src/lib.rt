@@ -5,15 +5,14 @@
 #![tactic(auto)]
 
 ghost use Rattle.std.specs.Prelude.{◌≡◌};
+ghost use Rattle.policy_args.specs.EntryRanks.{level_of_rank, rank_of};
 ghost use Rattle.policy_args.specs.Policy.{at_least, greater};
 
 mod address;
-mod covering;
 mod entry;
 mod fact;
 mod laws;
 mod line;
-mod name_index;
 mod options;
 mod patterns;
 mod policy;
@@ -21,7 +20,6 @@ mod refusals;
 mod requests;
 mod words;
 
-pub use covering::Covering;
 pub use entry::{Entry, Grant};
 pub use fact::Fact;
 pub use laws::{
@@ -29,6 +27,7 @@ pub use laws::{
     permits_by_entries, within_itself, within_through, words_give_their_entries,
 };
 pub use line::{Block, ProxyLine, read_line};
+pub use name_patterns::{Covering, Steps};
 pub use options::{Options, read_options};
 pub use policy::Policy;
 pub use refusals::LineRefusal;
@@ -73,6 +72,30 @@ impl Level {
             (_, Level::See) => false,
             (Level::Talk, _) | (_, Level::Own) => true,
             (Level::Own, Level::Talk) => false,
+        }
+    }
+
+    // The rank of the level, which is greater where the level is.
+    pub(crate) fn rank(self) -> u8
+        ensures { result ≡ rank_of self }
+    {
+        match self {
+            Level::None => 0,
+            Level::See => 1,
+            Level::Talk => 2,
+            Level::Own => 3,
+        }
+    }
+
+    // The level with the rank.
+    pub(crate) fn of_rank(rank: u8) -> Level
+        ensures { result ≡ level_of_rank rank }
+    {
+        match rank {
+            0 => Level::None,
+            1 => Level::See,
+            2 => Level::Talk,
+            _ => Level::Own,
         }
     }
 }

@@ -1,31 +1,32 @@
 //! A policy: the entries that words gave.
-ghost use Rattle.std.specs.Prelude.{◌≡◌, ◌≤◌, ◌-◌, ◌==◌, ℕ, true, false, List, Some as Just, [], length, option_map, slice_get, OnErr};
+ghost use Rattle.std.specs.Prelude.{◌≡◌, ◌≤◌, ◌+◌, ◌-◌, ◌==◌, ◌&&◌, ℕ, true, false, List, Some as Just, [], bytes_eq, length, option_map, slice_get, if◌then◌else◌, IfSome, OnErr};
 ghost use Rattle.std.specs.List.{list_any};
-ghost use Rattle.dbus_names.specs.Names.{is_unique};
+ghost use Rattle.dbus_names.specs.Names.{is_bus as is_bus_name, is_unique};
 ghost use Rattle.name_patterns.specs.Patterns.{covers};
-ghost use Rattle.policy_args.specs.Covering.{AreCovering};
+ghost use Rattle.name_patterns.specs.Ranks.{elements};
+ghost use Rattle.policy_args.specs.Covering.{AreCovering, next_covering as next_covering_of};
 ghost use Rattle.policy_args.specs.Gives.{StepGives};
-ghost use Rattle.policy_args.specs.Policy.{entry_word, granted as granted_by, level, patterns_of, policy_of};
+ghost use Rattle.policy_args.specs.Policy.{entry_word, granted as granted_by, greater, level, patterns_of, policy_of};
 ghost use Rattle.policy_args.specs.Requests.{asked_name, has_entry, permits, rule_matches};
 ghost use Rattle.policy_args.specs.Steps.{with_one_more};
+ghost use Rattle.policy_args.specs.declared.Level.TheVariants.{Talk};
 
-use crate::covering::Covering;
 use crate::entry::Entry;
-use crate::name_index::NameIndex;
 use crate::patterns::Patterns;
 use crate::refusals::WordRefusal;
 use crate::requests::Asked;
 use crate::{Level, WordKind};
 use dbus_names::is_bus;
 use indexmap::IndexSet;
-use name_patterns::Pattern;
+use name_patterns::{Covering, Pattern, PatternIndex, Steps};
 use std::alloc::Global;
 use std::marker::Model;
+use std::sync::ledger::Ledger;
 
 /// The most entries that a policy has.
 const MOST_ENTRIES: usize = 65_535;
 
-/// The most entries that are passed over for a level. Past them the index is quicker, which hashes the name and what
+/// The most entries that are passed over for a name. Past them the index is quicker, which hashes the name and what
 /// stands before each of its dots.
 const FEW_ENTRIES: usize = 16;
 
@@ -37,7 +38,7 @@ pub struct Policy {
     words: IndexSet<String>,
     entries: Vec<Entry>,
     patterns: Patterns,
-    index: NameIndex,
+    index: PatternIndex,
     sloppy: bool,
     known_fields: bool,
 }
@@ -48,14 +49,15 @@ impl Model for Policy {
     ghost use Rattle.std.specs.List.{list_all};
     ghost use Rattle.name_patterns.specs.Patterns.{is_pattern};
     ghost use Rattle.policy_args.specs.Distinct.{AreOf};
-    ghost use Rattle.policy_args.specs.NameIndex.{IsIndexOf};
+    ghost use Rattle.name_patterns.specs.PatternIndex.{Indexes};
+    ghost use Rattle.policy_args.specs.EntryRanks.{ranked};
     ghost use Rattle.policy_args.specs.Policy.{Policy as PolicyValue, entry_word, policy_with};
 
     ghost Value = { PolicyValue };
 
     ghost view = { λ p. policy_with p.entries.items p.sloppy p.known_fields };
 
-    ghost invariant = { λ p. (map (λ k. string_bytes k) p.words.keys ≡ map entry_word p.entries.items) × (length p.entries.items ≤ 65535) × (AreOf p.entries.items p.patterns) × (list_all (λ e. is_pattern e.pattern) p.entries.items ≡ true) × (IsIndexOf p.entries.items p.index) };
+    ghost invariant = { λ p. (map (λ k. string_bytes k) p.words.keys ≡ map entry_word p.entries.items) × (length p.entries.items ≤ 65535) × (AreOf p.entries.items p.patterns) × (list_all (λ e. is_pattern e.pattern) p.entries.items ≡ true) × (Indexes (ranked p.entries.items) p.index) };
 }
 
 impl Policy {
@@ -67,7 +69,7 @@ impl Policy {
             words: IndexSet::new(alloc),
             entries: Vec::new(alloc),
             patterns: Patterns::new(alloc),
-            index: NameIndex::new(alloc),
+            index: PatternIndex::new(alloc),
             sloppy: false,
             known_fields: false,
         }
@@ -160,12 +162,17 @@ impl Policy {
     pub fn level(&self, name: &str) -> Level
         ensures { result ≡ level self.now name.now }
     {
-        let granted = self.granted(name);
-        if is_bus(name) {
-            Level::Talk.max_with(granted)
-        } else {
-            granted
-        }
+        with_bus(name, self.granted(name))
+    }
+
+    /// What `level` answers, always found by the index. A step is one look-up in the index, and at most k + 1 are
+    /// counted for a name of k elements.
+    pub fn level_counted<L: Ledger>(&self, name: &str, steps: &mut Steps<L>) -> Level
+        ensures level { result ≡ level self.now name.now }
+        ensures cost { steps.new ≤ steps.old + elements name.now + 1 }
+    {
+        let rank = self.index.greatest(name, steps);
+        with_bus(name, Level::of_rank(rank))
     }
 
     /// Whether an entry covers the name.
@@ -175,6 +182,41 @@ impl Policy {
         self.granted(name).is_at_least(Level::See)
     }
 
+    /// The least number, from one on, of an entry that covers the name.
+    pub fn next_covering(&self, name: &str, from: u32) -> Option<u32>
+        requires { 1 ≤ from }
+        ensures next { result ≡ next_covering_of self.now.entries name.now from }
+        ensures most { IfSome result (λ number. number ≤ 65535) }
+    {
+        if self.entries.len() <= FEW_ENTRIES {
+            self.next_in_pass(name, from)
+        } else {
+            self.index.next_covering(name, from)
+        }
+    }
+
+    // The same, by a pass over the entries.
+    fn next_in_pass(&self, name: &str, from: u32) -> Option<u32>
+        requires { 1 ≤ from }
+        ensures next { result ≡ next_covering_of self.now.entries name.now from }
+        ensures most { IfSome result (λ number. number ≤ 65535) }
+    {
+        for index in from - 1..self.len() {
+            let number = index + 1;
+            if self.entry(number).pattern.covers(name) {
+                return Some(number);
+            }
+        }
+        None
+    }
+
+    /// Whether an entry is for the name alone, and not for the names below it too.
+    pub fn names(&self, name: &str) -> bool
+        ensures { result ≡ list_any (λ e. e.pattern.exact && bytes_eq e.pattern.name name.now) self.now.entries }
+    {
+        self.index.is_named(name)
+    }
+
     // The greatest level that an entry which covers the name gives.
     fn granted(&self, name: &str) -> Level
         ensures { result ≡ granted_by self.now.entries name.now }
@@ -182,7 +224,7 @@ impl Policy {
         if self.entries.len() <= FEW_ENTRIES {
             self.granted_in_pass(name)
         } else {
-            self.index.granted(name)
+            Level::of_rank(self.index.greatest_uncounted(name))
         }
     }
 
@@ -203,7 +245,7 @@ impl Policy {
     pub fn covering<'a>(&'a self, name: &'a str) -> Covering<'a>
         ensures { AreCovering self.entry.now.entries name.entry.now result }
     {
-        Covering::new(&self.index, name)
+        self.index.covering(name)
     }
 
     /// Whether the policy permits a request. It takes no memory.
@@ -250,12 +292,24 @@ impl Policy {
         self.index.make_room(alloc, &entry.pattern)?;
         let number = self.entries.len() as u32 + 1;
         self.patterns.add(alloc, &entry.pattern, number)?;
-        self.index.add(&entry, number);
+        let rank = entry.grant.level().rank();
+        self.index.add_reserved(&entry.pattern, rank, number);
         match self.words.insert(word) {
             Ok(_) => {}
             Err(_) => unreachable!(),
         }
         self.entries.push_reserved(entry);
         Ok(())
+    }
+}
+
+// The level that entries give the name, or for the bus itself at least `Talk`.
+fn with_bus(name: &str, granted: Level) -> Level
+    ensures { result ≡ (if is_bus_name name.now then greater Talk granted else granted) }
+{
+    if is_bus(name) {
+        Level::Talk.max_with(granted)
+    } else {
+        granted
     }
 }

@@ -2,12 +2,14 @@ use Rattle.std.proofs.Common.{◌≡◌, ◌+◌, List, ◌∷◌, ◌++◌, [],
 use Rattle.std.specs.String.{string_eq}
 use Rattle.indexmap.specs.IndexSet.{insert_key}
 use Rattle.policy_args.specs.Distinct.{AreOf, Distinct, noted, pattern_key}
-use Rattle.policy_args.specs.NameIndex.{IsIndexOf}
+use Rattle.name_patterns.specs.PatternIndex.{Indexes}
+use Rattle.policy_args.specs.EntryRanks.{rank_of, ranked}
 use Rattle.policy_args.specs.declared.entry.Entry.{Entry}
 use Rattle.std.specs.List.{list_all}
 use Rattle.name_patterns.specs.Patterns.{is_pattern}
 use Rattle.policy_args.proofs.Distincts.{all-last, still-of}
 use Rattle.policy_args.proofs.Adding.{adds-nothing, adds-too-many, adds-one, words-added, few-entries}
+use Rattle.policy_args.proofs.RankedEntries.{ranked-added}
 use Rattle.policy_args.proofs.policy.Policy.add.Goals as goal
 
 pub returns-then-contains-clause-exact : goal.returns-then-contains-clause-exact
@@ -36,7 +38,9 @@ invariant_of-self-2 c =
           (subst (λ (es : List Entry). AreOf es (noted c.self.inside.patterns (pattern_key c.args.entry.pattern) (length entries + 1))) (sym pushed)
           (still-of entries c.args.entry c.self.inside.patterns c.self.invariant.2)),
       ap (list_all (λ e. is_pattern e.pattern)) pushed ∙ all-last (λ e. is_pattern e.pattern) entries c.args.entry c.self.invariant.3 c.in_ok-add.ensures.grammar,
-      subst (λ (es : List Entry). IsIndexOf es c.add-2.new.self) (sym pushed) (c.add-2.ensures entries (c.make_room.ensures.same entries c.self.invariant.4) (ap (λ n. n + 1) counted)),
+      subst (λ (es : List Entry). Indexes (ranked es) c.add_reserved.new.self) (sym pushed)
+          (ranked-added entries c.args.entry c.rank-rank.result (c.len-2.result + 1) c.make_room.new.self c.add_reserved.new.self c.add_reserved.ensures
+          (c.make_room.ensures.same (ranked entries) c.self.invariant.4) (ap (λ n. n + 1) counted) (c.rank-rank.ensures ∙ ap rank_of c.level.ensures)),
     )
 
 pub returns-clause-exact : goal.returns-clause-exact

@@ -1,7 +1,12 @@
 use Rattle.std.proofs.Common.{ap, ◌∙◌}
+use Rattle.policy_args.specs.EntryRanks.{ranked}
 use Rattle.policy_args.specs.Policy.{granted}
+use Rattle.policy_args.proofs.RankedEntries.{granted-found}
 use Rattle.policy_args.proofs.policy.Policy.granted.Goals as goal
 
 pub returns-else-len-le-FEW_ENTRIES : goal.returns-else-len-le-FEW_ENTRIES
 returns-else-len-le-FEW_ENTRIES c =
-    c.granted.ensures c.self.inside.entries.items c.self.invariant.4 ∙ ap (λ p. granted p.entries c.args.name.now) c.self.view_is
+    let entries = c.self.inside.entries.items in
+    let name = c.args.name.now in
+    c.of_rank.ensures ∙ granted-found entries name c.greatest_uncounted.result (c.greatest_uncounted.ensures (ranked entries) c.self.invariant.4)
+    ∙ ap (λ p. granted p.entries name) c.self.view_is

@@ -1,11 +1,12 @@
-use Rattle.std.proofs.Common.{ap, sym, ◌∙◌}
+use Rattle.std.proofs.Common.{if◌then◌else◌, ap, ◌∙◌}
+use Rattle.dbus_names.specs.Names.{is_bus}
+use Rattle.policy_args.specs.declared.Level.{Level}
 use Rattle.policy_args.specs.declared.Level.TheVariants.{Talk}
 use Rattle.policy_args.specs.Policy.{greater}
-use Rattle.policy_args.proofs.PolicyLevels.{level-bus, level-other}
+use Rattle.policy_args.proofs.PolicyLevels.{level-is}
 use Rattle.policy_args.proofs.policy.Policy.level.Goals as goal
 
-pub returns-then-is_bus : goal.returns-then-is_bus
-returns-then-is_bus c = c.max_with.ensures ∙ ap (greater Talk) c.granted-granted.ensures ∙ level-bus c.args.self.now c.args.name.now (sym c.is_bus.ensures ∙ c.if-is_bus.true)
-
-pub returns-else-is_bus : goal.returns-else-is_bus
-returns-else-is_bus c = c.granted-granted.ensures ∙ level-other c.args.self.now c.args.name.now (sym c.is_bus.ensures ∙ c.if-is_bus.false)
+pub returns : goal.returns
+returns c =
+    c.with_bus.ensures ∙ ap (λ (l : Level). if is_bus c.args.name.now then greater Talk l else l) c.granted.ensures
+    ∙ level-is c.args.self.now c.args.name.now

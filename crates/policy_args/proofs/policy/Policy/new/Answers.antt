@@ -3,7 +3,8 @@ use Rattle.std.specs.List.{list_all}
 use Rattle.name_patterns.specs.Patterns.{is_pattern}
 use Rattle.policy_args.specs.Policy.{entry_word, patterns_of}
 use Rattle.policy_args.specs.Distinct.{AreOf, no_patterns}
-use Rattle.policy_args.specs.NameIndex.{IsIndexOf}
+use Rattle.name_patterns.specs.PatternIndex.{Indexes}
+use Rattle.policy_args.specs.EntryRanks.{ranked}
 use Rattle.policy_args.specs.declared.entry.Entry.{Entry}
 use Rattle.policy_args.proofs.policy.Policy.new.Goals as goal
 
@@ -18,5 +19,5 @@ invariant_of-result c =
       (let short = ap length none in omega arith),
       subst (λ (es : List Entry). AreOf es c.new-3.result) (sym none) (subst (AreOf []) (sym c.new-3.ensures) none-of),
       ap (list_all (λ e. is_pattern e.pattern)) none,
-      subst (λ (es : List Entry). IsIndexOf es c.new-4.result) (sym none) c.new-4.ensures,
+      subst (λ (es : List Entry). Indexes (ranked es) c.new-4.result) (sym none) c.new-4.ensures,
     )
