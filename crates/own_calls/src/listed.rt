@@ -1,7 +1,6 @@
 //! The calls on the answer to ListNames: GetNameOwner for each name in it that an `N.*` covers.
-ghost use Rattle.std.specs.Prelude.{◌≡◌, ◌≤◌, ◌++◌, ◌+◌, ◌&&◌, All, IfOk, OnErr, OnOk, bytes_eq, length, map, not, true};
+ghost use Rattle.std.specs.Prelude.{◌≡◌, ◌≤◌, ◌++◌, ◌+◌, All, IfOk, OnErr, OnOk, length, map, true};
 ghost use Rattle.dbus_names.specs.Names.{is_well_known as is_well_known_name};
-ghost use Rattle.name_patterns.specs.Patterns.{covers};
 ghost use Rattle.own_calls.specs.Asked.{is_covered};
 ghost use Rattle.own_calls.specs.Sending.{AreCutOff, expecting};
 ghost use Rattle.policy_view.specs.Sent.{asked as asked_names, is_asked as is_asked_name, spelled_from, OwnOwner};
@@ -11,7 +10,6 @@ use crate::sending::put_owner;
 use bytes::BytesMut;
 use dbus_names::is_well_known;
 use dbus_values::Texts;
-use name_patterns::Pattern;
 use policy_args::Policy;
 use reply_ledger::Ledger;
 use serial_map::Serials;
@@ -65,36 +63,9 @@ fn is_asked(policy: &Policy, name: &str) -> bool
     is_well_known(name.as_bytes()) && is_covered_alone(policy, name)
 }
 
-/// Whether an `N.*` covers a name that no exact pattern names. The entries are passed over only for a name that one covers.
+/// Whether an `N.*` covers a name that no exact pattern names.
 fn is_covered_alone(policy: &Policy, name: &str) -> bool
     ensures { result ≡ is_covered policy.now.entries name.now }
 {
-    if !policy.covers(name) {
-        return false;
-    }
-    let mut covered = false;
-    for index in 0..policy.len() {
-        let pattern = &policy.entry(index + 1).pattern;
-        if is_named(pattern, name) {
-            return false;
-        }
-        if is_below(pattern, name) {
-            covered = true;
-        }
-    }
-    covered
-}
-
-/// Whether an exact pattern names a name.
-fn is_named(pattern: &Pattern, name: &str) -> bool
-    ensures { result ≡ (pattern.now.exact && bytes_eq pattern.now.name name.now) }
-{
-    pattern.is_exact() && pattern.name() == name
-}
-
-/// Whether an `N.*` covers a name.
-fn is_below(pattern: &Pattern, name: &str) -> bool
-    ensures { result ≡ (not pattern.now.exact && covers pattern.now name.now) }
-{
-    !pattern.is_exact() && pattern.covers(name)
+    policy.covers(name) && !policy.names(name)
 }

@@ -23,7 +23,7 @@ use Rattle.policy_args.specs.declared.fact.Fact.TheVariants.{Owned, SelfId, Met}
 use Rattle.byte_lists.proofs.Bytes.{bytes_eq-refl, bytes_eq-true}
 use Rattle.unique_names.specs.Known.{Known}
 use Rattle.unique_names.specs.Merged.{merged_from}
-use Rattle.unique_names.specs.Taught.{AreNumbers, Fits, Ids, Taught, has_at_least, kept_level, kept_numbers, known_level, known_numbers, known_of, learned, owned_numbers, owning, raised}
+use Rattle.unique_names.specs.Taught.{AreNumbers, Fits, Ids, Taught, kept_level, kept_numbers, known_level, known_numbers, known_of, learned, owned_numbers, owning, raised}
 use Rattle.unique_names.proofs.Levels.{greater-hidden, hidden-numbers, level-last, not-seen, numbers-last, uncovered}
 use Rattle.unique_names.proofs.Merging.{Agree, always-agree, merged-numbers, merged-within, same-numbers}
 
@@ -245,37 +245,10 @@ learned-fits ids policy (Owned name id) fits = by (at_least See (level policy na
 
 -- ---- what is known already
 
--- an id that has the level is as it was
-pub raised-same : (ids : Ids) (id : Text) (l : Level) → has_at_least l (get ids id) ≡ true → ids ≡ insert ids id (raised l (get ids id))
-raised-same ids id l has = by (get ids id) refl has
+-- an id of which the same is known is as it was
+pub unchanged : (ids : Ids) (id : Text) (k : Known) → get ids id ≡ Some k → ids ≡ insert ids id k
+unchanged ids id k is = same_map nat_list_cmp_total exact_bytes ids (insert ids id k) (λ q. at q (bytes_eq id q) refl ∙ sym (inserted ids id k q))
   where
-    stays : (a b : Level) → at_least b a ≡ true → greater a b ≡ a
-    stays Hidden Hidden e = refl
-    stays Hidden See e = absurd cc
-    stays Hidden Talk e = absurd cc
-    stays Hidden Own e = absurd cc
-    stays See Hidden e = refl
-    stays See See e = refl
-    stays See Talk e = absurd cc
-    stays See Own e = absurd cc
-    stays Talk Hidden e = refl
-    stays Talk See e = refl
-    stays Talk Talk e = refl
-    stays Talk Own e = absurd cc
-    stays Own Hidden e = refl
-    stays Own See e = refl
-    stays Own Talk e = refl
-    stays Own Own e = refl
-
-    at : (k : Known) → get ids id ≡ Some k → (q : Text) (b : Bool) → bytes_eq id q ≡ b → get ids q ≡ (if b then Some k else get ids q)
-    at k is q true same = ap (get ids) (sym (bytes_eq-true id q same)) ∙ is
-    at k is q false same = refl
-
-    by : (o : Option Known) → get ids id ≡ o → has_at_least l o ≡ true → ids ≡ insert ids id (raised l o)
-    by None is has = absurd cc
-    by (Some k) is has =
-        same_map nat_list_cmp_total exact_bytes ids (insert ids id k) (λ q. at k is q (bytes_eq id q) refl ∙ sym (inserted ids id k q))
-        ∙ ap (λ x. insert ids id (kept x)) (sym (stays k.level l has))
-      where
-        kept : Level → Known
-        kept x = record { level = x; numbers = k.numbers }
+    at : (q : Text) (b : Bool) → bytes_eq id q ≡ b → get ids q ≡ (if b then Some k else get ids q)
+    at q true same = ap (get ids) (sym (bytes_eq-true id q same)) ∙ is
+    at q false same = refl

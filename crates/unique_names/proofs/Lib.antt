@@ -1,3 +1,4 @@
+pub mod Ascending
 pub mod Learned
 pub mod Levels
 pub mod Merging

@@ -1,3 +1,4 @@
+pub mod Inserted
 pub mod Known
 pub mod Merged
 pub mod Taught

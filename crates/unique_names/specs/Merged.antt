@@ -1,5 +1,5 @@
 -- The numbers of entries, walked in one pass over the entries: those that are known, and those of the entries that cover a name.
-use Rattle.std.specs.Prelude.{ℕ, ◌+◌, ◌==◌, Bool, false, List, [], ◌∷◌, if◌then◌else◌}
+use Rattle.std.specs.Prelude.{ℕ, ◌+◌, ◌==◌, ◌&&◌, nat_le, Bool, false, List, [], ◌∷◌, Option, Some, None, if◌then◌else◌}
 use Rattle.dbus_names.specs.Texts.{Text}
 use Rattle.name_patterns.specs.Patterns.{covers}
 use Rattle.policy_args.specs.declared.entry.Entry.{Entry}
@@ -20,3 +20,13 @@ merged_from name n [] known = []
 merged_from name n (e ∷ es) known =
     if is_next n known then n ∷ merged_from name (n + 1) es (passed n known)
     else (if covers e.pattern name then n ∷ merged_from name (n + 1) es known else merged_from name (n + 1) es known)
+
+-- the first of the known numbers, where it is no less than the one and no greater than the other
+abbrev pub first_known : List ℕ → ℕ → ℕ → Option ℕ
+first_known [] from last = None
+first_known (k ∷ known) from last = if nat_le from k && nat_le k last then Some k else None
+
+abbrev pub lesser_of : Option ℕ → Option ℕ → Option ℕ
+lesser_of None right = right
+lesser_of left None = left
+lesser_of (Some left) (Some right) = if nat_le left right then Some left else Some right

@@ -1,5 +1,5 @@
 -- When a tracker was taught facts, and what it answers then.
-use Rattle.std.specs.Prelude.{◌≡◌, ℕ, Bool, true, false, List, [], Option, Some, None, length, if◌then◌else◌}
+use Rattle.std.specs.Prelude.{◌≡◌, ℕ, true, List, [], Option, Some, None, length, if◌then◌else◌}
 use Rattle.std.specs.List.{list_all, list_any}
 use Rattle.std.specs.Ordering.{nat_cmp}
 use Rattle.std.specs.Cmp.Lexicographic.{slice_cmp}
@@ -63,13 +63,13 @@ kept_numbers policy ids text =
 
 -- ---- what it learns
 
+-- what is known of an id of which nothing was learned
+abbrev pub nothing_known : Known
+nothing_known = record { level = Hidden; numbers = [] }
+
 -- at least this level, and no entry more
 abbrev pub raised : Level → Option Known → Known
 raised level k = record { level = greater (known_level k) level; numbers = known_numbers k }
-
-abbrev pub has_at_least : Level → Option Known → Bool
-has_at_least level None = false
-has_at_least level (Some k) = at_least level k.level
 
 -- a name that it owns
 abbrev pub owning : Policy → Text → Option Known → Known

@@ -1,6 +1,6 @@
 //! The numbers of a name's entries, one after the other.
 ghost use Rattle.std.specs.Prelude.{◌≡◌, ◌≤◌, ◌<◌, ◌+◌, ◌-◌, ◌∷◌, [], MatchOption, drop, length};
-ghost use Rattle.unique_names.specs.Merged.{is_next as next_is, merged_from, passed as passed_in};
+ghost use Rattle.unique_names.specs.Merged.{first_known, lesser_of, merged_from, passed as passed_in};
 
 use policy_args::Policy;
 use std::marker::Model;
@@ -81,16 +81,6 @@ impl Iterator for Entries<'_> {
     }
 }
 
-// Whether the first of the known numbers is this one.
-fn is_next(number: u32, known: &[u32]) -> bool
-    ensures { result ≡ next_is number known.now }
-{
-    match known {
-        [first, ..] => *first == number,
-        [] => false,
-    }
-}
-
 // The known numbers without the first, where that is this one.
 fn passed(number: u32, known: &[u32]) -> &[u32]
     ensures { result.now ≡ passed_in number known.now }
@@ -108,11 +98,27 @@ fn find(policy: &Policy, name: &str, from: u32, known: &[u32]) -> Option<u32>
     ensures found { MatchOption result (merged_from name.now from (drop (from - 1) policy.now.entries) known.now ≡ []) (λ n. merged_from name.now from (drop (from - 1) policy.now.entries) known.now ≡ n ∷ merged_from name.now (n + 1) (drop n policy.now.entries) (passed_in n known.now)) }
     ensures within { MatchOption result (from ≡ from) (λ n. (from ≤ n) × (n ≤ 65535)) }
 {
-    for index in from - 1..policy.len() {
-        let number = index + 1;
-        if is_next(number, known) || policy.entry(number).pattern.covers(name) {
-            return Some(number);
-        }
+    let covering = policy.next_covering(name, from);
+    lesser(first_within(known, from, policy.len()), covering)
+}
+
+// The first of the known numbers, where it lies between these two.
+fn first_within(known: &[u32], from: u32, last: u32) -> Option<u32>
+    ensures { result ≡ first_known known.now from last }
+{
+    match known {
+        [first, ..] if from <= *first && *first <= last => Some(*first),
+        _ => None,
     }
-    None
+}
+
+// The lesser of two numbers, of which each may be missing.
+fn lesser(left: Option<u32>, right: Option<u32>) -> Option<u32>
+    ensures { result ≡ lesser_of left right }
+{
+    match (left, right) {
+        (Some(left), Some(right)) => Some(left.min(right)),
+        (left, None) => left,
+        (None, right) => right,
+    }
 }

@@ -1,11 +1,12 @@
 //! What is kept of a unique name.
-ghost use Rattle.std.specs.Prelude.{◌≡◌, IfOk};
+ghost use Rattle.std.specs.Prelude.{◌≡◌, [], IsOk, OnErr, OnOk, Some};
 ghost use Rattle.std.specs.Option.{option_copied};
 ghost use Rattle.policy_args.specs.Policy.{level as policy_level};
+ghost use Rattle.unique_names.specs.Inserted.{missing_in};
 ghost use Rattle.unique_names.specs.Merged.{merged_from};
-ghost use Rattle.unique_names.specs.Taught.{has_at_least, known_level, known_numbers, owning, raised};
+ghost use Rattle.unique_names.specs.Taught.{known_level, known_numbers, nothing_known, owning, raised};
 
-use crate::entries::Entries;
+use crate::numbers::merge;
 use policy_args::{Level, Policy};
 use std::alloc::{AllocError, Global};
 use std::marker::Model;
@@ -18,14 +19,28 @@ pub(crate) struct Known {
 }
 
 impl Model for Known {
+    ghost use Rattle.std.specs.Prelude.{◌≡◌, true};
+    ghost use Rattle.unique_names.specs.Inserted.{ascends_from};
     ghost use Rattle.unique_names.specs.Known.{Known as KnownValue};
 
     ghost Value = { KnownValue };
 
     ghost view = { λ k. record { level = k.level; numbers = k.numbers.items } };
+
+    ghost invariant = { λ k. ascends_from 1 k.numbers.items ≡ true };
 }
 
 impl Known {
+    /// Nothing is known.
+    pub(crate) fn new(alloc: Global) -> Known
+        ensures { result ≡ nothing_known }
+    {
+        Known {
+            level: Level::None,
+            numbers: Vec::new(alloc),
+        }
+    }
+
     /// How far it may be used.
     pub(crate) fn level(&self) -> Level
         ensures { result ≡ self.now.level }
@@ -40,36 +55,30 @@ impl Known {
         &self.numbers
     }
 
-    /// The same with at least this level.
-    pub(crate) fn raised(
-        alloc: Global,
-        known: Option<&Known>,
-        level: Level,
-    ) -> Result<Known, AllocError>
-        ensures { IfOk result (λ k. k ≡ raised level (option_copied known.entry)) }
+    /// It has at least this level.
+    pub(crate) fn raise(&mut self, level: Level)
+        ensures { self.new ≡ raised level (Some self.old) }
     {
-        Ok(Known {
-            level: level_in(known).max_with(level),
-            numbers: numbers_in(known).to_vec(alloc)?,
-        })
+        self.level = self.level.max_with(level);
     }
 
-    /// The same where it owns a name, too, to which the policy gives this level.
-    pub(crate) fn owning(
-        alloc: Global,
-        known: Option<&Known>,
+    /// It owns a name, too, to which the policy gives this level. Where memory is refused, nothing changes.
+    pub(crate) fn own(
+        &mut self,
         policy: &Policy,
         name: &str,
         level: Level,
-    ) -> Result<Known, AllocError>
+    ) -> Result<(), AllocError>
         requires { level ≡ policy_level policy.now name.now }
-        ensures { IfOk result (λ k. k ≡ owning policy.now name.now (option_copied known.entry)) }
+        ensures ok { OnOk result (self.new ≡ owning policy.now name.now (Some self.old)) }
+
+        // Where all its entries are known, it takes no memory.
+        ensures known { missing_in self.old.numbers (merged_from name.now 1 policy.now.entries []) ≡ 0 → IsOk result }
+        ensures err { OnErr result (self.new ≡ self.old) }
     {
-        let numbers = merged(alloc, policy, name, numbers_in(known))?;
-        Ok(Known {
-            level: level_in(known).max_with(level),
-            numbers,
-        })
+        merge(policy, name, &mut self.numbers)?;
+        self.level = self.level.max_with(level);
+        Ok(())
     }
 }
 
@@ -83,16 +92,6 @@ pub(crate) fn level_in(known: Option<&Known>) -> Level
     }
 }
 
-/// Whether it is known to have this level or a greater one.
-pub(crate) fn has_level(known: Option<&Known>, level: Level) -> bool
-    ensures { result ≡ has_at_least level (option_copied known.entry) }
-{
-    match known {
-        Some(known) => known.level().is_at_least(level),
-        None => false,
-    }
-}
-
 /// The numbers of its entries.
 pub(crate) fn numbers_in(known: Option<&Known>) -> &[u32]
     ensures { result.now ≡ known_numbers (option_copied known.entry) }
@@ -101,15 +100,4 @@ pub(crate) fn numbers_in(known: Option<&Known>) -> &[u32]
         Some(known) => known.numbers(),
         None => &[],
     }
-}
-
-/// The known numbers and those of the entries that cover a name, ascending.
-fn merged(alloc: Global, policy: &Policy, name: &str, known: &[u32]) -> Result<Vec<u32>, AllocError>
-    ensures { IfOk result (λ v. v.items ≡ merged_from name.now 1 policy.now.entries known.now) }
-{
-    let mut numbers = Vec::new(alloc);
-    for number in Entries::covering(policy, name, known) {
-        numbers.push(number)?;
-    }
-    Ok(numbers)
 }

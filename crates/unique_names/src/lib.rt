@@ -7,6 +7,7 @@
 mod entries;
 mod known;
 mod looked_up;
+mod numbers;
 mod tracker;
 
 pub use entries::Entries;

@@ -10,7 +10,7 @@ ghost use Rattle.unique_names.specs.Known.{Known as KnownValue};
 ghost use Rattle.unique_names.specs.Taught.{AreNumbers, Fits, Taught, kept_level, kept_numbers, learned, raised as raised_from};
 
 use crate::entries::Entries;
-use crate::known::{Known, has_level, level_in, numbers_in};
+use crate::known::{Known, level_in, numbers_in};
 use crate::looked_up::LookedUp;
 use dbus_names::{BusName, is_unique, is_well_known};
 use policy_args::{Fact, Level, Policy};
@@ -180,8 +180,14 @@ impl Tracker {
         if !level.is_at_least(Level::See) {
             return Ok(());
         }
-        let known = Known::owning(self.alloc, self.known(id), policy, name, level)?;
-        self.keep(id, known)
+        match self.ids.get_mut(id) {
+            Some(known) => known.own(policy, name, level),
+            None => {
+                let mut known = Known::new(self.alloc);
+                known.own(policy, name, level)?;
+                self.keep(id, known)
+            }
+        }
     }
 
     // A unique name has at least this level.
@@ -189,12 +195,17 @@ impl Tracker {
         ensures ok { OnOk result (self.new ≡ map.insert self.old id.now (raised_from level (map.get self.old id.now))) }
         ensures err { OnErr result (self.new ≡ self.old) }
     {
-        let known = self.known(id);
-        if has_level(known, level) {
-            return Ok(());
+        match self.ids.get_mut(id) {
+            Some(known) => {
+                known.raise(level);
+                Ok(())
+            }
+            None => {
+                let mut known = Known::new(self.alloc);
+                known.raise(level);
+                self.keep(id, known)
+            }
         }
-        let raised = Known::raised(self.alloc, known, level)?;
-        self.keep(id, raised)
     }
 
     // Keeps what is known of a unique name.

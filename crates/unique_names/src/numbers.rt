@@ -1,0 +1,91 @@
+//! Ascending numbers of entries, which are changed in place.
+ghost use Rattle.std.specs.Prelude.{◌≡◌, ◌≤◌, ◌<◌, ◌+◌, [], if◌then◌else◌, true, false, IsOk, OnErr, OnOk, vec_capacity, vec_len};
+ghost use Rattle.unique_names.specs.Inserted.{ascends_from, is_in, missing_in, place_of, with_number, with_numbers};
+ghost use Rattle.unique_names.specs.Merged.{merged_from};
+
+use crate::entries::Entries;
+use policy_args::Policy;
+use std::alloc::AllocError;
+
+/// Inserts the numbers of the entries that cover a name, and lets those go that are of no entry. Where memory is refused,
+/// nothing changes.
+pub(crate) fn merge(policy: &Policy, name: &str, numbers: &mut Vec<u32>) -> Result<(), AllocError>
+    requires { ascends_from 1 numbers.old.items ≡ true }
+    ensures ok { OnOk result (numbers.new.items ≡ merged_from name.now 1 policy.now.entries numbers.old.items) }
+
+    // Where all stand there, it takes no memory.
+    ensures known { missing_in numbers.old.items (merged_from name.now 1 policy.now.entries []) ≡ 0 → IsOk result }
+    ensures err { OnErr result (numbers.new.items ≡ numbers.old.items) }
+{
+    insert_missing(policy, name, numbers)?;
+    match place(numbers, policy.len() + 1) {
+        Ok(end) => numbers.truncate(end),
+        Err(end) => numbers.truncate(end),
+    }
+    Ok(())
+}
+
+// Inserts the numbers of the entries that cover a name.
+fn insert_missing(policy: &Policy, name: &str, numbers: &mut Vec<u32>) -> Result<(), AllocError>
+    requires { ascends_from 1 numbers.old.items ≡ true }
+    ensures ok { OnOk result (numbers.new.items ≡ with_numbers (merged_from name.now 1 policy.now.entries []) numbers.old.items) }
+    ensures known { missing_in numbers.old.items (merged_from name.now 1 policy.now.entries []) ≡ 0 → IsOk result }
+    ensures err { OnErr result (numbers.new.items ≡ numbers.old.items) }
+{
+    let count = count_missing(policy, name, numbers);
+    if count == 0 {
+        return Ok(());
+    }
+    numbers.reserve(count)?;
+    insert_covering(policy, name, numbers);
+    Ok(())
+}
+
+// How many entries cover a name whose numbers don't stand there.
+fn count_missing(policy: &Policy, name: &str, numbers: &[u32]) -> usize
+    requires { ascends_from 1 numbers.now ≡ true }
+    ensures { result ≡ missing_in numbers.now (merged_from name.now 1 policy.now.entries []) }
+{
+    let mut count = 0;
+    for number in Entries::covering(policy, name, &[]) {
+        if place(numbers, number).is_err() {
+            count += 1;
+        }
+    }
+    count
+}
+
+// Inserts the numbers of the entries that cover a name, for which memory was taken.
+fn insert_covering(policy: &Policy, name: &str, numbers: &mut Vec<u32>)
+    requires ascending { ascends_from 1 numbers.old.items ≡ true }
+    requires room { vec_len numbers.old + missing_in numbers.old.items (merged_from name.now 1 policy.now.entries []) ≤ vec_capacity numbers.old }
+    ensures { numbers.new.items ≡ with_numbers (merged_from name.now 1 policy.now.entries []) numbers.old.items }
+{
+    for number in Entries::covering(policy, name, &[]) {
+        insert(numbers, number);
+    }
+}
+
+// Inserts a number at its place, unless it stands there.
+fn insert(numbers: &mut Vec<u32>, number: u32)
+    requires ascending { ascends_from 1 numbers.old.items ≡ true }
+    requires room { is_in number numbers.old.items ≡ false → vec_len numbers.old < vec_capacity numbers.old }
+    ensures items { numbers.new.items ≡ with_number number numbers.old.items }
+    ensures len { vec_len numbers.new ≡ (if is_in number numbers.old.items then vec_len numbers.old else vec_len numbers.old + 1) }
+    ensures capacity { vec_capacity numbers.new ≡ vec_capacity numbers.old }
+{
+    if let Err(place) = place(numbers, number) {
+        match numbers.insert(place, number) {
+            Ok(()) => {}
+            Err(_) => unreachable!(),
+        }
+    }
+}
+
+// Where a number stands, or else where it would stand.
+fn place(numbers: &[u32], number: u32) -> Result<usize, usize>
+    requires { ascends_from 1 numbers.now ≡ true }
+    ensures { result ≡ place_of number numbers.now }
+{
+    numbers.binary_search(&number)
+}
