@@ -240,9 +240,9 @@ def compared(program, folder, recording, client_end, bus_end):
                 raise Wrong("session %d: %d bytes went to the %s, and the replays give %d and %d" % (
                     number, len(captured), what, len(whole.get((number, kind), b"")), len(one.get(kind, b""))))
             total += len(captured)
-        start = "session %d client %d bus %d events " % (number, len(client.from_near), len(bus.from_far))
-        if not line.startswith(start):
-            raise Wrong("%s, but %s.." % (line, start))
+        words = line.split()
+        if words[:2] != ["session", str(number)] or int(words[3]) > len(client.from_near) or int(words[5]) > len(bus.from_far):
+            raise Wrong("%s, but %d and %d bytes came" % (line, len(client.from_near), len(bus.from_far)))
     return total
 
 
@@ -258,10 +258,20 @@ def try_comparison(rig, folder, count):
 
 def try_full(rig, name, record):
     """A file that takes no more: each session is served as ever, and then the status is 4 with the file's line."""
-    client_end, bus_end, status, line = rig.serve(name, record, CLIENTS)
+    client_end, _, status, line = rig.serve(name.replace(" ", "-"), record, CLIENTS)
     if status != 4 or line != b"error: file " + record.encode() + b"\n":
         raise Wrong("%s: status %d: %s" % (record, status, line))
     print("%s: status 4, and %d sessions served" % (name, len(client_end)))
+
+
+def try_full_device(rig):
+    """A file that takes nothing from the start: the status is 4 with its line, and nothing is listened at."""
+    path = rig.path("full.proxy")
+    words = [rig.program, "unix:path=" + rig.path("bus"), path] + POLICY + ["--record=/dev/full", "--sessions=1"]
+    done = subprocess.run(words, stdout=subprocess.DEVNULL, stderr=subprocess.PIPE, timeout=60)
+    if done.returncode != 4 or done.stderr != b"error: file /dev/full\n" or os.path.exists(path):
+        raise Wrong("/dev/full: status %d: %s" % (done.returncode, done.stderr))
+    print("/dev/full: status 4 before anything is listened at")
 
 
 def try_small_disk(rig):
@@ -285,7 +295,7 @@ def main():
         rig = Rig(os.path.abspath(given.program), folder)
         try:
             try_comparison(rig, folder, given.count)
-            try_full(rig, "a full device", "/dev/full")
+            try_full_device(rig)
             try_small_disk(rig)
         except Wrong as wrong:
             sys.exit("wrong: %s" % wrong)
