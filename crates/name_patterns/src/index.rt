@@ -10,11 +10,11 @@ use crate::Pattern;
 use crate::covering::Covering;
 use std::alloc::{AllocError, Global};
 use std::collections::HashMap;
-use std::marker::{Brand, Model};
+use std::marker::Model;
 use std::sync::ledger::{Blank, Book, Ledger, Share};
 
-/// How many steps were counted. A step is one look-up of one name in a `PatternIndex`, which alone adds to it. It takes
-/// no bytes.
+/// How many steps were counted. A step is one look-up of a name in a `PatternIndex`, or what the holder of the count adds
+/// as one: the look-up of another key, or an entry that is looked at. It takes no bytes.
 #[derive(Drop)]
 pub struct Steps<L: Ledger> {
     book: Book<L>,
@@ -43,8 +43,8 @@ impl<L: Ledger> Steps<L> {
         Steps { book, share }
     }
 
-    // One step more. It does nothing when it runs.
-    fn tick(&mut self)
+    /// One step more. It does nothing when it runs.
+    pub fn tick(&mut self)
         ensures { self.new ≡ self.old + 1 }
     {
         self.book.add(&mut self.share, 1);
@@ -112,13 +112,6 @@ impl PatternIndex {
         rank
     }
 
-    /// The same for a caller that counts no steps.
-    pub fn greatest_uncounted(&self, name: &str) -> u8
-        ensures { (added : List Ranked) → Indexes added self.now → result ≡ greatest_rank added name.now }
-    {
-        greatest_from::<Brand>(Asked { index: self, name }, Blank::new(1))
-    }
-
     /// The greatest rank of the patterns that are the name alone, 0 where there is none. It takes one look-up.
     pub fn exact<L: Ledger>(&self, name: &str, steps: &mut Steps<L>) -> u8
         ensures rank { (added : List Ranked) → Indexes added self.now → result ≡ greatest_of (is_exact_for name.now) added }
@@ -145,14 +138,20 @@ impl PatternIndex {
     /// The least place, not below `from`, of a pattern that covers the name (xdg-dbus-proxy(1), "Filtering").
     ///
     /// It takes one look-up for each element of the name and a binary search in what each finds, and no memory.
-    pub fn next_covering(&self, name: &str, from: u32) -> Option<u32>
+    pub fn next_covering<L: Ledger>(
+        &self,
+        name: &str,
+        from: u32,
+        steps: &mut Steps<L>,
+    ) -> Option<u32>
         requires { 1 ≤ from }
-        ensures { (added : List Ranked) → Indexes added self.now → result ≡ next_place (covers_name name.now) from added }
+        ensures next { (added : List Ranked) → Indexes added self.now → result ≡ next_place (covers_name name.now) from added }
+        ensures cost { steps.new ≡ steps.old + elements name.now }
     {
-        let mut next = self.next_named(name, from);
+        let mut next = self.next_named(name, from, steps);
         let mut left = name;
         while let Some((front, _)) = left.rsplit_once('.') {
-            next = earlier(next, self.next_below(front, from));
+            next = earlier(next, self.next_below(front, from, steps));
             left = front;
         }
         next
@@ -236,11 +235,13 @@ impl PatternIndex {
         }
     }
 
-    // The least place, not below `from`, of a pattern with the name.
-    fn next_named(&self, name: &str, from: u32) -> Option<u32>
+    // The least place, not below `from`, of a pattern with the name, by one step.
+    fn next_named<L: Ledger>(&self, name: &str, from: u32, steps: &mut Steps<L>) -> Option<u32>
         requires { 1 ≤ from }
-        ensures { (added : List Ranked) → Indexes added self.now → result ≡ lesser (next_place (is_exact_for name.now) from added) (next_place (is_subtree_of name.now) from added) }
+        ensures next { (added : List Ranked) → Indexes added self.now → result ≡ lesser (next_place (is_exact_for name.now) from added) (next_place (is_subtree_of name.now) from added) }
+        ensures cost { steps.new ≡ steps.old + 1 }
     {
+        steps.tick();
         match self.by_name.get(name) {
             Some(entries) => earlier(
                 first_from(&entries.exact, from),
@@ -250,11 +251,13 @@ impl PatternIndex {
         }
     }
 
-    // The least place, not below `from`, of a pattern `FRONT.*`.
-    fn next_below(&self, front: &str, from: u32) -> Option<u32>
+    // The least place, not below `from`, of a pattern `FRONT.*`, by one step.
+    fn next_below<L: Ledger>(&self, front: &str, from: u32, steps: &mut Steps<L>) -> Option<u32>
         requires { 1 ≤ from }
-        ensures { (added : List Ranked) → Indexes added self.now → result ≡ next_place (is_subtree_of front.now) from added }
+        ensures next { (added : List Ranked) → Indexes added self.now → result ≡ next_place (is_subtree_of front.now) from added }
+        ensures cost { steps.new ≡ steps.old + 1 }
     {
+        steps.tick();
         first_from(self.subtree_places(front), from)
     }
 
@@ -327,24 +330,6 @@ impl NameRanks {
             }
         }
     }
-}
-
-// A look-up whose steps nobody reads.
-#[derive(Drop)]
-struct Asked<'a> {
-    index: &'a PatternIndex,
-    name: &'a str,
-}
-
-// Counts the steps in a ledger of its own.
-fn greatest_from<L: Ledger>(asked: Asked, blank: Blank) -> u8
-    requires name { blank.name ≡ L.name }
-    requires parts { blank.parts ≡ L.parts }
-    requires some { 0 < blank.parts }
-    ensures { (added : List Ranked) → Indexes added asked.entry.index.now → result ≡ greatest_rank added asked.entry.name.now }
-{
-    let mut steps: Steps<L> = Steps::new(blank);
-    asked.index.greatest(asked.name, &mut steps)
 }
 
 fn greater(a: u8, b: u8) -> u8

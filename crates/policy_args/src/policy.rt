@@ -1,5 +1,5 @@
 //! A policy: the entries that words gave.
-ghost use Rattle.std.specs.Prelude.{◌≡◌, ◌≤◌, ◌+◌, ◌-◌, ◌==◌, ◌&&◌, ℕ, true, false, List, Some as Just, [], bytes_eq, length, option_map, slice_get, if◌then◌else◌, IfSome, OnErr};
+ghost use Rattle.std.specs.Prelude.{◌≡◌, ◌≤◌, ◌<◌, ◌+◌, ◌-◌, ◌==◌, ◌&&◌, ℕ, true, false, List, Some as Just, [], bytes_eq, length, option_map, slice_get, if◌then◌else◌, IfSome, OnErr};
 ghost use Rattle.std.specs.List.{list_any};
 ghost use Rattle.dbus_names.specs.Names.{is_bus as is_bus_name, is_unique};
 ghost use Rattle.name_patterns.specs.Patterns.{covers};
@@ -20,8 +20,8 @@ use dbus_names::is_bus;
 use indexmap::IndexSet;
 use name_patterns::{Covering, Pattern, PatternIndex, Steps};
 use std::alloc::Global;
-use std::marker::Model;
-use std::sync::ledger::Ledger;
+use std::marker::{Brand, Model};
+use std::sync::ledger::{Blank, Ledger};
 
 /// The most entries that a policy has.
 const MOST_ENTRIES: usize = 65_535;
@@ -162,36 +162,42 @@ impl Policy {
     pub fn level(&self, name: &str) -> Level
         ensures { result ≡ level self.now name.now }
     {
-        with_bus(name, self.granted(name))
+        with_bus(name, self.granted_uncounted(name))
     }
 
-    /// What `level` answers, always found by the index. A step is one look-up in the index, and at most k + 1 are
-    /// counted for a name of k elements.
+    /// What `level` answers, and how `level` finds it. A step is one look-up in the index, and at most k + 1 are counted
+    /// for a name of k elements.
     pub fn level_counted<L: Ledger>(&self, name: &str, steps: &mut Steps<L>) -> Level
         ensures level { result ≡ level self.now name.now }
         ensures cost { steps.new ≤ steps.old + elements name.now + 1 }
     {
-        let rank = self.index.greatest(name, steps);
-        with_bus(name, Level::of_rank(rank))
+        with_bus(name, self.granted(name, steps))
     }
 
     /// Whether an entry covers the name.
     pub fn covers(&self, name: &str) -> bool
         ensures { result ≡ list_any (λ e. covers e.pattern name.now) self.now.entries }
     {
-        self.granted(name).is_at_least(Level::See)
+        self.granted_uncounted(name).is_at_least(Level::See)
     }
 
-    /// The least number, from one on, of an entry that covers the name.
-    pub fn next_covering(&self, name: &str, from: u32) -> Option<u32>
+    /// The least number, from one on, of an entry that covers the name. It takes at most one look-up in the index for each
+    /// element of the name.
+    pub fn next_covering<L: Ledger>(
+        &self,
+        name: &str,
+        from: u32,
+        steps: &mut Steps<L>,
+    ) -> Option<u32>
         requires { 1 ≤ from }
         ensures next { result ≡ next_covering_of self.now.entries name.now from }
         ensures most { IfSome result (λ number. number ≤ 65535) }
+        ensures cost { steps.new ≤ steps.old + elements name.now }
     {
         if self.entries.len() <= FEW_ENTRIES {
             self.next_in_pass(name, from)
         } else {
-            self.index.next_covering(name, from)
+            self.index.next_covering(name, from, steps)
         }
     }
 
@@ -218,14 +224,22 @@ impl Policy {
     }
 
     // The greatest level that an entry which covers the name gives.
-    fn granted(&self, name: &str) -> Level
-        ensures { result ≡ granted_by self.now.entries name.now }
+    fn granted<L: Ledger>(&self, name: &str, steps: &mut Steps<L>) -> Level
+        ensures level { result ≡ granted_by self.now.entries name.now }
+        ensures cost { steps.new ≤ steps.old + elements name.now }
     {
         if self.entries.len() <= FEW_ENTRIES {
             self.granted_in_pass(name)
         } else {
-            Level::of_rank(self.index.greatest_uncounted(name))
+            Level::of_rank(self.index.greatest(name, steps))
         }
+    }
+
+    // The same for a caller that counts no steps.
+    fn granted_uncounted(&self, name: &str) -> Level
+        ensures { result ≡ granted_by self.now.entries name.now }
+    {
+        granted_from::<Brand>(NameOf { policy: self, name }, Blank::new(1))
     }
 
     // The same, by a pass over the entries.
@@ -301,6 +315,24 @@ impl Policy {
         self.entries.push_reserved(entry);
         Ok(())
     }
+}
+
+// A name under a policy, for a caller that counts no steps.
+#[derive(Drop)]
+struct NameOf<'a> {
+    policy: &'a Policy,
+    name: &'a str,
+}
+
+// Counts the steps in a ledger of its own.
+fn granted_from<L: Ledger>(asked: NameOf, blank: Blank) -> Level
+    requires name { blank.name ≡ L.name }
+    requires parts { blank.parts ≡ L.parts }
+    requires some { 0 < blank.parts }
+    ensures { result ≡ granted_by asked.entry.policy.now.entries asked.entry.name.now }
+{
+    let mut steps: Steps<L> = Steps::new(blank);
+    asked.policy.granted(asked.name, &mut steps)
 }
 
 // The level that entries give the name, or for the bus itself at least `Talk`.

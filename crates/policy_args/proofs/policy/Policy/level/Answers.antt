@@ -8,5 +8,5 @@ use Rattle.policy_args.proofs.policy.Policy.level.Goals as goal
 
 pub returns : goal.returns
 returns c =
-    c.with_bus.ensures ∙ ap (λ (l : Level). if is_bus c.args.name.now then greater Talk l else l) c.granted.ensures
+    c.with_bus.ensures ∙ ap (λ (l : Level). if is_bus c.args.name.now then greater Talk l else l) c.granted_uncounted.ensures
     ∙ level-is c.args.self.now c.args.name.now
