@@ -7,6 +7,7 @@ use Rattle.std.specs.String.{string_eq}
 use Rattle.std.proofs.Math.Bool.{and-true, and-false}
 use Rattle.std.proofs.lemmas.Bool.{and_from, and_parts}
 use Rattle.std.proofs.lemmas.List.{map-append}
+use Rattle.std.proofs.lemmas.List.Folds.{list_all-append}
 use Rattle.std.proofs.lemmas.Option.{slice_get_within, slice_get-map}
 use Rattle.indexmap.specs.IndexSet.{insert_key}
 use Rattle.dbus_names.specs.Names.{is_unique}
@@ -127,6 +128,21 @@ no-more ps (e ∷ es) =
 pub few-patterns : (es : List Entry) → length (patterns_of es) ≤ length es
 unfolding patterns_of
 few-patterns es = let few = no-more [] es in omega arith
+
+-- where the entries' patterns are in the grammar, those that are kept are
+pub patterns-valid : (es : List Entry) → list_all (λ e. is_pattern e.pattern) es ≡ true → list_all is_pattern (patterns_of es) ≡ true
+unfolding patterns_of
+patterns-valid es valid = with-valid [] es refl valid
+  where
+    with-valid : (ps : List Pattern) (es : List Entry) → list_all is_pattern ps ≡ true → list_all (λ e. is_pattern e.pattern) es ≡ true → list_all is_pattern (patterns_with ps es) ≡ true
+    with-valid ps [] kept valid = kept
+    with-valid ps (e ∷ es) kept valid =
+        let parts = and_parts _ _ valid in
+        with-valid (with_pattern ps e.pattern) es (one (list_any (same_pattern e.pattern) ps) parts.0) parts.1
+      where
+        one : (b : Bool) → is_pattern e.pattern ≡ true → list_all is_pattern (if b then ps else ps ++ e.pattern ∷ []) ≡ true
+        one true last = kept
+        one false last = list_all-append is_pattern ps (e.pattern ∷ []) ∙ and_from _ _ kept (and_from _ _ last refl)
 
 -- the entry in which the pattern at a place stands first
 pub record FirstAt (es : List Entry) (n : ℕ) (p : Option Pattern) : Type 0 where

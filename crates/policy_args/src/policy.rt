@@ -1,8 +1,8 @@
 //! A policy: the entries that words gave.
 ghost use Rattle.std.specs.Prelude.{◌≡◌, ◌≤◌, ◌<◌, ◌+◌, ◌-◌, ◌==◌, ◌&&◌, ℕ, true, false, List, Some as Just, [], bytes_eq, length, option_map, slice_get, if◌then◌else◌, IfSome, OnErr};
-ghost use Rattle.std.specs.List.{list_any};
+ghost use Rattle.std.specs.List.{list_all, list_any};
 ghost use Rattle.dbus_names.specs.Names.{is_bus as is_bus_name, is_unique};
-ghost use Rattle.name_patterns.specs.Patterns.{covers};
+ghost use Rattle.name_patterns.specs.Patterns.{covers, is_pattern};
 ghost use Rattle.name_patterns.specs.Ranks.{elements};
 ghost use Rattle.policy_args.specs.Covering.{AreCovering, next_covering as next_covering_of};
 ghost use Rattle.policy_args.specs.Gives.{StepGives};
@@ -284,6 +284,13 @@ impl Policy {
     /// No entry covers a unique name: what an entry names has elements of well-known names alone.
     pub fn covers_no_unique_name(&self)
         ensures { (name : List ℕ) → is_unique name ≡ true → list_any (λ e. covers e.pattern name) self.now.entries ≡ false }
+    {
+        let _entries = self.entries.len();
+    }
+
+    /// Each pattern of the entries is in the grammar of patterns.
+    pub fn has_patterns(&self)
+        ensures { list_all is_pattern (patterns_of self.now.entries) ≡ true }
     {
         let _entries = self.entries.len();
     }
