@@ -1,7 +1,8 @@
 -- The numbers of entries, walked in one pass over the entries: those that are known, and those of the entries that cover a name.
-use Rattle.std.specs.Prelude.{ℕ, ◌+◌, ◌==◌, ◌&&◌, nat_le, Bool, false, List, [], ◌∷◌, Option, Some, None, if◌then◌else◌}
+use Rattle.std.specs.Prelude.{ℕ, ◌+◌, ◌*◌, ◌==◌, ◌&&◌, nat_le, Bool, false, List, [], ◌∷◌, length, Option, Some, None, if◌then◌else◌}
 use Rattle.dbus_names.specs.Texts.{Text}
 use Rattle.name_patterns.specs.Patterns.{covers}
+use Rattle.name_patterns.specs.Ranks.{elements}
 use Rattle.policy_args.specs.declared.entry.Entry.{Entry}
 
 -- the first of the known numbers is this one
@@ -30,3 +31,14 @@ abbrev pub lesser_of : Option ℕ → Option ℕ → Option ℕ
 lesser_of None right = right
 lesser_of left None = left
 lesser_of (Some left) (Some right) = if nat_le left right then Some left else Some right
+
+-- ---- what is walked
+
+-- the numbers of the entries that speak of a name
+pub record NameNumbers : Type 0 where
+  pub name : Text
+  pub numbers : List ℕ
+
+-- the most look-ups of a walk over so many numbers of a name: one for each element of the name, for each number and once more
+abbrev pub look_ups : Text → List ℕ → ℕ
+look_ups name numbers = (length numbers + 1) * elements name

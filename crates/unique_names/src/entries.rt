@@ -1,11 +1,16 @@
 //! The numbers of a name's entries, one after the other.
 ghost use Rattle.std.specs.Prelude.{◌≡◌, ◌≤◌, ◌<◌, ◌+◌, ◌-◌, ◌∷◌, [], MatchOption, drop, length};
+ghost use Rattle.std.specs.Iterator.{YieldsFirst};
+ghost use Rattle.name_patterns.specs.Ranks.{elements};
 ghost use Rattle.unique_names.specs.Merged.{first_known, lesser_of, merged_from, passed as passed_in};
 
+use name_patterns::Steps;
 use policy_args::Policy;
-use std::marker::Model;
+use std::marker::{Brand, Model};
+use std::sync::ledger::{Blank, Ledger};
 
-/// The numbers of the entries that speak of a name, from 1, ascending and each once.
+/// The numbers of the entries that speak of a name, from 1, ascending and each once. Each is found by at most one look-up
+/// for each element of the name.
 #[derive(Drop)]
 pub struct Entries<'a> {
     policy: &'a Policy,
@@ -19,12 +24,12 @@ pub struct Entries<'a> {
 }
 
 impl<'a> Model for Entries<'a> {
-    ghost use Rattle.std.specs.Prelude.{◌≤◌, ◌-◌, ℕ, List, drop, if◌then◌else◌};
-    ghost use Rattle.unique_names.specs.Merged.{merged_from};
+    ghost use Rattle.std.specs.Prelude.{◌≤◌, ◌-◌, drop, if◌then◌else◌};
+    ghost use Rattle.unique_names.specs.Merged.{NameNumbers, merged_from};
 
-    ghost Value = { List ℕ };
+    ghost Value = { NameNumbers };
 
-    ghost view = { λ e. if e.looks then merged_from e.name.now e.number (drop (e.number - 1) e.policy.now.entries) e.known.now else e.known.now };
+    ghost view = { λ e. record { name = e.name.now; numbers = if e.looks then merged_from e.name.now e.number (drop (e.number - 1) e.policy.now.entries) e.known.now else e.known.now } };
 
     ghost invariant = { λ e. (1 ≤ e.number) × (e.number ≤ 65536) };
 }
@@ -32,7 +37,8 @@ impl<'a> Model for Entries<'a> {
 impl<'a> Entries<'a> {
     /// The known numbers, and those of the entries that cover the name.
     pub(crate) fn covering(policy: &'a Policy, name: &'a str, known: &'a [u32]) -> Entries<'a>
-        ensures { result ≡ merged_from name.entry.now 1 policy.entry.now.entries known.entry.now }
+        ensures name { result.name ≡ name.entry.now }
+        ensures numbers { result.numbers ≡ merged_from name.entry.now 1 policy.entry.now.entries known.entry.now }
     {
         Entries {
             policy,
@@ -45,7 +51,8 @@ impl<'a> Entries<'a> {
 
     /// The known numbers.
     pub(crate) fn known(policy: &'a Policy, name: &'a str, known: &'a [u32]) -> Entries<'a>
-        ensures { result ≡ known.entry.now }
+        ensures name { result.name ≡ name.entry.now }
+        ensures numbers { result.numbers ≡ known.entry.now }
     {
         Entries {
             policy,
@@ -57,16 +64,13 @@ impl<'a> Entries<'a> {
     }
 }
 
-impl Iterator for Entries<'_> {
-    type Item = u32;
-
-    ghost use Rattle.std.specs.Iterator.{YieldsFirst, item_count};
-
-    ghost next_gives = { YieldsFirst (λ s. s) };
-
-    ghost remaining = { item_count (λ s. s) };
-
-    fn next(&mut self) -> Option<u32> {
+impl Entries<'_> {
+    /// What `next` gives.
+    pub fn next_counted<L: Ledger>(&mut self, steps: &mut Steps<L>) -> Option<u32>
+        ensures gives { YieldsFirst (λ e. e.numbers) self.old result self.new }
+        ensures name { self.new.name ≡ self.old.name }
+        ensures cost { steps.new ≤ steps.old + elements self.old.name }
+    {
         if !self.looks {
             let [first, rest @ ..] = self.known else {
                 return None;
@@ -74,11 +78,36 @@ impl Iterator for Entries<'_> {
             self.known = rest;
             return Some(*first);
         }
-        let found = find(self.policy, self.name, self.number, self.known)?;
+        let found = find(self.policy, self.name, self.number, self.known, steps)?;
         self.known = passed(found, self.known);
         self.number = found + 1;
         Some(found)
     }
+}
+
+impl Iterator for Entries<'_> {
+    type Item = u32;
+
+    ghost use Rattle.std.specs.Iterator.{YieldsFirst, item_count};
+
+    ghost next_gives = { YieldsFirst (λ e. e.numbers) };
+
+    ghost remaining = { item_count (λ e. e.numbers) };
+
+    fn next(&mut self) -> Option<u32> {
+        next_from::<Brand>(self, Blank::new(1))
+    }
+}
+
+// Counts the steps in a ledger of its own.
+fn next_from<L: Ledger>(entries: &mut Entries<'_>, blank: Blank) -> Option<u32>
+    requires name { blank.name ≡ L.name }
+    requires parts { blank.parts ≡ L.parts }
+    requires some { 0 < blank.parts }
+    ensures { YieldsFirst (λ e. e.numbers) entries.old result entries.new }
+{
+    let mut steps: Steps<L> = Steps::new(blank);
+    entries.next_counted(&mut steps)
 }
 
 // The known numbers without the first, where that is this one.
@@ -92,13 +121,20 @@ fn passed(number: u32, known: &[u32]) -> &[u32]
 }
 
 // The lowest number, from one on, that is known or whose entry covers the name.
-fn find(policy: &Policy, name: &str, from: u32, known: &[u32]) -> Option<u32>
+fn find<L: Ledger>(
+    policy: &Policy,
+    name: &str,
+    from: u32,
+    known: &[u32],
+    steps: &mut Steps<L>,
+) -> Option<u32>
     requires low { 1 ≤ from }
     requires high { from ≤ 65536 }
     ensures found { MatchOption result (merged_from name.now from (drop (from - 1) policy.now.entries) known.now ≡ []) (λ n. merged_from name.now from (drop (from - 1) policy.now.entries) known.now ≡ n ∷ merged_from name.now (n + 1) (drop n policy.now.entries) (passed_in n known.now)) }
     ensures within { MatchOption result (from ≡ from) (λ n. (from ≤ n) × (n ≤ 65535)) }
+    ensures cost { steps.new ≤ steps.old + elements name.now }
 {
-    let covering = policy.next_covering(name, from);
+    let covering = policy.next_covering(name, from, steps);
     lesser(first_within(known, from, policy.len()), covering)
 }
 

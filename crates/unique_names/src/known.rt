@@ -1,15 +1,17 @@
 //! What is kept of a unique name.
-ghost use Rattle.std.specs.Prelude.{◌≡◌, [], IsOk, OnErr, OnOk, Some};
+ghost use Rattle.std.specs.Prelude.{◌≡◌, ◌≤◌, ◌+◌, ◌*◌, [], IsOk, OnErr, OnOk, Some};
 ghost use Rattle.std.specs.Option.{option_copied};
 ghost use Rattle.policy_args.specs.Policy.{level as policy_level};
 ghost use Rattle.unique_names.specs.Inserted.{missing_in};
-ghost use Rattle.unique_names.specs.Merged.{merged_from};
+ghost use Rattle.unique_names.specs.Merged.{look_ups, merged_from};
 ghost use Rattle.unique_names.specs.Taught.{known_level, known_numbers, nothing_known, owning, raised};
 
 use crate::numbers::merge;
+use name_patterns::Steps;
 use policy_args::{Level, Policy};
 use std::alloc::{AllocError, Global};
 use std::marker::Model;
+use std::sync::ledger::Ledger;
 
 /// What the facts give a unique name.
 #[derive(Drop)]
@@ -63,11 +65,12 @@ impl Known {
     }
 
     /// It owns a name, too, to which the policy gives this level. Where memory is refused, nothing changes.
-    pub(crate) fn own(
+    pub(crate) fn own<L: Ledger>(
         &mut self,
         policy: &Policy,
         name: &str,
         level: Level,
+        steps: &mut Steps<L>,
     ) -> Result<(), AllocError>
         requires { level ≡ policy_level policy.now name.now }
         ensures ok { OnOk result (self.new ≡ owning policy.now name.now (Some self.old)) }
@@ -75,8 +78,9 @@ impl Known {
         // Where all its entries are known, it takes no memory.
         ensures known { missing_in self.old.numbers (merged_from name.now 1 policy.now.entries []) ≡ 0 → IsOk result }
         ensures err { OnErr result (self.new ≡ self.old) }
+        ensures cost { steps.new ≤ steps.old + 2 * look_ups name.now (merged_from name.now 1 policy.now.entries []) }
     {
-        merge(policy, name, &mut self.numbers)?;
+        merge(policy, name, &mut self.numbers, steps)?;
         self.level = self.level.max_with(level);
         Ok(())
     }

@@ -1,15 +1,18 @@
 //! What is known of one bus name.
-ghost use Rattle.std.specs.Prelude.{◌≡◌, true};
+ghost use Rattle.std.specs.Prelude.{◌≡◌, ◌≤◌, ◌+◌, true};
 ghost use Rattle.std.specs.FinMap as map;
 ghost use Rattle.std.specs.Option.{option_copied};
 ghost use Rattle.dbus_names.specs.Names.{is_bus_name, is_unique as is_unique_name};
+ghost use Rattle.name_patterns.specs.Ranks.{elements};
 ghost use Rattle.unique_names.specs.Taught.{kept_level, kept_numbers};
 
 use crate::entries::Entries;
 use crate::known::{Known, level_in, numbers_in};
 use crate::tracker::Tracker;
 use dbus_names::BusName;
+use name_patterns::Steps;
 use policy_args::{Level, Policy};
+use std::sync::ledger::Ledger;
 
 /// A bus name under a policy. What is known of a unique one was looked up, once for all that is asked of it.
 #[derive(Clone, Copy)]
@@ -25,13 +28,20 @@ pub struct LookedUp<'a> {
 }
 
 impl<'a> LookedUp<'a> {
-    pub(crate) fn new(tracker: &'a Tracker, policy: &'a Policy, name: BusName<'a>) -> LookedUp<'a>
+    pub(crate) fn new<L: Ledger>(
+        tracker: &'a Tracker,
+        policy: &'a Policy,
+        name: BusName<'a>,
+        steps: &mut Steps<L>,
+    ) -> LookedUp<'a>
         ensures tracker { result.tracker.now ≡ tracker.entry.now }
         ensures policy { result.policy.now ≡ policy.entry.now }
         ensures name { result.name.now ≡ name.entry.text.now }
+        ensures cost { steps.new ≤ steps.old + 1 }
     {
         let is_unique = name.is_unique();
         let known = if is_unique {
+            steps.tick();
             tracker.known(name.text)
         } else {
             None
@@ -46,23 +56,27 @@ impl<'a> LookedUp<'a> {
     }
 
     /// How far it may be used, as `Tracker::level` says.
-    pub fn level(self) -> Level
-        ensures { result ≡ kept_level self.entry.policy.now self.entry.tracker.now self.entry.name.now }
+    pub fn level<L: Ledger>(self, steps: &mut Steps<L>) -> Level
+        ensures level { result ≡ kept_level self.entry.policy.now self.entry.tracker.now self.entry.name.now }
+        ensures cost { steps.new ≤ steps.old + elements self.entry.name.now + 1 }
     {
         if self.is_unique {
             level_in(self.known)
         } else {
-            self.policy.level(self.name)
+            self.policy.level_counted(self.name, steps)
         }
     }
 
     /// The numbers of its entries, as `Tracker::entries` says.
-    pub fn entries(self) -> Entries<'a>
-        ensures { result ≡ kept_numbers self.entry.policy.now self.entry.tracker.now self.entry.name.now }
+    pub fn entries<L: Ledger>(self, steps: &mut Steps<L>) -> Entries<'a>
+        ensures name { result.name ≡ self.entry.name.now }
+        ensures numbers { result.numbers ≡ kept_numbers self.entry.policy.now self.entry.tracker.now self.entry.name.now }
+        ensures cost { steps.new ≤ steps.old + 1 }
     {
         if self.is_unique {
             Entries::known(self.policy, self.name, numbers_in(self.known))
         } else {
+            steps.tick();
             let known = numbers_in(self.tracker.known(self.name));
             Entries::covering(self.policy, self.name, known)
         }

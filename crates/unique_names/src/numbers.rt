@@ -1,23 +1,33 @@
 //! Ascending numbers of entries, which are changed in place.
-ghost use Rattle.std.specs.Prelude.{◌≡◌, ◌≤◌, ◌<◌, ◌+◌, [], if◌then◌else◌, true, false, IsOk, OnErr, OnOk, vec_capacity, vec_len};
+ghost use Rattle.std.specs.Prelude.{◌≡◌, ◌≤◌, ◌<◌, ◌+◌, ◌*◌, [], if◌then◌else◌, true, false, IsOk, OnErr, OnOk, vec_capacity, vec_len};
 ghost use Rattle.unique_names.specs.Inserted.{ascends_from, is_in, missing_in, place_of, with_number, with_numbers};
-ghost use Rattle.unique_names.specs.Merged.{merged_from};
+ghost use Rattle.unique_names.specs.Merged.{look_ups, merged_from};
 
 use crate::entries::Entries;
+use name_patterns::Steps;
 use policy_args::Policy;
 use std::alloc::AllocError;
+use std::sync::ledger::Ledger;
 
 /// Inserts the numbers of the entries that cover a name, and lets those go that are of no entry. Where memory is refused,
 /// nothing changes.
-pub(crate) fn merge(policy: &Policy, name: &str, numbers: &mut Vec<u32>) -> Result<(), AllocError>
+pub(crate) fn merge<L: Ledger>(
+    policy: &Policy,
+    name: &str,
+    numbers: &mut Vec<u32>,
+    steps: &mut Steps<L>,
+) -> Result<(), AllocError>
     requires { ascends_from 1 numbers.old.items ≡ true }
     ensures ok { OnOk result (numbers.new.items ≡ merged_from name.now 1 policy.now.entries numbers.old.items) }
 
     // Where all stand there, it takes no memory.
     ensures known { missing_in numbers.old.items (merged_from name.now 1 policy.now.entries []) ≡ 0 → IsOk result }
     ensures err { OnErr result (numbers.new.items ≡ numbers.old.items) }
+
+    // The entries that cover the name are walked once to count those that are missing, and once to insert them.
+    ensures cost { steps.new ≤ steps.old + 2 * look_ups name.now (merged_from name.now 1 policy.now.entries []) }
 {
-    insert_missing(policy, name, numbers)?;
+    insert_missing(policy, name, numbers, steps)?;
     match place(numbers, policy.len() + 1) {
         Ok(end) => numbers.truncate(end),
         Err(end) => numbers.truncate(end),
@@ -26,28 +36,41 @@ pub(crate) fn merge(policy: &Policy, name: &str, numbers: &mut Vec<u32>) -> Resu
 }
 
 // Inserts the numbers of the entries that cover a name.
-fn insert_missing(policy: &Policy, name: &str, numbers: &mut Vec<u32>) -> Result<(), AllocError>
+fn insert_missing<L: Ledger>(
+    policy: &Policy,
+    name: &str,
+    numbers: &mut Vec<u32>,
+    steps: &mut Steps<L>,
+) -> Result<(), AllocError>
     requires { ascends_from 1 numbers.old.items ≡ true }
     ensures ok { OnOk result (numbers.new.items ≡ with_numbers (merged_from name.now 1 policy.now.entries []) numbers.old.items) }
     ensures known { missing_in numbers.old.items (merged_from name.now 1 policy.now.entries []) ≡ 0 → IsOk result }
     ensures err { OnErr result (numbers.new.items ≡ numbers.old.items) }
+    ensures cost { steps.new ≤ steps.old + 2 * look_ups name.now (merged_from name.now 1 policy.now.entries []) }
 {
-    let count = count_missing(policy, name, numbers);
+    let count = count_missing(policy, name, numbers, steps);
     if count == 0 {
         return Ok(());
     }
     numbers.reserve(count)?;
-    insert_covering(policy, name, numbers);
+    insert_covering(policy, name, numbers, steps);
     Ok(())
 }
 
 // How many entries cover a name whose numbers don't stand there.
-fn count_missing(policy: &Policy, name: &str, numbers: &[u32]) -> usize
+fn count_missing<L: Ledger>(
+    policy: &Policy,
+    name: &str,
+    numbers: &[u32],
+    steps: &mut Steps<L>,
+) -> usize
     requires { ascends_from 1 numbers.now ≡ true }
-    ensures { result ≡ missing_in numbers.now (merged_from name.now 1 policy.now.entries []) }
+    ensures count { result ≡ missing_in numbers.now (merged_from name.now 1 policy.now.entries []) }
+    ensures cost { steps.new ≤ steps.old + look_ups name.now (merged_from name.now 1 policy.now.entries []) }
 {
     let mut count = 0;
-    for number in Entries::covering(policy, name, &[]) {
+    let mut entries = Entries::covering(policy, name, &[]);
+    while let Some(number) = entries.next_counted(steps) {
         if place(numbers, number).is_err() {
             count += 1;
         }
@@ -56,12 +79,19 @@ fn count_missing(policy: &Policy, name: &str, numbers: &[u32]) -> usize
 }
 
 // Inserts the numbers of the entries that cover a name, for which memory was taken.
-fn insert_covering(policy: &Policy, name: &str, numbers: &mut Vec<u32>)
+fn insert_covering<L: Ledger>(
+    policy: &Policy,
+    name: &str,
+    numbers: &mut Vec<u32>,
+    steps: &mut Steps<L>,
+)
     requires ascending { ascends_from 1 numbers.old.items ≡ true }
     requires room { vec_len numbers.old + missing_in numbers.old.items (merged_from name.now 1 policy.now.entries []) ≤ vec_capacity numbers.old }
-    ensures { numbers.new.items ≡ with_numbers (merged_from name.now 1 policy.now.entries []) numbers.old.items }
+    ensures items { numbers.new.items ≡ with_numbers (merged_from name.now 1 policy.now.entries []) numbers.old.items }
+    ensures cost { steps.new ≤ steps.old + look_ups name.now (merged_from name.now 1 policy.now.entries []) }
 {
-    for number in Entries::covering(policy, name, &[]) {
+    let mut entries = Entries::covering(policy, name, &[]);
+    while let Some(number) = entries.next_counted(steps) {
         insert(numbers, number);
     }
 }

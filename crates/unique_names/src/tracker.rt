@@ -1,22 +1,26 @@
 //! The tracker of unique names.
-ghost use Rattle.std.specs.Prelude.{◌≡◌, ◌∷◌, ◌++◌, [], List, OnOk, OnErr, length};
+ghost use Rattle.std.specs.Prelude.{◌≡◌, ◌≤◌, ◌<◌, ◌+◌, ◌*◌, ◌∷◌, ◌++◌, [], List, OnOk, OnErr, length};
 ghost use Rattle.std.specs.FinMap as map;
 ghost use Rattle.std.specs.Option.{option_copied};
 ghost use Rattle.policy_args.specs.Policy.{Policy as PolicyValue};
 ghost use Rattle.policy_args.specs.Levels.{entries as entries_of, level_of};
 ghost use Rattle.policy_args.specs.declared.fact.Fact.{Fact as FactValue};
 ghost use Rattle.policy_args.specs.declared.fact.Fact.TheVariants.{Owned, SelfId, Met};
+ghost use Rattle.name_patterns.specs.Ranks.{elements};
 ghost use Rattle.unique_names.specs.Known.{Known as KnownValue};
+ghost use Rattle.unique_names.specs.Merged.{look_ups, merged_from};
 ghost use Rattle.unique_names.specs.Taught.{AreNumbers, Fits, Taught, kept_level, kept_numbers, learned, raised as raised_from};
 
 use crate::entries::Entries;
 use crate::known::{Known, level_in, numbers_in};
 use crate::looked_up::LookedUp;
 use dbus_names::{BusName, is_unique, is_well_known};
+use name_patterns::Steps;
 use policy_args::{Fact, Level, Policy};
 use std::alloc::{AllocError, Global};
 use std::collections::BTreeMap;
-use std::marker::Model;
+use std::marker::{Brand, Model};
+use std::sync::ledger::{Blank, Ledger};
 
 /// What is known of unique names, by the facts that it was taught under one policy.
 ///
@@ -61,26 +65,50 @@ impl Tracker {
         // For all facts that were taught, it is the level by them.
         ensures exact { (facts : List FactValue) → Taught self.now policy.now facts → result ≡ level_of policy.now facts name.now }
     {
-        self.level_of(policy, name)
+        let asked = AskedName {
+            tracker: self,
+            policy,
+            name,
+        };
+        level_from::<Brand>(asked, Blank::new(1))
+    }
+
+    /// What `level` answers: it takes at most one look-up for each element of the name and one more.
+    pub fn level_counted<L: Ledger>(
+        &self,
+        policy: &Policy,
+        name: &str,
+        steps: &mut Steps<L>,
+    ) -> Level
+        ensures kept { result ≡ kept_level policy.now self.now name.now }
+        ensures cost { steps.new ≤ steps.old + elements name.now + 1 }
+    {
+        self.level_of(policy, name, steps)
     }
 
     /// The numbers of the entries that cover a name, or a name that it owned, from 1, ascending and each once.
     pub fn entries<'a>(&'a self, policy: &'a Policy, name: &'a str) -> Entries<'a>
-        ensures kept { result ≡ kept_numbers policy.entry.now self.entry.now name.entry.now }
-        ensures exact { (facts : List FactValue) → Taught self.entry.now policy.entry.now facts → result ≡ entries_of policy.entry.now facts name.entry.now }
-        ensures within { Fits self.entry.now policy.entry.now → AreNumbers (length policy.entry.now.entries) result }
+        ensures kept { result.numbers ≡ kept_numbers policy.entry.now self.entry.now name.entry.now }
+        ensures exact { (facts : List FactValue) → Taught self.entry.now policy.entry.now facts → result.numbers ≡ entries_of policy.entry.now facts name.entry.now }
+        ensures within { Fits self.entry.now policy.entry.now → AreNumbers (length policy.entry.now.entries) result.numbers }
     {
         policy.covers_no_unique_name();
         self.entries_of(policy, name)
     }
 
     /// A bus name, with what is known of it. It is looked up once for all that is asked of it.
-    pub fn look_up<'a>(&'a self, policy: &'a Policy, name: BusName<'a>) -> LookedUp<'a>
+    pub fn look_up<'a, L: Ledger>(
+        &'a self,
+        policy: &'a Policy,
+        name: BusName<'a>,
+        steps: &mut Steps<L>,
+    ) -> LookedUp<'a>
         ensures tracker { result.tracker.now ≡ self.entry.now }
         ensures policy { result.policy.now ≡ policy.entry.now }
         ensures name { result.name.now ≡ name.entry.text.now }
+        ensures cost { steps.new ≤ steps.old + 1 }
     {
-        LookedUp::new(self, policy, name)
+        LookedUp::new(self, policy, name, steps)
     }
 
     /// Learns a fact. One that is known already adds nothing, and one that gives no level keeps nothing. Where memory is
@@ -106,6 +134,22 @@ impl Tracker {
         ensures err { OnErr result (self.new ≡ self.old) }
     {
         self.own(policy, name, id)
+    }
+
+    /// What `learn_owner` learns: it takes the look-ups of the name and of the unique one, and twice those of the entries that
+    /// cover the name.
+    pub fn learn_owner_counted<L: Ledger>(
+        &mut self,
+        policy: &Policy,
+        name: &str,
+        id: &str,
+        steps: &mut Steps<L>,
+    ) -> Result<(), AllocError>
+        ensures learned { OnOk result (self.new ≡ learned policy.now self.old (Owned name.now id.now)) }
+        ensures err { OnErr result (self.new ≡ self.old) }
+        ensures cost { steps.new ≤ steps.old + elements name.now + 2 + 2 * look_ups name.now (merged_from name.now 1 policy.now.entries []) }
+    {
+        self.own_counted(policy, name, id, steps)
     }
 
     /// Learns that a unique name is the client's own.
@@ -147,12 +191,14 @@ impl Tracker {
     }
 
     // The level of a name, by what is kept.
-    fn level_of(&self, policy: &Policy, name: &str) -> Level
-        ensures { result ≡ kept_level policy.now self.now name.now }
+    fn level_of<L: Ledger>(&self, policy: &Policy, name: &str, steps: &mut Steps<L>) -> Level
+        ensures level { result ≡ kept_level policy.now self.now name.now }
+        ensures cost { steps.new ≤ steps.old + elements name.now + 1 }
     {
         if is_well_known(name.as_bytes()) {
-            policy.level(name)
+            policy.level_counted(name, steps)
         } else if is_unique(name.as_bytes()) {
+            steps.tick();
             level_in(self.known(name))
         } else {
             Level::None
@@ -161,7 +207,7 @@ impl Tracker {
 
     // The entries of a name, by what is kept.
     fn entries_of<'a>(&'a self, policy: &'a Policy, name: &'a str) -> Entries<'a>
-        ensures { result ≡ kept_numbers policy.entry.now self.entry.now name.entry.now }
+        ensures { result.numbers ≡ kept_numbers policy.entry.now self.entry.now name.entry.now }
     {
         let known = numbers_in(self.known(name));
         if is_unique(name.as_bytes()) {
@@ -171,20 +217,37 @@ impl Tracker {
         }
     }
 
-    // A unique name owns a name.
+    // A unique name owns a name, for a caller that counts no steps.
     fn own(&mut self, policy: &Policy, name: &str, id: &str) -> Result<(), AllocError>
         ensures ok { OnOk result (self.new ≡ learned policy.now self.old (Owned name.now id.now)) }
         ensures err { OnErr result (self.new ≡ self.old) }
     {
-        let level = policy.level(name);
+        let owned = OwnedName { policy, name, id };
+        own_from::<Brand>(self, owned, Blank::new(1))
+    }
+
+    // A unique name owns a name. What is known of it is looked up, which is a step.
+    fn own_counted<L: Ledger>(
+        &mut self,
+        policy: &Policy,
+        name: &str,
+        id: &str,
+        steps: &mut Steps<L>,
+    ) -> Result<(), AllocError>
+        ensures ok { OnOk result (self.new ≡ learned policy.now self.old (Owned name.now id.now)) }
+        ensures err { OnErr result (self.new ≡ self.old) }
+        ensures cost { steps.new ≤ steps.old + elements name.now + 2 + 2 * look_ups name.now (merged_from name.now 1 policy.now.entries []) }
+    {
+        let level = policy.level_counted(name, steps);
         if !level.is_at_least(Level::See) {
             return Ok(());
         }
+        steps.tick();
         match self.ids.get_mut(id) {
-            Some(known) => known.own(policy, name, level),
+            Some(known) => known.own(policy, name, level, steps),
             None => {
                 let mut known = Known::new(self.alloc);
-                known.own(policy, name, level)?;
+                known.own(policy, name, level, steps)?;
                 self.keep(id, known)
             }
         }
@@ -217,4 +280,47 @@ impl Tracker {
         self.ids.insert(id, known)?;
         Ok(())
     }
+}
+
+// A name of either kind, under a policy.
+#[derive(Drop)]
+struct AskedName<'a> {
+    tracker: &'a Tracker,
+    policy: &'a Policy,
+    name: &'a str,
+}
+
+// The level of a name. The steps are counted in a ledger of their own.
+fn level_from<L: Ledger>(asked: AskedName<'_>, blank: Blank) -> Level
+    requires name { blank.name ≡ L.name }
+    requires parts { blank.parts ≡ L.parts }
+    requires some { 0 < blank.parts }
+    ensures { result ≡ kept_level asked.entry.policy.now asked.entry.tracker.now asked.entry.name.now }
+{
+    let mut steps: Steps<L> = Steps::new(blank);
+    asked.tracker.level_of(asked.policy, asked.name, &mut steps)
+}
+
+// A name that a unique name owns, under a policy.
+#[derive(Drop)]
+struct OwnedName<'a> {
+    policy: &'a Policy,
+    name: &'a str,
+    id: &'a str,
+}
+
+// A unique name owns a name. The steps are counted in a ledger of their own.
+fn own_from<L: Ledger>(
+    tracker: &mut Tracker,
+    owned: OwnedName<'_>,
+    blank: Blank,
+) -> Result<(), AllocError>
+    requires name { blank.name ≡ L.name }
+    requires parts { blank.parts ≡ L.parts }
+    requires some { 0 < blank.parts }
+    ensures ok { OnOk result (tracker.new ≡ learned owned.entry.policy.now tracker.old (Owned owned.entry.name.now owned.entry.id.now)) }
+    ensures err { OnErr result (tracker.new ≡ tracker.old) }
+{
+    let mut steps: Steps<L> = Steps::new(blank);
+    tracker.own_counted(owned.policy, owned.name, owned.id, &mut steps)
 }

@@ -4,3 +4,4 @@ pub mod Eavesdrop
 pub mod Judged
 pub mod Requests
 pub mod Showings
+mod Counting

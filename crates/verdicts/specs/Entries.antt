@@ -1,7 +1,10 @@
 -- What the entries of a name that is only seen say of a call of it, one after the other.
-use Rattle.std.specs.Prelude.{ℕ, List, [], ◌∷◌, if◌then◌else◌, Option, Some, None}
+use Rattle.std.specs.Prelude.{ℕ, ◌+◌, ◌*◌, List, [], ◌∷◌, length, if◌then◌else◌, Option, Some, None}
 use Rattle.dbus_header.specs.Contents.{Contents}
+use Rattle.dbus_names.specs.Texts.{Text}
+use Rattle.name_patterns.specs.Ranks.{elements}
 use Rattle.policy_args.specs.Policy.{Policy}
+use Rattle.unique_names.specs.Merged.{NameNumbers}
 use Rattle.policy_view.specs.Properties.{PropertyRequest}
 use Rattle.policy_view.specs.Verdicts.{entry_passes, rules_calls}
 use Rattle.policy_view.specs.declared.Verdict.{Verdict}
@@ -25,3 +28,13 @@ lowest_with policy n lowest = record {
 abbrev pub judged_from : Policy → Contents → Option PropertyRequest → List ℕ → Lowest → Verdict
 judged_from policy x request [] lowest = unruled_by x.flags lowest.any lowest.ruled
 judged_from policy x request (n ∷ ns) lowest = if entry_passes policy (allows x request) n then Pass else judged_from policy x request ns (lowest_with policy n lowest)
+
+-- ---- what is counted
+
+-- the most steps of a walk over the entries that speak of a name: each is found by one look-up for each element of the name,
+-- and looked at, and that there is no other takes as many look-ups
+abbrev pub steps_for : Text → List ℕ → ℕ
+steps_for name numbers = (length numbers + 1) * (elements name + 1)
+
+abbrev pub entry_steps : NameNumbers → ℕ
+entry_steps named = steps_for named.name named.numbers

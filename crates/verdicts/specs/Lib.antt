@@ -5,3 +5,4 @@ pub mod Properties
 pub mod Judging
 pub mod Entries
 pub mod Showing
+pub mod Counted

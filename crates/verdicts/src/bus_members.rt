@@ -1,16 +1,19 @@
 //! The members of the bus, and what each asks of a call of it.
-ghost use Rattle.std.specs.Prelude.{◌≡◌, codes};
+ghost use Rattle.std.specs.Prelude.{◌≡◌, ◌≤◌, ◌+◌, codes};
 ghost use Rattle.dbus_header.specs.Seen.{text_seen};
 ghost use Rattle.policy_view.specs.Texts.{stands_in};
 ghost use Rattle.policy_view.specs.Verdicts.{demand_of as demand_by, text_or_empty};
 ghost use Rattle.unique_names.specs.Taught.{kept_level};
+ghost use Rattle.verdicts.specs.Counted.{text_steps};
 ghost use Rattle.verdicts.specs.Judging.{argument_by, bus_call_by, first_text_in, from_level, match_by, start_by, text_by};
 ghost use Rattle.verdicts.specs.Seen.{demand_seen, text_demand_seen};
 
 use crate::calls::refused;
 use dbus_header::{Instead, Message};
+use name_patterns::Steps;
 use policy_args::{Level, Policy};
 use policy_view::{Reason, Verdict};
+use std::sync::ledger::Ledger;
 use unique_names::Tracker;
 
 /// What a member asks of the text that is its first argument.
@@ -61,13 +64,19 @@ fn demand_of(member: &str) -> Demand
 }
 
 /// The verdict on a call of the bus by its own interface, or by none.
-pub(crate) fn judge_bus_call(policy: &Policy, tracker: &Tracker, message: &Message<'_>) -> Verdict
-    ensures { result ≡ bus_call_by (kept_level policy.now tracker.now) message.now.flags (first_text_in message.now.bytes.now) (demand_by (text_or_empty (text_seen message.now.member))) }
+pub(crate) fn judge_bus_call<L: Ledger>(
+    policy: &Policy,
+    tracker: &Tracker,
+    message: &Message<'_>,
+    steps: &mut Steps<L>,
+) -> Verdict
+    ensures verdict { result ≡ bus_call_by (kept_level policy.now tracker.now) message.now.flags (first_text_in message.now.bytes.now) (demand_by (text_or_empty (text_seen message.now.member))) }
+    ensures cost { steps.new ≤ steps.old + text_steps policy.now tracker.now (first_text_in message.now.bytes.now) }
 {
     match demand_of(message.member.unwrap_or("")) {
         Demand::Free => Verdict::Pass,
         Demand::OnText(demand) => {
-            judge_argument(policy, tracker, message, demand, first_text(message))
+            judge_argument(policy, tracker, message, demand, first_text(message), steps)
         }
         Demand::Unlisted => refused(message, Instead::AccessDenied, Reason::BusMember),
     }
@@ -81,18 +90,23 @@ fn first_text<'a>(message: &Message<'a>) -> Option<&'a str>
 }
 
 // The text that is asked of has to stand.
-fn judge_argument(
+fn judge_argument<L: Ledger>(
     policy: &Policy,
     tracker: &Tracker,
     message: &Message<'_>,
     demand: TextDemand,
     text: Option<&str>,
+    steps: &mut Steps<L>,
 ) -> Verdict
-    ensures { result ≡ argument_by (kept_level policy.now tracker.now) message.now.flags (text_demand_seen demand) (text_seen text.entry) }
+    ensures verdict { result ≡ argument_by (kept_level policy.now tracker.now) message.now.flags (text_demand_seen demand) (text_seen text.entry) }
+    ensures cost { steps.new ≤ steps.old + text_steps policy.now tracker.now (text_seen text.entry) }
 {
     match text {
         None => refused(message, Instead::AccessDenied, Reason::BadArgument),
-        Some(text) => judge_text(message, demand, text, tracker.level(policy, text)),
+        Some(text) => {
+            let level = tracker.level_counted(policy, text, steps);
+            judge_text(message, demand, text, level)
+        }
     }
 }
 

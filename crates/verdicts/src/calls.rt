@@ -1,9 +1,11 @@
 //! The verdict on a message of the client by its role.
-ghost use Rattle.std.specs.Prelude.{◌≡◌, nat_lt};
+ghost use Rattle.std.specs.Prelude.{◌≡◌, ◌≤◌, ◌+◌, nat_lt};
+ghost use Rattle.name_patterns.specs.Ranks.{elements};
 ghost use Rattle.dbus_header.specs.Read.{message_seen};
 ghost use Rattle.dbus_header.specs.Seen.{text_seen};
 ghost use Rattle.policy_view.specs.Verdicts.{first_or_0, on_signal};
 ghost use Rattle.unique_names.specs.Taught.{kept_level, kept_numbers};
+ghost use Rattle.verdicts.specs.Counted.{name_steps, role_steps};
 ghost use Rattle.verdicts.specs.Judging.{call_by, first_text_in, hidden_call_by, refused_by, reply_by, reply_of, role_by, unknown_field_by, verdict_by};
 ghost use Rattle.verdicts.specs.Kept.{kept, owed_by, owed_to};
 ghost use Rattle.verdicts.specs.Properties.{property_request_in};
@@ -14,25 +16,29 @@ use crate::entries::judge_seen;
 use crate::roles::ClientRole;
 use dbus_header::{Instead, Message};
 use dbus_names::BusName;
+use name_patterns::Steps;
 use policy_args::{Level, Policy};
 use policy_view::{Reason, Verdict};
-use reply_ledger::Ledger;
+use reply_ledger::Ledger as ReplyLedger;
+use std::sync::ledger::Ledger;
 use unique_names::{Entries, LookedUp, Tracker};
 
 /// The verdict on a message whose role is this one if its fields let it have it.
-pub(crate) fn judge_message(
+pub(crate) fn judge_message<L: Ledger>(
     policy: &Policy,
     tracker: &Tracker,
-    ledger: &Ledger,
+    ledger: &ReplyLedger,
     message: &Message<'_>,
     role: ClientRole<'_>,
+    steps: &mut Steps<L>,
 ) -> Verdict
-    ensures { result ≡ verdict_by policy.now (kept policy.now tracker.now ledger.now.owed) (message_seen message.now) (first_text_in message.now.bytes.now) (property_request_in message.now.bytes.now) (client_role_seen role.entry) }
+    ensures verdict { result ≡ verdict_by policy.now (kept policy.now tracker.now ledger.now.owed) (message_seen message.now) (first_text_in message.now.bytes.now) (property_request_in message.now.bytes.now) (client_role_seen role.entry) }
+    ensures cost { steps.new ≤ steps.old + role_steps policy.now tracker.now (client_role_seen role.entry) (first_text_in message.now.bytes.now) }
 {
     if policy.known_fields() && message.has_unknown_field {
         return refuse_field(message);
     }
-    judge_as(policy, tracker, ledger, message, role)
+    judge_as(policy, tracker, ledger, message, role, steps)
 }
 
 // Refuses a message that has a header field of an unknown code.
@@ -47,25 +53,31 @@ fn refuse_field(message: &Message<'_>) -> Verdict
 }
 
 // The verdict on a message of this role.
-fn judge_as(
+fn judge_as<L: Ledger>(
     policy: &Policy,
     tracker: &Tracker,
-    ledger: &Ledger,
+    ledger: &ReplyLedger,
     message: &Message<'_>,
     role: ClientRole<'_>,
+    steps: &mut Steps<L>,
 ) -> Verdict
-    ensures { result ≡ role_by policy.now (kept policy.now tracker.now ledger.now.owed) (message_seen message.now) (first_text_in message.now.bytes.now) (property_request_in message.now.bytes.now) (client_role_seen role.entry) }
+    ensures verdict { result ≡ role_by policy.now (kept policy.now tracker.now ledger.now.owed) (message_seen message.now) (first_text_in message.now.bytes.now) (property_request_in message.now.bytes.now) (client_role_seen role.entry) }
+    ensures cost { steps.new ≤ steps.old + role_steps policy.now tracker.now (client_role_seen role.entry) (first_text_in message.now.bytes.now) }
 {
     match role {
         ClientRole::OfUnknownType => Verdict::Drop(Reason::UnknownType),
         ClientRole::Reply => judge_reply(ledger, message),
         ClientRole::Broadcast => Verdict::Pass,
-        ClientRole::SignalTo(name) => judge_signal(tracker.look_up(policy, name)),
+        ClientRole::SignalTo(name) => {
+            let known = tracker.look_up(policy, name, steps);
+            judge_signal(known, steps)
+        }
         ClientRole::StandardBusCall => Verdict::Pass,
         ClientRole::OtherBusCall => refused(message, Instead::AccessDenied, Reason::BusInterface),
-        ClientRole::BusCall => judge_bus_call(policy, tracker, message),
+        ClientRole::BusCall => judge_bus_call(policy, tracker, message, steps),
         ClientRole::CallTo(name) => {
-            judge_call(policy, message, name, tracker.look_up(policy, name))
+            let known = tracker.look_up(policy, name, steps);
+            judge_call(policy, message, name, known, steps)
         }
     }
 }
@@ -82,7 +94,7 @@ pub(crate) fn refused(message: &Message<'_>, what: Instead, reason: Reason) -> V
 }
 
 // A reply passes where it is owed.
-fn judge_reply(ledger: &Ledger, message: &Message<'_>) -> Verdict
+fn judge_reply(ledger: &ReplyLedger, message: &Message<'_>) -> Verdict
     ensures { result ≡ reply_by (nat_lt 0 (owed_by ledger.now.owed (reply_of (message_seen message.now)))) }
 {
     if is_owed(
@@ -97,7 +109,7 @@ fn judge_reply(ledger: &Ledger, message: &Message<'_>) -> Verdict
 }
 
 // Whether a reply is owed to calls of this name, which may be absent, with this serial.
-fn is_owed(ledger: &Ledger, peer: Option<&str>, serial: u32) -> bool
+fn is_owed(ledger: &ReplyLedger, peer: Option<&str>, serial: u32) -> bool
     ensures { result ≡ nat_lt 0 (owed_to ledger.now.owed (text_seen peer.entry) serial) }
 {
     match peer {
@@ -107,35 +119,45 @@ fn is_owed(ledger: &Ledger, peer: Option<&str>, serial: u32) -> bool
 }
 
 // A signal for one name.
-fn judge_signal(name: LookedUp<'_>) -> Verdict
-    ensures { result ≡ on_signal (kept_numbers name.entry.policy.now name.entry.tracker.now name.entry.name.now) (kept_level name.entry.policy.now name.entry.tracker.now name.entry.name.now) }
+fn judge_signal<L: Ledger>(name: LookedUp<'_>, steps: &mut Steps<L>) -> Verdict
+    ensures verdict { result ≡ on_signal (kept_numbers name.entry.policy.now name.entry.tracker.now name.entry.name.now) (kept_level name.entry.policy.now name.entry.tracker.now name.entry.name.now) }
+    ensures cost { steps.new + 1 ≤ steps.old + name_steps name.entry.policy.now name.entry.tracker.now name.entry.name.now }
 {
-    match name.level() {
+    match name.level(steps) {
         Level::None => Verdict::Drop(Reason::NotVisible),
-        Level::See => Verdict::Drop(Reason::OnlySee(lowest(name.entries()))),
+        Level::See => {
+            let entries = name.entries(steps);
+            Verdict::Drop(Reason::OnlySee(lowest(entries, steps)))
+        }
         Level::Talk | Level::Own => Verdict::Pass,
     }
 }
 
 // The first of the numbers, or 0.
-fn lowest(mut numbers: Entries<'_>) -> u32
-    ensures { result ≡ first_or_0 numbers.entry }
+fn lowest<L: Ledger>(mut numbers: Entries<'_>, steps: &mut Steps<L>) -> u32
+    ensures lowest { result ≡ first_or_0 numbers.entry.numbers }
+    ensures cost { steps.new ≤ steps.old + elements numbers.entry.name }
 {
-    numbers.next().unwrap_or(0)
+    numbers.next_counted(steps).unwrap_or(0)
 }
 
 // A call of a name other than the bus's own.
-fn judge_call(
+fn judge_call<L: Ledger>(
     policy: &Policy,
     message: &Message<'_>,
     name: BusName<'_>,
     known: LookedUp<'_>,
+    steps: &mut Steps<L>,
 ) -> Verdict
-    ensures { result ≡ call_by policy.now (message_seen message.now) (property_request_in message.now.bytes.now) name.entry.text.now (kept_numbers known.entry.policy.now known.entry.tracker.now known.entry.name.now) (kept_level known.entry.policy.now known.entry.tracker.now known.entry.name.now) }
+    ensures verdict { result ≡ call_by policy.now (message_seen message.now) (property_request_in message.now.bytes.now) name.entry.text.now (kept_numbers known.entry.policy.now known.entry.tracker.now known.entry.name.now) (kept_level known.entry.policy.now known.entry.tracker.now known.entry.name.now) }
+    ensures cost { steps.new + 1 ≤ steps.old + name_steps known.entry.policy.now known.entry.tracker.now known.entry.name.now }
 {
-    match known.level() {
+    match known.level(steps) {
         Level::None => judge_hidden(message, name),
-        Level::See => judge_seen(policy, message, known.entries()),
+        Level::See => {
+            let entries = known.entries(steps);
+            judge_seen(policy, message, entries, steps)
+        }
         Level::Talk | Level::Own => Verdict::Pass,
     }
 }

@@ -1,12 +1,12 @@
 //! The entries of the policy that speak of a name, by their numbers.
-ghost use Rattle.std.specs.Prelude.{◌≡◌};
+ghost use Rattle.std.specs.Prelude.{◌≡◌, ◌≤◌, ◌+◌};
 ghost use Rattle.std.specs.List.{list_any};
 ghost use Rattle.std.specs.Option.{option_copied};
 ghost use Rattle.dbus_header.specs.Read.{message_seen};
 ghost use Rattle.policy_args.specs.Policy.{entry_at};
 ghost use Rattle.policy_view.specs.Texts.{matches as rule_matches};
 ghost use Rattle.policy_view.specs.Verdicts.{entry_passes, rules_calls as grant_rules_calls};
-ghost use Rattle.verdicts.specs.Entries.{lowest_with};
+ghost use Rattle.verdicts.specs.Entries.{entry_steps, lowest_with};
 ghost use Rattle.verdicts.specs.Judging.{allows as grant_allows, seen_call_by, unruled_by};
 ghost use Rattle.verdicts.specs.Properties.{property_request_in};
 ghost use Rattle.verdicts.specs.Seen.{request_seen};
@@ -16,8 +16,10 @@ use crate::calls::refused;
 use crate::properties::{PropertyRequest, permits, property_request};
 use call_rules::Rule;
 use dbus_header::{Instead, Message};
+use name_patterns::Steps;
 use policy_args::{Entry, Grant, Policy};
 use policy_view::{Reason, Verdict};
+use std::sync::ledger::Ledger;
 use unique_names::Entries;
 
 /// The lowest numbers of entries that were looked at.
@@ -47,26 +49,37 @@ impl Lowest {
 
 /// The verdict on a call of a name that is only seen, by the numbers of its entries: one whose Call rule matches it lets it
 /// pass, and one whose Property rule matches the property request that it is.
-pub(crate) fn judge_seen(policy: &Policy, message: &Message<'_>, numbers: Entries<'_>) -> Verdict
-    ensures { result ≡ seen_call_by policy.now (message_seen message.now) (property_request_in message.now.bytes.now) numbers.entry }
+///
+/// Each entry that is looked at is a step, beside the look-ups by which it is found.
+pub(crate) fn judge_seen<L: Ledger>(
+    policy: &Policy,
+    message: &Message<'_>,
+    numbers: Entries<'_>,
+    steps: &mut Steps<L>,
+) -> Verdict
+    ensures verdict { result ≡ seen_call_by policy.now (message_seen message.now) (property_request_in message.now.bytes.now) numbers.entry.numbers }
+    ensures cost { steps.new ≤ steps.old + entry_steps numbers.entry }
 {
-    judge_by_rules(policy, message, property_request(message), numbers)
+    judge_by_rules(policy, message, property_request(message), numbers, steps)
 }
 
 // The verdict on such a call, by the property request that it is.
-fn judge_by_rules(
+fn judge_by_rules<L: Ledger>(
     policy: &Policy,
     message: &Message<'_>,
     request: Option<PropertyRequest<'_>>,
-    numbers: Entries<'_>,
+    mut numbers: Entries<'_>,
+    steps: &mut Steps<L>,
 ) -> Verdict
-    ensures { result ≡ seen_call_by policy.now (message_seen message.now) (request_seen request.entry) numbers.entry }
+    ensures verdict { result ≡ seen_call_by policy.now (message_seen message.now) (request_seen request.entry) numbers.entry.numbers }
+    ensures cost { steps.new ≤ steps.old + entry_steps numbers.entry }
 {
     let mut lowest = Lowest {
         any: None,
         ruled: None,
     };
-    for number in numbers {
+    while let Some(number) = numbers.next_counted(steps) {
+        steps.tick();
         if allows(policy, number, message, request) {
             return Verdict::Pass;
         }
@@ -86,11 +99,18 @@ fn refuse(message: &Message<'_>, lowest: Lowest) -> Verdict
     refused(message, Instead::AccessDenied, reason)
 }
 
-/// Whether an entry with one of these numbers has a Broadcast rule that matches the signal.
-pub(crate) fn is_announced(policy: &Policy, message: &Message<'_>, numbers: Entries<'_>) -> bool
-    ensures { result ≡ list_any (entry_passes policy.now (grant_announces (message_seen message.now))) numbers.entry }
+/// Whether an entry with one of these numbers has a Broadcast rule that matches the signal. Each that is looked at is a step.
+pub(crate) fn is_announced<L: Ledger>(
+    policy: &Policy,
+    message: &Message<'_>,
+    mut numbers: Entries<'_>,
+    steps: &mut Steps<L>,
+) -> bool
+    ensures announced { result ≡ list_any (entry_passes policy.now (grant_announces (message_seen message.now))) numbers.entry.numbers }
+    ensures cost { steps.new ≤ steps.old + entry_steps numbers.entry }
 {
-    for number in numbers {
+    while let Some(number) = numbers.next_counted(steps) {
+        steps.tick();
         if announces(policy, number, message) {
             return true;
         }

@@ -5,7 +5,7 @@ use Rattle.unique_names.proofs.Merging.{IsFound, first-found, found-is, found-wi
 use Rattle.unique_names.proofs.entries.find.Goals as goal
 
 pub returns-clause-found : goal.returns-clause-found
-returns-clause-found c =
+returns-clause-found g c =
     let name = c.args.name.now in
     let whole = c.args.policy.now.entries in
     let merged = merged_from name c.args.from (drop (c.args.from - 1) whole) c.args.known.now in
@@ -15,7 +15,7 @@ returns-clause-found c =
     (subst (λ (o : Option ℕ). IsFound name whole (length whole) c.args.from merged c.args.known.now o) (sym is) (first-found name whole c.args.from c.args.known.now c.requires.low))
 
 pub returns-clause-within : goal.returns-clause-within
-returns-clause-within c =
+returns-clause-within g c =
     let name = c.args.name.now in
     let whole = c.args.policy.now.entries in
     let merged = merged_from name c.args.from (drop (c.args.from - 1) whole) c.args.known.now in

@@ -1,10 +1,17 @@
-use Rattle.std.proofs.Common.{◌≡◌}
+use Rattle.std.proofs.Common.{◌≡◌, ◌≤◌, ◌+◌, length}
 use Rattle.std.specs.List.{list_any}
 use Rattle.dbus_header.specs.Read.{message_seen}
 use Rattle.policy_view.specs.Verdicts.{entry_passes}
+use Rattle.verdicts.specs.Entries.{entry_steps}
 use Rattle.verdicts.specs.Showing.{announces}
 use Rattle.verdicts.proofs.entries.is_announced.Given as goal
 
+-- what is left to look at tells whether one passes
 abbrev pub invariant-loop-number : goal.invariant-loop-number
-invariant-loop-number l =
-    list_any (entry_passes l.policy (announces (message_seen l.message))) l.number-iterator ≡ list_any (entry_passes l.policy (announces (message_seen l.message))) l.fn.numbers
+invariant-loop-number g l = record {
+  announced : list_any (entry_passes l.policy (announces (message_seen l.message))) l.numbers.numbers ≡ list_any (entry_passes l.policy (announces (message_seen l.message))) l.fn.numbers.numbers;
+  cost : l.steps + entry_steps l.numbers ≤ l.fn.steps + entry_steps l.fn.numbers;
+}
+
+abbrev pub decreases-loop-number : goal.decreases-loop-number
+decreases-loop-number g l = length l.numbers.numbers

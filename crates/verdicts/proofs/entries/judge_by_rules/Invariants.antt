@@ -1,10 +1,16 @@
-use Rattle.std.proofs.Common.{◌≡◌}
+use Rattle.std.proofs.Common.{◌≡◌, ◌≤◌, ◌+◌, length}
 use Rattle.dbus_header.specs.Read.{message_seen}
-use Rattle.verdicts.specs.Entries.{judged_from}
+use Rattle.verdicts.specs.Entries.{entry_steps, judged_from}
 use Rattle.verdicts.specs.Judging.{seen_call_by}
 use Rattle.verdicts.specs.Seen.{request_seen}
 use Rattle.verdicts.proofs.entries.judge_by_rules.Given as goal
 
+-- what is left to judge by gives the verdict
 abbrev pub invariant-loop-number : goal.invariant-loop-number
-invariant-loop-number l =
-    judged_from l.policy (message_seen l.message) (request_seen l.request) l.number-iterator l.lowest ≡ seen_call_by l.policy (message_seen l.message) (request_seen l.request) l.fn.numbers
+invariant-loop-number g l = record {
+  judged : judged_from l.policy (message_seen l.message) (request_seen l.request) l.numbers.numbers l.lowest ≡ seen_call_by l.policy (message_seen l.message) (request_seen l.request) l.fn.numbers.numbers;
+  cost : l.steps + entry_steps l.numbers ≤ l.fn.steps + entry_steps l.fn.numbers;
+}
+
+abbrev pub decreases-loop-number : goal.decreases-loop-number
+decreases-loop-number g l = length l.numbers.numbers

@@ -10,16 +10,16 @@ use Rattle.policy_args.specs.Policy.{at_least, level}
 use Rattle.policy_args.specs.declared.Level.TheVariants.{See}
 use Rattle.unique_names.specs.Taught.{owning}
 use Rattle.unique_names.proofs.Learned.{unchanged}
-use Rattle.unique_names.proofs.tracker.Tracker.own.Goals as goal
+use Rattle.unique_names.proofs.tracker.Tracker.own_counted.Goals as goal
 
 pub returns-in-Some-clause-ok : goal.returns-in-Some-clause-ok
-returns-in-Some-clause-ok c =
+returns-in-Some-clause-ok g c =
     let ids = c.args.self.now in
     let id = c.args.id.now in
     let policy = c.args.policy.now in
     let name = c.args.name.now in
     let now = c.own.new.self in
-    let seen : at_least See (level policy name) ≡ true = ap (at_least See) (sym c.level-level.ensures) ∙ sym c.is_at_least.ensures ∙ c.if-not-is_at_least.false in
+    let seen : at_least See (level policy name) ≡ true = ap (at_least See) (sym c.level_counted-level.ensures.level) ∙ sym c.is_at_least.ensures ∙ c.if-not-is_at_least.false in
     let got : Some c.in-Some.known.now ≡ get ids id = c.in-Some.ensures.value ∙ sym (get_text c.self.inside.ids.entries id) ∙ ap (λ m. get m id) c.self.view_is in
     let kept : from_entries {R = slice_cmp nat_cmp} (by_bytes (c.get_mut.follows.lender now).entries) ≡ insert ids id now =
     text_given c.self.inside.ids (c.get_mut.follows.lender now) id now
@@ -28,7 +28,7 @@ returns-in-Some-clause-ok c =
     on_ok_weaker c.own.result (λ is. kept ∙ ap (insert ids id) (is ∙ ap (owning policy name) got) ∙ sym (ap (λ b. if b then insert ids id (owning policy name (get ids id)) else ids) seen)) c.own.ensures.ok
 
 pub returns-in-Some-clause-err : goal.returns-in-Some-clause-err
-returns-in-Some-clause-err c =
+returns-in-Some-clause-err g c =
     let ids = c.args.self.now in
     let id = c.args.id.now in
     let now = c.own.new.self in
@@ -40,12 +40,12 @@ returns-in-Some-clause-err c =
     on_err_weaker c.own.result (λ is. kept ∙ ap (insert ids id) is ∙ sym (unchanged ids id c.in-Some.known.now (sym got))) c.own.ensures.err
 
 pub returns-in_ok-own-in-None-clause-ok : goal.returns-in_ok-own-in-None-clause-ok
-returns-in_ok-own-in-None-clause-ok c =
+returns-in_ok-own-in-None-clause-ok g c =
     let ids = c.args.self.now in
     let id = c.args.id.now in
     let policy = c.args.policy.now in
     let name = c.args.name.now in
-    let seen : at_least See (level policy name) ≡ true = ap (at_least See) (sym c.level-level.ensures) ∙ sym c.is_at_least.ensures ∙ c.if-not-is_at_least.false in
+    let seen : at_least See (level policy name) ≡ true = ap (at_least See) (sym c.level_counted-level.ensures.level) ∙ sym c.is_at_least.ensures ∙ c.if-not-is_at_least.false in
     let got : None ≡ get ids id = c.in-None.ensures.value ∙ sym (get_text c.self.inside.ids.entries id) ∙ ap (λ m. get m id) c.self.view_is in
     let same : from_entries {R = slice_cmp nat_cmp} (by_bytes c.get_mut.follows.lender-at-none.entries) ≡ ids = ap (λ m. from_entries {R = slice_cmp nat_cmp} (by_bytes m.entries)) c.get_mut.follows.holds-at-none ∙ c.self.view_is in
     let first : c.own-in-None.new.self ≡ owning policy name (get ids id) =
