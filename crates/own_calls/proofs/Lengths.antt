@@ -1,8 +1,12 @@
 -- How long the own calls are.
 use Rattle.std.proofs.Common.{◌≡◌, ℕ, ◌+◌, ◌*◌, ◌≤◌, Bool, true, false, cond, List, [], ◌∷◌, ◌++◌, length, map, Some, refl, ap, sym, ◌∙◌, arith, length-append, append-nil}
 use Rattle.std.specs.Int.{w32}
-use Rattle.std.specs.List.{filter}
+use Rattle.std.specs.List.{filter, flat_map, list_all, list_any}
+use Rattle.std.specs.Prelude.{◌&&◌}
+use Rattle.std.proofs.lemmas.Bool.{and_parts}
+use Rattle.std.proofs.lemmas.Bool.Decides.{nat_tests}
 use Rattle.std.specs.Bool.{if◌then◌else◌}
+use Rattle.dbus_names.specs.Names.{is_short, is_well_known}
 use Rattle.dbus_names.specs.Texts.{Text}
 use Rattle.dbus_types.specs.Signature.{basic, string, path, signature, number, variant, array, struct, entry}
 use Rattle.dbus_values.specs.Bodies.{list_in, strings}
@@ -10,24 +14,78 @@ use Rattle.dbus_values.specs.Values.{Value, a_number, a_string, a_path, a_signat
 use Rattle.dbus_values.specs.declared.Order.{Order}
 use Rattle.dbus_values.proofs.ValueLaws.{text_len_is}
 use Rattle.dbus_header.specs.Message.{Message, body_place, order_byte, spell, spelled_fields, spelled_list, text_list, with_serial}
-use Rattle.name_patterns.specs.Patterns.{Pattern}
-use Rattle.policy_args.specs.Policy.{Policy}
+use Rattle.name_patterns.specs.Patterns.{Pattern, is_pattern, is_subtree_name}
+use Rattle.policy_args.specs.Policy.{Policy, patterns_of}
 use Rattle.policy_view.specs.Own.{add_match, get_owner, list_names}
-use Rattle.policy_view.specs.Sent.{asked, is_asked, spelled_from, OwnNames, OwnOwner}
+use Rattle.policy_view.specs.Sent.{asked, calls_for, is_asked, is_subtree, own_calls, spelled_from, OwnNames, OwnOwner}
+use Rattle.policy_view.specs.Texts.{only_if}
 use Rattle.ping_rewrite.proofs.Lengths.{add_match_lengths, get_owner_lengths, list_names_lengths}
 use Rattle.own_calls.proofs.ListedCalls.{asked-well-known}
+use Rattle.own_calls.proofs.SendingLaws.{spelled_from-append}
 use Rattle.own_calls.proofs.NameLengths.{well-known-long}
 
--- ---- the calls for a pattern
+-- ---- the calls behind the first Hello
 
-pub exact-short : (p : Pattern) (a o : ℕ) → p.exact ≡ true → length p.name ≤ 255 → ((serial : ℕ) → a ≡ length (spell (with_serial serial (add_match p)))) →
-    ((serial : ℕ) → o ≡ length (spell (with_serial serial (get_owner p.name)))) → a + o ≤ 918
-exact-short p a o exact short a_is o_is =
-    let match_is : length (spell (with_serial 0 (add_match p))) ≡ 259 + length p.name = (add_match_lengths 0 p).all_is ∙ ap (λ b. (if b then 259 else 268) + length p.name) exact in
-    omega (arith, a_is 0, o_is 0, match_is, (get_owner_lengths 0 p.name).all_is)
+name-short : (p : Pattern) → is_pattern p ≡ true → length p.name ≤ 255
+name-short p is = by p.exact is
+  where
+    short : (rest : Bool) → (is_short p.name && rest) ≡ true → length p.name ≤ 255
+    short rest both = grind (arith, nat_tests, (and_parts (is_short p.name) rest both).0)
 
-pub names-len : (serial : ℕ) → 136 ≡ length (spelled_from serial (OwnNames ∷ []))
-names-len serial = sym (list_names_lengths serial).all_is ∙ ap length (sym (append-nil (spell (with_serial serial list_names))))
+    by : (exact : Bool) → (if exact then is_well_known p.name else is_subtree_name p.name) ≡ true → length p.name ≤ 255
+    by true is = short _ is
+    by false is = short _ is
+
+-- an AddMatch, and a GetNameOwner behind it
+calls-short : (p : Pattern) (serial : ℕ) → length p.name ≤ 255 → length (spelled_from serial (calls_for p)) ≤ 918
+calls-short p serial short = by p.exact refl
+  where
+    first : List ℕ
+    first = spell (with_serial serial (add_match p))
+
+    second : List ℕ
+    second = spell (with_serial (serial + 1) (get_owner p.name))
+
+    by : (b : Bool) → p.exact ≡ b → length (first ++ spelled_from (serial + 1) (only_if b (OwnOwner p.name))) ≤ 918
+    by true is =
+        let first_is : length first ≡ 259 + length p.name = (add_match_lengths serial p).all_is ∙ ap (λ b. (if b then 259 else 268) + length p.name) is in
+        omega (arith, short, first_is, (get_owner_lengths (serial + 1) p.name).all_is, length-append first (second ++ []), length-append second [])
+    by false is =
+        let first_is : length first ≡ 268 + length p.name = (add_match_lengths serial p).all_is ∙ ap (λ b. (if b then 259 else 268) + length p.name) is in
+        omega (arith, short, first_is, length-append first [])
+
+each-short : (ps : List Pattern) → list_all is_pattern ps ≡ true → (serial : ℕ) → length (spelled_from serial (flat_map calls_for ps)) ≤ 918 * length ps
+each-short [] valid serial = omega arith
+each-short (p ∷ ps) valid serial =
+    let parts = and_parts (is_pattern p) (list_all is_pattern ps) valid in
+    let later = serial + length (calls_for p) in
+    omega (
+      arith,
+      calls-short p serial (name-short p parts.0),
+      each-short ps parts.1 later,
+      ap length (spelled_from-append serial (calls_for p) (flat_map calls_for ps)),
+      length-append (spelled_from serial (calls_for p)) (spelled_from later (flat_map calls_for ps)),
+    )
+
+names-short : (b : Bool) (serial : ℕ) → length (spelled_from serial (only_if b OwnNames)) ≤ 136
+names-short true serial = omega (arith, (list_names_lengths serial).all_is, length-append (spell (with_serial serial list_names)) [])
+names-short false serial = omega arith
+
+pub own-calls-short : (policy : Policy) → list_all is_pattern (patterns_of policy.entries) ≡ true → length (patterns_of policy.entries) ≤ 65535 →
+    (serial : ℕ) → length (spelled_from serial (own_calls policy)) ≤ 65535 * 918 + 136
+unfolding own_calls
+own-calls-short policy valid few serial =
+    let ps = patterns_of policy.entries in
+    let names = only_if (list_any is_subtree policy.entries) OwnNames in
+    let later = serial + length (flat_map calls_for ps) in
+    omega (
+      arith,
+      few,
+      each-short ps valid serial,
+      names-short (list_any is_subtree policy.entries) later,
+      ap length (spelled_from-append serial (flat_map calls_for ps) names),
+      length-append (spelled_from serial (flat_map calls_for ps)) (spelled_from later names),
+    )
 
 -- ---- the calls for listed names, against the list
 

@@ -57,36 +57,6 @@ pub own-count : (policy : Policy) (k n : ℕ) (b : Bool) → length (patterns_of
     n + length (only_if b OwnNames) ≡ length (own_calls policy)
 own-count policy k n b le is n_is = omega (arith, n_is, ap length (own-calls policy k b le is), length-append (calls_for_first k policy.entries) (only_if b OwnNames))
 
--- ---- how many bytes
-
-pub next-len : (es : List Entry) (k : ℕ) (p : Pattern) (n m : ℕ) → slice_get (patterns_of es) (k + 1 - 1) ≡ Some p →
-    ((serial : ℕ) → n ≡ length (spelled_from serial (calls_for_first k es))) → ((serial : ℕ) → m ≡ length (spelled_from serial (calls_for p))) →
-    (serial : ℕ) → n + m ≡ length (spelled_from serial (calls_for_first (k + 1) es))
-next-len es k p n m at n_is m_is serial =
-    let first = calls_for_first k es in
-    omega (
-      arith,
-      n_is serial,
-      m_is (serial + length first),
-      ap (λ (s : List Sent). length (spelled_from serial s)) (next-calls es k p at),
-      ap length (spelled_from-append serial first (calls_for p)),
-      length-append (spelled_from serial first) (spelled_from (serial + length first) (calls_for p)),
-    )
-
-pub own-len : (policy : Policy) (k n m : ℕ) (b : Bool) → length (patterns_of policy.entries) ≤ k → b ≡ list_any is_subtree policy.entries →
-    ((serial : ℕ) → n ≡ length (spelled_from serial (calls_for_first k policy.entries))) → ((serial : ℕ) → m ≡ length (spelled_from serial (only_if b OwnNames))) →
-    (serial : ℕ) → n + m ≡ length (spelled_from serial (own_calls policy))
-own-len policy k n m b le is n_is m_is serial =
-    let first = calls_for_first k policy.entries in
-    omega (
-      arith,
-      n_is serial,
-      m_is (serial + length first),
-      ap (λ (s : List Sent). length (spelled_from serial s)) (own-calls policy k b le is),
-      ap length (spelled_from-append serial first (only_if b OwnNames)),
-      length-append (spelled_from serial first) (spelled_from (serial + length first) (only_if b OwnNames)),
-    )
-
 -- ---- sending them
 
 -- those that are left behind the first patterns

@@ -1,5 +1,5 @@
 //! The calls right behind the first `Hello`: those for each pattern of the policy, and ListNames where one is `N.*`.
-ghost use Rattle.std.specs.Prelude.{◌≡◌, ◌≤◌, ◌++◌, ◌+◌, ◌*◌, ℕ, OnErr, OnOk, length};
+ghost use Rattle.std.specs.Prelude.{◌≡◌, ◌≤◌, ◌++◌, ◌+◌, OnErr, OnOk, length};
 ghost use Rattle.std.specs.List.{list_any};
 ghost use Rattle.own_calls.specs.Sending.{AreCutOff, expecting};
 ghost use Rattle.policy_args.specs.Policy.{patterns_of};
@@ -9,14 +9,10 @@ ghost use Rattle.serial_map.specs.Serials.{most_serials};
 use crate::sending::{put_calls_for, put_names};
 use bytes::BytesMut;
 use name_patterns::Pattern;
-use ping_rewrite::{add_match_len, get_owner_len};
 use policy_args::Policy;
 use reply_ledger::Ledger;
 use serial_map::Serials;
 use std::alloc::{AllocError, Global};
-
-/// How many bytes a call of ListNames has.
-const LIST_NAMES_LEN: usize = 136;
 
 /// How many calls `after_hello` puts: one or two for each pattern, and one more where a pattern is `N.*`.
 pub fn count(policy: &Policy) -> u32
@@ -30,23 +26,6 @@ pub fn count(policy: &Policy) -> u32
         count + 1
     } else {
         count
-    }
-}
-
-/// How many bytes the calls have that `after_hello` puts: for each of at most 65,535 patterns an AddMatch of at most 514 and
-/// a GetNameOwner of at most 404, or an AddMatch of at most 523; and 136 for ListNames.
-pub fn after_hello_len(policy: &Policy) -> usize
-    ensures len { (serial : ℕ) → result ≡ length (spelled_from serial (own_calls policy.now)) }
-    ensures short { result ≤ 65535 * 918 + 136 }
-{
-    let mut len = 0;
-    for index in 0..pattern_count(policy) {
-        len += calls_for_len(policy.pattern(index + 1));
-    }
-    if has_subtree(policy) {
-        len + LIST_NAMES_LEN
-    } else {
-        len
     }
 }
 
@@ -77,7 +56,7 @@ pub fn after_hello(
 }
 
 /// How many patterns the policy has: no more than entries.
-fn pattern_count(policy: &Policy) -> u32
+pub(crate) fn pattern_count(policy: &Policy) -> u32
     ensures count { result ≡ length (patterns_of policy.now.entries) }
     ensures most { result ≤ 65535 }
 {
@@ -103,17 +82,4 @@ fn calls_for_count(pattern: &Pattern) -> u32
     ensures few { result ≤ 2 }
 {
     if pattern.is_exact() { 2 } else { 1 }
-}
-
-/// How many bytes the calls have that learn who owns the names of a pattern.
-fn calls_for_len(pattern: &Pattern) -> usize
-    ensures len { (serial : ℕ) → result ≡ length (spelled_from serial (calls_for pattern.now)) }
-    ensures short { result ≤ 918 }
-{
-    let add_match = add_match_len(pattern);
-    if pattern.is_exact() {
-        add_match + get_owner_len(pattern.name())
-    } else {
-        add_match
-    }
 }

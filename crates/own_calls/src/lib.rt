@@ -10,6 +10,6 @@ mod laws;
 mod listed;
 mod sending;
 
-pub use hello::{after_hello, after_hello_len, count};
-pub use laws::lengths_of_asked;
+pub use hello::{after_hello, count};
+pub use laws::{after_hello_is_short, lengths_of_asked};
 pub use listed::{after_names, asked};

@@ -1,10 +1,15 @@
 //! Levels and entries of unique names by what was taught.
+ghost use Rattle.std.specs.Prelude.{◌≡◌, ◌<◌};
+
 use dbus_names::{BusName, Name};
+use name_patterns::Steps;
 use policy_args::{Fact, Level, Options, Policy, read_options, words_of};
 use std::alloc::Global;
+use std::marker::Brand;
 use std::process::Abort;
+use std::sync::ledger::{Blank, Ledger};
 use std::test::Fail;
-use unique_names::{LookedUp, Tracker};
+use unique_names::{Entries, Tracker};
 
 fn options_of(alloc: Global, words: &str) -> Result<Options, Fail> {
     let words = words_of(alloc, words.as_bytes())?;
@@ -41,10 +46,10 @@ fn taught(alloc: Global, policy: &Policy, facts: &str) -> Result<Tracker, Fail> 
     Ok(tracker)
 }
 
-/// Whether these are the numbers of the name's entries.
-fn has_entries(known: LookedUp<'_>, expected: &[u32]) -> bool {
+/// Whether these are the numbers of the entries.
+fn has_entries(entries: Entries<'_>, expected: &[u32]) -> bool {
     let mut left = expected;
-    for number in known.entries() {
+    for number in entries {
         match left {
             [first, rest @ ..] if *first == number => left = rest,
             _ => return false,
@@ -53,14 +58,46 @@ fn has_entries(known: LookedUp<'_>, expected: &[u32]) -> bool {
     left.is_empty()
 }
 
+/// A bus name that is looked up, and the numbers that its entries are to have.
+#[derive(Drop)]
+struct Expected<'a> {
+    tracker: &'a Tracker,
+    policy: &'a Policy,
+    name: BusName<'a>,
+    entries: &'a [u32],
+}
+
+/// The level of the name, if its entries have these numbers.
+fn looked_up<L: Ledger>(expected: Expected<'_>, blank: Blank) -> Option<Level>
+    requires name { blank.name ≡ L.name }
+    requires parts { blank.parts ≡ L.parts }
+    requires some { 0 < blank.parts }
+{
+    let mut steps: Steps<L> = Steps::new(blank);
+    let known = expected
+        .tracker
+        .look_up(expected.policy, expected.name, &mut steps);
+    let level = known.level(&mut steps);
+    if has_entries(known.entries(&mut steps), expected.entries) {
+        Some(level)
+    } else {
+        None
+    }
+}
+
 /// The level of a text, where it is looked up with the same and with entries of these numbers if it is a bus name, and has
 /// no entries if it isn't.
 fn level_with(tracker: &Tracker, policy: &Policy, text: &str, entries: &[u32]) -> Option<Level> {
     let level = tracker.level(policy, text);
     let is_told = match BusName::read(text) {
         Some(name) => {
-            let known = tracker.look_up(policy, name);
-            known.level() == level && has_entries(known, entries)
+            let expected = Expected {
+                tracker,
+                policy,
+                name,
+                entries,
+            };
+            looked_up::<Brand>(expected, Blank::new(1)) == Some(level)
         }
         None => entries.is_empty(),
     };

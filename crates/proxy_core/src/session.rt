@@ -23,7 +23,7 @@ mod watching;
 use crate::stream::Stream;
 use crate::watch::{Watch, next_of};
 use out_queue::OutQueue;
-use own_calls::after_hello_len;
+use own_calls::after_hello_is_short;
 use policy_args::Policy;
 use policy_view::{End, Fault, Mode, Note, Side, Visible};
 use reply_ledger::Ledger;
@@ -114,7 +114,7 @@ impl Session {
         ensures light { IfOk result (λ s. weight policy.now s ≤ MOST_OWN_BYTES) }
     {
         // A bound on the own calls bounds what will wait for the bus.
-        let _most = after_hello_len(policy);
+        after_hello_is_short(policy);
         Ok(Session {
             mode,
             to_bus: OutQueue::new(alloc),
