@@ -1,5 +1,6 @@
 #!/usr/bin/env python3
-"""Runs the commands of README.md and docs/TOOLS.md as they are written, before a private bus with a service of notifications.
+"""Runs the commands of README.md, docs/TOOLS.md and the manual page as they are written, before a private bus with a
+service of notifications.
 
 try_commands.py [--show]    with --show what each block prints is shown, too
 
@@ -16,6 +17,10 @@ DOCUMENTS = ["README.md", "docs/TOOLS.md"]
 STARTS = ("./zamtigarn", "printf ", "DBUS_SESSION_BUS_ADDRESS=")
 # The files of the commands, which are removed before and after.
 FILES = ["filtered-bus", "recorded-bus", "least-bus", "app.recording", "app.session", "app.policy", "app.output", "least.policy", "strict.policy"]
+# What is asked of a proxy that the manual page's example starts.
+LIST_NAMES = """ &
+DBUS_SESSION_BUS_ADDRESS="unix:path=$XDG_RUNTIME_DIR/app/bus" gdbus call --session --dest org.freedesktop.DBus \\
+    --object-path / --method org.freedesktop.DBus.ListNames"""
 # A comparison may end with 7, the answer no.
 COMPARISONS = (" twin ", " within ")
 
@@ -44,6 +49,16 @@ def blocks():
             text = part.strip("\n")
             if text.startswith(STARTS):
                 yield document, text
+
+
+def manual_blocks():
+    """The examples of the manual page, each in the background and then a list of the names that its proxy shows."""
+    document = "docs/zamtigarn.1"
+    with open(os.path.join(TOP, document), encoding="utf-8") as file:
+        parts = file.read().split(".Sh EXAMPLES", 1)[1].split(".Bd ")[1:]
+    for part in parts:
+        text = part.split("\n", 1)[1].split("\n.Ed", 1)[0].replace("\\e", "\\")
+        yield document, "./" + text + LIST_NAMES
 
 
 def clean():
@@ -86,9 +101,10 @@ def main():
             time.sleep(0.01)
         service = subprocess.Popen(["/usr/bin/python3", "-c", SERVICE, address], stdout=subprocess.PIPE)
         service.stdout.readline()
-        environment = dict(os.environ, DBUS_SESSION_BUS_ADDRESS=address)
+        os.mkdir(os.path.join(folder, "app"))
+        environment = dict(os.environ, DBUS_SESSION_BUS_ADDRESS=address, XDG_RUNTIME_DIR=folder)
         try:
-            results = [run(document, text, environment, show) for document, text in blocks()]
+            results = [run(document, text, environment, show) for document, text in [*blocks(), *manual_blocks()]]
         finally:
             for process in (service, bus):
                 process.terminate()
