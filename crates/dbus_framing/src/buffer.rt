@@ -7,14 +7,9 @@ use std::alloc::{AllocError, Global};
 use std::marker::Model;
 use std::mem;
 
-/// A buffer keeps the memory of at most so many bytes beside those that wait in it.
-const KEPT: usize = 4096;
-
-/// One that was emptied so often is filled again and again, and keeps more from then on.
-const OFTEN: u8 = 8;
-
-/// The memory that it keeps then: room for a few reads of a link.
-const KEPT_OFTEN: usize = 262_144;
+/// A buffer keeps the memory of at most so many bytes beside those that wait in it, room for a few reads of a link, until
+/// it gives it back.
+const KEPT: usize = 262_144;
 
 /// Fewer bytes aren't shared: to copy them costs less than memory and a write of their own.
 const LONG: usize = 65_536;
@@ -32,8 +27,6 @@ pub(crate) enum Content {
 #[derive(Drop)]
 pub(crate) struct Buffer {
     content: Content,
-    /// How often it was found empty when memory was freed, counted up to `OFTEN`.
-    emptied: u8,
     alloc: Global,
 }
 
@@ -62,7 +55,6 @@ impl Buffer {
     {
         Buffer {
             content: Content::Open(ByteQueue::new(alloc)),
-            emptied: 0,
             alloc,
         }
     }
@@ -77,7 +69,6 @@ impl Buffer {
         };
         Ok(Buffer {
             content: Content::Open(ByteQueue::from_vec(bytes)),
-            emptied: 0,
             alloc,
         })
     }
@@ -178,26 +169,34 @@ impl Buffer {
         }
     }
 
-    /// How much memory is kept beside the bytes that wait, now that some is to be freed.
-    fn kept(&mut self) -> usize
-        ensures { self.new ≡ self.old }
+    /// Takes memory that another buffer gave back.
+    pub(crate) fn take_room(&mut self, room: &mut Vec<u8>)
+        requires { room.old.items ≡ [] }
+        ensures same { self.new ≡ self.old }
+        ensures room { room.new.items ≡ [] }
     {
-        if self.emptied >= OFTEN {
-            return KEPT_OFTEN;
+        if let Content::Open(bytes) = &mut self.content {
+            bytes.take_room(room);
         }
-        if self.len() == 0 {
-            self.emptied += 1;
+    }
+
+    /// Gives back memory that isn't needed for what waits, for another buffer.
+    pub(crate) fn give_room(&mut self, room: &mut Vec<u8>)
+        requires { room.old.items ≡ [] }
+        ensures same { self.new ≡ self.old }
+        ensures room { room.new.items ≡ [] }
+    {
+        if let Content::Open(bytes) = &mut self.content {
+            bytes.give_room(self.alloc, room);
         }
-        KEPT
     }
 
     /// Frees memory that isn't kept, as far as there is some for a copy.
     pub(crate) fn release(&mut self)
         ensures { self.new ≡ self.old }
     {
-        let kept = self.kept();
         match &mut self.content {
-            Content::Open(bytes) => bytes.release(self.alloc, kept),
+            Content::Open(bytes) => bytes.release(self.alloc, KEPT),
             Content::Shared(bytes) => {
                 if let Ok(bytes) = ByteQueue::copy_from_slice(self.alloc, bytes.as_slice()) {
                     self.content = Content::Open(bytes);

@@ -15,6 +15,9 @@ use dbus_header::{KnownTexts, Malformed, Message, decode_knowing};
 use std::alloc::{AllocError, Global};
 use std::marker::Model;
 
+/// A message of more bytes keeps the room that was taken for it while it comes.
+const LONGEST_GIVEN: usize = 65_535;
+
 /// A stream of messages: pieces come in by `push`; `front` says what stands in front, `message` reads it in place, and `take` takes it.
 ///
 /// ```text
@@ -121,6 +124,27 @@ impl Framer {
         ensures bad_stays { (f : Fault) → fault self.old ≡ Some f → fault self.new ≡ Some f }
     {
         self.bytes.push(piece, self.state.awaited())
+    }
+
+    /// Takes memory that another framer gave back, for the bytes that are pushed next.
+    pub fn take_room(&mut self, room: &mut Vec<u8>)
+        requires { room.old.items ≡ [] }
+        ensures same { self.new ≡ self.old }
+        ensures room { room.new.items ≡ [] }
+    {
+        self.bytes.take_room(room);
+    }
+
+    /// Gives back memory for another framer. One that waits for no more of a message keeps none; one that waits for the rest
+    /// of a long message keeps what it has.
+    pub fn give_room(&mut self, room: &mut Vec<u8>)
+        requires { room.old.items ≡ [] }
+        ensures same { self.new ≡ self.old }
+        ensures room { room.new.items ≡ [] }
+    {
+        if self.state.awaited() <= LONGEST_GIVEN {
+            self.bytes.give_room(room);
+        }
     }
 
     /// What stands in front, of which only the head is looked at, and that once. Nothing changes.

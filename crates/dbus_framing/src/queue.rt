@@ -9,6 +9,12 @@ use std::mem;
 /// A piece of a stream is mostly no longer. The last one of a message holds as much of what follows it.
 const BEHIND: usize = 65_536;
 
+/// Of bytes that wait no more are copied to give back the memory in which they lie.
+const SHORT: usize = 1024;
+
+/// Memory for more bytes isn't given back to be used again.
+const LONGEST_ROOM: usize = 262_144;
+
 /// Bytes that wait, in memory that nothing else reaches.
 ///
 /// ```text
@@ -188,6 +194,42 @@ impl ByteQueue {
         }
         self.bytes.clear();
         self.given = 0;
+    }
+
+    /// Takes the memory that another queue gave back, where no bytes wait here.
+    pub(crate) fn take_room(&mut self, room: &mut Vec<u8>)
+        requires { room.old.items ≡ [] }
+        ensures same { self.new ≡ self.old }
+        ensures room { room.new.items ≡ [] }
+    {
+        if self.len() == 0 {
+            self.bytes.clear();
+            self.given = 0;
+            mem::swap(&mut self.bytes, room);
+        }
+    }
+
+    /// Gives back its memory, for another queue: all of it where no bytes wait, and where few wait in much memory all but a
+    /// copy of those. Of this memory and what was given back before, the larger is kept. Where memory for the copy is
+    /// short, nothing is given back.
+    pub(crate) fn give_room(&mut self, alloc: Global, room: &mut Vec<u8>)
+        requires { room.old.items ≡ [] }
+        ensures same { self.new ≡ self.old }
+        ensures room { room.new.items ≡ [] }
+    {
+        let waits = self.len();
+        if waits > SHORT || waits > 0 && self.bytes.capacity() <= 4 * SHORT {
+            return;
+        }
+        let Ok(rest) = Vec::from_slice(alloc, self.as_slice()) else {
+            return;
+        };
+        let mut given = mem::replace(&mut self.bytes, rest);
+        self.given = 0;
+        if given.capacity() > room.capacity() && given.capacity() <= LONGEST_ROOM {
+            given.clear();
+            mem::swap(&mut given, room);
+        }
     }
 
     /// The bytes such that they can be shared. None is copied. Where memory is short the queue comes back as it was.

@@ -15,11 +15,7 @@ const SHORT: usize = 4096;
 /// When so many bytes were joined they are sealed, so that what was written of them is freed.
 const LONG: usize = 65_536;
 
-/// A queue that was emptied so often keeps its room from then on: it is filled again and again, and one that is seldom used takes
-/// no memory meanwhile.
-const OFTEN: u8 = 8;
-
-/// A queue without bytes keeps the room for at most so many.
+/// A queue without bytes keeps the room for at most so many, until it gives it back.
 const KEPT: usize = 131_072;
 
 /// It keeps the room for at most so many parts.
@@ -43,8 +39,6 @@ pub struct OutQueue {
     /// How many bytes the parts have.
     sealed: u64,
     joined: BytesMut,
-    /// How often it was emptied, counted up to `OFTEN`.
-    emptied: u8,
     alloc: Global,
 }
 
@@ -68,7 +62,6 @@ impl OutQueue {
             parts: VecDeque::new(alloc),
             sealed: 0,
             joined: BytesMut::new(alloc),
-            emptied: 0,
             alloc,
         }
     }
@@ -197,6 +190,36 @@ impl OutQueue {
         self.release();
     }
 
+    /// Takes the room that another queue gave back, where nothing is joined here.
+    pub fn take_room(&mut self, room: &mut BytesMut)
+        requires { room.old.items ≡ [] }
+        ensures same { self.new ≡ self.old }
+        ensures room { room.new.items ≡ [] }
+    {
+        if self.joined.is_empty() {
+            mem::swap(&mut self.joined, room);
+        }
+    }
+
+    /// Gives back the room in which nothing is joined, for another queue. Of this room and the one that was given back
+    /// before, the larger is kept. A queue in which no bytes wait keeps no memory then.
+    pub fn give_room(&mut self, room: &mut BytesMut)
+        requires { room.old.items ≡ [] }
+        ensures same { self.new ≡ self.old }
+        ensures room { room.new.items ≡ [] }
+    {
+        if !self.joined.is_empty() {
+            return;
+        }
+        if self.joined.capacity() > room.capacity() {
+            mem::swap(&mut self.joined, room);
+        }
+        self.joined = BytesMut::new(self.alloc);
+        if self.parts.is_empty() {
+            self.parts = VecDeque::new(self.alloc);
+        }
+    }
+
     /// Takes bytes of the front, at most so many, and answers how many.
     fn take_front(&mut self, most: usize) -> usize
         requires some { 0 < most }
@@ -218,17 +241,6 @@ impl OutQueue {
         taken
     }
 
-    /// Whether the queue, which is emptied, keeps the room for joined bytes.
-    fn keeps_room(&mut self) -> bool
-        ensures { self.new ≡ self.old }
-    {
-        if self.emptied < OFTEN {
-            self.emptied += 1;
-            return false;
-        }
-        self.joined.capacity() <= KEPT
-    }
-
     /// Frees what a queue without bytes doesn't keep.
     fn release(&mut self)
         ensures { self.new ≡ self.old }
@@ -237,7 +249,7 @@ impl OutQueue {
             return;
         }
         self.joined.clear();
-        if !self.keeps_room() {
+        if self.joined.capacity() > KEPT {
             self.joined = BytesMut::new(self.alloc);
         }
         if self.parts.capacity() > PARTS_KEPT {

@@ -14,4 +14,4 @@ mod session;
 mod stream;
 mod watch;
 
-pub use session::{LONGEST_STREAM, MOST_OWN_BYTES, Session};
+pub use session::{LONGEST_STREAM, MOST_OWN_BYTES, Room, Session};

@@ -17,6 +17,7 @@ mod lines;
 mod noting;
 mod raw;
 mod receiving;
+mod rooms;
 mod sending;
 mod watching;
 
@@ -27,6 +28,7 @@ use own_calls::after_hello_is_short;
 use policy_args::Policy;
 use policy_view::{End, Fault, Mode, Note, Side, Visible};
 use reply_ledger::Ledger;
+pub use rooms::Room;
 use serial_map::Serials;
 use std::alloc::{AllocError, Global};
 use std::collections::VecDeque;

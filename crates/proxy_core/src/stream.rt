@@ -115,6 +115,28 @@ impl Stream {
         Ok(())
     }
 
+    /// Takes memory that another stream gave back, while messages come.
+    pub(crate) fn take_room(&mut self, room: &mut Vec<u8>)
+        requires { room.old.items ≡ [] }
+        ensures same { self.new ≡ self.old }
+        ensures room { room.new.items ≡ [] }
+    {
+        if let Content::Messages(framer) = &mut self.content {
+            framer.take_room(room);
+        }
+    }
+
+    /// Gives memory back for another stream, while messages come.
+    pub(crate) fn give_room(&mut self, room: &mut Vec<u8>)
+        requires { room.old.items ≡ [] }
+        ensures same { self.new ≡ self.old }
+        ensures room { room.new.items ≡ [] }
+    {
+        if let Content::Messages(framer) = &mut self.content {
+            framer.give_room(room);
+        }
+    }
+
     /// What stands in front of the client's stream while lines come.
     pub(crate) fn next_client_line(&mut self) -> Result<NextLine, AllocError>
         requires { in_lines self.old.phase ≡ true }

@@ -8,6 +8,7 @@ use crate::table::Sessions;
 use crate::turns::{ServerEnd, Turn, take_turn};
 use link_traits::{Net, Sink};
 use policy_args::{Block, ProxyLine};
+use proxy_core::Room;
 use std::alloc::{AllocError, Global};
 use std::collections::HashMap;
 
@@ -24,6 +25,8 @@ pub struct Server {
     sessions: Sessions,
     // What a link is read into, for all sessions.
     buffer: Vec<u8>,
+    // Memory that one session gives back, and the next one takes.
+    spare: Room,
     ghost fits: { length blocks.items < 2 ^ 32 },
     ghost room: { length buffer.items ≡ read_room },
     ghost sound: { SoundTable blocks.items (table_of sessions).at },
@@ -63,6 +66,7 @@ impl Server {
                 running: HashMap::new(alloc),
             },
             buffer,
+            spare: Room::new(alloc),
         })
     }
 
@@ -99,6 +103,7 @@ impl Server {
             self.limit,
             &mut self.sessions,
             &mut self.buffer,
+            &mut self.spare,
         )
     }
 }

@@ -10,6 +10,7 @@ ghost use Rattle.proxy_loop.specs.Turns.{IsServed, LinkDid};
 use crate::serving::{Running, serve};
 use link_traits::{Link, Net, Side, Sink};
 use policy_args::Block;
+use proxy_core::Room;
 use std::alloc::Global;
 use std::collections::HashMap;
 
@@ -55,6 +56,26 @@ fn serve_at<N: Net, S: Sink>(
     );
 }
 
+/// Serves one session with the memory that the sessions before it gave back, and has it give back what it doesn't need.
+fn serve_with<N: Net, S: Sink>(
+    net: &mut N,
+    sink: &mut S,
+    alloc: Global,
+    blocks: &[Block],
+    running: &mut Running,
+    side: Side,
+    buffer: &mut [u8],
+    spare: &mut Room,
+)
+    requires sound { SoundUnder blocks.now running.old }
+    requires room { length buffer.old ≡ read_room }
+    ensures served { IsServed blocks.now side running.old running.new (N.view net.old) (N.view net.new) (sink_of (S.told sink.old) (S.faults sink.old)) (sink_of (S.told sink.new) (S.faults sink.new)) }
+{
+    running.session.take_room(side, spare);
+    serve_at(net, sink, alloc, blocks, running, side, buffer);
+    running.session.give_room(spare);
+}
+
 /// What a turn does where a link is named.
 pub fn serve_named<N: Net, S: Sink>(
     net: &mut N,
@@ -64,6 +85,7 @@ pub fn serve_named<N: Net, S: Sink>(
     sessions: &mut Sessions,
     link: Link,
     buffer: &mut [u8],
+    spare: &mut Room,
 )
     requires sound { SoundTable blocks.now (table_of sessions.old).at }
     requires room { length buffer.old ≡ read_room }
@@ -73,7 +95,7 @@ pub fn serve_named<N: Net, S: Sink>(
         return;
     };
     let running = &mut **held;
-    serve_at(net, sink, alloc, blocks, running, link.side, buffer);
+    serve_with(net, sink, alloc, blocks, running, link.side, buffer, spare);
     if !is_session_over(running) {
         return;
     }

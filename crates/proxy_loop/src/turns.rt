@@ -12,6 +12,7 @@ use crate::accept::accept_new;
 use crate::table::{Sessions, serve_named};
 use link_traits::{Net, Ready, Sink};
 use policy_args::Block;
+use proxy_core::Room;
 use std::alloc::{AllocError, Global};
 use thiserror::Error;
 
@@ -48,6 +49,7 @@ fn work_on<N: Net, S: Sink>(
     sessions: &mut Sessions,
     ready: Ready,
     buffer: &mut [u8],
+    spare: &mut Room,
 ) -> Result<(), AllocError>
     requires sound { SoundTable blocks.now (table_of sessions.old).at }
     requires room { length buffer.old ≡ read_room }
@@ -65,7 +67,7 @@ fn work_on<N: Net, S: Sink>(
             accept_new(net, alloc, blocks, sessions, listener)
         }
         Ready::Link(link) => {
-            serve_named(net, sink, alloc, blocks, sessions, link, buffer);
+            serve_named(net, sink, alloc, blocks, sessions, link, buffer, spare);
             Ok(())
         }
         Ready::Quiet => Ok(()),
@@ -113,6 +115,7 @@ pub fn take_turn<N: Net, S: Sink>(
     limit: u32,
     sessions: &mut Sessions,
     buffer: &mut [u8],
+    spare: &mut Room,
 ) -> Result<Turn, ServerEnd>
     requires sound { SoundTable blocks.now (table_of sessions.old).at }
     requires room { length buffer.old ≡ read_room }
@@ -124,7 +127,7 @@ pub fn take_turn<N: Net, S: Sink>(
     ensures wait { IsErrOf result ServerEnd.Wait → RoseAt OfNet (N.view net.old) (N.view net.new) }
 {
     let ready = net.wait();
-    let worked = work_on(net, sink, alloc, blocks, limit, sessions, ready, buffer);
+    let worked = work_on(net, sink, alloc, blocks, limit, sessions, ready, buffer, spare);
     if worked.is_err() {
         return Err(ServerEnd::Memory);
     }

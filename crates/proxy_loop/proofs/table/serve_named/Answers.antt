@@ -18,12 +18,12 @@ returns g c =
     let got : get nat_eq c.args.sessions.now.running c.args.link.session ≡ Some c.in-Some.held.now = sym c.in-Some.ensures.value in
     let at : at_in c.args.sessions.now.running c.args.link.session ≡ Some c.deref_mut-running.result.now =
     ap (λ (o : Option (Box Running)). option_map (λ (b : Box Running). b.value) o) got ∙ ap (λ (r : Running). Some r) (sym c.deref_mut-running.ensures.value) in
-    let held : Box Running = record c.in-Some.held.now { value = c.serve_at.new.running } in
+    let held : Box Running = record c.in-Some.held.now { value = c.serve_with.new.running } in
     record {
       did = link_did c.args.blocks.now c.args.link (table_of c.args.sessions.now) (table_of (record { accepted = c.args.sessions.now.accepted; running = c.remove.new.self }))
-          c.deref_mut-running.result.now c.serve_at.new.running (g.N.Net.view c.args.net.now) (g.N.Net.view c.serve_at.new.net)
-          (sink_of (g.S.Sink.told c.args.sink.now) (g.S.Sink.faults c.args.sink.now)) (sink_of (g.S.Sink.told c.serve_at.new.sink) (g.S.Sink.faults c.serve_at.new.sink)) at c.serve_at.ensures.served
-          (sets_over c.args.link.session c.serve_at.new.running (table_of c.args.sessions.now).at (at_in (c.get_mut.follows.lender held))
+          c.deref_mut-running.result.now c.serve_with.new.running (g.N.Net.view c.args.net.now) (g.N.Net.view c.serve_with.new.net)
+          (sink_of (g.S.Sink.told c.args.sink.now) (g.S.Sink.faults c.args.sink.now)) (sink_of (g.S.Sink.told c.serve_with.new.sink) (g.S.Sink.faults c.serve_with.new.sink)) at c.serve_with.ensures.served
+          (sets_over c.args.link.session c.serve_with.new.running (table_of c.args.sessions.now).at (at_in (c.get_mut.follows.lender held))
           (table_of (record { accepted = c.args.sessions.now.accepted; running = c.remove.new.self })).at
           (sym c.is_session_over.ensures ∙ c.if-not-is_session_over.false)
           (λ k. ap (λ (o : Option (Box Running)). option_map (λ (b : Box Running). b.value) o) (((c.get_mut.follows.holds held).3 (rw got refl)).0 k)
@@ -37,13 +37,13 @@ returns-then-not-is_session_over g c =
     let got : get nat_eq c.args.sessions.now.running c.args.link.session ≡ Some c.in-Some.held.now = sym c.in-Some.ensures.value in
     let at : at_in c.args.sessions.now.running c.args.link.session ≡ Some c.deref_mut-running.result.now =
     ap (λ (o : Option (Box Running)). option_map (λ (b : Box Running). b.value) o) got ∙ ap (λ (r : Running). Some r) (sym c.deref_mut-running.ensures.value) in
-    let held : Box Running = record c.in-Some.held.now { value = c.serve_at.new.running } in
+    let held : Box Running = record c.in-Some.held.now { value = c.serve_with.new.running } in
     record {
       did = link_did c.args.blocks.now c.args.link (table_of c.args.sessions.now)
           (table_of (record { accepted = c.args.sessions.now.accepted; running = c.get_mut.follows.lender held }))
-          c.deref_mut-running.result.now c.serve_at.new.running (g.N.Net.view c.args.net.now) (g.N.Net.view c.serve_at.new.net)
-          (sink_of (g.S.Sink.told c.args.sink.now) (g.S.Sink.faults c.args.sink.now)) (sink_of (g.S.Sink.told c.serve_at.new.sink) (g.S.Sink.faults c.serve_at.new.sink)) at c.serve_at.ensures.served
-          (sets_held c.args.link.session c.serve_at.new.running (table_of c.args.sessions.now).at
+          c.deref_mut-running.result.now c.serve_with.new.running (g.N.Net.view c.args.net.now) (g.N.Net.view c.serve_with.new.net)
+          (sink_of (g.S.Sink.told c.args.sink.now) (g.S.Sink.faults c.args.sink.now)) (sink_of (g.S.Sink.told c.serve_with.new.sink) (g.S.Sink.faults c.serve_with.new.sink)) at c.serve_with.ensures.served
+          (sets_held c.args.link.session c.serve_with.new.running (table_of c.args.sessions.now).at
           (table_of (record { accepted = c.args.sessions.now.accepted; running = c.get_mut.follows.lender held })).at
           (sym c.is_session_over.ensures ∙ c.if-not-is_session_over.true)
           (λ k. ap (λ (o : Option (Box Running)). option_map (λ (b : Box Running). b.value) o) (((c.get_mut.follows.holds held).3 (rw got refl)).0 k)
