@@ -56,6 +56,14 @@ fn serve_at<N: Net, S: Sink>(
     );
 }
 
+/// The side of a session's streams that a link feeds.
+fn fed_side(side: Side) -> policy_view::Side {
+    match side {
+        Side::Client => policy_view::Side::Client,
+        Side::Bus => policy_view::Side::Bus,
+    }
+}
+
 /// Serves one session with the memory that the sessions before it gave back, and has it give back what it doesn't need.
 fn serve_with<N: Net, S: Sink>(
     net: &mut N,
@@ -71,7 +79,7 @@ fn serve_with<N: Net, S: Sink>(
     requires room { length buffer.old ≡ read_room }
     ensures served { IsServed blocks.now side running.old running.new (N.view net.old) (N.view net.new) (sink_of (S.told sink.old) (S.faults sink.old)) (sink_of (S.told sink.new) (S.faults sink.new)) }
 {
-    running.session.take_room(side, spare);
+    running.session.take_room(fed_side(side), spare);
     serve_at(net, sink, alloc, blocks, running, side, buffer);
     running.session.give_room(spare);
 }

@@ -127,7 +127,9 @@ pub fn take_turn<N: Net, S: Sink>(
     ensures wait { IsErrOf result ServerEnd.Wait → RoseAt OfNet (N.view net.old) (N.view net.new) }
 {
     let ready = net.wait();
-    let worked = work_on(net, sink, alloc, blocks, limit, sessions, ready, buffer, spare);
+    let worked = work_on(
+        net, sink, alloc, blocks, limit, sessions, ready, buffer, spare,
+    );
     if worked.is_err() {
         return Err(ServerEnd::Memory);
     }
