@@ -8,8 +8,8 @@ use Rattle.proxy_loop.specs.Tables.{at_in, table_of}
 use Rattle.proxy_loop.proofs.Tabled.{link_did, sets_held, sets_over, seen_set, seen_none}
 use Rattle.proxy_loop.proofs.table.serve_named.Goals as goal
 
-pub serve_at-requires-clause-sound : goal.serve_at-requires-clause-sound
-serve_at-requires-clause-sound g c =
+pub serve_with-requires-clause-sound : goal.serve_with-requires-clause-sound
+serve_with-requires-clause-sound g c =
     c.requires.sound.each c.args.link.session c.deref_mut-running.result.now
     (ap (λ (o : Option (Box Running)). option_map (λ (b : Box Running). b.value) o) (sym c.in-Some.ensures.value) ∙ ap (λ (r : Running). Some r) (sym c.deref_mut-running.ensures.value))
 
