@@ -1,5 +1,6 @@
 //! Calls of a net that are written in words, and what they answer.
-use link_traits::{Got, MemNet, Net, Ready};
+use link_traits::{Got, Net, Ready};
+use memory_links::MemNet;
 use std::alloc::{AllocError, Global};
 use test_nets::{link_of, name_of};
 use test_tables::text_of;

@@ -1,6 +1,7 @@
 //! Files in memory that are made and appended to. Each row has what appends answer, calls, and what each call answers,
 //! what the file then holds, and how many calls have failed.
-use link_traits::{FileFault, Files, MemFile, MemFiles};
+use link_traits::{FileFault, Files};
+use memory_links::{MemFile, MemFiles};
 use std::alloc::{AllocError, Global};
 use std::test::Fail;
 use test_tables::{text_of, wrong_row};

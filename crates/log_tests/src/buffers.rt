@@ -2,7 +2,8 @@
 use crate::frames::TYPE_5;
 use crate::noted::noted;
 use explain_log::LineBuffer;
-use link_traits::{MemSink, SinkFault};
+use link_traits::SinkFault;
+use memory_links::MemSink;
 use policy_view::{Decision, Note, Side, Verdict};
 use std::alloc::{AllocError, Global};
 use std::test::Fail;

@@ -1,6 +1,7 @@
 //! A hundred sessions side by side.
 use crate::served::{line_of, serve};
-use link_traits::{Link, MemNet, MemSink, Script, Side};
+use link_traits::{Link, Side};
+use memory_links::{MemNet, MemSink, Script};
 use proxy_loop::{Server, Turn};
 use std::alloc::{AllocError, Global};
 use std::test::Fail;

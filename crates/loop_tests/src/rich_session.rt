@@ -1,6 +1,6 @@
 //! A session that does much, as the server of a proxy line has it: what comes on its links, what is written to them, and its log.
 use crate::served::{line_of, serve};
-use link_traits::MemSink;
+use memory_links::MemSink;
 use proxy_loop::{Server, ServerEnd, Turn};
 use std::alloc::{AllocError, Global};
 use std::str;

@@ -1,5 +1,6 @@
 //! What a server does with the clients of a script, told in words.
-use link_traits::{MemSink, Net, Sink};
+use link_traits::{Net, Sink};
+use memory_links::MemSink;
 use policy_args::{LineRefusal, ProxyLine, read_line};
 use proxy_loop::{Server, ServerEnd, Turn};
 use std::alloc::{AllocError, Global};

@@ -4,8 +4,8 @@ use Rattle.std.specs.List.{slice_index_or, slice_set}
 use Rattle.std.specs.Str.{bytes_eq}
 use Rattle.std.proofs.lemmas.Slice.Eq.{bytes_eq-Decides}
 use Rattle.std.proofs.lemmas.Bool.{false_from_ne_true}
-use Rattle.link_traits.specs.Memory.{file_of, fails_in, IsPlace}
-use Rattle.link_traits.specs.declared.memory.MemFile.{MemFile}
+use Rattle.memory_links.specs.Memory.{file_of, fails_in, IsPlace}
+use Rattle.memory_links.specs.declared.memory.MemFile.{MemFile}
 
 -- a file has no other path than its own
 other_path : (own path p : List ℕ) → bytes_eq own path ≡ true → p ≢ path → bytes_eq own p ≡ false

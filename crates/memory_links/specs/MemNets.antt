@@ -3,12 +3,12 @@ use Rattle.std.specs.Prelude.{◌≡◌, Bool, true, false, [], Option, Some, No
 use Rattle.link_traits.specs.Journals.{Journal}
 use Rattle.link_traits.specs.Views.{NetView}
 use Rattle.link_traits.specs.Tables.{count_in, wishes_in}
-use Rattle.link_traits.specs.Transcripts.{is_spent}
-use Rattle.link_traits.specs.Scripts.{ends_next, next_place}
+use Rattle.memory_links.specs.Transcripts.{is_spent}
+use Rattle.memory_links.specs.Scripts.{ends_next, next_place}
 use Rattle.link_traits.specs.declared.links.Link.{Link}
 use Rattle.link_traits.specs.declared.links.Count.{Count}
-use Rattle.link_traits.specs.declared.scripts.Exception.TheVariants.{ReadFails, ReadNotReady}
-use Rattle.link_traits.specs.declared.mem_net.MemNet.{MemNet}
+use Rattle.memory_links.specs.declared.scripts.Exception.TheVariants.{ReadFails, ReadNotReady}
+use Rattle.memory_links.specs.declared.mem_net.MemNet.{MemNet}
 
 abbrev pub journal_if : Bool → Journal → Option Journal
 journal_if true entries = Some entries

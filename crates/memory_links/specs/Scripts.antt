@@ -6,13 +6,13 @@ use Rattle.link_traits.specs.declared.tables.LinkTable.{LinkTable}
 use Rattle.link_traits.specs.declared.links.Link.{Link as LinkOf}
 use Rattle.link_traits.specs.declared.links.Ready.{Ready}
 use Rattle.link_traits.specs.declared.links.Ready.TheVariants.{Listener, Link, Quiet, Failed}
-use Rattle.link_traits.specs.declared.scripts.Event.{Event}
-use Rattle.link_traits.specs.declared.scripts.Event.TheVariants.{Arrival, Piece, End, Room, Over}
-use Rattle.link_traits.specs.declared.scripts.Step.{Step}
-use Rattle.link_traits.specs.declared.scripts.Exception.{Exception}
-use Rattle.link_traits.specs.declared.scripts.Pace.{Pace}
-use Rattle.link_traits.specs.declared.scripts.Limit.{Limit}
-use Rattle.link_traits.specs.declared.scripts.Script.{Script}
+use Rattle.memory_links.specs.declared.scripts.Event.{Event}
+use Rattle.memory_links.specs.declared.scripts.Event.TheVariants.{Arrival, Piece, End, Room, Over}
+use Rattle.memory_links.specs.declared.scripts.Step.{Step}
+use Rattle.memory_links.specs.declared.scripts.Exception.{Exception}
+use Rattle.memory_links.specs.declared.scripts.Pace.{Pace}
+use Rattle.memory_links.specs.declared.scripts.Limit.{Limit}
+use Rattle.memory_links.specs.declared.scripts.Script.{Script}
 
 -- the place among its kind that a call has after so many others
 abbrev pub next_place : ℕ → ℕ

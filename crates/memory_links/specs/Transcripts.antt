@@ -2,9 +2,9 @@
 use Rattle.std.specs.Prelude.{ℕ, ◌+◌, ◌-◌, Bool, false, ◌==◌, ◌||◌, if◌then◌else◌, List, [], ◌∷◌, length, take, drop}
 use Rattle.link_traits.specs.Entries.{Entry, listened, ready, accepted, connected, read, finished, wrote, not_ready, failed, refused, shut}
 use Rattle.link_traits.specs.Journals.{Journal}
-use Rattle.link_traits.specs.declared.transcripts.Note.{Note}
-use Rattle.link_traits.specs.declared.transcripts.Note.TheVariants.{Listened, Ready, Accepted, Connected, Read, Finished, Wrote, NotReady, Failed, Refused, Shut}
-use Rattle.link_traits.specs.declared.transcripts.Noted.{Noted}
+use Rattle.memory_links.specs.declared.transcripts.Note.{Note}
+use Rattle.memory_links.specs.declared.transcripts.Note.TheVariants.{Listened, Ready, Accepted, Connected, Read, Finished, Wrote, NotReady, Failed, Refused, Shut}
+use Rattle.memory_links.specs.declared.transcripts.Noted.{Noted}
 
 -- the entry of a note with its bytes
 abbrev pub entry_of : Note → List ℕ → Entry

@@ -3,14 +3,16 @@ ghost use Rattle.std.specs.Prelude.{◌≡◌, ◌≢◌, ◌≤◌, ◌<◌, �
 ghost use Rattle.std.specs.Option.{option_map};
 ghost use Rattle.link_traits.specs.Entries.{Entry, ready, accepted, not_ready, failed, refused, shut};
 ghost use Rattle.link_traits.specs.Journals.{Journal, accepts, listens, accepts_by, listens_by, written};
-ghost use Rattle.link_traits.specs.Transcripts.{entry_of, bytes_of, is_spent, ceased, with_entry, entered, entered_unless_spent};
+ghost use Rattle.memory_links.specs.Transcripts.{entry_of, bytes_of, is_spent, ceased, with_entry, entered, entered_unless_spent};
 ghost use Rattle.link_traits.specs.Tables.{wishes_in, HasWish};
-ghost use Rattle.link_traits.specs.Scripts.{next_place};
+ghost use Rattle.memory_links.specs.Scripts.{next_place};
 
-use crate::links::{Accepted, Call, Count, Got, Link, Net, NetFault, Ready, Side, Took, Wishes};
 use crate::scripts::{Coming, Exception, Script};
-use crate::tables::LinkTable;
 use crate::transcripts::{Note, Transcript};
+use link_traits::links::{
+    Accepted, Call, Count, Got, Link, Net, NetFault, Ready, Side, Took, Wishes,
+};
+use link_traits::tables::LinkTable;
 use std::alloc::{AllocError, Global};
 
 /// How often each call was made.
@@ -43,8 +45,8 @@ pub struct MemNet {
 
 impl MemNet {
     ghost use Rattle.link_traits.specs.Views.{Adds, RoseAt, KeepsWishes};
-    ghost use Rattle.link_traits.specs.MemNets.{mem_view, IsNew};
-    ghost use Rattle.link_traits.specs.Scripts.{script_of};
+    ghost use Rattle.memory_links.specs.MemNets.{mem_view, IsNew};
+    ghost use Rattle.memory_links.specs.Scripts.{script_of};
 
     /// A net of a script, before anything happened, with room for so many entries of its journal, and for so many bytes of
     /// paths and of what is read and written. Memory for them is taken at once.
@@ -157,7 +159,7 @@ impl MemNet {
 impl MemNet {
     ghost use Rattle.link_traits.specs.Views.{Adds, RoseAt, KeepsWishes, KeepsOthers};
     ghost use Rattle.link_traits.specs.Answers.{listen_entry, accept_entry, connect_entry, no_wishes, client_link, bus_link, AfterAccept};
-    ghost use Rattle.link_traits.specs.MemNets.{mem_view};
+    ghost use Rattle.memory_links.specs.MemNets.{mem_view};
 
     /// Makes the next listener.
     fn make_listener(&mut self, listener: u32, path: &[u8]) -> Result<u32, NetFault>
@@ -249,7 +251,7 @@ impl MemNet {
 impl Net for MemNet {
     ghost use Rattle.link_traits.specs.Views.{Adds, RoseAt, KeepsWishes, KeepsOthers};
     ghost use Rattle.link_traits.specs.Answers.{listen_entry, accept_entry, connect_entry, read_entry, write_entry, no_wishes, client_link, bus_link, AfterAccept};
-    ghost use Rattle.link_traits.specs.MemNets.{mem_view, HasEndNext};
+    ghost use Rattle.memory_links.specs.MemNets.{mem_view, HasEndNext};
     ghost use Rattle.link_traits.specs.declared.links.Link.{Link};
     ghost use Rattle.link_traits.specs.declared.links.Wishes.{Wishes};
 

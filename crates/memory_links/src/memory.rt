@@ -1,10 +1,11 @@
 //! Files and a sink in memory, which tell all that they hold.
 ghost use Rattle.std.specs.Prelude.{◌≡◌, ◌≢◌, ◌≤◌, ◌<◌, ◌+◌, ◌-◌, ◌^◌, ◌++◌, ◌∷◌, ◌↔◌, ℕ, List, [], Some, None, Err, OnOk, OnErr, IfOk, IfSome, IfNone, IsErr, IsErrOf, IsSome, is_ok, length, take, min, vec_len, vec_capacity, option_map, if◌then◌else◌, false};
-ghost use Rattle.link_traits.specs.Memory.{file_of, told_of, fails_in, IsPlace, is_named, read_of, create_of, append_of, after_append, Answers, Reads, one_more, faults_after};
+ghost use Rattle.memory_links.specs.Memory.{file_of, told_of, fails_in, IsPlace, is_named, read_of, create_of, append_of, after_append, Answers, Reads, faults_after};
+ghost use Rattle.link_traits.specs.Counts.{one_more};
 ghost use Rattle.link_traits.specs.Told.{added, Rose, Given};
 
-use crate::outside::{FileFault, Files, Sink, SinkFault};
-use crate::read_paths::ReadPaths;
+use link_traits::outside::{FileFault, Files, Sink, SinkFault};
+use link_traits::read_paths::ReadPaths;
 use std::alloc::{AllocError, Global};
 
 /// A file in memory.

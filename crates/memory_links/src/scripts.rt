@@ -4,10 +4,10 @@
 //! otherwise: the first, the second or a later call of a kind fails, is refused memory or isn't ready, and a link takes no more
 //! than so many bytes, in each write or in all.
 ghost use Rattle.std.specs.Prelude.{◌≡◌, ◌≢◌, ◌≤◌, ◌<◌, ◌+◌, ◌↔◌, ℕ, false, length, IfSome, IfNone, Contains, IsTrue, OnOk, OnErr};
-ghost use Rattle.link_traits.specs.Scripts.{IsWished, hint_of, comes_on as is_of, is_end, ends_next};
+ghost use Rattle.memory_links.specs.Scripts.{IsWished, hint_of, comes_on as is_of, is_end, ends_next};
 
-use crate::links::{Link, Ready};
-use crate::tables::{LinkTable, is_same};
+use link_traits::links::{Link, Ready};
+use link_traits::tables::{LinkTable, is_same};
 use std::alloc::{AllocError, Global};
 
 /// A call that answers otherwise than by the steps, told by its place among the calls of its kind on the net, from 1.
@@ -85,7 +85,7 @@ pub struct Script {
 }
 
 impl Script {
-    ghost use Rattle.link_traits.specs.Scripts.{script_of, nothing_said, then_happens, then_comes, then_excepts, then_paces, then_limits};
+    ghost use Rattle.memory_links.specs.Scripts.{script_of, nothing_said, then_happens, then_comes, then_excepts, then_paces, then_limits};
 
     /// Nothing happens, and nothing goes otherwise.
     pub fn new(alloc: Global) -> Script

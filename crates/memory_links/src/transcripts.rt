@@ -1,10 +1,10 @@
 //! What the calls of a net in memory answered.
 ghost use Rattle.std.specs.Prelude.{◌≡◌, ◌≤◌, ◌<◌, ◌-◌, [], ◌∷◌, length, true, false, IfOk};
 ghost use Rattle.link_traits.specs.Journals.{written, written_by};
-ghost use Rattle.link_traits.specs.Transcripts.{entry_of, bytes_of};
+ghost use Rattle.memory_links.specs.Transcripts.{entry_of, bytes_of};
 
-use crate::links::{Call, Link, Ready};
-use crate::tables::is_same;
+use link_traits::links::{Call, Link, Ready};
+use link_traits::tables::is_same;
 use std::alloc::{AllocError, Global};
 use std::marker::Model;
 
@@ -44,7 +44,7 @@ pub struct Transcript {
 
 impl Model for Transcript {
     ghost use Rattle.std.specs.Prelude.{◌≡◌, ◌≤◌, ◌+◌, length, reverse, vec_len, vec_capacity};
-    ghost use Rattle.link_traits.specs.Transcripts.{TranscriptView, entries_of, bytes_in};
+    ghost use Rattle.memory_links.specs.Transcripts.{TranscriptView, entries_of, bytes_in};
 
     ghost Value = { TranscriptView };
 
@@ -73,7 +73,7 @@ fn written_part(link: Link, note: Note, bytes: &[u8]) -> &[u8]
 }
 
 impl Transcript {
-    ghost use Rattle.link_traits.specs.Transcripts.{is_spent, ceased, with_entry};
+    ghost use Rattle.memory_links.specs.Transcripts.{is_spent, ceased, with_entry};
 
     /// Nothing yet, with room for so many entries and bytes, for which memory is taken at once.
     pub fn new(alloc: Global, entries: usize, bytes: usize) -> Result<Transcript, AllocError>

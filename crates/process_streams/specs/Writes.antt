@@ -2,7 +2,7 @@
 use Rattle.std.specs.Prelude.{ℕ, Bool, true, false, Ok, Err, Result}
 use Rattle.std.specs.declared.io.ErrorKind.{ErrorKind}
 use Rattle.std.specs.declared.io.ErrorKind.TheVariants.{WouldBlock, Interrupted}
-use Rattle.link_traits.specs.Memory.{one_more}
+use Rattle.link_traits.specs.Counts.{one_more}
 
 -- the stream takes nothing at this time, or a signal came first
 abbrev pub is_retried : ErrorKind → Bool

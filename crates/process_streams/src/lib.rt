@@ -15,6 +15,3 @@ pub use faults::{ProcessFault, is_tool_name, tell_fault};
 pub use retries::is_retried;
 pub use std_sink::StdSink;
 pub use words::{Arguments, ProcessArguments, words_of_process};
-
-#[cfg(test)]
-mod tests;

@@ -1,11 +1,11 @@
 //! The words, the descriptors and the lines of a process.
 ghost use Rattle.std.specs.Prelude.{Some};
 
-use crate::{
+use memory_links::MemSink;
+use process_streams::{
     Descriptors, OpenFault, ProcessArguments, ProcessFault, SystemDescriptors, fill_closed,
     tell_fault, words_of_process,
 };
-use link_traits::MemSink;
 use std::alloc::{AllocError, Global};
 use std::env::{Env, FillError};
 use std::os::fd::RawFd;

@@ -1,6 +1,6 @@
 //! The words and the files of runs that end without a session, each with its status and its line.
 use crate::runs::{Ended, file, replay, run_over};
-use link_traits::MemFile;
+use memory_links::MemFile;
 use proxy_main::POLICY_LIMIT;
 use recording::RECORDING_LIMIT;
 use std::alloc::{AllocError, Global};

@@ -2,7 +2,8 @@
 use crate::audits::TWICE;
 use crate::explaining::{SEE, SEEN};
 use crate::runs::file;
-use link_traits::{Gate, MemFiles, MemSink};
+use link_traits::Gate;
+use memory_links::{MemFiles, MemSink};
 use proxy_main::tool;
 use std::alloc::{AllocError, Global};
 use std::str;

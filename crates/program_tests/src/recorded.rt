@@ -1,6 +1,6 @@
 //! Lines that are recorded: what the file holds, and what a replay of it writes.
 use crate::runs::{Ended, file, run_files, run_over};
-use link_traits::{MemFiles, MemNet};
+use memory_links::{MemFiles, MemNet};
 use std::alloc::{AllocError, Global};
 use std::str;
 use std::test::Fail;

@@ -1,5 +1,5 @@
 //! Runs of the program over files, nets and sinks in memory.
-use link_traits::{MemFile, MemFiles, MemNet, MemSink};
+use memory_links::{MemFile, MemFiles, MemNet, MemSink};
 use proxy_main::run;
 use std::alloc::{AllocError, Global};
 use std::thread::Threads;

@@ -1,7 +1,7 @@
 //! The proxy line: bad words, files of words, and what is served over a net in memory.
 use crate::runs::{Ended, file, run_on_net, run_over};
 use line_words::ARGS_LIMIT;
-use link_traits::MemFile;
+use memory_links::MemFile;
 use std::alloc::{AllocError, Global};
 use std::str;
 use std::test::Fail;

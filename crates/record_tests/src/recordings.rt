@@ -1,7 +1,8 @@
 //! What a recorder appends, by what a net in memory answers. A row has the net's script, what appends answer, calls,
 //! and then what the calls answer, what the file holds and the first error of an append.
 use crate::calls::told_calls;
-use link_traits::{Got, Link, MemFiles, MemNet, Net, Script, Side};
+use link_traits::{Got, Link, Net, Side};
+use memory_links::{MemFiles, MemNet, Script};
 use record_net::{RecordFile, Recorder};
 use std::alloc::{AllocError, Global};
 use std::test::Fail;

@@ -2,7 +2,8 @@
 //! the net's script, and then how the server ends, the first error of an append, what was written to the links and what the file
 //! holds. Where the file can't be made, the error is told, and what the net answers to its first listen then.
 use crate::recordings::{files, held};
-use link_traits::{MemNet, MemSink, Net, NetFault};
+use link_traits::{Net, NetFault};
+use memory_links::{MemNet, MemSink};
 use policy_args::{LineRefusal, ProxyLine, read_line};
 use recorded_run::serve_recorded;
 use std::alloc::{AllocError, Global};

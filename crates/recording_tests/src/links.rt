@@ -1,7 +1,6 @@
 //! Reads and writes in memory, those that fail too.
-use link_traits::{
-    FileFault, Files, MemFile, MemFiles, MemSink, Sink, SinkFault, read_whole, write_all,
-};
+use link_traits::{FileFault, Files, Sink, SinkFault, read_whole, write_all};
+use memory_links::{MemFile, MemFiles, MemSink};
 use std::alloc::{AllocError, Global};
 use std::test::Fail;
 use test_tables::{text_of, wrong_row};

@@ -1,5 +1,5 @@
 //! Runs of the program over files and sinks in memory.
-use link_traits::{MemFile, MemFiles, MemSink};
+use memory_links::{MemFile, MemFiles, MemSink};
 use proxy_main::run;
 use std::alloc::{AllocError, Global};
 use std::thread::Threads;

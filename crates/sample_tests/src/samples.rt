@@ -1,6 +1,6 @@
 //! Samples, byte for byte, and what a sink gets that fails.
 use crate::rows::{Row, row_of};
-use link_traits::MemSink;
+use memory_links::MemSink;
 use recording::{Event, Recording, RecordingRefusal, Side, read};
 use sample::{MOST_DRAWS, SampleFault, sample};
 use std::alloc::{AllocError, Global};

@@ -1,6 +1,6 @@
 //! Summaries of samples.
 use crate::rows::row_of;
-use link_traits::MemSink;
+use memory_links::MemSink;
 use sample::{MOST_DRAWS, summary};
 use std::alloc::{AllocError, Global};
 use std::test::Fail;

@@ -4,7 +4,7 @@ ghost use Rattle.recording.specs.SessionsSeen.{IsReadable, sessions_seen};
 
 use crate::replays::{REPLAYS, told_output};
 use crate::texts::options_of;
-use link_traits::MemSink;
+use memory_links::MemSink;
 use policy_args::{Options, read_options};
 use recording::{RecordingRefusal, Sessions, read_any};
 use replay::replay_sessions;

@@ -1,7 +1,7 @@
 //! What a replay writes of a recording.
 use crate::notes::told_parts;
 use crate::texts::options_of;
-use link_traits::MemSink;
+use memory_links::MemSink;
 use policy_args::Options;
 use recording::{RecordingRefusal, read};
 use replay::{ReplayFault, notes, replay};

@@ -1,9 +1,10 @@
 //! Nets in memory that are made of texts.
 ghost use Rattle.std.specs.Prelude.{◌≡◌, ◌++◌, IfOk, decimal, string_bytes};
-ghost use Rattle.link_traits.specs.MemNets.{IsNew, mem_view};
+ghost use Rattle.memory_links.specs.MemNets.{IsNew, mem_view};
 ghost use Rattle.test_nets.specs.Names.{letter_of};
 
-use link_traits::{Exception, Link, MemNet, Script, Side};
+use link_traits::{Link, Side};
+use memory_links::{Exception, MemNet, Script};
 use std::alloc::{AllocError, Global};
 use test_tables::{plain, text_of};
 

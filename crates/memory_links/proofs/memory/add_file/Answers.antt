@@ -1,9 +1,9 @@
 use Rattle.std.proofs.Common.{refl, ap, ◌∙◌, List, Some}
 use Rattle.std.specs.Option.{option_map}
-use Rattle.link_traits.specs.Memory.{file_of, told_of, fails_in}
-use Rattle.link_traits.specs.declared.memory.MemFile.{MemFile}
-use Rattle.link_traits.proofs.Placed.{file_of-last, file_of-last_other, fails-last}
-use Rattle.link_traits.proofs.memory.add_file.Goals as goal
+use Rattle.memory_links.specs.Memory.{file_of, told_of, fails_in}
+use Rattle.memory_links.specs.declared.memory.MemFile.{MemFile}
+use Rattle.memory_links.proofs.Placed.{file_of-last, file_of-last_other, fails-last}
+use Rattle.memory_links.proofs.memory.add_file.Goals as goal
 
 pub returns-clause-ok : goal.returns-clause-ok
 returns-clause-ok c = ap (λ (l : List MemFile). told_of l c.args.path.now) c.in_ok-push.ensures.items

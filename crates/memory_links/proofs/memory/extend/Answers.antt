@@ -1,10 +1,10 @@
 use Rattle.std.proofs.Common.{refl, ap, sym, subst, ◌∙◌, List, Option, Some, Result, Ok, Err, OnErr}
 use Rattle.std.specs.Option.{option_map}
 use Rattle.link_traits.specs.Told.{added}
-use Rattle.link_traits.specs.Memory.{IsPlace, fails_in}
-use Rattle.link_traits.specs.declared.memory.MemFile.{MemFile}
-use Rattle.link_traits.proofs.Placed.{file_of-place, file_of-set, file_of-set_other, kept-set}
-use Rattle.link_traits.proofs.memory.extend.Goals as goal
+use Rattle.memory_links.specs.Memory.{IsPlace, fails_in}
+use Rattle.memory_links.specs.declared.memory.MemFile.{MemFile}
+use Rattle.memory_links.proofs.Placed.{file_of-place, file_of-set, file_of-set_other, kept-set}
+use Rattle.memory_links.proofs.memory.extend.Goals as goal
 
 pub returns-in_ok-extend_from_slice-clause-ok : goal.returns-in_ok-extend_from_slice-clause-ok
 returns-in_ok-extend_from_slice-clause-ok c =

@@ -1,9 +1,9 @@
 use Rattle.std.proofs.Common.{refl, ap, subst, ◌∙◌, List, Some}
 use Rattle.std.specs.Option.{option_map}
-use Rattle.link_traits.specs.Memory.{IsPlace, fails_in}
-use Rattle.link_traits.specs.declared.memory.MemFile.{MemFile}
-use Rattle.link_traits.proofs.Placed.{file_of-set, file_of-set_other, kept-set}
-use Rattle.link_traits.proofs.memory.make_empty.Goals as goal
+use Rattle.memory_links.specs.Memory.{IsPlace, fails_in}
+use Rattle.memory_links.specs.declared.memory.MemFile.{MemFile}
+use Rattle.memory_links.proofs.Placed.{file_of-set, file_of-set_other, kept-set}
+use Rattle.memory_links.proofs.memory.make_empty.Goals as goal
 
 pub returns-in-Some-clause-ok : goal.returns-in-Some-clause-ok
 returns-in-Some-clause-ok c =

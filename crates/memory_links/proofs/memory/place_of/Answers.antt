@@ -1,9 +1,9 @@
 use Rattle.std.proofs.Common.{◌≡◌, ap, sym, ◌∙◌, Bool, true, false, List, ℕ, string_bytes}
 use Rattle.std.specs.List.{slice_index_or}
 use Rattle.std.specs.Str.{bytes_eq}
-use Rattle.link_traits.specs.declared.memory.MemFile.{MemFile}
-use Rattle.link_traits.proofs.Placed.{passed-found, passed-next}
-use Rattle.link_traits.proofs.memory.place_of.Goals as goal
+use Rattle.memory_links.specs.declared.memory.MemFile.{MemFile}
+use Rattle.memory_links.proofs.Placed.{passed-found, passed-next}
+use Rattle.memory_links.proofs.memory.place_of.Goals as goal
 
 -- what the test of a file's path says of the file in the list
 test : (fs : List MemFile) (i : ℕ) (r : MemFile) (path read : List ℕ) (answer value : Bool) → r ≡ slice_index_or fs i r → read ≡ string_bytes r.path →

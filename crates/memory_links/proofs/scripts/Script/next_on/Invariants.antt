@@ -1,6 +1,6 @@
 use Rattle.std.proofs.Common.{◌≡◌, ◌+◌, length}
-use Rattle.link_traits.specs.Scripts.{ends_next}
-use Rattle.link_traits.proofs.scripts.Script.next_on.Given as goal
+use Rattle.memory_links.specs.Scripts.{ends_next}
+use Rattle.memory_links.proofs.scripts.Script.next_on.Given as goal
 
 abbrev pub invariant-loop-rest : goal.invariant-loop-rest
 invariant-loop-rest l = record {

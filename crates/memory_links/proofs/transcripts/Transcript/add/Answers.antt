@@ -1,8 +1,8 @@
 use Rattle.std.proofs.Common.{rules, ◌≡◌, ◌+◌, ◌-◌, ℕ, List, [], ◌∷◌, ◌++◌, length, ap, ap₂, sym, ◌∙◌, arith, length-append}
 use Rattle.link_traits.specs.Journals.{Journal}
-use Rattle.link_traits.specs.Transcripts.{bytes_in}
-use Rattle.link_traits.proofs.Entered.{bytes_in-append, reverse-entries_of}
-use Rattle.link_traits.proofs.transcripts.Transcript.add.Goals as goal
+use Rattle.memory_links.specs.Transcripts.{bytes_in}
+use Rattle.memory_links.proofs.Entered.{bytes_in-append, reverse-entries_of}
+use Rattle.memory_links.proofs.transcripts.Transcript.add.Goals as goal
 
 pub invariant_of-self : goal.invariant_of-self
 invariant_of-self c =

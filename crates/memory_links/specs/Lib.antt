@@ -1,0 +1,4 @@
+pub mod Scripts
+pub mod Memory
+pub mod Transcripts
+pub mod MemNets
