@@ -7,13 +7,13 @@ use Rattle.link_traits.proofs.Parts.{added-none, part_none, part_so_far}
 use Rattle.policy_args.specs.Words.{PolicyOptions}
 use Rattle.recording.specs.Recording.{Recording}
 use Rattle.recording.specs.Sessions.{Sessions}
-use Rattle.replay.specs.Output.{history_of}
+use Rattle.replay_output.specs.Output.{history_of}
 use Rattle.replay.specs.Logging.{WholeSessionLines}
 use Rattle.replay.specs.declared.session_notes.SessionNote.{SessionNote}
 use Rattle.explain_log.specs.Lines.{log_line}
 use Rattle.replay.specs.SessionsOutput.{in_session, log_of_sessions, noted_in, only_session, session_log, session_mode, sessions_noted}
 use Rattle.policy_view.specs.Notes.{notes}
-use Rattle.replay.specs.Explained.{explained}
+use Rattle.replay_output.specs.Explained.{explained}
 use Rattle.session_files.specs.OneSession.{session_file_of}
 use Rattle.suggestion.specs.Suggestion.{policy_for, suggestion_of}
 use Rattle.proxy_main.specs.declared.Refusal.{Refusal}

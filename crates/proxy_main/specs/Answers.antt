@@ -13,9 +13,9 @@ use Rattle.policy_args.specs.Words.{PolicyOptions, options_of, words_in, â—Œ>>=â
 use Rattle.policy_within.specs.Within.{answer_of as within_answer}
 use Rattle.recording.specs.Recording.{Recording, recording_of}
 use Rattle.recording.specs.Sessions.{Sessions, sessions_of}
-use Rattle.replay.specs.Output.{output_of_recording}
+use Rattle.replay_output.specs.Output.{output_of_recording}
 use Rattle.replay.specs.SessionsOutput.{output_of_sessions, log_of_sessions}
-use Rattle.replay.specs.Explained.{explained}
+use Rattle.replay_output.specs.Explained.{explained}
 use Rattle.replay.specs.Twins.{compared_under, part_of_recording, Compares}
 use Rattle.replay.specs.declared.comparing.TwinAnswer.{TwinAnswer}
 use Rattle.replay.specs.declared.comparing.TwinAnswer.TheVariants.{Same, Differ}

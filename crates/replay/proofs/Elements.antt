@@ -12,7 +12,7 @@ use Rattle.policy_view.specs.declared.visible.Visible.{Visible as Element}
 use Rattle.proxy_core.specs.Sessions.{SessionView, StandsFor, Taken, elements_given, is_memory, nothing, watching_at_start}
 use Rattle.proxy_core.specs.Steps.{IsLight}
 use Rattle.recording.specs.Recording.{Event as Recorded, Recording}
-use Rattle.replay.specs.Output.{event_of, events_of, mode_of}
+use Rattle.replay_output.specs.Output.{event_of, events_of, mode_of}
 use Rattle.replay.specs.Twins.{compared_under}
 use Rattle.replay.specs.Watching.{Gave, GaveAll, GaveNext, GaveWaiting, NothingWaits}
 use Rattle.replay.specs.declared.watching.Watched.{Watched}

@@ -4,8 +4,8 @@ use Rattle.link_traits.specs.Told.{added}
 use Rattle.policy_args.specs.Words.{PolicyOptions}
 use Rattle.policy_view.specs.Notes.{Note, notes}
 use Rattle.recording.specs.Recording.{Recording}
-use Rattle.replay.specs.Output.{history_of}
-use Rattle.replay.specs.Explained.{with_log, note_at, explanation, explained}
+use Rattle.replay_output.specs.Output.{history_of}
+use Rattle.replay_output.specs.Explained.{with_log, note_at, explanation, explained}
 
 -- by the session's notes
 pub explained_of : (o : PolicyOptions) (r : Recording) (ns : List Note) (number : ℕ) (found : Option Note) → (true ≡ true → ns ≡ notes o.policy (history_of (with_log o) r)) → found ≡ note_at ns number →

@@ -1,4 +1,3 @@
-pub mod Events
 pub mod Sides
 pub mod Records
 pub mod Logs

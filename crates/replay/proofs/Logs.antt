@@ -17,8 +17,8 @@ use Rattle.policy_view.specs.declared.Mode.{Mode}
 use Rattle.proxy_core.specs.Sessions.{SessionView, Holds, nothing}
 use Rattle.recording.specs.Recording.{Recording}
 use Rattle.replay.specs.Logging.{Joins, LineRefused, WholeLines}
-use Rattle.replay.specs.Output.{mode_of, history_of, log_of_recording, events_of}
-use Rattle.replay.specs.Explained.{noting_as, with_log}
+use Rattle.replay_output.specs.Output.{mode_of, history_of, log_of_recording, events_of}
+use Rattle.replay_output.specs.Explained.{noting_as, with_log}
 
 log-append : (a b : List Note) → log 1 (a ++ b) ≡ log 1 a ++ log 1 b
 log-append a b = flat_map-append (log_line 1) a b

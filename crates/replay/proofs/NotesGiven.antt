@@ -20,8 +20,8 @@ use Rattle.recording.specs.Recording as recorded
 use Rattle.recording.specs.Seen.{seen, size_of}
 use Rattle.recording.specs.declared.Event.{Event as Declared}
 use Rattle.recording.specs.declared.Side.{Side}
-use Rattle.replay.specs.Explained.{with_log}
-use Rattle.replay.specs.Output.{event_of, events_of, mode_of, side_of}
+use Rattle.replay_output.specs.Explained.{with_log}
+use Rattle.replay_output.specs.Output.{event_of, events_of, mode_of, side_of}
 use Rattle.replay.specs.PlayedNotes.{GaveNextNote, GaveNotes, GaveWaitingNote, left_behind, left_of, most_pieces, notes_under}
 use Rattle.replay.specs.declared.played_notes.PlayedNotes.{PlayedNotes}
 

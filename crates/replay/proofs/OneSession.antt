@@ -18,7 +18,7 @@ use Rattle.recording.specs.Recording.{Event as Recorded, Recording}
 use Rattle.recording.specs.Sessions.{SessionEvent, sessions_named}
 use Rattle.replay.specs.declared.session_notes.SessionNote.{SessionNote}
 use Rattle.replay.specs.OneSession.{as_version_2, in_one}
-use Rattle.replay.specs.Output.{event_of, events_of, history_of, mode_of}
+use Rattle.replay_output.specs.Output.{event_of, events_of, history_of, mode_of}
 use Rattle.replay.specs.SessionsOutput.{noted_in, event_by, in_session, is_of, log_of_sessions, output_of_sessions, outputs, own_events, session_history, session_log, session_output, sessions_noted}
 
 -- ---- its events

@@ -10,7 +10,7 @@ use Rattle.recording.specs.Recording as recorded
 use Rattle.recording.specs.Recording.{Recording}
 use Rattle.recording.specs.Sessions.{SessionEvent, Sessions, one_session_event, migrated}
 use Rattle.recording.specs.SessionsSeen.{IsReadable}
-use Rattle.replay.specs.Output.{history_of, event_of, events_of, log_of_recording, output_of_recording}
+use Rattle.replay_output.specs.Output.{history_of, event_of, events_of, log_of_recording, output_of_recording}
 use Rattle.replay.specs.SessionsOutput.{in_session, noted_in, event_by, happened, log_of_sessions, only_session, output_of_sessions, outputs, session_log, session_mode, sessions_noted, session_events}
 use Rattle.replay.specs.Waiting.{output_of}
 use Rattle.replay.proofs.Logs.{asked-is}

@@ -10,7 +10,7 @@ use Rattle.policy_view.specs.Past.{History, past}
 use Rattle.policy_view.specs.Visible.{part, visible_of}
 use Rattle.policy_view.specs.declared.Mode.{Mode}
 use Rattle.recording.specs.Recording.{Event as Recorded}
-use Rattle.replay.specs.Output.{event_of, events_of}
+use Rattle.replay_output.specs.Output.{event_of, events_of}
 
 -- ---- places in lists
 

@@ -3,7 +3,7 @@ use Rattle.std.proofs.Common.{◌≡◌, ℕ, List, [], ◌∷◌, refl, ap, sym
 use Rattle.std.specs.Int.{w64, to_le_bytes}
 use Rattle.policy_view.specs.declared.Fault.{Fault}
 use Rattle.policy_view.specs.declared.Fault.TheVariants.{Line, Message}
-use Rattle.replay.specs.Output.{fault_bytes}
+use Rattle.replay_output.specs.Output.{fault_bytes}
 
 -- its bytes, one by one
 abbrev pub laid_out : ℕ → ℕ → ℕ → List ℕ → List ℕ

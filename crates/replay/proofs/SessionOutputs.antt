@@ -14,7 +14,7 @@ use Rattle.policy_view.specs.declared.Mode.{Mode}
 use Rattle.proxy_core.specs.Sessions.{SessionView, Holds}
 use Rattle.recording.specs.Sessions.{SessionEvent, Sessions}
 use Rattle.recording.specs.SessionsSeen.{sessions_size}
-use Rattle.replay.specs.Output.{history_of, output_of_recording}
+use Rattle.replay_output.specs.Output.{history_of, output_of_recording}
 use Rattle.replay.specs.SessionsOutput.{noted_in, log_of_sessions, in_session, named_end, named_where_any, notes_brought, only_session, output_of_sessions, outputs, own_events, session_history, session_log, session_mode, session_output, sessions_noted}
 use Rattle.replay.specs.SessionsPlayed.{IsShort, PlayedSoFar, Plays, PlaysAt, noted_by, notes_taken}
 use Rattle.replay.specs.Waiting.{named_output}

@@ -11,7 +11,7 @@ use Rattle.policy_args.specs.Words.{PolicyOptions}
 use Rattle.proxy_core.specs.Sessions.{SessionView, Holds, nothing, waits_for}
 use Rattle.proxy_core.specs.Steps.{weight, IsLight}
 use Rattle.recording.specs.Recording.{Recording}
-use Rattle.replay.specs.Output.{record_where_any, end_record, mode_of, output_of_recording, events_of}
+use Rattle.replay_output.specs.Output.{record_where_any, end_record, mode_of, output_of_recording, events_of}
 use Rattle.replay.specs.Waiting.{with_waiting, output_of}
 
 waits-with : (side : Side) (bytes : List ℕ) (v : SessionView) → waits_for side (with_waiting side bytes v) ≡ bytes

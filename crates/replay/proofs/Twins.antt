@@ -17,7 +17,7 @@ use Rattle.policy_view.specs.declared.visible.Visible.{Visible as Element}
 use Rattle.proxy_core.specs.Sessions.{elements_given}
 use Rattle.proxy_core.proofs.Fronts.{visible_front}
 use Rattle.recording.specs.Recording.{Recording}
-use Rattle.replay.specs.Output.{events_of, history_of, mode_of, output_of_recording}
+use Rattle.replay_output.specs.Output.{events_of, history_of, mode_of, output_of_recording}
 use Rattle.replay.specs.Twins.{Compares, ComparesEnds, compared_under, part_of_recording}
 use Rattle.replay.specs.Watching.{Gave, GaveAll, GaveNext}
 use Rattle.replay.specs.declared.comparing.TwinAnswer.{TwinAnswer}

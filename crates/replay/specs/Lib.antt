@@ -1,9 +1,7 @@
-pub mod Output
 pub mod SessionsOutput
 pub mod Waiting
 pub mod SessionsPlayed
 pub mod OneSession
-pub mod Explained
 pub mod Twins
 pub mod Watching
 pub mod Logging

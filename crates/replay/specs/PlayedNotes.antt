@@ -8,8 +8,8 @@ use Rattle.proxy_core.specs.Sessions.{SessionView, StandsFor, Taken}
 use Rattle.recording.specs.Recording.{Recording}
 use Rattle.recording.specs.Recording as recorded
 use Rattle.recording.specs.Seen.{size_of}
-use Rattle.replay.specs.Explained.{with_log}
-use Rattle.replay.specs.Output.{events_of, history_of, mode_of}
+use Rattle.replay_output.specs.Explained.{with_log}
+use Rattle.replay_output.specs.Output.{events_of, history_of, mode_of}
 use Rattle.replay.specs.declared.played_notes.PlayedNotes.{PlayedNotes}
 
 -- the events that are left where so many bytes of the first were played

@@ -14,7 +14,7 @@ use Rattle.policy_view.specs.Outputs.{bus_bytes, client_bytes}
 use Rattle.policy_view.specs.Past.{History}
 use Rattle.recording.specs.Recording as recorded
 use Rattle.recording.specs.Sessions.{SessionEvent, Sessions, What, Happened, Stopped, record_head, sessions_named}
-use Rattle.replay.specs.Output.{end_bytes, event_of, header, history_of, output_of_recording}
+use Rattle.replay_output.specs.Output.{end_bytes, event_of, header, history_of, output_of_recording}
 use Rattle.replay.specs.declared.session_notes.SessionNote.{SessionNote}
 
 -- ---- the events of a session

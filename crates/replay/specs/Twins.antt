@@ -6,7 +6,7 @@ use Rattle.policy_view.specs.Elements.{DifferFirst}
 use Rattle.policy_view.specs.Visible.{Visible, part}
 use Rattle.policy_view.specs.declared.End.{End}
 use Rattle.recording.specs.Recording.{Recording}
-use Rattle.replay.specs.Output.{history_of}
+use Rattle.replay_output.specs.Output.{history_of}
 use Rattle.replay.specs.declared.comparing.TwinAnswer.{TwinAnswer}
 use Rattle.replay.specs.declared.comparing.TwinAnswer.TheVariants.{Same, Differ}
 

@@ -3,7 +3,7 @@ use Rattle.std.specs.Prelude.{ℕ, List, ◌++◌, Option}
 use Rattle.policy_view.specs.declared.Side.{Side}
 use Rattle.policy_view.specs.declared.Side.TheVariants.{Client, Bus}
 use Rattle.proxy_core.specs.Sessions.{SessionView}
-use Rattle.replay.specs.Output.{record_where_any, end_record}
+use Rattle.replay_output.specs.Output.{record_where_any, end_record}
 use Rattle.replay.specs.SessionsOutput.{named_end, named_where_any}
 
 -- the session with these bytes waiting for a side

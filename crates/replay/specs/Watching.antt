@@ -7,7 +7,7 @@ use Rattle.policy_view.specs.History.{end_of}
 use Rattle.policy_view.specs.declared.visible.Visible.{Visible as Element}
 use Rattle.proxy_core.specs.Sessions.{SessionView, StandsFor, Taken}
 use Rattle.recording.specs.Recording.{Recording}
-use Rattle.replay.specs.Output.{events_of, history_of, mode_of}
+use Rattle.replay_output.specs.Output.{events_of, history_of, mode_of}
 use Rattle.replay.specs.Twins.{compared_under}
 use Rattle.replay.specs.declared.watching.Watched.{Watched}
 

@@ -1,7 +1,7 @@
 //! Comparing two recordings by what the policy lets be seen of them.
 ghost use Rattle.std.specs.Prelude.{◌≡◌, ◌↔◌, [], IfOk, IsTrue};
 ghost use Rattle.recording.specs.Seen.{recording_seen};
-ghost use Rattle.replay.specs.Output.{output_of_recording};
+ghost use Rattle.replay_output.specs.Output.{output_of_recording};
 ghost use Rattle.replay.specs.Watching.{Gave};
 ghost use Rattle.replay.specs.Twins.{Compares, ComparesEnds, compared_under, part_of_recording};
 

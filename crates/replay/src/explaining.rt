@@ -1,7 +1,7 @@
 //! Explaining a message of a recording: the line of its note, and that of the entry on which its decision rests.
 ghost use Rattle.std.specs.Prelude.{◌≡◌, ◌≤◌, ◌⊎◌, ◌++◌, [], None, IsSome, OnOk, OnErr, IsErrOf, IfSome, List, ℕ, option_map, string_bytes, unwrap_or};
 ghost use Rattle.link_traits.specs.Told.{added, Rose, Part};
-ghost use Rattle.replay.specs.Explained.{note_at, explanation};
+ghost use Rattle.replay_output.specs.Explained.{note_at, explanation};
 
 use crate::ExplainFault;
 use crate::logging::SESSION;

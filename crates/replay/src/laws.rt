@@ -6,7 +6,7 @@ ghost use Rattle.policy_view.specs.Notes.{notes};
 ghost use Rattle.recording.specs.Recording.{Recording};
 ghost use Rattle.recording.specs.Sessions.{migrated};
 ghost use Rattle.replay.specs.OneSession.{as_version_2};
-ghost use Rattle.replay.specs.Output.{history_of, log_of_recording, output_of_recording};
+ghost use Rattle.replay_output.specs.Output.{history_of, log_of_recording, output_of_recording};
 ghost use Rattle.replay.specs.SessionsOutput.{log_of_sessions, output_of_sessions, session_output};
 
 use policy_view::bytes_only_grow;

@@ -37,8 +37,8 @@ ghost use Rattle.policy_args.specs.Seen.{options_seen};
 ghost use Rattle.recording.specs.Seen.{recording_seen, size};
 ghost use Rattle.recording.specs.SessionsSeen.{IsReadable, sessions_seen};
 ghost use Rattle.policy_view.specs.Notes.{notes as notes_of};
-ghost use Rattle.replay.specs.Output.{history_of, output_of_recording, log_of_recording};
-ghost use Rattle.replay.specs.Explained.{explained, with_log};
+ghost use Rattle.replay_output.specs.Output.{history_of, output_of_recording, log_of_recording};
+ghost use Rattle.replay_output.specs.Explained.{explained, with_log};
 ghost use Rattle.replay.specs.Logging.{WholeLines, WholeSessionLines};
 ghost use Rattle.replay.specs.SessionsOutput.{log_of_sessions, noted_in, output_of_sessions};
 

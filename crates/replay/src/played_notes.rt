@@ -8,7 +8,7 @@ ghost use Rattle.policy_view.specs.Notes.{Note as NoteValue};
 ghost use Rattle.proxy_core.specs.Sessions.{StandsFor, Taken};
 ghost use Rattle.recording.specs.Recording.{Recording as RecordingValue};
 ghost use Rattle.recording.specs.Seen.{recording_seen};
-ghost use Rattle.replay.specs.Output.{side_of};
+ghost use Rattle.replay_output.specs.Output.{side_of};
 ghost use Rattle.replay.specs.PlayedNotes.{GaveNextNote, GaveNotes, GaveWaitingNote, left_of, most_pieces};
 
 use crate::playing::{feed, finish, let_go_bytes, none_unless_memory};

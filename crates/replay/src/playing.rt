@@ -9,8 +9,8 @@ ghost use Rattle.policy_view.specs.Notes.{notes};
 ghost use Rattle.proxy_core.specs.Sessions.{StandsFor, Taken, nothing, is_memory as ended_for_memory};
 ghost use Rattle.proxy_core.specs.Steps.{IsLight};
 ghost use Rattle.recording.specs.Seen.{recording_seen, seen, size, size_of};
-ghost use Rattle.replay.specs.Output.{event_of, events_of, side_of, history_of, output_of_recording, log_of_recording};
-ghost use Rattle.replay.specs.Explained.{noting_as, with_log};
+ghost use Rattle.replay_output.specs.Output.{event_of, events_of, side_of, history_of, output_of_recording, log_of_recording};
+ghost use Rattle.replay_output.specs.Explained.{noting_as, with_log};
 ghost use Rattle.replay.specs.Waiting.{output_of};
 
 use policy_args::{Options, Policy};

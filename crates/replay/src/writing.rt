@@ -6,7 +6,7 @@ ghost use Rattle.link_traits.specs.Told.{added, Rose, Part};
 ghost use Rattle.dbus_header.specs.Malformed.{kind_number};
 ghost use Rattle.sasl_watch.specs.Lines.{line_number};
 ghost use Rattle.proxy_core.specs.Sessions.{IsFront, waits_for};
-ghost use Rattle.replay.specs.Output.{header, fault_bytes, end_bytes};
+ghost use Rattle.replay_output.specs.Output.{header, fault_bytes, end_bytes};
 ghost use Rattle.replay.specs.SessionsOutput.{named_end, named_header, named_record, named_where_any};
 ghost use Rattle.replay.specs.Waiting.{with_waiting, kind_of, named_output};
 
@@ -81,7 +81,7 @@ fn write_waiting<O: Sink>(session: &mut Session, side: Side, out: &mut O) -> Res
 }
 
 /// Writes a record's kind and length, with the session's number between them if there is one.
-#[tactic(auto, unfolding(crate::specs::Output::header))]
+#[tactic(auto, unfolding(replay_output::specs::Output::header))]
 fn write_header<O: Sink>(
     named: Option<u32>,
     kind: u8,
@@ -162,7 +162,7 @@ fn malformed_kind(kind: MalformedKind) -> u8
 }
 
 /// Writes the record of an End that is a number alone.
-#[tactic(auto, unfolding(crate::specs::Output::header))]
+#[tactic(auto, unfolding(replay_output::specs::Output::header))]
 fn write_number<O: Sink>(named: Option<u32>, number: u8, out: &mut O) -> Result<(), SinkFault>
     ensures ok { OnOk result (O.told out.new ≡ added (named_record named END_KIND (number ∷ [])) (O.told out.old)) }
     ensures part { Part (O.told out.old) (O.told out.new) (named_record named END_KIND (number ∷ [])) }

@@ -11,9 +11,9 @@ use Rattle.policy_view.specs.declared.Decision.{Decision}
 use Rattle.policy_view.specs.declared.Mode.{Mode}
 use Rattle.proxy_core.specs.Sessions.{Holds, SessionView, StandsFor, Taken, is_memory}
 use Rattle.recording.specs.Recording.{Event, Bytes}
-use Rattle.replay.specs.Explained.{with_log}
-use Rattle.replay.specs.Output.{event_of, events_of, mode_of}
-use Rattle.replay.proofs.Events.{events-last}
+use Rattle.replay_output.specs.Explained.{with_log}
+use Rattle.replay_output.specs.Output.{event_of, events_of, mode_of}
+use Rattle.replay_output.proofs.Events.{events-last}
 use Rattle.recording.specs.declared.Side.TheVariants.{Client}
 use Rattle.sample.specs.Made.{asked_events}
 use Rattle.sample.specs.Playing.{Counted, Played, with_decision}

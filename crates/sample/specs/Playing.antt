@@ -4,7 +4,7 @@ use Rattle.policy_args.specs.Policy.{Policy}
 use Rattle.policy_view.specs.declared.Decision.{Decision}
 use Rattle.proxy_core.specs.Sessions.{StandsFor, Taken}
 use Rattle.recording.specs.Recording.{Event}
-use Rattle.replay.specs.Output.{events_of}
+use Rattle.replay_output.specs.Output.{events_of}
 use Rattle.sample.specs.Summary.{counts_of, is_hidden, is_instead, is_passed, is_pinged, is_shown}
 use Rattle.sample.specs.declared.counts.Counts.{Counts}
 use Rattle.sample.specs.declared.playing.Play.{Play}

@@ -13,8 +13,8 @@ use Rattle.policy_view.specs.declared.Decision.{Decision}
 use Rattle.policy_view.specs.declared.Decision.TheVariants.{Judged, Shown}
 use Rattle.policy_view.specs.declared.Verdict.TheVariants.{Pass, Ping}
 use Rattle.policy_view.specs.declared.Showing.TheVariants.{Whole, Reply, Instead, Hide}
-use Rattle.replay.specs.Explained.{with_log}
-use Rattle.replay.specs.Output.{history_of}
+use Rattle.replay_output.specs.Explained.{with_log}
+use Rattle.replay_output.specs.Output.{history_of}
 use Rattle.sample.specs.Sample.{sample}
 use Rattle.sample.specs.declared.counts.Counts.{Counts}
 

@@ -5,7 +5,7 @@ use Rattle.std.specs.List.{filter, list_any}
 use Rattle.policy_args.specs.Words.{PolicyOptions}
 use Rattle.policy_view.specs.History.{Event, history}
 use Rattle.recording.specs.Sessions.{Happened, Stopped, SessionEvent, Sessions}
-use Rattle.replay.specs.Output.{event_of, history_of}
+use Rattle.replay_output.specs.Output.{event_of, history_of}
 use Rattle.replay.specs.SessionsOutput.{event_by, is_of, session_history, session_mode}
 use Rattle.session_files.specs.OneSession.{BeforeStop, HasHistoryBeforeStop, RunsWithoutStop, before_stop, is_stop, session_recording}
 use Rattle.session_files.proofs.OwnWhats.{whats}

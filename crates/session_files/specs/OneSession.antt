@@ -5,7 +5,7 @@ use Rattle.recording.specs.Recording.{Event, Recording, spelled_recording}
 use Rattle.recording.specs.Sessions.{What, Happened, Stopped, SessionEvent, Sessions, sessions_of}
 use Rattle.policy_args.specs.Words.{PolicyOptions}
 use Rattle.policy_view.specs.History.{history}
-use Rattle.replay.specs.Output.{history_of}
+use Rattle.replay_output.specs.Output.{history_of}
 use Rattle.replay.specs.SessionsOutput.{is_of, session_events, session_mode}
 
 -- the sessions that a file has

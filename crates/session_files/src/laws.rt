@@ -4,7 +4,7 @@ ghost use Rattle.policy_args.specs.Words.{PolicyOptions};
 ghost use Rattle.recording.specs.Recording.{recording_of, spelled_recording};
 ghost use Rattle.recording.specs.Sessions.{Sessions, sessions_of};
 ghost use Rattle.replay.specs.OneSession.{as_version_2};
-ghost use Rattle.replay.specs.Output.{history_of};
+ghost use Rattle.replay_output.specs.Output.{history_of};
 ghost use Rattle.replay.specs.SessionsOutput.{output_of_sessions, session_history, session_mode, session_output};
 ghost use Rattle.session_files.specs.OneSession.{HasHistoryBeforeStop, IsOfFile, RunsWithoutStop, session_file_of, session_recording};
 

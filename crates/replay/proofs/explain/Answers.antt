@@ -2,7 +2,7 @@ use Rattle.std.proofs.Common.{◌∙◌, ap, sym, subst, IfSome, option_map}
 use Rattle.link_traits.specs.Told.{Part}
 use Rattle.policy_args.specs.Seen.{options_seen}
 use Rattle.recording.specs.Seen.{recording_seen}
-use Rattle.replay.specs.Explained.{explanation}
+use Rattle.replay_output.specs.Explained.{explanation}
 use Rattle.replay.proofs.Explanations.{explained_of, never_none, written}
 use Rattle.replay.proofs.explain.Goals as goal
 

@@ -1,7 +1,7 @@
 use Rattle.policy_args.specs.Seen.{options_seen}
 use Rattle.recording.specs.Seen.{recording_seen}
 use Rattle.replay.specs.declared.ReplayFault.TheVariants.{Memory}
-use Rattle.replay.specs.Output.{log_of_recording}
+use Rattle.replay_output.specs.Output.{log_of_recording}
 use Rattle.replay.proofs.Logs.{lines-before, no-lines, same_fault}
 use Rattle.replay.proofs.replay.Goals as goal
 

@@ -2,7 +2,7 @@ use Rattle.std.proofs.Common.{[], ◌∷◌, ◌≡◌, ◌⊎◌, inl, inr, Som
 use Rattle.line_words.proofs.ReadLaws.{read_all}
 use Rattle.policy_args.specs.Seen.{options_seen}
 use Rattle.recording.specs.Seen.{recording_seen}
-use Rattle.replay.specs.Explained.{explained}
+use Rattle.replay_output.specs.Explained.{explained}
 use Rattle.replay.specs.declared.ExplainFault.{ExplainFault}
 use Rattle.replay.specs.declared.ExplainFault.TheVariants.{NoSuchMessage, Out, Memory}
 use Rattle.proxy_main.specs.Words.{Explain}

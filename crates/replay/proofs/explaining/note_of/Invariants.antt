@@ -1,5 +1,5 @@
 use Rattle.std.proofs.Common.{◌≡◌, ◌+◌}
-use Rattle.replay.specs.Explained.{note_at}
+use Rattle.replay_output.specs.Explained.{note_at}
 use Rattle.replay.proofs.explaining.note_of.Given as goal
 
 abbrev pub invariant-loop-before : goal.invariant-loop-before

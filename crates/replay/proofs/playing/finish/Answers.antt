@@ -1,7 +1,7 @@
 use Rattle.std.proofs.Common.{◌∷◌, sym, subst}
 use Rattle.policy_view.specs.History.{Finished}
 use Rattle.proxy_core.specs.Sessions.{StandsFor}
-use Rattle.replay.specs.Output.{side_of}
+use Rattle.replay_output.specs.Output.{side_of}
 use Rattle.replay.proofs.playing.finish.Goals as goal
 
 pub returns-in-Client-clause-stands : goal.returns-in-Client-clause-stands

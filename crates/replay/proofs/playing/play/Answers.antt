@@ -3,8 +3,8 @@ use Rattle.policy_args.specs.Seen.{options_seen}
 use Rattle.policy_view.specs.History.{history}
 use Rattle.proxy_core.specs.Sessions.{SessionView, Holds, is_memory, nothing}
 use Rattle.recording.specs.Seen.{recording_seen, seen, size}
-use Rattle.replay.specs.Output.{events_of}
-use Rattle.replay.specs.Explained.{noting_as}
+use Rattle.replay_output.specs.Output.{events_of}
+use Rattle.replay_output.specs.Explained.{noting_as}
 use Rattle.replay.proofs.Logs.{log-is, asked-is, noted-is}
 use Rattle.replay.proofs.Sides.{output-is, few}
 use Rattle.replay.proofs.playing.play.Goals as goal

@@ -4,7 +4,7 @@ use Rattle.policy_view.specs.History.{Bytes}
 use Rattle.proxy_core.specs.Sessions.{StandsFor}
 use Rattle.proxy_core.specs.Steps.{IsLight}
 use Rattle.recording.specs.Seen.{seen, size_of}
-use Rattle.replay.specs.Output.{event_of, side_of}
+use Rattle.replay_output.specs.Output.{event_of, side_of}
 use Rattle.replay.proofs.playing.play_event.Goals as goal
 
 pub returns-in-Bytes-clause-bytes : goal.returns-in-Bytes-clause-bytes

@@ -1,7 +1,7 @@
 use Rattle.std.proofs.Common.{sym, subst}
 use Rattle.replay.proofs.Sides.{lights}
 use Rattle.proxy_core.specs.Sessions.{StandsFor, nothing}
-use Rattle.replay.proofs.Events.{next-event, next-size}
+use Rattle.replay_output.proofs.Events.{next-event, next-size}
 use Rattle.replay.proofs.playing.play_events.Goals as goal
 
 pub loop-event-preserved : goal.loop-event-preserved

@@ -2,7 +2,7 @@ use Rattle.std.proofs.Common.{[], take, map}
 use Rattle.proxy_core.specs.Sessions.{StandsFor, nothing}
 use Rattle.proxy_core.specs.Steps.{IsLight}
 use Rattle.recording.specs.Seen.{seen, size}
-use Rattle.replay.specs.Output.{events_of}
+use Rattle.replay_output.specs.Output.{events_of}
 use Rattle.replay.proofs.playing.play_events.Given as goal
 
 abbrev pub invariant-loop-event : goal.invariant-loop-event

@@ -1,7 +1,7 @@
 use Rattle.std.proofs.Common.{◌∷◌, ◌++◌, ℕ, sym, subst}
 use Rattle.link_traits.specs.Told.{Part}
 use Rattle.link_traits.proofs.Parts.{part_first}
-use Rattle.replay.specs.Output.{fault_bytes}
+use Rattle.replay_output.specs.Output.{fault_bytes}
 use Rattle.replay.specs.SessionsOutput.{named_header}
 use Rattle.replay.proofs.Records.{malformed-length}
 use Rattle.replay.proofs.writing.write_malformed.Goals as goal

@@ -1,7 +1,7 @@
 use Rattle.std.proofs.Common.{◌∷◌, ◌∙◌, ap, subst, take}
 use Rattle.policy_view.specs.History.{Bytes}
 use Rattle.proxy_core.specs.Sessions.{StandsFor}
-use Rattle.replay.specs.Output.{side_of}
+use Rattle.replay_output.specs.Output.{side_of}
 use Rattle.replay.specs.declared.played_notes.TheConstants.{PIECE}
 use Rattle.replay.proofs.played_notes.PlayedNotes.play_piece.Goals as goal
 

@@ -2,7 +2,7 @@ use Rattle.std.proofs.Common.{◌+◌}
 use Rattle.recording.specs.Seen.{recording_seen, seen}
 use Rattle.replay.specs.declared.watching.Watched.{Watched}
 use Rattle.replay.proofs.Elements.{gave-let-go, gave-played, none_waits}
-use Rattle.replay.proofs.Events.{event-played}
+use Rattle.replay_output.proofs.Events.{event-played}
 use Rattle.replay.proofs.watching.Watched.play_next.Goals as goal
 
 pub returns-clause-gave : goal.returns-clause-gave

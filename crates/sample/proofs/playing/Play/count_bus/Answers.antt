@@ -1,6 +1,6 @@
 use Rattle.std.proofs.Common.{ap}
 use Rattle.proxy_core.specs.Sessions.{SessionView}
-use Rattle.replay.specs.Output.{events_of}
+use Rattle.replay_output.specs.Output.{events_of}
 use Rattle.sample.proofs.Counting.{bus_counted}
 use Rattle.sample.proofs.playing.Play.count_bus.Goals as goal
 

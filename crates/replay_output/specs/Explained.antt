@@ -5,7 +5,7 @@ use Rattle.policy_args.specs.Policy.{Policy}
 use Rattle.policy_args.specs.Words.{PolicyOptions}
 use Rattle.policy_view.specs.Notes.{Note, notes}
 use Rattle.recording.specs.Recording.{Recording}
-use Rattle.replay.specs.Output.{history_of}
+use Rattle.replay_output.specs.Output.{history_of}
 
 -- the options, with a log asked for or not
 abbrev pub noting_as : Bool → PolicyOptions → PolicyOptions

@@ -5,7 +5,7 @@ use Rattle.std.proofs.lemmas.List.Sums.{sum_by_push}
 use Rattle.recording.specs.declared.Event.{Event as Declared}
 use Rattle.recording.specs.Recording.{Event as Recorded}
 use Rattle.recording.specs.Seen.{seen, size, size_of}
-use Rattle.replay.specs.Output.{event_of, events_of}
+use Rattle.replay_output.specs.Output.{event_of, events_of}
 
 pub events-last : (es : List Recorded) (e : Recorded) → events_of (es ++ e ∷ []) ≡ event_of e ∷ events_of es
 events-last es e = ap reverse (map-append event_of es (e ∷ [])) ∙ reverse-append (map event_of es) (event_of e ∷ [])
