@@ -7,3 +7,4 @@ pub mod Tokens
 pub mod Room
 pub mod Written
 pub mod Judging
+mod Putting

@@ -1,14 +1,14 @@
 //! A net over Unix sockets.
-ghost use Rattle.std.specs.Prelude.{◌≡◌, IfOk, IfSome};
+ghost use Rattle.std.specs.Prelude.{◌≡◌, ◌≤◌, IfOk, IfSome, vec_capacity};
 ghost use Rattle.proxy_net.specs.Sockets.{IsConsistent};
+ghost use Rattle.proxy_net.specs.declared.system.TheConstants.{REPORTS};
 
+use crate::reports::Report;
 use crate::sockets::SocketSet;
+use crate::system::{REPORTS, Sockets, SystemSockets};
 use link_traits::{Accepted, Count, Got, Link, Net, NetFault, Ready, Took, Wishes};
-use mio::Events;
+use std::alloc::{AllocError, Global};
 use std::io;
-
-/// How many events are taken from the system at once.
-const EVENTS: usize = 256;
 
 /// A net over Unix sockets. What its links carry is not told.
 ///
@@ -25,26 +25,40 @@ const EVENTS: usize = 256;
 /// A connect to a bus that has no room for one more succeeds, and is tried again while the net waits, for five seconds. Until
 /// then reads and writes of that link aren't ready, and afterwards they fail.
 #[derive(Drop)]
-pub struct MioNet<'a> {
-    rt: &'a HostRuntime,
-    sockets: SocketSet,
-    events: Events,
+pub struct MioNet<S: Sockets + Drop> {
+    alloc: Global,
+    system: S,
+    sockets: SocketSet<S::Stream, S::Listener>,
+    reports: Vec<Report>,
     ghost consistent: { IsConsistent sockets },
+    ghost room: { REPORTS ≤ vec_capacity reports },
 }
 
-impl<'a> MioNet<'a> {
+impl<'a> MioNet<SystemSockets<'a>> {
+    ghost use Rattle.proxy_net.specs.Sockets.{shown, IsUnused};
+
+    /// A net over the sockets of the system, without listeners and links.
+    pub fn new(rt: &'a HostRuntime) -> io::Result<MioNet<SystemSockets<'a>>>
+        ensures { IfOk result (λ net. IsUnused (shown net.sockets)) }
+    {
+        Ok(MioNet::over(rt.alloc(), SystemSockets::new(rt)?)?)
+    }
+}
+
+impl<S: Sockets + Drop> MioNet<S> {
     ghost use Rattle.std.specs.Prelude.{ℕ, vec_len, false};
     ghost use Rattle.link_traits.specs.Views.{KeepsWishes};
     ghost use Rattle.proxy_net.specs.Sockets.{shown, GoesOn, IsUnused, IsWished, StaysClosed, has_file_at};
 
-    /// A net without listeners and links.
-    pub fn new(rt: &'a HostRuntime) -> io::Result<MioNet<'a>>
+    /// A net over the sockets of a system, without listeners and links.
+    pub fn over(alloc: Global, system: S) -> Result<MioNet<S>, AllocError>
         ensures { IfOk result (λ net. IsUnused (shown net.sockets)) }
     {
         Ok(MioNet {
-            rt,
-            sockets: SocketSet::new(rt)?,
-            events: Events::with_capacity(rt.alloc(), EVENTS)?,
+            alloc,
+            system,
+            sockets: SocketSet::new(alloc),
+            reports: Vec::with_capacity(alloc, REPORTS)?,
         })
     }
 
@@ -64,7 +78,7 @@ impl<'a> MioNet<'a> {
         ensures goes { GoesOn self.old.sockets self.new.sockets }
         ensures wishes { KeepsWishes (shown self.old.sockets) (shown self.new.sockets) }
     {
-        self.sockets.remove_files(self.rt);
+        self.sockets.remove_files(&mut self.system);
     }
 
     /// Waits until something is to be named. `None` where the system fails.
@@ -77,16 +91,17 @@ impl<'a> MioNet<'a> {
             if let Some(ready) = self.sockets.next() {
                 return Some(ready);
             }
-            if self.sockets.ask(self.rt, &mut self.events).is_err() {
+            let asked = self.sockets.ask(&mut self.system, &mut self.reports);
+            if asked.is_err() {
                 return None;
             }
-            self.sockets.note_all(self.rt, &self.events);
+            self.sockets.note_all(&mut self.system, &self.reports);
         }
         None
     }
 }
 
-impl<'a> Net for MioNet<'a> {
+impl<S: Sockets + Drop> Net for MioNet<S> {
     ghost use Rattle.std.specs.Prelude.{◌≢◌, ◌≤◌, ◌<◌, ◌+◌, ◌⊎◌, ℕ, [], ◌∷◌, length, vec_len, None, Some, OnOk, OnErr, IsErrOf, true, false};
     ghost use Rattle.link_traits.specs.Entries.{ready, shut};
     ghost use Rattle.link_traits.specs.Journals.{Journal, accepts, listens};
@@ -122,7 +137,7 @@ impl<'a> Net for MioNet<'a> {
         ensures failed { IsErrOf result NetFault.Failed → RoseAt Count.Own (shown self.old.sockets) (shown self.new.sockets) }
         ensures wishes { KeepsWishes (shown self.old.sockets) (shown self.new.sockets) }
     {
-        self.sockets.listen(self.rt, path)
+        self.sockets.listen(self.alloc, &mut self.system, path)
     }
 
     /// It is never quiet.
@@ -173,7 +188,7 @@ impl<'a> Net for MioNet<'a> {
         ensures new_wishes { (session : ℕ) → result ≡ Accepted.New session → (shown self.new.sockets).wishes (client_link session) ≡ Some no_wishes }
         ensures wishes { AfterAccept result (shown self.old.sockets) (shown self.new.sockets) }
     {
-        self.sockets.accept(self.rt, listener)
+        self.sockets.accept(&mut self.system, listener)
     }
 
     /// It is refused where the session has a link to its bus, and where the path is empty.
@@ -191,7 +206,8 @@ impl<'a> Net for MioNet<'a> {
         ensures new_wishes { OnOk result ((shown self.new.sockets).wishes (bus_link session) ≡ Some no_wishes) }
         ensures wishes { KeepsOthers (bus_link session) (shown self.old.sockets) (shown self.new.sockets) }
     {
-        self.sockets.connect(self.rt, session, path)
+        self.sockets
+            .connect(self.alloc, &mut self.system, session, path)
     }
 
     fn want(&mut self, link: Link, read: bool, write: bool)
@@ -229,7 +245,7 @@ impl<'a> Net for MioNet<'a> {
         ensures not_ready { result ≡ Got.NotReady → RoseAt Count.Waits (shown self.old.sockets) (shown self.new.sockets) }
         ensures wishes { KeepsWishes (shown self.old.sockets) (shown self.new.sockets) }
     {
-        self.sockets.read(link, into)
+        self.sockets.read(&mut self.system, link, into)
     }
 
     fn write(&mut self, link: Link, piece: &[u8]) -> Took
@@ -248,7 +264,7 @@ impl<'a> Net for MioNet<'a> {
         ensures not_ready { result ≡ Took.NotReady → RoseAt Count.Waits (shown self.old.sockets) (shown self.new.sockets) }
         ensures wishes { KeepsWishes (shown self.old.sockets) (shown self.new.sockets) }
     {
-        self.sockets.write(link, piece)
+        self.sockets.write(&mut self.system, link, piece)
     }
 
     fn shut(&mut self, link: Link)

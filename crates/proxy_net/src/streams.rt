@@ -3,9 +3,8 @@ ghost use Rattle.std.specs.Prelude.{◌≡◌, ◌≢◌, ◌≤◌, ◌<◌, �
 ghost use Rattle.std.specs.IoError.{error_kind};
 ghost use Rattle.proxy_net.specs.Streams.{IsRefusedRead, IsRefusedWrite};
 
-use mio::net::UnixStream;
-use std::io;
-use std::io::{ErrorKind, Read, Write};
+use crate::system::{Numbered, Sockets};
+use std::io::{self, ErrorKind};
 
 /// What a read of a stream gave.
 #[derive(Clone, Copy)]
@@ -36,13 +35,17 @@ pub enum StreamWrite {
 }
 
 /// Reads once. A read that a signal interrupts is made again at once, since nothing is reported after it.
-pub fn read_stream(stream: &mut UnixStream, into: &mut [u8]) -> StreamRead
+pub fn read_stream<S: Sockets>(
+    system: &mut S,
+    stream: &Numbered<S::Stream>,
+    into: &mut [u8],
+) -> StreamRead
     ensures within { (n : ℕ) → result ≡ StreamRead.Bytes n → n ≤ length into.new }
     ensures progress { (n : ℕ) → result ≡ StreamRead.Bytes n → 0 < length into.new → 0 < n }
 {
     let has_room = !into.is_empty();
     for _ in 0..u64::MAX {
-        if let Some(read) = read_of(stream.read(into), has_room) {
+        if let Some(read) = read_of(system.read(stream, into), has_room) {
             return read;
         }
     }
@@ -76,11 +79,15 @@ fn refused_read(kind: ErrorKind) -> Option<StreamRead>
 }
 
 /// Writes once. The system raises no signal where the peer closed.
-pub fn write_stream(stream: &mut UnixStream, piece: &[u8]) -> StreamWrite
+pub fn write_stream<S: Sockets>(
+    system: &mut S,
+    stream: &Numbered<S::Stream>,
+    piece: &[u8],
+) -> StreamWrite
     ensures within { (n : ℕ) → result ≡ StreamWrite.Bytes n → n ≤ length piece.now }
     ensures progress { (n : ℕ) → result ≡ StreamWrite.Bytes n → 0 < length piece.now → 0 < n }
 {
-    write_of(stream.write(piece), !piece.is_empty())
+    write_of(system.write(stream, piece), !piece.is_empty())
 }
 
 /// What the answer of a write means. Of something, something is taken.

@@ -6,10 +6,11 @@ ghost use Rattle.proxy_net.specs.Naming.{other_of};
 
 use super::{SocketSet, other_number};
 use crate::link_sockets::{LinkWrite, raised};
+use crate::system::Sockets;
 use link_traits::tables::number_of;
 use link_traits::{Count, Got, Link, Took, Wishes};
 
-impl SocketSet {
+impl<T: Drop, L: Drop> SocketSet<T, L> {
     ghost use Rattle.proxy_net.specs.Sockets.{is_stalled_at, is_peer_closed_at, is_readable_at, StaysUnread, StaysClosed, KeepsReports, IsJudgedAt, wishes_in, is_pending_in, given_up_at, is_closed_at, is_to_fail_at, RoseIn, Grows, GoesOn, KeepsOthersIn};
     ghost use Rattle.link_traits.specs.declared.links.Wishes.{Wishes};
 
@@ -27,7 +28,12 @@ impl SocketSet {
     }
 
     /// Reads once.
-    pub fn read(&mut self, link: Link, into: &mut [u8]) -> Got
+    pub fn read<S: Sockets<Stream = T, Listener = L>>(
+        &mut self,
+        system: &mut S,
+        link: Link,
+        into: &mut [u8],
+    ) -> Got
         ensures within { (n : ℕ) → result ≡ Got.Bytes n → n ≤ length into.new }
         ensures progress { (n : ℕ) → result ≡ Got.Bytes n → 0 < length into.new → 0 < n }
         ensures missing { wishes_in self.old link ≡ None → result ≡ Got.Failed }
@@ -40,7 +46,7 @@ impl SocketSet {
         ensures closed { StaysClosed self.old self.new }
         ensures goes { GoesOn self.old self.new }
     {
-        let got = self.read_link(link, into);
+        let got = self.read_link(system, link, into);
         if got == Got::NotReady {
             self.waits = raised(self.waits);
         }
@@ -48,7 +54,12 @@ impl SocketSet {
     }
 
     /// Reads once, and counts no wait.
-    fn read_link(&mut self, link: Link, into: &mut [u8]) -> Got
+    fn read_link<S: Sockets<Stream = T, Listener = L>>(
+        &mut self,
+        system: &mut S,
+        link: Link,
+        into: &mut [u8],
+    ) -> Got
         ensures within { (n : ℕ) → result ≡ Got.Bytes n → n ≤ length into.new }
         ensures progress { (n : ℕ) → result ≡ Got.Bytes n → 0 < length into.new → 0 < n }
         ensures missing { wishes_in self.old link ≡ None → result ≡ Got.Failed }
@@ -64,7 +75,7 @@ impl SocketSet {
         let number = number_of(link);
         match self.links.get_mut(&number) {
             Some(socket) => {
-                let got = socket.read(into);
+                let got = socket.read(system, into);
                 let is_new = socket.take_place();
                 self.queue(number, is_new);
                 got
@@ -77,7 +88,12 @@ impl SocketSet {
     }
 
     /// Writes once.
-    pub fn write(&mut self, link: Link, piece: &[u8]) -> Took
+    pub fn write<S: Sockets<Stream = T, Listener = L>>(
+        &mut self,
+        system: &mut S,
+        link: Link,
+        piece: &[u8],
+    ) -> Took
         ensures within { (n : ℕ) → result ≡ Took.Bytes n → n ≤ length piece.now }
         ensures progress { (n : ℕ) → result ≡ Took.Bytes n → 0 < length piece.now → 0 < n }
         ensures missing { wishes_in self.old link ≡ None → result ≡ Took.Failed }
@@ -88,7 +104,7 @@ impl SocketSet {
         ensures closed { StaysClosed self.old self.new }
         ensures goes { GoesOn self.old self.new }
     {
-        match self.write_link(link, piece) {
+        match self.write_link(system, link, piece) {
             LinkWrite::Bytes(n) => Took::Bytes(n),
             LinkWrite::NotReady => {
                 self.waits = raised(self.waits);
@@ -100,7 +116,12 @@ impl SocketSet {
     }
 
     /// Writes once, and counts no wait.
-    fn write_link(&mut self, link: Link, piece: &[u8]) -> LinkWrite
+    fn write_link<S: Sockets<Stream = T, Listener = L>>(
+        &mut self,
+        system: &mut S,
+        link: Link,
+        piece: &[u8],
+    ) -> LinkWrite
         ensures within { (n : ℕ) → result ≡ LinkWrite.Bytes n → n ≤ length piece.now }
         ensures progress { (n : ℕ) → result ≡ LinkWrite.Bytes n → 0 < length piece.now → 0 < n }
         ensures missing { wishes_in self.old link ≡ None → result ≡ LinkWrite.Failed }
@@ -115,7 +136,7 @@ impl SocketSet {
         let number = number_of(link);
         match self.links.get_mut(&number) {
             Some(socket) => {
-                let wrote = socket.write(self.poll.registry(), piece);
+                let wrote = socket.write(system, piece);
                 let is_new = socket.take_place();
                 self.queue(number, is_new);
                 wrote
