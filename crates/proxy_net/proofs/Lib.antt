@@ -8,3 +8,6 @@ pub mod Room
 pub mod Written
 pub mod Judging
 mod Putting
+pub mod Telling
+pub mod Meaning
+pub mod Leading

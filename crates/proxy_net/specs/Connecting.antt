@@ -25,3 +25,9 @@ abbrev pub due_of : {T : Type 0} → Connection T → Option Instant
 due_of (Open stream) = None
 due_of (Pending retry) = Some retry.due
 due_of Failed = None
+
+-- it has a stream
+abbrev pub is_open : {T : Type 0} → Connection T → Bool
+is_open (Open stream) = true
+is_open (Pending retry) = false
+is_open Failed = false

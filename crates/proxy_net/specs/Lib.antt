@@ -8,3 +8,4 @@ pub mod Streams
 pub mod Room
 pub mod Reports
 pub mod SystemCalls
+pub mod Steps

@@ -1,5 +1,5 @@
 -- What an event of the system reports.
-use Rattle.std.specs.Prelude.{ℕ, Bool, ◌||◌}
+use Rattle.std.specs.Prelude.{Bool, ◌||◌}
 use Rattle.mio.specs.Event.{event_token, is_readable, is_writable, is_error, is_read_closed, is_write_closed}
 use Rattle.mio.specs.declared.event.event.Event.{Event}
 use Rattle.proxy_net.specs.declared.reports.Report.{Report}

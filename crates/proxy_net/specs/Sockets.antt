@@ -24,7 +24,7 @@ use Rattle.proxy_net.specs.Room.{room_for}
 use Rattle.std.specs.VecDeque.{deque_len, deque_capacity}
 use Rattle.proxy_net.specs.Naming.{other_of, is_link_placed, is_listener_placed, is_link_unmarked, is_listener_unmarked, is_link_closed, is_to_fail}
 use Rattle.proxy_net.specs.declared.reports.Report.{Report}
-use Rattle.proxy_net.specs.Connecting.{is_pending, due_of}
+use Rattle.proxy_net.specs.Connecting.{is_pending, is_open, due_of}
 use Rattle.proxy_net.specs.Delays.{is_accept_due, is_accept_early, accept_left, is_put_off, IsWithin}
 use Rattle.std.specs.String.{string_bytes}
 use Rattle.proxy_net.specs.Registering.{is_own_link, is_own_listener, listeners_from}
@@ -129,6 +129,10 @@ pub record GoesOn {T L : Type 0} (old new : SocketSet T L) : Type 0 where
   pub listener_places : (place : ℕ) → place < 2 ^ 32 → is_listener_queued old place ≡ true → is_listener_queued new place ≡ true
   pub link_tokens : (number : ℕ) → is_link_registered old number ≡ true → is_link_registered new number ≡ true
   pub listener_tokens : (place : ℕ) → is_listener_registered old place ≡ true → is_listener_registered new place ≡ true
+
+-- the link of a number has a stream
+abbrev pub is_open_at : {T L : Type 0} → SocketSet T L → ℕ → Bool
+is_open_at sockets number = unwrap_or (option_map (λ (s : LinkSocket _). is_open s.connection) (tree.get nat_cmp sockets.links number)) false
 
 -- when the next try to connect a link is due, where there is a link and a try
 abbrev pub due_in : {T : Type 0} → Option (LinkSocket T) → Option Instant

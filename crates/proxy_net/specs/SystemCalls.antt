@@ -2,12 +2,10 @@
 use Rattle.std.specs.Prelude.{ℕ, ◌≡◌, ◌≢◌, Bool, List, [], ◌∷◌, ◌++◌, take, Option, Some, None, Result, Ok, Err}
 use Rattle.std.specs.declared.io.ErrorKind.{ErrorKind}
 use Rattle.std.specs.declared.io.ErrorKind.TheVariants.{Interrupted}
-use Rattle.link_traits.specs.Entries.{Entry}
-use Rattle.link_traits.specs.Journals.{Journal}
 use Rattle.proxy_net.specs.declared.reports.Report.{Report}
 
--- A call, with the number of its socket, its path or its bytes, and the fault for which it was refused. An answer of the net is
--- told among the calls that led to it, after them.
+-- A call, with the number of its socket, its path or its bytes, and the kind of the fault for which it was refused. An accept has
+-- the listener's number and that of the stream.
 pub data SystemCall : Type 0 where
   bind : ℕ → List ℕ → Option ErrorKind → SystemCall
   await_clients : ℕ → Option ErrorKind → SystemCall
@@ -19,7 +17,6 @@ pub data SystemCall : Type 0 where
   close : ℕ → SystemCall
   wait : List Report → SystemCall
   remove : List ℕ → SystemCall
-  answer : Entry → SystemCall
 
 -- the kind of the error, where there is one
 abbrev pub fault_of : {T E : Type 0} → (E → ErrorKind) → Result T E → Option ErrorKind
@@ -35,17 +32,7 @@ abbrev pub IsToldRead : {E : Type 0} → (E → ErrorKind) → ℕ → List ℕ 
 IsToldRead kind number into (Ok n) old new = Tells old new (read number (Ok (take n into)) ∷ [])
 IsToldRead kind number into (Err error) old new = (kind error ≢ Interrupted → Tells old new (read number (Err (kind error)) ∷ [])) × (kind error ≡ Interrupted → Tells old new [])
 
--- the answers of the net
-abbrev pub answers : List SystemCall → Journal
-answers [] = []
-answers (answer entry ∷ calls) = entry ∷ answers calls
-answers (bind number path fault ∷ calls) = answers calls
-answers (await_clients number fault ∷ calls) = answers calls
-answers (accept listener number fault ∷ calls) = answers calls
-answers (connect number path fault ∷ calls) = answers calls
-answers (watch number writable fault ∷ calls) = answers calls
-answers (read number given ∷ calls) = answers calls
-answers (write number taken ∷ calls) = answers calls
-answers (close number ∷ calls) = answers calls
-answers (wait reports ∷ calls) = answers calls
-answers (remove path ∷ calls) = answers calls
+-- A write is told with the bytes that it took, or the kind of its error.
+abbrev pub IsToldWrite : {E : Type 0} → (E → ErrorKind) → ℕ → List ℕ → Result ℕ E → Option (List SystemCall) → Option (List SystemCall) → Type 0
+IsToldWrite kind number piece (Ok n) old new = Tells old new (write number (Ok (take n piece)) ∷ [])
+IsToldWrite kind number piece (Err error) old new = Tells old new (write number (Err (kind error)) ∷ [])

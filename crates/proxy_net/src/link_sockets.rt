@@ -6,7 +6,9 @@ ghost use Rattle.link_traits.specs.Answers.{no_wishes};
 ghost use Rattle.proxy_net.specs.Naming.{is_ready, is_link_placed, is_link_closed, is_to_fail};
 ghost use Rattle.proxy_net.specs.Registering.{is_registered_by, is_connected_by};
 ghost use Rattle.proxy_net.specs.Noting.{is_link_noted};
-ghost use Rattle.proxy_net.specs.Connecting.{IsLater, is_pending, is_given_up as is_failed, due_of};
+ghost use Rattle.proxy_net.specs.Connecting.{IsLater, is_open, is_pending, is_given_up as is_failed, due_of};
+ghost use Rattle.proxy_net.specs.Steps.{Steps, IsRead, IsLinkWrite, IsConnectionWrite, IsRoomAwaited, IsWatched, IsRetryOf, IsShut, got_of};
+ghost use Rattle.std.specs.String.{string_bytes};
 ghost use Rattle.std.specs.Time.{instant_nanos};
 
 use crate::delays::{FIRST_DELAY, LONGEST_DELAY, later};
@@ -134,6 +136,7 @@ impl Retry {
         ensures due { result ≡ Connected.WouldBlock → IsLater now (self.new.delay * 1_000_000) self.new.due }
         ensures tried { result ≢ Connected.Before }
         ensures rest { self.new ≡ record self.old { delay = self.new.delay; due = self.new.due } }
+        ensures told { Steps (IsRetryOf self.old.token (string_bytes self.old.path)) (S.journal system.old) (S.journal system.new) }
     {
         if now < self.due {
             return Connected::NotDue;
@@ -219,6 +222,8 @@ impl<T: Drop> LinkSocket<T> {
         ensures token { (token : ℕ) → is_registered_by token self.old.connection ≡ true → is_registered_by token self.new.connection ≡ true }
         ensures faults { self.old.faults ≤ self.new.faults }
         ensures wishes { self.new.wishes ≡ self.old.wishes }
+        ensures told { (number : ℕ) → is_registered_by number self.old.connection ≡ true → Steps (IsRead number into.new result) (S.journal system.old) (S.journal system.new) }
+        ensures connection { self.new.connection ≡ self.old.connection }
     {
         match self.read_connection(system, into) {
             StreamRead::Bytes(n) => Got::Bytes(n),
@@ -243,6 +248,7 @@ impl<T: Drop> LinkSocket<T> {
         ensures progress { (n : ℕ) → result ≡ StreamRead.Bytes n → 0 < length into.new → 0 < n }
         ensures pending { is_pending self.now.connection ≡ true → result ≡ StreamRead.Nothing }
         ensures never { is_failed self.now.connection ≡ true → result ≡ StreamRead.Fault }
+        ensures told { (number : ℕ) → is_registered_by number self.now.connection ≡ true → Steps (IsRead number into.new (got_of result)) (S.journal system.old) (S.journal system.new) }
     {
         match &self.connection {
             Connection::Open(stream) => read_stream(system, stream, into),
@@ -268,6 +274,8 @@ impl<T: Drop> LinkSocket<T> {
         ensures token { (token : ℕ) → is_registered_by token self.old.connection ≡ true → is_registered_by token self.new.connection ≡ true }
         ensures faults { self.old.faults ≤ self.new.faults }
         ensures wishes { self.new.wishes ≡ self.old.wishes }
+        ensures told { (number : ℕ) → is_registered_by number self.old.connection ≡ true → Steps (IsLinkWrite number piece.now result) (S.journal system.old) (S.journal system.new) }
+        ensures connection { self.new.connection ≡ self.old.connection }
     {
         match self.write_connection(system, piece) {
             StreamWrite::Bytes(n) => LinkWrite::Bytes(n),
@@ -289,6 +297,7 @@ impl<T: Drop> LinkSocket<T> {
         ensures progress { (n : ℕ) → result ≡ StreamWrite.Bytes n → 0 < length piece.now → 0 < n }
         ensures pending { is_pending self.now.connection ≡ true → result ≡ StreamWrite.Again }
         ensures never { is_failed self.now.connection ≡ true → result ≡ StreamWrite.Fault }
+        ensures told { (number : ℕ) → is_registered_by number self.now.connection ≡ true → Steps (IsConnectionWrite number piece.now result) (S.journal system.old) (S.journal system.new) }
     {
         match &self.connection {
             Connection::Open(stream) => write_stream(system, stream, piece),
@@ -319,6 +328,7 @@ impl<T: Drop> LinkSocket<T> {
         ensures closed { result ≡ LinkWrite.PeerClosed → ⊥ }
         ensures faults { self.old.faults ≤ self.new.faults }
         ensures rest { self.new ≡ record self.old { faults = self.new.faults; writable = false } }
+        ensures told { (number : ℕ) → is_registered_by number self.old.connection ≡ true → Steps (IsRoomAwaited (self.old.writable && is_open self.old.connection) number result) (S.journal system.old) (S.journal system.new) }
     {
         if self.writable {
             self.writable = false;
@@ -333,7 +343,8 @@ impl<T: Drop> LinkSocket<T> {
     /// Has the system report when there is something to read, and when there is room to write if that is asked for. Answers
     /// whether it could.
     fn watch<S: Sockets<Stream = T>>(&mut self, system: &mut S, writable: bool) -> bool
-        ensures { self.new ≡ self.old }
+        ensures same { self.new ≡ self.old }
+        ensures told { (number : ℕ) → is_registered_by number self.old.connection ≡ true → Steps (IsWatched (is_open self.old.connection) number writable result) (S.journal system.old) (S.journal system.new) }
     {
         match &mut self.connection {
             Connection::Open(stream) => system.watch(stream, writable).is_ok(),
@@ -356,6 +367,16 @@ impl<T: Drop> LinkSocket<T> {
             if !self.watch(system, false) {
                 self.faults = raised(self.faults);
             }
+        }
+    }
+
+    /// Closes its stream, if it has one.
+    pub fn close<S: Sockets<Stream = T>>(self, system: &mut S)
+        ensures { (number : ℕ) → is_registered_by number self.connection ≡ true → Steps (IsShut (is_open self.connection) number) (S.journal system.old) (S.journal system.new) }
+    {
+        let LinkSocket { connection, .. } = self;
+        if let Connection::Open(stream) = connection {
+            system.close(stream);
         }
     }
 

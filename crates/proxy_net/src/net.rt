@@ -111,9 +111,10 @@ impl<S: Sockets + Drop> Net for MioNet<S> {
     ghost use Rattle.link_traits.specs.declared.links.Wishes.{Wishes};
     ghost use Rattle.std.specs.Option.{option_map};
     ghost use Rattle.proxy_net.specs.Naming.{other_of};
+    ghost use Rattle.proxy_net.specs.Steps.{Steps, IsConnect, IsRead, IsWrite, IsShut};
     ghost use Rattle.std.specs.Prelude.{List};
     ghost use Rattle.proxy_net.specs.Sockets.{path_at, is_put_off_at, delay_at, is_readable_at, StaysUnread, StaysClosed, KeepsReports};
-    ghost use Rattle.proxy_net.specs.Sockets.{shown, is_pending_in, is_closed_at, is_peer_closed_at, is_stalled_at, IsJudgedAt, IsWished};
+    ghost use Rattle.proxy_net.specs.Sockets.{shown, is_open_at, is_pending_in, is_closed_at, is_peer_closed_at, is_stalled_at, IsJudgedAt, IsWished};
 
     ghost view = { λ net. shown net.sockets };
 
@@ -200,6 +201,9 @@ impl<S: Sockets + Drop> Net for MioNet<S> {
         // It makes no link readable.
         ensures unread { StaysUnread self.old.sockets self.new.sockets }
 
+        // What the system is asked for it.
+        ensures asked { Steps (IsConnect (number_of (bus_link session)) path.now result) (S.journal self.old.system) (S.journal self.new.system) }
+
         // What the trait says.
         ensures told { Adds (shown self.old.sockets) (shown self.new.sockets) (connect_entry session path.now result ∷ []) }
         ensures failed { IsErrOf result NetFault.Failed → RoseAt (Count.Link (bus_link session)) (shown self.old.sockets) (shown self.new.sockets) }
@@ -237,6 +241,9 @@ impl<S: Sockets + Drop> Net for MioNet<S> {
         ensures unread { StaysUnread self.old.sockets self.new.sockets }
         ensures closed { StaysClosed self.old.sockets self.new.sockets }
 
+        // What the system is asked for it.
+        ensures asked { Steps (IsRead (number_of link) into.new result) (S.journal self.old.system) (S.journal self.new.system) }
+
         // What the trait says.
         ensures told { Adds (shown self.old.sockets) (shown self.new.sockets) (read_entry link into.new result ∷ []) }
         ensures within { (n : ℕ) → result ≡ Got.Bytes n → n ≤ length into.new }
@@ -255,6 +262,9 @@ impl<S: Sockets + Drop> Net for MioNet<S> {
         // Only the write that finds for the first time that the peer closed makes a link readable. A write forgets no close.
         ensures unread { is_peer_closed_at self.new.sockets (number_of link) ≡ is_peer_closed_at self.old.sockets (number_of link) → StaysUnread self.old.sockets self.new.sockets }
         ensures closed { StaysClosed self.old.sockets self.new.sockets }
+
+        // What the system is asked for it.
+        ensures asked { Steps (IsWrite (number_of link) piece.now result) (S.journal self.old.system) (S.journal self.new.system) }
 
         // What the trait says.
         ensures told { Adds (shown self.old.sockets) (shown self.new.sockets) (write_entry link piece.now result ∷ []) }
@@ -275,11 +285,14 @@ impl<S: Sockets + Drop> Net for MioNet<S> {
         // It makes no link readable.
         ensures unread { StaysUnread self.old.sockets self.new.sockets }
 
+        // What the system is asked for it.
+        ensures asked { Steps (IsShut (is_open_at self.old.sockets (number_of link)) (number_of link)) (S.journal self.old.system) (S.journal self.new.system) }
+
         // What the trait says.
         ensures told { Adds (shown self.old.sockets) (shown self.new.sockets) (shut link ∷ []) }
         ensures gone { (shown self.new.sockets).wishes link ≡ None }
         ensures wishes { KeepsOthers link (shown self.old.sockets) (shown self.new.sockets) }
     {
-        self.sockets.shut(link);
+        self.sockets.shut(&mut self.system, link);
     }
 }

@@ -12,6 +12,7 @@ ghost use Rattle.link_traits.specs.Numbers.{number_of as link_number};
 ghost use Rattle.proxy_net.specs.Naming.{is_to_fail, other_of};
 ghost use Rattle.proxy_net.specs.Room.{room_for};
 ghost use Rattle.proxy_net.specs.Registering.{is_registered_by};
+ghost use Rattle.proxy_net.specs.Steps.{Steps, IsShut};
 
 mod calls;
 mod making;
@@ -19,6 +20,7 @@ mod naming;
 
 use crate::link_sockets::{Connection, LinkSocket, raised};
 use crate::listeners::ListenerSocket;
+use crate::system::Sockets;
 use link_traits::tables::number_of;
 use link_traits::{Count, Link, Wishes};
 use std::alloc::{AllocError, Global};
@@ -65,7 +67,7 @@ fn other_number(number: u64) -> u64
 }
 
 impl<T: Drop, L: Drop> SocketSet<T, L> {
-    ghost use Rattle.proxy_net.specs.Sockets.{is_peer_closed_at, is_closed_at, given_up_at, is_to_fail_at, KeepsReports, StaysUnread, StaysClosed, shown, count_in, wishes_in, RoseIn, Grows, GoesOn, KeepsOthersIn, IsUnused, IsConsistent, HasRoomFor, has_place};
+    ghost use Rattle.proxy_net.specs.Sockets.{is_peer_closed_at, is_closed_at, given_up_at, is_to_fail_at, KeepsReports, StaysUnread, StaysClosed, shown, count_in, wishes_in, RoseIn, Grows, GoesOn, KeepsOthersIn, IsUnused, IsConsistent, HasRoomFor, has_place, is_link_registered, is_open_at};
     ghost use Rattle.link_traits.specs.declared.links.Wishes.{Wishes};
 
     /// No sockets.
@@ -176,7 +178,8 @@ impl<T: Drop, L: Drop> SocketSet<T, L> {
     }
 
     /// Closes a link and forgets it. One that isn't there stays so.
-    fn remove_link(&mut self, link: Link)
+    fn remove_link<S: Sockets<Stream = T, Listener = L>>(&mut self, system: &mut S, link: Link)
+        ensures told { is_link_registered self.old (link_number link) ≡ true → Steps (IsShut (is_open_at self.old (link_number link)) (link_number link)) (S.journal system.old) (S.journal system.new) }
         ensures gone { wishes_in self.new link ≡ None }
         ensures others { KeepsOthersIn link self.old self.new }
         ensures unread { StaysUnread self.old self.new }
@@ -184,6 +187,7 @@ impl<T: Drop, L: Drop> SocketSet<T, L> {
     {
         if let Some(socket) = self.links.remove(&number_of(link)) {
             self.absent = self.absent.max(socket.faults);
+            socket.close(system);
         }
     }
 

@@ -1,7 +1,8 @@
 //! What the streams of the system answer, by what a link does about it.
 ghost use Rattle.std.specs.Prelude.{◌≡◌, ◌≢◌, ◌≤◌, ◌<◌, ℕ, Ok, Some, IfErr, length, true};
 ghost use Rattle.std.specs.IoError.{error_kind};
-ghost use Rattle.proxy_net.specs.Streams.{IsRefusedRead, IsRefusedWrite};
+ghost use Rattle.proxy_net.specs.Streams.{IsRefusedRead, IsRefusedWrite, IsMeantRead, IsRefusalRead, IsMeantWrite, IsRefusalWrite};
+ghost use Rattle.proxy_net.specs.Steps.{Steps, IsRead, IsStreamWrite, got_of};
 
 use crate::system::{Numbered, Sockets};
 use std::io::{self, ErrorKind};
@@ -42,6 +43,7 @@ pub fn read_stream<S: Sockets>(
 ) -> StreamRead
     ensures within { (n : ℕ) → result ≡ StreamRead.Bytes n → n ≤ length into.new }
     ensures progress { (n : ℕ) → result ≡ StreamRead.Bytes n → 0 < length into.new → 0 < n }
+    ensures told { Steps (IsRead stream.now.number into.new (got_of result)) (S.journal system.old) (S.journal system.new) }
 {
     let has_room = !into.is_empty();
     for _ in 0..u64::MAX {
@@ -58,6 +60,7 @@ fn read_of(answer: io::Result<usize>, has_room: bool) -> Option<StreamRead>
     ensures end { answer ≡ Ok 0 → has_room ≡ true → result ≡ Some StreamRead.End }
     ensures refused { IfErr answer (λ error. IsRefusedRead (error_kind error) result) }
     ensures only { (n : ℕ) → result ≡ Some (StreamRead.Bytes n) → (answer ≡ Ok n) × (has_room ≡ true → 0 < n) }
+    ensures meant { IsMeantRead error_kind answer result }
 {
     match answer {
         Ok(0) if has_room => Some(StreamRead::End),
@@ -69,6 +72,7 @@ fn read_of(answer: io::Result<usize>, has_room: bool) -> Option<StreamRead>
 fn refused_read(kind: ErrorKind) -> Option<StreamRead>
     ensures none { (n : ℕ) → result ≡ Some (StreamRead.Bytes n) → ⊥ }
     ensures refused { IsRefusedRead kind result }
+    ensures meant { IsRefusalRead kind result }
 {
     match kind {
         ErrorKind::WouldBlock => Some(StreamRead::Nothing),
@@ -86,6 +90,7 @@ pub fn write_stream<S: Sockets>(
 ) -> StreamWrite
     ensures within { (n : ℕ) → result ≡ StreamWrite.Bytes n → n ≤ length piece.now }
     ensures progress { (n : ℕ) → result ≡ StreamWrite.Bytes n → 0 < length piece.now → 0 < n }
+    ensures told { Steps (IsStreamWrite stream.now.number piece.now result) (S.journal system.old) (S.journal system.new) }
 {
     write_of(system.write(stream, piece), !piece.is_empty())
 }
@@ -96,6 +101,7 @@ fn write_of(answer: io::Result<usize>, has_bytes: bool) -> StreamWrite
     ensures none { answer ≡ Ok 0 → has_bytes ≡ true → result ≡ StreamWrite.Fault }
     ensures refused { IfErr answer (λ error. IsRefusedWrite (error_kind error) result) }
     ensures only { (n : ℕ) → result ≡ StreamWrite.Bytes n → (answer ≡ Ok n) × (has_bytes ≡ true → 0 < n) }
+    ensures meant { IsMeantWrite error_kind answer result }
 {
     match answer {
         Ok(0) if has_bytes => StreamWrite::Fault,
@@ -107,6 +113,7 @@ fn write_of(answer: io::Result<usize>, has_bytes: bool) -> StreamWrite
 fn refused_write(kind: ErrorKind) -> StreamWrite
     ensures none { (n : ℕ) → result ≡ StreamWrite.Bytes n → ⊥ }
     ensures refused { IsRefusedWrite kind result }
+    ensures meant { IsRefusalWrite kind result }
 {
     match kind {
         ErrorKind::WouldBlock => StreamWrite::Full,

@@ -44,11 +44,9 @@ impl<T> Numbered<T> {
 
 /// A system that gives sockets. Each has the number that it is made with, which the caller chooses.
 pub trait Sockets {
-    ghost use Rattle.std.specs.Prelude.{◌≤◌, ◌<◌, ◌∷◌, [], ℕ, List, Option, Ok, Err, Some, None, IfErr, OnErr, length, take, false, vec_len, vec_capacity};
+    ghost use Rattle.std.specs.Prelude.{◌≤◌, ◌<◌, ◌∷◌, [], ℕ, List, Option, OnErr, length, vec_len, vec_capacity};
     ghost use Rattle.std.specs.IoError.{error_kind};
-    ghost use Rattle.proxy_net.specs.SystemCalls.{SystemCall, bind, await_clients, accept, connect, watch, read, write, close, wait, remove, answer, fault_of, IsToldRead, Tells};
-    ghost use Rattle.link_traits.specs.Answers.{listen_entry, accept_entry, connect_entry, read_entry, write_entry};
-    ghost use Rattle.link_traits.specs.Entries.{ready as ready_entry, shut as shut_entry};
+    ghost use Rattle.proxy_net.specs.SystemCalls.{SystemCall, bind, await_clients, accept, connect, watch, read, write, close, wait, remove, fault_of, IsToldRead, IsToldWrite, Tells};
 
     /// A socket that listens.
     type Listener: Drop;
@@ -96,8 +94,7 @@ pub trait Sockets {
     /// Writes a prefix of a piece.
     fn write(&mut self, stream: &Numbered<Self::Stream>, piece: &[u8]) -> io::Result<usize>
         ensures within { IfOk result (λ n. n ≤ length piece.now) }
-        ensures took { IfOk result (λ n. Tells (journal self.old) (journal self.new) (write stream.now.number (Ok (take n piece.now)) ∷ [])) }
-        ensures refused { IfErr result (λ error. Tells (journal self.old) (journal self.new) (write stream.now.number (Err (error_kind error)) ∷ [])) };
+        ensures told { IsToldWrite error_kind stream.now.number piece.now result (journal self.old) (journal self.new) };
 
     /// Closes a stream.
     fn close(&mut self, stream: Numbered<Self::Stream>)

@@ -3,6 +3,7 @@ ghost use Rattle.std.specs.Prelude.{◌≡◌, ◌≤◌, ◌<◌, ℕ, None, le
 ghost use Rattle.std.specs.Option.{option_map};
 ghost use Rattle.link_traits.specs.Numbers.{number_of as link_number};
 ghost use Rattle.proxy_net.specs.Naming.{other_of};
+ghost use Rattle.proxy_net.specs.Steps.{Steps, IsRead, IsWrite, IsLinkWrite, IsShut};
 
 use super::{SocketSet, other_number};
 use crate::link_sockets::{LinkWrite, raised};
@@ -11,7 +12,7 @@ use link_traits::tables::number_of;
 use link_traits::{Count, Got, Link, Took, Wishes};
 
 impl<T: Drop, L: Drop> SocketSet<T, L> {
-    ghost use Rattle.proxy_net.specs.Sockets.{is_stalled_at, is_peer_closed_at, is_readable_at, StaysUnread, StaysClosed, KeepsReports, IsJudgedAt, wishes_in, is_pending_in, given_up_at, is_closed_at, is_to_fail_at, RoseIn, Grows, GoesOn, KeepsOthersIn};
+    ghost use Rattle.proxy_net.specs.Sockets.{is_stalled_at, is_peer_closed_at, is_readable_at, StaysUnread, StaysClosed, KeepsReports, IsJudgedAt, wishes_in, is_pending_in, given_up_at, is_closed_at, is_to_fail_at, is_link_registered, is_open_at, RoseIn, Grows, GoesOn, KeepsOthersIn};
     ghost use Rattle.link_traits.specs.declared.links.Wishes.{Wishes};
 
     /// Replaces the wishes of a link.
@@ -44,6 +45,7 @@ impl<T: Drop, L: Drop> SocketSet<T, L> {
         ensures waits { result ≡ Got.NotReady → is_readable_at self.new (link_number link) ≡ false }
         ensures unread { StaysUnread self.old self.new }
         ensures closed { StaysClosed self.old self.new }
+        ensures told { is_link_registered self.old (link_number link) ≡ true → Steps (IsRead (link_number link) into.new result) (S.journal system.old) (S.journal system.new) }
         ensures goes { GoesOn self.old self.new }
     {
         let got = self.read_link(system, link, into);
@@ -70,6 +72,7 @@ impl<T: Drop, L: Drop> SocketSet<T, L> {
         ensures unread { StaysUnread self.old self.new }
         ensures closed { StaysClosed self.old self.new }
         ensures uncounted { self.new.waits ≡ self.old.waits }
+        ensures told { is_link_registered self.old (link_number link) ≡ true → Steps (IsRead (link_number link) into.new result) (S.journal system.old) (S.journal system.new) }
         ensures goes { GoesOn self.old self.new }
     {
         let number = number_of(link);
@@ -102,6 +105,7 @@ impl<T: Drop, L: Drop> SocketSet<T, L> {
         ensures not_ready { result ≡ Took.NotReady → RoseIn Count.Waits self.old self.new }
         ensures unread { is_peer_closed_at self.new (link_number link) ≡ is_peer_closed_at self.old (link_number link) → StaysUnread self.old self.new }
         ensures closed { StaysClosed self.old self.new }
+        ensures told { is_link_registered self.old (link_number link) ≡ true → Steps (IsWrite (link_number link) piece.now result) (S.journal system.old) (S.journal system.new) }
         ensures goes { GoesOn self.old self.new }
     {
         match self.write_link(system, link, piece) {
@@ -131,6 +135,7 @@ impl<T: Drop, L: Drop> SocketSet<T, L> {
         ensures unread { is_peer_closed_at self.new (link_number link) ≡ is_peer_closed_at self.old (link_number link) → StaysUnread self.old self.new }
         ensures peers { StaysClosed self.old self.new }
         ensures waits { self.new.waits ≡ self.old.waits }
+        ensures told { is_link_registered self.old (link_number link) ≡ true → Steps (IsLinkWrite (link_number link) piece.now result) (S.journal system.old) (S.journal system.new) }
         ensures goes { GoesOn self.old self.new }
     {
         let number = number_of(link);
@@ -185,7 +190,8 @@ impl<T: Drop, L: Drop> SocketSet<T, L> {
     }
 
     /// Closes a link and forgets it. One that isn't there stays so.
-    pub fn shut(&mut self, link: Link)
+    pub fn shut<S: Sockets<Stream = T, Listener = L>>(&mut self, system: &mut S, link: Link)
+        ensures told { is_link_registered self.old (link_number link) ≡ true → Steps (IsShut (is_open_at self.old (link_number link)) (link_number link)) (S.journal system.old) (S.journal system.new) }
         ensures judged { IsJudgedAt self.new (other_of (link_number link)) }
         ensures revived { (listener : ℕ) → is_stalled_at self.new listener ≡ false }
         ensures gone { wishes_in self.new link ≡ None }
@@ -193,7 +199,7 @@ impl<T: Drop, L: Drop> SocketSet<T, L> {
         ensures unread { StaysUnread self.old self.new }
         ensures grows { Grows self.old self.new }
     {
-        self.remove_link(link);
+        self.remove_link(system, link);
         self.settle(number_of(link));
     }
 

@@ -4,6 +4,7 @@ ghost use Rattle.std.specs.VecDeque.{deque_len, deque_capacity};
 ghost use Rattle.std.specs.Option.{option_map};
 ghost use Rattle.std.specs.String.{string_bytes};
 ghost use Rattle.proxy_net.specs.Delays.{next_delay};
+ghost use Rattle.proxy_net.specs.Steps.{Steps, IsConnect};
 ghost use Rattle.link_traits.specs.Answers.{no_wishes, client_link, bus_link};
 ghost use Rattle.link_traits.specs.Numbers.{number_of as link_number};
 
@@ -353,6 +354,7 @@ impl<T: Drop, L: Drop> SocketSet<T, L> {
         ensures err { OnErr result (KeepsWishesIn self.old self.new) }
         ensures failed { IsErrOf result NetFault.Failed → RoseIn (Count.Link (bus_link session)) self.old self.new }
         ensures own { OnOk result (wishes_in self.new (bus_link session) ≡ Some no_wishes) }
+        ensures told { Steps (IsConnect (link_number (bus_link session)) path.now result) (S.journal system.old) (S.journal system.new) }
         ensures others { KeepsOthersIn (bus_link session) self.old self.new }
         ensures unread { StaysUnread self.old self.new }
         ensures grows { Grows self.old self.new }
@@ -380,6 +382,7 @@ impl<T: Drop, L: Drop> SocketSet<T, L> {
     ) -> Result<(), NetFault>
         ensures path { OnOk result (path.now ≢ []) }
         ensures fresh { OnOk result (wishes_in self.old link ≡ None) }
+        ensures told { Steps (IsConnect (link_number link) path.now result) (S.journal system.old) (S.journal system.new) }
         ensures err { OnErr result (GoesOn self.old self.new) }
         ensures own { OnOk result (wishes_in self.new link ≡ Some no_wishes) }
         ensures others { KeepsOthersIn link self.old self.new }
