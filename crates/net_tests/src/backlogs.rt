@@ -2,7 +2,7 @@
 use crate::sessions::{accept, bus, client, listening, must, one_client};
 use libc::net::listen;
 use link_traits::{Count, Got, Net, Ready, Took};
-use proxy_net::MioNet;
+use proxy_net::{MioNet, SystemSockets};
 use std::io::{Read, Write};
 use std::os::fd::AsRawFd;
 use std::os::unix::net::{UnixListener, UnixStream};
@@ -45,7 +45,7 @@ fn full_backlog(rt: HostRuntime) -> Result<(), Fail> {
 /// A client's link is named and read while the link of its session to the bus waits.
 fn others_go_on(
     rt: &HostRuntime,
-    net: &mut MioNet<'_>,
+    net: &mut MioNet<SystemSockets<'_>>,
     client_end: &mut UnixStream,
     path: &str,
 ) -> Result<(), Fail> {

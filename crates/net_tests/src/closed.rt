@@ -2,7 +2,7 @@
 use crate::sessions::{accept, bus, client, listening, one_client, two_sessions};
 use libc::net::{SHUT_RD, SHUT_WR, shutdown};
 use link_traits::{Count, Got, Link, Net, Ready, Took};
-use proxy_net::MioNet;
+use proxy_net::{MioNet, SystemSockets};
 use std::io::Write;
 use std::os::fd::AsRawFd;
 use std::os::unix::net::UnixStream;
@@ -125,7 +125,7 @@ fn read_unwished(rt: HostRuntime) -> Result<(), Fail> {
 }
 
 /// Has a client shut its reading, and a write to it be refused. The read that this may make ready answers that it would wait.
-fn reading_shut(net: &mut MioNet<'_>, client_end: &UnixStream, link: Link) -> bool {
+fn reading_shut(net: &mut MioNet<SystemSockets<'_>>, client_end: &UnixStream, link: Link) -> bool {
     let mut buffer = [0u8; 8];
     shutdown(client_end.as_raw_fd(), SHUT_RD) == 0
         && net.write(link, b"x") == Took::NotReady

@@ -1,6 +1,6 @@
 //! Sessions of a net whose bus is the net itself: a client that it accepts is the other end of a bus link.
 use link_traits::{Accepted, Link, Net, NetFault, Ready, Side};
-use proxy_net::MioNet;
+use proxy_net::{MioNet, SystemSockets};
 use std::io::Write;
 use std::os::unix::net::UnixStream;
 use std::test::Fail;
@@ -25,14 +25,14 @@ pub fn must(holds: bool, what: &str) -> Result<(), Fail> {
 }
 
 /// A net that listens at a path, which is a test's own, since all tests may run in one folder.
-pub fn listening<'a>(rt: &'a HostRuntime, path: &str) -> Result<MioNet<'a>, Fail> {
+pub fn listening<'a>(rt: &'a HostRuntime, path: &str) -> Result<MioNet<SystemSockets<'a>>, Fail> {
     let mut net = MioNet::new(rt)?;
     must(net.listen(path) == Ok(0), "listens at the first path")?;
     Ok(net)
 }
 
 /// Accepts the client that waits, as the next session.
-pub fn accept(net: &mut MioNet<'_>, session: u32) -> Result<(), Fail> {
+pub fn accept(net: &mut MioNet<SystemSockets<'_>>, session: u32) -> Result<(), Fail> {
     must(net.wait() == Ready::Listener(0), "the listener is named")?;
     must(
         net.accept(0) == Accepted::New(session),
@@ -42,7 +42,11 @@ pub fn accept(net: &mut MioNet<'_>, session: u32) -> Result<(), Fail> {
 }
 
 /// Has a client of the test's own make session 1, and answers that client.
-pub fn one_client(rt: &HostRuntime, net: &mut MioNet<'_>, path: &str) -> Result<UnixStream, Fail> {
+pub fn one_client(
+    rt: &HostRuntime,
+    net: &mut MioNet<SystemSockets<'_>>,
+    path: &str,
+) -> Result<UnixStream, Fail> {
     let stream = UnixStream::connect(rt, path)?;
     accept(net, 1)?;
     Ok(stream)
@@ -51,7 +55,7 @@ pub fn one_client(rt: &HostRuntime, net: &mut MioNet<'_>, path: &str) -> Result<
 /// Connects session 1, which a client of the test's own made, to the net itself, where it makes session 2.
 pub fn two_sessions(
     rt: &HostRuntime,
-    net: &mut MioNet<'_>,
+    net: &mut MioNet<SystemSockets<'_>>,
     path: &str,
 ) -> Result<UnixStream, Fail> {
     let stream = one_client(rt, net, path)?;

@@ -1,7 +1,7 @@
 //! Bytes through links, and what is named.
 use crate::sessions::{bus, client, listening, two_sessions};
 use link_traits::{Got, Link, Net, Ready, Took};
-use proxy_net::MioNet;
+use proxy_net::{MioNet, SystemSockets};
 use std::io::{Read, Write};
 use std::test::Fail;
 
@@ -97,7 +97,7 @@ impl End {
     }
 
     /// Writes once of what is left.
-    fn send(&mut self, net: &mut MioNet<'_>) {
+    fn send(&mut self, net: &mut MioNet<SystemSockets<'_>>) {
         let mut piece = [0u8; 65536];
         let most = MEGABYTE.saturating_sub(self.sent).min(piece.len());
         for place in 0..piece.len() {
@@ -111,7 +111,7 @@ impl End {
     }
 
     /// Reads once.
-    fn receive(&mut self, net: &mut MioNet<'_>) {
+    fn receive(&mut self, net: &mut MioNet<SystemSockets<'_>>) {
         let mut piece = [0u8; 65536];
         match net.read(self.link, &mut piece) {
             Got::Bytes(n) => {
@@ -127,7 +127,7 @@ impl End {
     }
 
     /// Goes on with what is left, and states the wishes.
-    fn go_on(&mut self, net: &mut MioNet<'_>) {
+    fn go_on(&mut self, net: &mut MioNet<SystemSockets<'_>>) {
         if self.sent < MEGABYTE {
             self.send(net);
         }

@@ -15,7 +15,7 @@ any_push p ns n = list_any-append p ns (n ∷ []) ∙ ap (λ (b : Bool). list_an
     or_none true = refl
     or_none false = refl
 
-module _ (sockets : SocketSet) where
+module _ {T L : Type 0} (sockets : SocketSet T L) where
   pub none_due : IsFirstDue sockets [] None
   none_due = record { by = λ number due among at. cc; one = λ time e. cc }
 

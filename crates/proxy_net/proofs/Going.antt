@@ -20,7 +20,7 @@ rose_kept before between after rose kept below =
 pub kept_rose : (before between after : ℕ) → before ≤ between → Rose between after → Rose before after
 kept_rose before between after kept rose below = let r : between < after = rose below in omega (arith, kept, r)
 
-pub goes_through : {a b c : SocketSet} → GoesOn a b → GoesOn b c → GoesOn a c
+pub goes_through : {T L : Type 0} → {a b c : SocketSet T L} → GoesOn a b → GoesOn b c → GoesOn a c
 goes_through p q = record {
   counts = λ count. let x = p.counts count in let y = q.counts count in omega (arith, x, y);
   wishes = λ link. q.wishes link ∙ p.wishes link;
@@ -33,11 +33,11 @@ goes_through p q = record {
   listener_tokens = λ place own. q.listener_tokens place (p.listener_tokens place own);
 }
 
-pub goes_grows : {a b : SocketSet} → GoesOn a b → Grows a b
+pub goes_grows : {T L : Type 0} → {a b : SocketSet T L} → GoesOn a b → Grows a b
 goes_grows p = record { each = p.counts; links = p.links; listeners = p.listeners; link_places = p.link_places; listener_places = p.listener_places; link_tokens = p.link_tokens; listener_tokens = p.listener_tokens }
 
 -- what only grows after what goes on
-pub grows_through : {a b c : SocketSet} → GoesOn a b → Grows b c → Grows a c
+pub grows_through : {T L : Type 0} → {a b c : SocketSet T L} → GoesOn a b → Grows b c → Grows a c
 grows_through p q = record {
   each = λ count. let x = p.counts count in let y = q.each count in omega (arith, x, y);
   links = λ link placed. q.links link (p.links link placed);
@@ -49,7 +49,7 @@ grows_through p q = record {
 }
 
 -- what goes on after what only grows
-pub grows_on : {a b c : SocketSet} → Grows a b → GoesOn b c → Grows a c
+pub grows_on : {T L : Type 0} → {a b c : SocketSet T L} → Grows a b → GoesOn b c → Grows a c
 grows_on p q = record {
   each = λ count. let x = p.each count in let y = q.counts count in omega (arith, x, y);
   links = λ link placed. q.links link (p.links link placed);
@@ -60,21 +60,21 @@ grows_on p q = record {
   listener_tokens = λ place own. q.listener_tokens place (p.listener_tokens place own);
 }
 
-pub keeps_wishes : {a b : SocketSet} → GoesOn a b → KeepsWishesIn a b
+pub keeps_wishes : {T L : Type 0} → {a b : SocketSet T L} → GoesOn a b → KeepsWishesIn a b
 keeps_wishes p = record { each = p.wishes }
 
-pub keeps_through : {a b c : SocketSet} → GoesOn a b → KeepsWishesIn b c → KeepsWishesIn a c
+pub keeps_through : {T L : Type 0} → {a b c : SocketSet T L} → GoesOn a b → KeepsWishesIn b c → KeepsWishesIn a c
 keeps_through p q = record { each = λ link. q.each link ∙ p.wishes link }
 
 -- an accept after what keeps all wishes
-pub accept_through : {a b : SocketSet} (c : SocketSet) (answer : Accepted) → GoesOn a b → AfterAcceptIn answer b c → AfterAcceptIn answer a c
+pub accept_through : {T L : Type 0} → {a b : SocketSet T L} (c : SocketSet T L) (answer : Accepted) → GoesOn a b → AfterAcceptIn answer b c → AfterAcceptIn answer a c
 accept_through c (New session) p q = record { each = λ other differs. q.each other differs ∙ p.wishes other }
 accept_through c NotReady p q = keeps_through p q
 accept_through c Refused p q = keeps_through p q
 accept_through c Memory p q = keeps_through p q
 
 -- what is wished after what keeps all wishes was wished before
-pub wished_before : (a b c : SocketSet) (ready : Ready) → GoesOn a b → IsWished b c ready → IsWished a c ready
+pub wished_before : {T L : Type 0} → (a b c : SocketSet T L) (ready : Ready) → GoesOn a b → IsWished b c ready → IsWished a c ready
 wished_before a b c (Listener listener) p wished = wished
 wished_before a b c (Link link) p wished = (subst HasWish (p.wishes link) wished.0, wished.1)
 wished_before a b c Quiet p wished = wished

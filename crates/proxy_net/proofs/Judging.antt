@@ -11,12 +11,12 @@ use Rattle.proxy_net.specs.declared.link_sockets.LinkSocket.{LinkSocket}
 use Rattle.proxy_net.specs.declared.listeners.ListenerSocket.{ListenerSocket}
 use Rattle.proxy_net.specs.declared.sockets.SocketSet.{SocketSet}
 
-pub judged_kept : (a b : SocketSet) (number : ℕ) → b.links ≡ a.links → IsJudgedAt a number → IsJudgedAt b number
-judged_kept a b number links judged = subst (λ (m : BTreeMap ℕ LinkSocket). unwrap_or (option_map (λ (s : LinkSocket). s.given_up) (tree.get nat_cmp m number)) true
+pub judged_kept : {T L : Type 0} → (a b : SocketSet T L) (number : ℕ) → b.links ≡ a.links → IsJudgedAt a number → IsJudgedAt b number
+judged_kept a b number links judged = subst (λ (m : BTreeMap ℕ (LinkSocket _)). unwrap_or (option_map (λ (s : LinkSocket _). s.given_up) (tree.get nat_cmp m number)) true
     ≡ unwrap_or (option_map (is_to_fail (unwrap_or (option_map is_link_closed (tree.get nat_cmp m (other_of number))) true)) (tree.get nat_cmp m number)) true) (sym links) judged
 
 -- what isn't so at the places before one, and at that one now, isn't so at the places up to it
-pub one_more_place : (P : SocketSet → ℕ → Bool) (a b : SocketSet) (place : ℕ) → ((other : ℕ) → other < place → P a other ≡ false) → P b place ≡ false
+pub one_more_place : {T L : Type 0} → (P : (SocketSet T L) → ℕ → Bool) (a b : SocketSet T L) (place : ℕ) → ((other : ℕ) → other < place → P a other ≡ false) → P b place ≡ false
     → ((other : ℕ) → P a other ≡ false → P b other ≡ false) → (other : ℕ) → other < place + 1 → P b other ≡ false
 one_more_place P a b place before now kept other below = by (nat_lt other place) refl
   where
@@ -25,13 +25,13 @@ one_more_place P a b place before now kept other below = by (nat_lt other place)
     by false e = let same : other ≡ place = grind (arith, nat_tests, e, below) in subst (λ n. P b n ≡ false) (sym same) now
 
 -- what is so of listeners alone isn't so where there is none
-pub none_there : (P : ListenerSocket → Bool) (listeners : List ListenerSocket) (place : ℕ) → length listeners ≤ place → unwrap_or (option_map P (slice_get listeners place)) false ≡ false
+pub none_there : {L : Type 0} → (P : (ListenerSocket L) → Bool) (listeners : List (ListenerSocket L)) (place : ℕ) → length listeners ≤ place → unwrap_or (option_map P (slice_get listeners place)) false ≡ false
 none_there P [] place past = refl
 none_there P (listener ∷ listeners) zero past = absurd (omega (arith, past))
 none_there P (listener ∷ listeners) (suc place) past = none_there P listeners place (omega (arith, past))
 
 -- what isn't so at any listener isn't so at any place
-pub all_places : (P : Option ListenerSocket → Bool) → P None ≡ false → (listeners : List ListenerSocket) → ((other : ℕ) → other < length listeners → P (slice_get listeners other) ≡ false)
+pub all_places : {L : Type 0} → (P : Option (ListenerSocket L) → Bool) → P None ≡ false → (listeners : List (ListenerSocket L)) → ((other : ℕ) → other < length listeners → P (slice_get listeners other) ≡ false)
     → (other : ℕ) → P (slice_get listeners other) ≡ false
 all_places P none [] below other = none
 all_places P none (listener ∷ listeners) below zero = below zero (omega arith)

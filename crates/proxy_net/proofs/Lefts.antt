@@ -7,7 +7,7 @@ use Rattle.proxy_net.specs.Sockets.{accept_left_at, left_in, IsFirstLeft}
 use Rattle.proxy_net.specs.declared.listeners.ListenerSocket.{ListenerSocket}
 use Rattle.proxy_net.specs.declared.sockets.SocketSet.{SocketSet}
 
-pub none_left : (sockets : SocketSet) (now : Option Instant) → IsFirstLeft sockets now 0 None
+pub none_left : {T L : Type 0} → (sockets : SocketSet T L) (now : Option Instant) → IsFirstLeft sockets now 0 None
 none_left sockets now = record { by = λ place left below at. absurd (omega (arith, below)); one = λ nanos e. cc }
 
 pub within_through : (first next : Option ℕ) (left : ℕ) → IsWithin left first → ((nanos : ℕ) → first ≡ Some nanos → IsWithin nanos next) → IsWithin left next
@@ -19,7 +19,7 @@ within_through (Some nanos) next left within through = by next (through nanos re
     by (Some n) w = omega (arith, w, within)
 
 -- one listener more
-pub one_more_left : (sockets : SocketSet) (now : Option Instant) (place : ℕ) (first own next : Option ℕ) → IsFirstLeft sockets now place first → own ≡ accept_left_at sockets now place
+pub one_more_left : {T L : Type 0} → (sockets : SocketSet T L) (now : Option Instant) (place : ℕ) (first own next : Option ℕ) → IsFirstLeft sockets now place first → own ≡ accept_left_at sockets now place
     → ((nanos : ℕ) → first ≡ Some nanos → IsWithin nanos next) → ((nanos : ℕ) → own ≡ Some nanos → IsWithin nanos next) → (next ≡ first) ⊎ (next ≡ own) → IsFirstLeft sockets now (place + 1) next
 one_more_left sockets now place first own next before is not_longer no_longer either = record {
   by = λ other left below at. chosen other left below at (nat_lt other place) refl;
@@ -36,7 +36,7 @@ one_more_left sockets now place first own next before is not_longer no_longer ei
         no_longer left (is ∙ ap (accept_left_at sockets now) (sym same) ∙ at)
 
 -- only at the place of a listener is something left
-pub left_below : (now : Option Instant) (listeners : List ListenerSocket) (place left : ℕ) → left_in now (slice_get listeners place) ≡ Some left → place < length listeners
+pub left_below : {L : Type 0} → (now : Option Instant) (listeners : List (ListenerSocket L)) (place left : ℕ) → left_in now (slice_get listeners place) ≡ Some left → place < length listeners
 left_below now [] place left e = absurd (let no : None ≡ Some left = e in cc)
 left_below now (listener ∷ listeners) zero left e = omega arith
 left_below now (listener ∷ listeners) (suc place) left e = let below = left_below now listeners place left e in omega (arith, below)

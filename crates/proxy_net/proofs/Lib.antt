@@ -7,3 +7,7 @@ pub mod Tokens
 pub mod Room
 pub mod Written
 pub mod Judging
+mod Putting
+pub mod Telling
+pub mod Meaning
+pub mod Leading

@@ -1,12 +1,12 @@
 -- What became readable since, one call after the other.
 use Rattle.std.proofs.Common.{ℕ, ◌≡◌, Bool, true, false, ◌||◌, List, ◌∷◌, refl, ◌∙◌}
 use Rattle.std.specs.List.{list_any}
-use Rattle.mio.specs.declared.event.event.Event.{Event}
+use Rattle.proxy_net.specs.declared.reports.Report.{Report}
 use Rattle.proxy_net.specs.Sockets.{IsReadIf, KeepsReports, StaysClosed, is_readable_at, is_pending_at}
 use Rattle.proxy_net.specs.declared.sockets.SocketSet.{SocketSet}
 use Rattle.proxy_net.proofs.Notes.{or_kept}
 
-pub read_kept : (reported : ℕ → Bool) (a : SocketSet) → IsReadIf reported a a
+pub read_kept : {T L : Type 0} → (reported : ℕ → Bool) (a : SocketSet T L) → IsReadIf reported a a
 read_kept reported a = record { each = λ number e. by (is_readable_at a number) (reported number || is_pending_at a number) e; pending = λ number e. e; closed = λ number e. e }
   where
     by : (x y : Bool) → x ≡ true → x || y ≡ true
@@ -14,7 +14,7 @@ read_kept reported a = record { each = λ number e. by (is_readable_at a number)
     by false y e = cc
 
 -- what one call reports, and then another
-pub read_through : {reported : ℕ → Bool} {a b c : SocketSet} → IsReadIf reported a b → IsReadIf reported b c → IsReadIf reported a c
+pub read_through : {T L : Type 0} → {reported : ℕ → Bool} {a b c : SocketSet T L} → IsReadIf reported a b → IsReadIf reported b c → IsReadIf reported a c
 read_through {reported} {a} {b} {c} p q = record {
   each = λ number e. by (is_readable_at b number) (reported number) (is_pending_at b number) (is_readable_at a number) (is_pending_at a number) (q.each number e) (p.each number) (p.pending number);
   pending = λ number e. p.pending number (q.pending number e);
@@ -40,22 +40,22 @@ read_through {reported} {a} {b} {c} p q = record {
     by false true pb ra pa e f g = reports ra true pa refl
     by false false pb ra pa e f g = pends ra false pa (g e)
 
-pub any_first : (p : Event → Bool) (event : Event) (rest : List Event) → p event ≡ true → list_any p (event ∷ rest) ≡ true
-any_first p event rest e = by (p event) (list_any p rest) e
+pub any_first : (p : Report → Bool) (report : Report) (rest : List Report) → p report ≡ true → list_any p (report ∷ rest) ≡ true
+any_first p report rest e = by (p report) (list_any p rest) e
   where
     by : (x y : Bool) → x ≡ true → x || y ≡ true
     by true y e = refl
     by false y e = cc
 
-pub any_later : (p : Event → Bool) (event : Event) (rest : List Event) → list_any p rest ≡ true → list_any p (event ∷ rest) ≡ true
-any_later p event rest e = by (p event) (list_any p rest) e
+pub any_later : (p : Report → Bool) (report : Report) (rest : List Report) → list_any p rest ≡ true → list_any p (report ∷ rest) ≡ true
+any_later p report rest e = by (p report) (list_any p rest) e
   where
     by : (x y : Bool) → y ≡ true → x || y ≡ true
     by true y e = refl
     by false y e = e
 
 -- less is reported
-pub read_weaker : {less more : ℕ → Bool} {a b : SocketSet} → ((number : ℕ) → less number ≡ true → more number ≡ true) → IsReadIf less a b → IsReadIf more a b
+pub read_weaker : {T L : Type 0} → {less more : ℕ → Bool} {a b : SocketSet T L} → ((number : ℕ) → less number ≡ true → more number ≡ true) → IsReadIf less a b → IsReadIf more a b
 read_weaker {less} {more} {a} {b} f p = record {
   each = λ number e. or_kept (is_readable_at a number) _ _ (by (less number) (more number) (is_pending_at a number) (f number)) (p.each number e);
   pending = p.pending;
@@ -68,11 +68,11 @@ read_weaker {less} {more} {a} {b} f p = record {
     by false true z g e = refl
     by false false z g e = e
 
-pub reports_through : {a b c : SocketSet} → KeepsReports a b → KeepsReports b c → KeepsReports a c
+pub reports_through : {T L : Type 0} → {a b c : SocketSet T L} → KeepsReports a b → KeepsReports b c → KeepsReports a c
 reports_through p q = record { readable = λ number. q.readable number ∙ p.readable number; closed = λ number. q.closed number ∙ p.closed number }
 
-pub reports_closed : {a b : SocketSet} → KeepsReports a b → StaysClosed a b
+pub reports_closed : {T L : Type 0} → {a b : SocketSet T L} → KeepsReports a b → StaysClosed a b
 reports_closed p = record { each = λ number e. p.closed number ∙ e }
 
-pub closed_through : {a b c : SocketSet} → StaysClosed a b → StaysClosed b c → StaysClosed a c
+pub closed_through : {T L : Type 0} → {a b c : SocketSet T L} → StaysClosed a b → StaysClosed b c → StaysClosed a c
 closed_through p q = record { each = λ number e. q.each number (p.each number e) }

@@ -7,7 +7,7 @@ use Rattle.proxy_net.specs.Registering.{is_own_link}
 use Rattle.proxy_net.specs.declared.link_sockets.LinkSocket.{LinkSocket}
 
 -- a link that is made under the number that it is registered by
-pub own_link_made : (old new : BTreeMap ℕ LinkSocket) (number : ℕ) (socket : LinkSocket) → tree.Updates nat_cmp old new number (Some socket) → is_own_link number (Some socket) ≡ true
+pub own_link_made : {T : Type 0} → (old new : BTreeMap ℕ (LinkSocket T)) (number : ℕ) (socket : LinkSocket T) → tree.Updates nat_cmp old new number (Some socket) → is_own_link number (Some socket) ≡ true
     → (other : ℕ) → is_own_link other (tree.get nat_cmp old other) ≡ true → is_own_link other (tree.get nat_cmp new other) ≡ true
 own_link_made old new number socket updates own other before =
     ap (is_own_link other) (updates.0 other) ∙ by (is_eq (nat_cmp number other)) refl

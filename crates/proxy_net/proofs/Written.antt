@@ -19,7 +19,7 @@ use Rattle.proxy_net.specs.declared.sockets.SocketSet.{SocketSet}
 use Rattle.proxy_net.proofs.Notes.{or_kept}
 
 -- what is marked as queued stands in the queue, also where it was marked now
-pub still_queued : (old new : ListenerSocket) (was is is_new : Bool) → (is_new ≡ true → is ≡ true) → (was ≡ true → is ≡ true) → (is_new ≡ false → new.queued ≡ old.queued)
+pub still_queued : {L : Type 0} → (old new : ListenerSocket L) (was is is_new : Bool) → (is_new ≡ true → is ≡ true) → (was ≡ true → is ≡ true) → (is_new ≡ false → new.queued ≡ old.queued)
     → (is_listener_unmarked (Some old) || was) ≡ true → (is_listener_unmarked (Some new) || is) ≡ true
 still_queued old new was is true put kept same before = ap (λ (b : Bool). not new.queued || b) (put refl) ∙ or_true (not new.queued)
   where
@@ -29,16 +29,16 @@ still_queued old new was is true put kept same before = ap (λ (b : Bool). not n
 still_queued old new was is false put kept same before = ap (λ (b : Bool). not b || is) (same refl) ∙ or_kept (not old.queued) was is kept before
 
 -- what is so at each place stays so, where it stays so at the one that is written
-pub at_each : (P : ℕ → Option ListenerSocket → Type 0) (listeners : List ListenerSocket) (place : ℕ) (old new : ListenerSocket) → slice_get listeners place ≡ Some old
+pub at_each : {L : Type 0} → (P : ℕ → Option (ListenerSocket L) → Type 0) (listeners : List (ListenerSocket L)) (place : ℕ) (old new : ListenerSocket L) → slice_get listeners place ≡ Some old
     → (P place (Some old) → P place (Some new)) → (other : ℕ) → P other (slice_get listeners other) → P other (slice_get (slice_set listeners place new) other)
 at_each P [] place old new found kept other p = absurd (let no : None ≡ Some old = found in cc)
-at_each P (listener ∷ listeners) zero old new found kept zero p = kept (subst (λ (o : Option ListenerSocket). P zero o) found p)
+at_each P (listener ∷ listeners) zero old new found kept zero p = kept (subst (λ (o : Option (ListenerSocket _)). P zero o) found p)
 at_each P (listener ∷ listeners) zero old new found kept (suc other) p = p
 at_each P (listener ∷ listeners) (suc place) old new found kept zero p = p
 at_each P (listener ∷ listeners) (suc place) old new found kept (suc other) p = at_each (λ at o. P (suc at) o) listeners place old new found kept other p
 
 -- what is so at each other place, and at the one that is written, is so at each
-at_others : (P : ℕ → Option ListenerSocket → Type 0) (listeners : List ListenerSocket) (place : ℕ) (old new : ListenerSocket) → slice_get listeners place ≡ Some old
+at_others : {L : Type 0} → (P : ℕ → Option (ListenerSocket L) → Type 0) (listeners : List (ListenerSocket L)) (place : ℕ) (old new : ListenerSocket L) → slice_get listeners place ≡ Some old
     → P place (Some new) → (other : ℕ) → (other ≢ place → P other (slice_get listeners other)) → P other (slice_get (slice_set listeners place new) other)
 at_others P [] place old new found own other p = absurd (let no : None ≡ Some old = found in cc)
 at_others P (listener ∷ listeners) zero old new found own zero p = own
@@ -77,7 +77,7 @@ all_stay (item ∷ items) rotated are other among =
     by true false e = refl
     by false b e = subst (λ (x : Bool). x || false ≡ true) (sym e) refl
 
-module _ (a b : SocketSet) (place : ℕ) (old new : ListenerSocket) where
+module _ {T L : Type 0} (a b : SocketSet T L) (place : ℕ) (old new : ListenerSocket L) where
   -- one listener is written
   pub listener_goes : slice_get a.listeners.items place ≡ Some old → b.listeners.items ≡ slice_set a.listeners.items place new
       → b.links ≡ a.links → b.own ≡ a.own → b.waits ≡ a.waits → b.absent ≡ a.absent → b.sessions ≡ a.sessions
@@ -86,32 +86,32 @@ module _ (a b : SocketSet) (place : ℕ) (old new : ListenerSocket) where
       → ((is_listener_unmarked (Some old) || has_place a (listeners_from + place)) ≡ true → (is_listener_unmarked (Some new) || has_place b (listeners_from + place)) ≡ true) → GoesOn a b
   listener_goes found are links own waits absent sessions faults listener placed others queued = record {
     counts = counted;
-    wishes = λ link. ap (λ (m : BTreeMap ℕ LinkSocket). option_map (λ (s : LinkSocket). s.wishes) (tree.get nat_cmp m (number_of link))) links;
+    wishes = λ link. ap (λ (m : BTreeMap ℕ (LinkSocket _)). option_map (λ (s : LinkSocket _). s.wishes) (tree.get nat_cmp m (number_of link))) links;
     sessions = sessions;
-    links = λ link p. ap (λ (m : BTreeMap ℕ LinkSocket). is_link_placed (tree.get nat_cmp m (number_of link))) links ∙ p;
-    listeners = λ at p. ap (λ (xs : List ListenerSocket). is_listener_placed (slice_get xs at)) are ∙ at_each (λ _ o. is_listener_placed o ≡ true) a.listeners.items place old new found placed at p;
-    link_places = λ number below p. ap (λ (m : BTreeMap ℕ LinkSocket). is_link_unmarked (tree.get nat_cmp m number) || has_place b number) links
+    links = λ link p. ap (λ (m : BTreeMap ℕ (LinkSocket _)). is_link_placed (tree.get nat_cmp m (number_of link))) links ∙ p;
+    listeners = λ at p. ap (λ (xs : List (ListenerSocket _)). is_listener_placed (slice_get xs at)) are ∙ at_each (λ _ o. is_listener_placed o ≡ true) a.listeners.items place old new found placed at p;
+    link_places = λ number below p. ap (λ (m : BTreeMap ℕ (LinkSocket _)). is_link_unmarked (tree.get nat_cmp m number) || has_place b number) links
         ∙ or_kept (is_link_unmarked (tree.get nat_cmp a.links number)) (has_place a number) (has_place b number) (others number (λ e. absurd (omega (arith, below, e)))) p;
-    listener_places = λ at below p. ap (λ (xs : List ListenerSocket). is_listener_unmarked (slice_get xs at) || has_place b (listeners_from + at)) are
+    listener_places = λ at below p. ap (λ (xs : List (ListenerSocket _)). is_listener_unmarked (slice_get xs at) || has_place b (listeners_from + at)) are
         ∙ at_others (λ k o. k ≡ at → (is_listener_unmarked o || has_place b (listeners_from + k)) ≡ true) a.listeners.items place old new found
-        (λ e. queued (ap (λ (o : Option ListenerSocket). is_listener_unmarked o || has_place a (listeners_from + place)) (sym found) ∙ subst (λ k. is_listener_queued a k ≡ true) (sym e) p)) at
+        (λ e. queued (ap (λ (o : Option (ListenerSocket _)). is_listener_unmarked o || has_place a (listeners_from + place)) (sym found) ∙ subst (λ k. is_listener_queued a k ≡ true) (sym e) p)) at
         (λ differs _. or_kept (is_listener_unmarked (slice_get a.listeners.items at)) (has_place a (listeners_from + at)) (has_place b (listeners_from + at))
         (others (listeners_from + at) (λ e. differs (omega (arith, e)))) p) refl;
-    link_tokens = λ number p. ap (λ (m : BTreeMap ℕ LinkSocket). is_own_link number (tree.get nat_cmp m number)) links ∙ p;
-    listener_tokens = λ at p. ap (λ (xs : List ListenerSocket). is_own_listener at (slice_get xs at)) are
-        ∙ at_each (λ k o. is_own_listener k o ≡ true) a.listeners.items place old new found (λ own_token. ap (λ (l : _). nat_eq l.token (listeners_from + place)) listener ∙ own_token) at p;
+    link_tokens = λ number p. ap (λ (m : BTreeMap ℕ (LinkSocket _)). is_own_link number (tree.get nat_cmp m number)) links ∙ p;
+    listener_tokens = λ at p. ap (λ (xs : List (ListenerSocket _)). is_own_listener at (slice_get xs at)) are
+        ∙ at_each (λ k o. is_own_listener k o ≡ true) a.listeners.items place old new found (λ own_token. ap (λ (l : _). nat_eq l.number (listeners_from + place)) listener ∙ own_token) at p;
   }
     where
       counted : (count : Count) → count_in a count ≤ count_in b count
       counted Own = omega (arith, own)
       counted Waits = omega (arith, waits)
       counted (Listener listener) =
-          let same : count_in b (Listener listener) ≡ unwrap_or (option_map (λ (s : ListenerSocket). s.faults) (slice_get (slice_set a.listeners.items place new) listener)) a.absent =
-          ap₂ (λ (xs : List ListenerSocket) (d : ℕ). unwrap_or (option_map (λ (s : ListenerSocket). s.faults) (slice_get xs listener)) d) are absent in
-          let grew = at_each (λ k o. count_in a (Listener listener) ≤ unwrap_or (option_map (λ (s : ListenerSocket). s.faults) o) a.absent) a.listeners.items place old new found
+          let same : count_in b (Listener listener) ≡ unwrap_or (option_map (λ (s : ListenerSocket _). s.faults) (slice_get (slice_set a.listeners.items place new) listener)) a.absent =
+          ap₂ (λ (xs : List (ListenerSocket _)) (d : ℕ). unwrap_or (option_map (λ (s : ListenerSocket _). s.faults) (slice_get xs listener)) d) are absent in
+          let grew = at_each (λ k o. count_in a (Listener listener) ≤ unwrap_or (option_map (λ (s : ListenerSocket _). s.faults) o) a.absent) a.listeners.items place old new found
           (λ before. omega (arith, before, faults)) listener (omega arith) in
           omega (arith, same, grew)
       counted (Link link) =
           let same : count_in b (Link link) ≡ count_in a (Link link) =
-          ap₂ (λ (m : BTreeMap ℕ LinkSocket) (d : ℕ). unwrap_or (option_map (λ (s : LinkSocket). s.faults) (tree.get nat_cmp m (number_of link))) d) links absent in
+          ap₂ (λ (m : BTreeMap ℕ (LinkSocket _)) (d : ℕ). unwrap_or (option_map (λ (s : LinkSocket _). s.faults) (tree.get nat_cmp m (number_of link))) d) links absent in
           omega (arith, same)

@@ -10,18 +10,24 @@ pub record IsLater (start : Instant) (nanos : ℕ) (time : Instant) : Type 0 whe
   pub fits : FitsClock (instant_nanos start + nanos) → instant_nanos time ≡ instant_nanos start + nanos
   pub ends : (FitsClock (instant_nanos start + nanos) → ⊥) → time ≡ start
 
-abbrev pub is_pending : Connection → Bool
+abbrev pub is_pending : {T : Type 0} → Connection T → Bool
 is_pending (Open stream) = false
 is_pending (Pending retry) = true
 is_pending Failed = false
 
-abbrev pub is_given_up : Connection → Bool
+abbrev pub is_given_up : {T : Type 0} → Connection T → Bool
 is_given_up (Open stream) = false
 is_given_up (Pending retry) = false
 is_given_up Failed = true
 
 -- when the next try is due, where there is one
-abbrev pub due_of : Connection → Option Instant
+abbrev pub due_of : {T : Type 0} → Connection T → Option Instant
 due_of (Open stream) = None
 due_of (Pending retry) = Some retry.due
 due_of Failed = None
+
+-- it has a stream
+abbrev pub is_open : {T : Type 0} → Connection T → Bool
+is_open (Open stream) = true
+is_open (Pending retry) = false
+is_open Failed = false

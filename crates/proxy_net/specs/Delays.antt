@@ -25,19 +25,19 @@ nanos_until (Some due) None = 32000000
 nanos_until (Some due) (Some now) = instant_nanos due - instant_nanos now
 
 -- a listener is stalled, and it is time to try it again
-abbrev pub is_accept_due : Option Instant → ListenerSocket → Bool
+abbrev pub is_accept_due : {L : Type 0} → Option Instant → ListenerSocket L → Bool
 is_accept_due now s = s.stalled && is_time s.due now
 
 -- a listener is stalled, and it isn't time yet to try it again
-abbrev pub is_accept_early : Option Instant → ListenerSocket → Bool
+abbrev pub is_accept_early : {L : Type 0} → Option Instant → ListenerSocket L → Bool
 is_accept_early now s = s.stalled && not (is_time s.due now)
 
 -- how many nanoseconds are left until a listener is tried again, where it is stalled
-abbrev pub accept_left : Option Instant → ListenerSocket → Option ℕ
+abbrev pub accept_left : {L : Type 0} → Option Instant → ListenerSocket L → Option ℕ
 accept_left now s = if s.stalled then Some (nanos_until s.due now) else None
 
 -- a listener is stalled, and was put off by one of the delays
-abbrev pub is_put_off : ListenerSocket → Bool
+abbrev pub is_put_off : {L : Type 0} → ListenerSocket L → Bool
 is_put_off s = s.stalled && (nat_le 1 s.delay && nat_le s.delay 32)
 
 -- a length of time in nanoseconds

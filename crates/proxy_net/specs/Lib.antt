@@ -6,3 +6,6 @@ pub mod Delays
 pub mod Registering
 pub mod Streams
 pub mod Room
+pub mod Reports
+pub mod SystemCalls
+pub mod Steps

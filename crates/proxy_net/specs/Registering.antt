@@ -13,23 +13,23 @@ abbrev pub listeners_from : ℕ
 listeners_from = 0x200000000
 
 -- the stream of a link is registered by this number, or is to be
-abbrev pub is_registered_by : ℕ → Connection → Bool
-is_registered_by number (Open stream) = nat_eq stream.token number
+abbrev pub is_registered_by : {T : Type 0} → ℕ → Connection T → Bool
+is_registered_by number (Open stream) = nat_eq stream.number number
 is_registered_by number (Pending retry) = nat_eq retry.token number
 is_registered_by number Failed = true
 
 -- a stream that was connected is registered by this number
-abbrev pub is_connected_by : ℕ → Connected → Bool
-is_connected_by number (To stream) = nat_eq stream.token number
+abbrev pub is_connected_by : {T : Type 0} → ℕ → Connected T → Bool
+is_connected_by number (To stream) = nat_eq stream.number number
 is_connected_by number NotDue = true
 is_connected_by number WouldBlock = true
 is_connected_by number Before = true
 is_connected_by number Refused = true
 
 -- a link is registered by its own number
-abbrev pub is_own_link : ℕ → Option LinkSocket → Bool
-is_own_link number socket = unwrap_or (option_map (λ (s : LinkSocket). is_registered_by number s.connection) socket) true
+abbrev pub is_own_link : {T : Type 0} → ℕ → Option (LinkSocket T) → Bool
+is_own_link number socket = unwrap_or (option_map (λ (s : LinkSocket _). is_registered_by number s.connection) socket) true
 
 -- a listener is registered by the number of its place
-abbrev pub is_own_listener : ℕ → Option ListenerSocket → Bool
-is_own_listener place socket = unwrap_or (option_map (λ (s : ListenerSocket). nat_eq s.listener.token (listeners_from + place)) socket) true
+abbrev pub is_own_listener : {L : Type 0} → ℕ → Option (ListenerSocket L) → Bool
+is_own_listener place socket = unwrap_or (option_map (λ (s : ListenerSocket _). nat_eq s.listener.number (listeners_from + place)) socket) true

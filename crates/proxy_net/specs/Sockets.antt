@@ -23,35 +23,35 @@ use Rattle.link_traits.specs.Answers.{client_link}
 use Rattle.proxy_net.specs.Room.{room_for}
 use Rattle.std.specs.VecDeque.{deque_len, deque_capacity}
 use Rattle.proxy_net.specs.Naming.{other_of, is_link_placed, is_listener_placed, is_link_unmarked, is_listener_unmarked, is_link_closed, is_to_fail}
-use Rattle.mio.specs.declared.event.event.Event.{Event}
-use Rattle.proxy_net.specs.Connecting.{is_pending, due_of}
+use Rattle.proxy_net.specs.declared.reports.Report.{Report}
+use Rattle.proxy_net.specs.Connecting.{is_pending, is_open, due_of}
 use Rattle.proxy_net.specs.Delays.{is_accept_due, is_accept_early, accept_left, is_put_off, IsWithin}
 use Rattle.std.specs.String.{string_bytes}
 use Rattle.proxy_net.specs.Registering.{is_own_link, is_own_listener, listeners_from}
-use Rattle.proxy_net.specs.Noting.{is_link_noted, is_listener_noted, is_listener_named, is_link_named, number_in, is_bus_number, tells_read, tells_write, same_side}
+use Rattle.proxy_net.specs.Noting.{is_link_noted, is_listener_noted, is_listener_named, is_link_named, is_bus_number, same_side}
 use Rattle.proxy_net.specs.declared.link_sockets.LinkSocket.{LinkSocket}
 use Rattle.proxy_net.specs.declared.bound_files.BoundFile.{BoundFile}
 use Rattle.proxy_net.specs.declared.listeners.ListenerSocket.{ListenerSocket}
 use Rattle.proxy_net.specs.declared.sockets.SocketSet.{SocketSet}
 
 -- the socket of a link that was made and isn't shut
-abbrev pub socket_in : SocketSet → Link → Option LinkSocket
+abbrev pub socket_in : {T L : Type 0} → SocketSet T L → Link → Option (LinkSocket T)
 socket_in sockets link = tree.get nat_cmp sockets.links (number_of link)
 
 -- a link that isn't connected yet
-abbrev pub is_pending_in : SocketSet → Link → Bool
-is_pending_in sockets link = unwrap_or (option_map (λ (s : LinkSocket). is_pending s.connection) (socket_in sockets link)) false
+abbrev pub is_pending_in : {T L : Type 0} → SocketSet T L → Link → Bool
+is_pending_in sockets link = unwrap_or (option_map (λ (s : LinkSocket _). is_pending s.connection) (socket_in sockets link)) false
 
-abbrev pub wishes_in : SocketSet → Link → Option Wishes
-wishes_in sockets link = option_map (λ (s : LinkSocket). s.wishes) (socket_in sockets link)
+abbrev pub wishes_in : {T L : Type 0} → SocketSet T L → Link → Option Wishes
+wishes_in sockets link = option_map (λ (s : LinkSocket _). s.wishes) (socket_in sockets link)
 
-abbrev pub count_in : SocketSet → Count → ℕ
+abbrev pub count_in : {T L : Type 0} → SocketSet T L → Count → ℕ
 count_in sockets Own = sockets.own
 count_in sockets Waits = sockets.waits
-count_in sockets (Listener listener) = unwrap_or (option_map (λ (s : ListenerSocket). s.faults) (slice_get sockets.listeners.items listener)) sockets.absent
-count_in sockets (OfLink link) = unwrap_or (option_map (λ (s : LinkSocket). s.faults) (socket_in sockets link)) sockets.absent
+count_in sockets (Listener listener) = unwrap_or (option_map (λ (s : ListenerSocket _). s.faults) (slice_get sockets.listeners.items listener)) sockets.absent
+count_in sockets (OfLink link) = unwrap_or (option_map (λ (s : LinkSocket _). s.faults) (socket_in sockets link)) sockets.absent
 
-abbrev pub shown : SocketSet → NetView
+abbrev pub shown : {T L : Type 0} → SocketSet T L → NetView
 shown sockets = record {
   journal = None;
   counts = count_in sockets;
@@ -59,45 +59,45 @@ shown sockets = record {
   script_done = false;
 }
 
-abbrev pub RoseIn : Count → SocketSet → SocketSet → Type 0
+abbrev pub RoseIn : {T L : Type 0} → Count → SocketSet T L → SocketSet T L → Type 0
 RoseIn count old new = Rose (count_in old count) (count_in new count)
 
 -- a link that is ready for what is wished is marked as queued
-abbrev pub has_link_placed : SocketSet → Link → Bool
+abbrev pub has_link_placed : {T L : Type 0} → SocketSet T L → Link → Bool
 has_link_placed sockets link = is_link_placed (socket_in sockets link)
 
 -- a listener that is to be named is marked as queued
-abbrev pub has_listener_placed : SocketSet → ℕ → Bool
+abbrev pub has_listener_placed : {T L : Type 0} → SocketSet T L → ℕ → Bool
 has_listener_placed sockets listener = is_listener_placed (slice_get sockets.listeners.items listener)
 
 -- a number stands in the queue
-abbrev pub has_place : SocketSet → ℕ → Bool
+abbrev pub has_place : {T L : Type 0} → SocketSet T L → ℕ → Bool
 has_place sockets number = list_any (nat_eq number) sockets.ready.items
 
 -- the queue has room for what is in it, for each listener and link that isn't marked as queued, and for
 -- so many more
-abbrev pub HasRoomFor : ℕ → SocketSet → Type 0
+abbrev pub HasRoomFor : {T L : Type 0} → ℕ → SocketSet T L → Type 0
 HasRoomFor more sockets = room_for more (deque_len sockets.ready) sockets.listeners.items sockets.links.entries ≤ deque_capacity sockets.ready
 
 -- a link that is marked as queued stands in the queue
-abbrev pub is_link_queued : SocketSet → ℕ → Bool
+abbrev pub is_link_queued : {T L : Type 0} → SocketSet T L → ℕ → Bool
 is_link_queued sockets number = is_link_unmarked (tree.get nat_cmp sockets.links number) || has_place sockets number
 
 -- a listener that is marked as queued stands in the queue
-abbrev pub is_listener_queued : SocketSet → ℕ → Bool
+abbrev pub is_listener_queued : {T L : Type 0} → SocketSet T L → ℕ → Bool
 is_listener_queued sockets place = is_listener_unmarked (slice_get sockets.listeners.items place) || has_place sockets (listeners_from + place)
 
 -- the link of a number is registered by it, or there is no such link
-abbrev pub is_link_registered : SocketSet → ℕ → Bool
+abbrev pub is_link_registered : {T L : Type 0} → SocketSet T L → ℕ → Bool
 is_link_registered sockets number = is_own_link number (tree.get nat_cmp sockets.links number)
 
 -- the listener at a place is registered by the number of the place, or there is no such listener
-abbrev pub is_listener_registered : SocketSet → ℕ → Bool
+abbrev pub is_listener_registered : {T L : Type 0} → SocketSet T L → ℕ → Bool
 is_listener_registered sockets place = is_own_listener place (slice_get sockets.listeners.items place)
 
 -- what is ready for a wish is marked as queued, what is marked so stands in the queue, and each socket
 -- is registered by its own number
-pub record IsConsistent (sockets : SocketSet) : Type 0 where
+pub record IsConsistent {T L : Type 0} (sockets : SocketSet T L) : Type 0 where
   pub links : (link : Link) → has_link_placed sockets link ≡ true
   pub listeners : (listener : ℕ) → has_listener_placed sockets listener ≡ true
   pub link_places : (number : ℕ) → number < listeners_from → is_link_queued sockets number ≡ true
@@ -107,7 +107,7 @@ pub record IsConsistent (sockets : SocketSet) : Type 0 where
 
 -- no count falls, nothing that is ready for a wish falls out of the queue, what is marked as queued
 -- stands in it, and what is registered by its own number stays so
-pub record Grows (old new : SocketSet) : Type 0 where
+pub record Grows {T L : Type 0} (old new : SocketSet T L) : Type 0 where
   pub each : (count : Count) → count_in old count ≤ count_in new count
   pub links : (link : Link) → has_link_placed old link ≡ true → has_link_placed new link ≡ true
   pub listeners : (listener : ℕ) → has_listener_placed old listener ≡ true → has_listener_placed new listener ≡ true
@@ -119,7 +119,7 @@ pub record Grows (old new : SocketSet) : Type 0 where
 -- no count falls, the wishes of all links and the number of sessions are as before, nothing that is
 -- ready for a wish falls out of the queue, what is marked as queued stands in it, and what is
 -- registered by its own number stays so
-pub record GoesOn (old new : SocketSet) : Type 0 where
+pub record GoesOn {T L : Type 0} (old new : SocketSet T L) : Type 0 where
   pub counts : (count : Count) → count_in old count ≤ count_in new count
   pub wishes : (link : Link) → wishes_in new link ≡ wishes_in old link
   pub sessions : new.sessions ≡ old.sessions
@@ -130,122 +130,126 @@ pub record GoesOn (old new : SocketSet) : Type 0 where
   pub link_tokens : (number : ℕ) → is_link_registered old number ≡ true → is_link_registered new number ≡ true
   pub listener_tokens : (place : ℕ) → is_listener_registered old place ≡ true → is_listener_registered new place ≡ true
 
+-- the link of a number has a stream
+abbrev pub is_open_at : {T L : Type 0} → SocketSet T L → ℕ → Bool
+is_open_at sockets number = unwrap_or (option_map (λ (s : LinkSocket _). is_open s.connection) (tree.get nat_cmp sockets.links number)) false
+
 -- when the next try to connect a link is due, where there is a link and a try
-abbrev pub due_in : Option LinkSocket → Option Instant
+abbrev pub due_in : {T : Type 0} → Option (LinkSocket T) → Option Instant
 due_in None = None
 due_in (Some socket) = due_of socket.connection
 
 -- the wishes of all links are as before
-pub record KeepsWishesIn (old new : SocketSet) : Type 0 where
+pub record KeepsWishesIn {T L : Type 0} (old new : SocketSet T L) : Type 0 where
   pub each : (link : Link) → wishes_in new link ≡ wishes_in old link
 
 -- the wishes of all links but one are as before
-pub record KeepsOthersIn (link : Link) (old new : SocketSet) : Type 0 where
+pub record KeepsOthersIn {T L : Type 0} (link : Link) (old new : SocketSet T L) : Type 0 where
   pub each : (other : Link) → same_link link other ≡ false → wishes_in new other ≡ wishes_in old other
 
 -- an accept that answered so keeps the wishes of all links, but for that of a new session's client
-abbrev pub AfterAcceptIn : Accepted → SocketSet → SocketSet → Type 0
+abbrev pub AfterAcceptIn : {T L : Type 0} → Accepted → SocketSet T L → SocketSet T L → Type 0
 AfterAcceptIn (New session) old new = KeepsOthersIn (client_link session) old new
 AfterAcceptIn NotReady old new = KeepsWishesIn old new
 AfterAcceptIn Refused old new = KeepsWishesIn old new
 AfterAcceptIn Memory old new = KeepsWishesIn old new
 
 -- whether the writes of the link of a number fail by now, where there is one
-abbrev pub given_up_at : SocketSet → ℕ → Option Bool
-given_up_at sockets number = option_map (λ (s : LinkSocket). s.given_up) (tree.get nat_cmp sockets.links number)
+abbrev pub given_up_at : {T L : Type 0} → SocketSet T L → ℕ → Option Bool
+given_up_at sockets number = option_map (λ (s : LinkSocket _). s.given_up) (tree.get nat_cmp sockets.links number)
 
 -- the peer of the link of a number is known to have closed
-abbrev pub is_peer_closed_at : SocketSet → ℕ → Bool
-is_peer_closed_at sockets number = unwrap_or (option_map (λ (s : LinkSocket). s.peer_closed) (tree.get nat_cmp sockets.links number)) false
+abbrev pub is_peer_closed_at : {T L : Type 0} → SocketSet T L → ℕ → Bool
+is_peer_closed_at sockets number = unwrap_or (option_map (λ (s : LinkSocket _). s.peer_closed) (tree.get nat_cmp sockets.links number)) false
 
 -- the link of a number is to be read, since something of it may be there
-abbrev pub is_readable_at : SocketSet → ℕ → Bool
-is_readable_at sockets number = unwrap_or (option_map (λ (s : LinkSocket). s.readable) (tree.get nat_cmp sockets.links number)) false
+abbrev pub is_readable_at : {T L : Type 0} → SocketSet T L → ℕ → Bool
+is_readable_at sockets number = unwrap_or (option_map (λ (s : LinkSocket _). s.readable) (tree.get nat_cmp sockets.links number)) false
 
 -- no link became readable
-pub record StaysUnread (old new : SocketSet) : Type 0 where
+pub record StaysUnread {T L : Type 0} (old new : SocketSet T L) : Type 0 where
   pub each : (number : ℕ) → is_readable_at new number ≡ true → is_readable_at old number ≡ true
 
 -- no peer that was known to have closed is forgotten
-pub record StaysClosed (old new : SocketSet) : Type 0 where
+pub record StaysClosed {T L : Type 0} (old new : SocketSet T L) : Type 0 where
   pub each : (number : ℕ) → is_peer_closed_at old number ≡ true → is_peer_closed_at new number ≡ true
 
 -- the link of a number isn't connected yet
-abbrev pub is_pending_at : SocketSet → ℕ → Bool
-is_pending_at sockets number = unwrap_or (option_map (λ (s : LinkSocket). is_pending s.connection) (tree.get nat_cmp sockets.links number)) false
+abbrev pub is_pending_at : {T L : Type 0} → SocketSet T L → ℕ → Bool
+is_pending_at sockets number = unwrap_or (option_map (λ (s : LinkSocket _). is_pending s.connection) (tree.get nat_cmp sockets.links number)) false
 
 -- Each link that is readable was so before, or is one of those that are reported, or wasn't connected
 -- yet. Each that isn't connected yet wasn't so before, and no close is forgotten.
-pub record IsReadIf (reported : ℕ → Bool) (old new : SocketSet) : Type 0 where
+pub record IsReadIf {T L : Type 0} (reported : ℕ → Bool) (old new : SocketSet T L) : Type 0 where
   pub each : (number : ℕ) → is_readable_at new number ≡ true → (is_readable_at old number || (reported number || is_pending_at old number)) ≡ true
   pub pending : (number : ℕ) → is_pending_at new number ≡ true → is_pending_at old number ≡ true
   pub closed : (number : ℕ) → is_peer_closed_at old number ≡ true → is_peer_closed_at new number ≡ true
 
 -- each link is readable as before, and its peer is known to have closed as before
-pub record KeepsReports (old new : SocketSet) : Type 0 where
+pub record KeepsReports {T L : Type 0} (old new : SocketSet T L) : Type 0 where
   pub readable : (number : ℕ) → is_readable_at new number ≡ is_readable_at old number
   pub closed : (number : ℕ) → is_peer_closed_at new number ≡ is_peer_closed_at old number
 
 -- the listener at a place is stalled
-abbrev pub is_stalled_at : SocketSet → ℕ → Bool
-is_stalled_at sockets place = unwrap_or (option_map (λ (s : ListenerSocket). s.stalled) (slice_get sockets.listeners.items place)) false
+abbrev pub is_stalled_at : {T L : Type 0} → SocketSet T L → ℕ → Bool
+is_stalled_at sockets place = unwrap_or (option_map (λ (s : ListenerSocket _). s.stalled) (slice_get sockets.listeners.items place)) false
 
 -- the listener at a place is stalled and was put off, or there is no such listener
-abbrev pub is_put_off_at : SocketSet → ℕ → Bool
+abbrev pub is_put_off_at : {T L : Type 0} → SocketSet T L → ℕ → Bool
 is_put_off_at sockets place = unwrap_or (option_map is_put_off (slice_get sockets.listeners.items place)) true
 
 -- how many milliseconds the listener at a place was put off last
-abbrev pub delay_at : SocketSet → ℕ → ℕ
-delay_at sockets place = unwrap_or (option_map (λ (s : ListenerSocket). s.delay) (slice_get sockets.listeners.items place)) 0
+abbrev pub delay_at : {T L : Type 0} → SocketSet T L → ℕ → ℕ
+delay_at sockets place = unwrap_or (option_map (λ (s : ListenerSocket _). s.delay) (slice_get sockets.listeners.items place)) 0
 
 -- the listener at a place is stalled, and it is time to try it again
-abbrev pub is_accept_due_at : SocketSet → Option Instant → ℕ → Bool
+abbrev pub is_accept_due_at : {T L : Type 0} → SocketSet T L → Option Instant → ℕ → Bool
 is_accept_due_at sockets now place = unwrap_or (option_map (is_accept_due now) (slice_get sockets.listeners.items place)) false
 
 -- the listener at a place is stalled, and it isn't time yet to try it again
-abbrev pub is_accept_early_at : SocketSet → Option Instant → ℕ → Bool
+abbrev pub is_accept_early_at : {T L : Type 0} → SocketSet T L → Option Instant → ℕ → Bool
 is_accept_early_at sockets now place = unwrap_or (option_map (is_accept_early now) (slice_get sockets.listeners.items place)) false
 
-abbrev pub left_in : Option Instant → Option ListenerSocket → Option ℕ
+abbrev pub left_in : {L : Type 0} → Option Instant → Option (ListenerSocket L) → Option ℕ
 left_in now None = None
 left_in now (Some socket) = accept_left now socket
 
 -- how many nanoseconds are left until the listener at a place is tried again, where it is stalled
-abbrev pub accept_left_at : SocketSet → Option Instant → ℕ → Option ℕ
+abbrev pub accept_left_at : {T L : Type 0} → SocketSet T L → Option Instant → ℕ → Option ℕ
 accept_left_at sockets now place = left_in now (slice_get sockets.listeners.items place)
 
 -- The shortest of the times that are left until the listeners at the first so many places are tried
 -- again. It is none where none of them is stalled.
-pub record IsFirstLeft (sockets : SocketSet) (now : Option Instant) (count : ℕ) (first : Option ℕ) : Type 0 where
+pub record IsFirstLeft {T L : Type 0} (sockets : SocketSet T L) (now : Option Instant) (count : ℕ) (first : Option ℕ) : Type 0 where
   pub by : (place left : ℕ) → place < count → accept_left_at sockets now place ≡ Some left → IsWithin left first
   pub one : (nanos : ℕ) → first ≡ Some nanos → (place : ℕ) × (accept_left_at sockets now place ≡ Some nanos)
 
-abbrev pub path_in : Option ListenerSocket → Option (List ℕ)
+abbrev pub path_in : {L : Type 0} → Option (ListenerSocket L) → Option (List ℕ)
 path_in None = None
 path_in (Some socket) = option_map (λ (f : BoundFile). string_bytes f.path) socket.file
 
 -- the path at which the bind of the listener at a place made a file that isn't removed yet
-abbrev pub path_at : SocketSet → ℕ → Option (List ℕ)
+abbrev pub path_at : {T L : Type 0} → SocketSet T L → ℕ → Option (List ℕ)
 path_at sockets place = path_in (slice_get sockets.listeners.items place)
 
 -- the listener at a place has a file
-abbrev pub has_file_at : SocketSet → ℕ → Bool
-has_file_at sockets place = unwrap_or (option_map (λ (s : ListenerSocket). is_some s.file) (slice_get sockets.listeners.items place)) false
+abbrev pub has_file_at : {T L : Type 0} → SocketSet T L → ℕ → Bool
+has_file_at sockets place = unwrap_or (option_map (λ (s : ListenerSocket _). is_some s.file) (slice_get sockets.listeners.items place)) false
 
 -- nothing more passes between the link of a number and its peer, or there is no such link
-abbrev pub is_closed_at : SocketSet → ℕ → Bool
+abbrev pub is_closed_at : {T L : Type 0} → SocketSet T L → ℕ → Bool
 is_closed_at sockets number = unwrap_or (option_map is_link_closed (tree.get nat_cmp sockets.links number)) true
 
 -- the writes of the link of a number are to fail, or there is no such link
-abbrev pub is_to_fail_at : SocketSet → ℕ → Bool
+abbrev pub is_to_fail_at : {T L : Type 0} → SocketSet T L → ℕ → Bool
 is_to_fail_at sockets number = unwrap_or (option_map (is_to_fail (is_closed_at sockets (other_of number))) (tree.get nat_cmp sockets.links number)) true
 
 -- whether the writes of the link of a number fail by now is as it is to be, or there is no such link
-abbrev pub IsJudgedAt : SocketSet → ℕ → Type 0
+abbrev pub IsJudgedAt : {T L : Type 0} → SocketSet T L → ℕ → Type 0
 IsJudgedAt sockets number = unwrap_or (given_up_at sockets number) true ≡ is_to_fail_at sockets number
 
 -- when the next try to connect the link of a number is due, where there is one
-abbrev pub due_at : SocketSet → ℕ → Option Instant
+abbrev pub due_at : {T L : Type 0} → SocketSet T L → ℕ → Option Instant
 due_at sockets number = due_in (tree.get nat_cmp sockets.links number)
 
 -- a time that is no later
@@ -254,7 +258,7 @@ IsBy due None = ⊥
 IsBy due (Some time) = instant_nanos time ≤ instant_nanos due
 
 -- The first of the times at which the links of these numbers are due. It is none where none of them is.
-pub record IsFirstDue (sockets : SocketSet) (numbers : List ℕ) (first : Option Instant) : Type 0 where
+pub record IsFirstDue {T L : Type 0} (sockets : SocketSet T L) (numbers : List ℕ) (first : Option Instant) : Type 0 where
   pub by : (number : ℕ) (due : Instant) → list_any (nat_eq number) numbers ≡ true → due_at sockets number ≡ Some due → IsBy due first
   pub one : (time : Instant) → first ≡ Some time → (number : ℕ) × (list_any (nat_eq number) numbers ≡ true) × (due_at sockets number ≡ Some time)
 
@@ -265,28 +269,28 @@ pub record IsUnused (net : NetView) : Type 0 where
 
 -- What is named has a reason: a client came to the listener, which isn't stalled and is marked as
 -- named now, or there is a wish for the link, which is ready for it.
-abbrev pub IsWished : SocketSet → SocketSet → Ready → Type 0
+abbrev pub IsWished : {T L : Type 0} → SocketSet T L → SocketSet T L → Ready → Type 0
 IsWished old new (OfListener listener) = is_listener_named (slice_get new.listeners.items listener) ≡ true
 IsWished old new (IsLink link) = HasWish (wishes_in old link) × (is_link_named (socket_in new link) ≡ true)
 IsWished old new Quiet = ⊥
 IsWished old new Failed = ⊥
 
 -- what the system reported of the socket of a number is noted, where there is such a socket
-abbrev pub is_noted : SocketSet → ℕ → Bool → Bool → Bool
+abbrev pub is_noted : {T L : Type 0} → SocketSet T L → ℕ → Bool → Bool → Bool
 is_noted sockets number readable writable =
     if nat_lt number listeners_from
     then is_link_noted readable writable (tree.get nat_cmp sockets.links number)
     else is_listener_noted (slice_get sockets.listeners.items (number - listeners_from))
 
--- what an event reports is noted
-abbrev pub is_event_noted : SocketSet → Event → Bool
-is_event_noted sockets event = is_noted sockets (number_in event) (tells_read event) (tells_write event)
+-- what is reported is noted
+abbrev pub is_report_noted : {T L : Type 0} → SocketSet T L → Report → Bool
+is_report_noted sockets report = is_noted sockets report.number report.readable report.writable
 
--- what an event reports is noted, where it is of a bus, or of all else
-abbrev pub is_side_noted : Bool → SocketSet → Event → Bool
-is_side_noted of_buses sockets event = not (same_side (is_bus_number (number_in event)) of_buses) || is_event_noted sockets event
+-- what is reported is noted, where it is of a bus, or of all else
+abbrev pub is_side_noted : {T L : Type 0} → Bool → SocketSet T L → Report → Bool
+is_side_noted of_buses sockets report = not (same_side (is_bus_number report.number) of_buses) || is_report_noted sockets report
 
 -- what was noted stays noted
-pub record KeepsNotes (old new : SocketSet) : Type 0 where
+pub record KeepsNotes {T L : Type 0} (old new : SocketSet T L) : Type 0 where
   pub links : (number : ℕ) (readable writable : Bool) → is_link_noted readable writable (tree.get nat_cmp old.links number) ≡ true → is_link_noted readable writable (tree.get nat_cmp new.links number) ≡ true
   pub listeners : (place : ℕ) → is_listener_noted (slice_get old.listeners.items place) ≡ true → is_listener_noted (slice_get new.listeners.items place) ≡ true

@@ -1,11 +1,11 @@
 -- What it means to a link that the system refused a read or a write.
-use Rattle.std.specs.Prelude.{◌≡◌, ◌≢◌, Option, Some, None}
+use Rattle.std.specs.Prelude.{ℕ, ◌≡◌, ◌≢◌, Option, Some, None, Result, Ok, Err}
 use Rattle.std.specs.declared.io.ErrorKind.{ErrorKind}
 use Rattle.std.specs.declared.io.ErrorKind.TheVariants.{WouldBlock, Interrupted, ConnectionReset, BrokenPipe}
 use Rattle.proxy_net.specs.declared.streams.StreamRead.{StreamRead}
-use Rattle.proxy_net.specs.declared.streams.StreamRead.TheVariants.{End, Nothing, Fault}
+use Rattle.proxy_net.specs.declared.streams.StreamRead.TheVariants.{Bytes, End, Nothing, Fault}
 use Rattle.proxy_net.specs.declared.streams.StreamWrite.{StreamWrite}
-use Rattle.proxy_net.specs.declared.streams.StreamWrite.TheVariants.{Full, PeerClosed, Again, Fault as WriteFault}
+use Rattle.proxy_net.specs.declared.streams.StreamWrite.TheVariants.{Bytes as WriteBytes, Full, PeerClosed, Again, Fault as WriteFault}
 
 -- A read that was refused for this. It is none, and is made again, if a signal interrupted it.
 pub record IsRefusedRead (kind : ErrorKind) (read : Option StreamRead) : Type 0 where
@@ -21,3 +21,45 @@ pub record IsRefusedWrite (kind : ErrorKind) (write : StreamWrite) : Type 0 wher
   pub broken : kind ≡ BrokenPipe → write ≡ PeerClosed
   pub reset : kind ≡ ConnectionReset → write ≡ PeerClosed
   pub fault : kind ≢ WouldBlock → kind ≢ Interrupted → kind ≢ BrokenPipe → kind ≢ ConnectionReset → write ≡ WriteFault
+
+-- the kind for which a read was refused that means this
+abbrev pub IsRefusalRead : ErrorKind → Option StreamRead → Type 0
+IsRefusalRead kind None = kind ≡ Interrupted
+IsRefusalRead kind (Some (Bytes n)) = ⊥
+IsRefusalRead kind (Some End) = kind ≡ ConnectionReset
+IsRefusalRead kind (Some Nothing) = kind ≡ WouldBlock
+IsRefusalRead kind (Some Fault) = kind ≢ Interrupted
+
+-- what a read that gave so many bytes means
+abbrev pub IsGivenRead : ℕ → Option StreamRead → Type 0
+IsGivenRead given None = ⊥
+IsGivenRead given (Some (Bytes n)) = given ≡ n
+IsGivenRead given (Some End) = given ≡ 0
+IsGivenRead given (Some Nothing) = ⊥
+IsGivenRead given (Some Fault) = ⊥
+
+-- the answer of a read that means this
+abbrev pub IsMeantRead : {E : Type 0} → (E → ErrorKind) → Result ℕ E → Option StreamRead → Type 0
+IsMeantRead kind (Ok given) read = IsGivenRead given read
+IsMeantRead kind (Err error) read = IsRefusalRead (kind error) read
+
+-- the kind for which a write was refused that means this
+abbrev pub IsRefusalWrite : ErrorKind → StreamWrite → Type 0
+IsRefusalWrite kind (WriteBytes n) = ⊥
+IsRefusalWrite kind Full = kind ≡ WouldBlock
+IsRefusalWrite kind PeerClosed = Unit {0}
+IsRefusalWrite kind Again = Unit {0}
+IsRefusalWrite kind WriteFault = Unit {0}
+
+-- what a write that took so many bytes means
+abbrev pub IsTakenWrite : ℕ → StreamWrite → Type 0
+IsTakenWrite taken (WriteBytes n) = taken ≡ n
+IsTakenWrite taken Full = ⊥
+IsTakenWrite taken PeerClosed = ⊥
+IsTakenWrite taken Again = ⊥
+IsTakenWrite taken WriteFault = taken ≡ 0
+
+-- the answer of a write that means this
+abbrev pub IsMeantWrite : {E : Type 0} → (E → ErrorKind) → Result ℕ E → StreamWrite → Type 0
+IsMeantWrite kind (Ok taken) write = IsTakenWrite taken write
+IsMeantWrite kind (Err error) write = IsRefusalWrite (kind error) write

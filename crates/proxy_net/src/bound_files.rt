@@ -1,8 +1,7 @@
 //! The files that binds make.
 ghost use Rattle.std.specs.Prelude.{◌≡◌, true, false, IfSome};
 
-use std::fs;
-use std::os::unix::fs::MetadataExt;
+use crate::system::Sockets;
 
 /// What tells a file from every other one. As long as the socket of a bound file is open, no other file gets its number.
 #[derive(Clone, Copy, PartialEq)]
@@ -19,15 +18,11 @@ pub struct BoundFile {
 }
 
 impl FileIdentity {
-    /// That of the file at a path. `None` if there is none, or the system doesn't say.
-    pub fn at(rt: &HostRuntime, path: &str) -> Option<FileIdentity> {
-        match fs::symlink_metadata(rt, path) {
-            Ok(metadata) => Some(FileIdentity {
-                device: metadata.dev(),
-                inode: metadata.ino(),
-            }),
-            Err(_) => None,
-        }
+    /// The identity of the file with these numbers.
+    pub fn new(device: u64, inode: u64) -> FileIdentity
+        ensures { result ≡ record { device = device; inode = inode } }
+    {
+        FileIdentity { device, inode }
     }
 }
 
@@ -41,23 +36,23 @@ impl BoundFile {
     }
 
     /// Removes it, unless something else is at its path by now.
-    pub fn remove(&self, rt: &HostRuntime) {
-        remove_made(rt, self.path.as_str(), self.identity);
+    pub fn remove<S: Sockets>(&self, system: &mut S) {
+        remove_made(system, self.path.as_str(), self.identity);
     }
 }
 
 /// Removes what is at a path, if it is the file that was made there.
-pub fn remove_made(rt: &HostRuntime, path: &str, made: FileIdentity) {
-    if let Some(found) = FileIdentity::at(rt, path)
+pub fn remove_made<S: Sockets>(system: &mut S, path: &str, made: FileIdentity) {
+    if let Some(found) = system.identify(path)
         && found == made
     {
-        remove_found(rt, path, found, made);
+        remove_found(system, path, found, made);
     }
 }
 
 /// Removes a file that was found at a path.
-fn remove_found(rt: &HostRuntime, path: &str, found: FileIdentity, made: FileIdentity)
+fn remove_found<S: Sockets>(system: &mut S, path: &str, found: FileIdentity, made: FileIdentity)
     requires { found ≡ made }
 {
-    let _ = fs::remove_file(rt, path);
+    let _ = system.remove_file(path);
 }

@@ -8,8 +8,12 @@ mod delays;
 mod link_sockets;
 mod listeners;
 pub mod net;
-mod registered;
+pub mod reports;
 mod sockets;
 mod streams;
+pub mod system;
 
+pub use bound_files::FileIdentity;
 pub use net::MioNet;
+pub use reports::Report;
+pub use system::{Numbered, Sockets, SystemSockets};

@@ -6,15 +6,15 @@ ghost use Rattle.link_traits.specs.Answers.{no_wishes};
 ghost use Rattle.proxy_net.specs.Naming.{is_ready, is_link_placed, is_link_closed, is_to_fail};
 ghost use Rattle.proxy_net.specs.Registering.{is_registered_by, is_connected_by};
 ghost use Rattle.proxy_net.specs.Noting.{is_link_noted};
-ghost use Rattle.proxy_net.specs.Connecting.{IsLater, is_pending, is_given_up as is_failed, due_of};
+ghost use Rattle.proxy_net.specs.Connecting.{IsLater, is_open, is_pending, is_given_up as is_failed, due_of};
+ghost use Rattle.proxy_net.specs.Steps.{Steps, IsRead, IsLinkWrite, IsConnectionWrite, IsRoomAwaited, IsWatched, IsRetryOf, IsShut, got_of};
+ghost use Rattle.std.specs.String.{string_bytes};
 ghost use Rattle.std.specs.Time.{instant_nanos};
 
 use crate::delays::{FIRST_DELAY, LONGEST_DELAY, later};
-use crate::registered::Registered;
-use crate::streams::{StreamRead, StreamWrite};
+use crate::streams::{StreamRead, StreamWrite, read_stream, write_stream};
+use crate::system::{Numbered, Sockets};
 use link_traits::{Got, Wishes};
-use mio::net::UnixStream;
-use mio::{Interest, Registry};
 use std::io::ErrorKind;
 use std::time::{Duration, Instant};
 
@@ -34,7 +34,7 @@ pub fn raised(count: u64) -> u64
 #[derive(Drop)]
 pub struct Retry {
     path: String,
-    // What its stream is to be registered with.
+    // The number that its stream is to be made with.
     token: u64,
     delay: u64,
     due: Instant,
@@ -43,8 +43,8 @@ pub struct Retry {
 
 /// The stream of a link.
 #[derive(Drop)]
-pub enum Connection {
-    Open(Registered<UnixStream>),
+pub enum Connection<T> {
+    Open(Numbered<T>),
     /// The bus had no room yet. Reads and writes aren't ready.
     Pending(Retry),
     /// It was given up. Reads and writes fail.
@@ -53,8 +53,8 @@ pub enum Connection {
 
 /// What came of a try to connect.
 #[derive(Drop)]
-enum Connected {
-    To(Registered<UnixStream>),
+enum Connected<T> {
+    To(Numbered<T>),
     /// It wasn't time for one.
     NotDue,
     /// The bus had no room.
@@ -96,12 +96,12 @@ pub enum LinkWrite {
 ///
 /// A write to a peer that closed isn't ready until what the peer wrote before was read to its end.
 #[derive(Drop)]
-pub struct LinkSocket {
+pub struct LinkSocket<T> {
     /// What the link is watched for.
     pub wishes: Wishes,
     /// How often it failed.
     pub faults: u64,
-    connection: Connection,
+    connection: Connection<T>,
     readable: bool,
     writable: bool,
     peer_closed: bool,
@@ -129,19 +129,20 @@ impl Retry {
     }
 
     /// Tries again to connect, where it is time to.
-    fn connect(&mut self, rt: &HostRuntime, registry: &Registry, now: Instant) -> Connected
+    fn connect<S: Sockets>(&mut self, system: &mut S, now: Instant) -> Connected<S::Stream>
         ensures token { is_connected_by self.old.token result ≡ true }
         ensures early { instant_nanos now < instant_nanos self.old.due → (result ≡ Connected.NotDue) × (self.new ≡ self.old) }
         ensures again { result ≡ Connected.WouldBlock → instant_nanos now ≤ instant_nanos self.old.until }
         ensures due { result ≡ Connected.WouldBlock → IsLater now (self.new.delay * 1_000_000) self.new.due }
         ensures tried { result ≢ Connected.Before }
         ensures rest { self.new ≡ record self.old { delay = self.new.delay; due = self.new.due } }
+        ensures told { Steps (IsRetryOf self.old.token (string_bytes self.old.path)) (S.journal system.old) (S.journal system.new) }
     {
         if now < self.due {
             return Connected::NotDue;
         }
-        match UnixStream::connect(rt, self.path.as_str()) {
-            Ok(stream) => connection_of(registry, self.token, stream),
+        match system.connect(self.path.as_str(), self.token) {
+            Ok(stream) => Connected::To(stream),
             Err(error) => {
                 if is_put_off(error.kind()) && self.has_time(now) {
                     self.put_off(now);
@@ -172,19 +173,6 @@ impl Retry {
     }
 }
 
-/// What comes of a stream that was connected.
-fn connection_of(registry: &Registry, token: u64, stream: UnixStream) -> Connected
-    ensures token { is_connected_by token result ≡ true }
-    ensures early { result ≢ Connected.NotDue }
-    ensures again { result ≢ Connected.WouldBlock }
-    ensures tried { result ≢ Connected.Before }
-{
-    match Registered::new(registry, token, stream) {
-        Some(stream) => Connected::To(stream),
-        None => Connected::Failed,
-    }
-}
-
 /// Whether a connect that was refused so is to be tried again.
 pub fn is_put_off(kind: ErrorKind) -> bool
     ensures { IsTrue result ↔ ((kind ≡ ErrorKind.WouldBlock) ⊎ (kind ≡ ErrorKind.Interrupted)) }
@@ -192,9 +180,9 @@ pub fn is_put_off(kind: ErrorKind) -> bool
     kind == ErrorKind::WouldBlock || kind == ErrorKind::Interrupted
 }
 
-impl LinkSocket {
+impl<T: Drop> LinkSocket<T> {
     /// A link without a wish.
-    pub fn new(faults: u64, connection: Connection) -> LinkSocket
+    pub fn new(faults: u64, connection: Connection<T>) -> LinkSocket<T>
         ensures wishes { result.wishes ≡ no_wishes }
         ensures faults { result.faults ≡ faults }
         ensures connection { result.connection ≡ connection }
@@ -219,7 +207,7 @@ impl LinkSocket {
     }
 
     /// Reads once.
-    pub fn read(&mut self, into: &mut [u8]) -> Got
+    pub fn read<S: Sockets<Stream = T>>(&mut self, system: &mut S, into: &mut [u8]) -> Got
         ensures within { (n : ℕ) → result ≡ Got.Bytes n → n ≤ length into.new }
         ensures progress { (n : ℕ) → result ≡ Got.Bytes n → 0 < length into.new → 0 < n }
         ensures failed { result ≡ Got.Failed → Rose self.old.faults self.new.faults }
@@ -234,8 +222,10 @@ impl LinkSocket {
         ensures token { (token : ℕ) → is_registered_by token self.old.connection ≡ true → is_registered_by token self.new.connection ≡ true }
         ensures faults { self.old.faults ≤ self.new.faults }
         ensures wishes { self.new.wishes ≡ self.old.wishes }
+        ensures told { (number : ℕ) → is_registered_by number self.old.connection ≡ true → Steps (IsRead number into.new result) (S.journal system.old) (S.journal system.new) }
+        ensures connection { self.new.connection ≡ self.old.connection }
     {
-        match self.read_connection(into) {
+        match self.read_connection(system, into) {
             StreamRead::Bytes(n) => Got::Bytes(n),
             StreamRead::End => {
                 self.end_read = true;
@@ -253,23 +243,22 @@ impl LinkSocket {
         }
     }
 
-    fn read_connection(&mut self, into: &mut [u8]) -> StreamRead
+    fn read_connection<S: Sockets<Stream = T>>(&self, system: &mut S, into: &mut [u8]) -> StreamRead
         ensures within { (n : ℕ) → result ≡ StreamRead.Bytes n → n ≤ length into.new }
         ensures progress { (n : ℕ) → result ≡ StreamRead.Bytes n → 0 < length into.new → 0 < n }
-        ensures pending { is_pending self.old.connection ≡ true → result ≡ StreamRead.Nothing }
-        ensures never { is_failed self.old.connection ≡ true → result ≡ StreamRead.Fault }
-        ensures token { (token : ℕ) → is_registered_by token self.new.connection ≡ is_registered_by token self.old.connection }
-        ensures rest { self.new ≡ record self.old { connection = self.new.connection } }
+        ensures pending { is_pending self.now.connection ≡ true → result ≡ StreamRead.Nothing }
+        ensures never { is_failed self.now.connection ≡ true → result ≡ StreamRead.Fault }
+        ensures told { (number : ℕ) → is_registered_by number self.now.connection ≡ true → Steps (IsRead number into.new (got_of result)) (S.journal system.old) (S.journal system.new) }
     {
-        match &mut self.connection {
-            Connection::Open(stream) => stream.read(into),
+        match &self.connection {
+            Connection::Open(stream) => read_stream(system, stream, into),
             Connection::Pending(_) => StreamRead::Nothing,
             Connection::Failed => StreamRead::Fault,
         }
     }
 
     /// Writes once.
-    pub fn write(&mut self, registry: &Registry, piece: &[u8]) -> LinkWrite
+    pub fn write<S: Sockets<Stream = T>>(&mut self, system: &mut S, piece: &[u8]) -> LinkWrite
         ensures within { (n : ℕ) → result ≡ LinkWrite.Bytes n → n ≤ length piece.now }
         ensures progress { (n : ℕ) → result ≡ LinkWrite.Bytes n → 0 < length piece.now → 0 < n }
         ensures failed { result ≡ LinkWrite.Failed → Rose self.old.faults self.new.faults }
@@ -285,10 +274,12 @@ impl LinkSocket {
         ensures token { (token : ℕ) → is_registered_by token self.old.connection ≡ true → is_registered_by token self.new.connection ≡ true }
         ensures faults { self.old.faults ≤ self.new.faults }
         ensures wishes { self.new.wishes ≡ self.old.wishes }
+        ensures told { (number : ℕ) → is_registered_by number self.old.connection ≡ true → Steps (IsLinkWrite number piece.now result) (S.journal system.old) (S.journal system.new) }
+        ensures connection { self.new.connection ≡ self.old.connection }
     {
-        match self.write_connection(piece) {
+        match self.write_connection(system, piece) {
             StreamWrite::Bytes(n) => LinkWrite::Bytes(n),
-            StreamWrite::Full => self.await_room(registry),
+            StreamWrite::Full => self.await_room(system),
             StreamWrite::PeerClosed => {
                 self.note_closed();
                 LinkWrite::PeerClosed
@@ -301,16 +292,15 @@ impl LinkSocket {
         }
     }
 
-    fn write_connection(&mut self, piece: &[u8]) -> StreamWrite
+    fn write_connection<S: Sockets<Stream = T>>(&self, system: &mut S, piece: &[u8]) -> StreamWrite
         ensures within { (n : ℕ) → result ≡ StreamWrite.Bytes n → n ≤ length piece.now }
         ensures progress { (n : ℕ) → result ≡ StreamWrite.Bytes n → 0 < length piece.now → 0 < n }
-        ensures pending { is_pending self.old.connection ≡ true → result ≡ StreamWrite.Again }
-        ensures never { is_failed self.old.connection ≡ true → result ≡ StreamWrite.Fault }
-        ensures token { (token : ℕ) → is_registered_by token self.new.connection ≡ is_registered_by token self.old.connection }
-        ensures rest { self.new ≡ record self.old { connection = self.new.connection } }
+        ensures pending { is_pending self.now.connection ≡ true → result ≡ StreamWrite.Again }
+        ensures never { is_failed self.now.connection ≡ true → result ≡ StreamWrite.Fault }
+        ensures told { (number : ℕ) → is_registered_by number self.now.connection ≡ true → Steps (IsConnectionWrite number piece.now result) (S.journal system.old) (S.journal system.new) }
     {
-        match &mut self.connection {
-            Connection::Open(stream) => stream.write(piece),
+        match &self.connection {
+            Connection::Open(stream) => write_stream(system, stream, piece),
             Connection::Pending(_) => StreamWrite::Again,
             Connection::Failed => StreamWrite::Fault,
         }
@@ -332,16 +322,17 @@ impl LinkSocket {
     }
 
     /// Has the system report when there is room to write.
-    fn await_room(&mut self, registry: &Registry) -> LinkWrite
+    fn await_room<S: Sockets<Stream = T>>(&mut self, system: &mut S) -> LinkWrite
         ensures bytes { (n : ℕ) → result ≡ LinkWrite.Bytes n → ⊥ }
         ensures failed { result ≡ LinkWrite.Failed → Rose self.old.faults self.new.faults }
         ensures closed { result ≡ LinkWrite.PeerClosed → ⊥ }
         ensures faults { self.old.faults ≤ self.new.faults }
         ensures rest { self.new ≡ record self.old { faults = self.new.faults; writable = false } }
+        ensures told { (number : ℕ) → is_registered_by number self.old.connection ≡ true → Steps (IsRoomAwaited (self.old.writable && is_open self.old.connection) number result) (S.journal system.old) (S.journal system.new) }
     {
         if self.writable {
             self.writable = false;
-            if !self.watch(registry, Interest::READABLE | Interest::WRITABLE) {
+            if !self.watch(system, true) {
                 self.faults = raised(self.faults);
                 return LinkWrite::Failed;
             }
@@ -349,18 +340,20 @@ impl LinkSocket {
         LinkWrite::NotReady
     }
 
-    /// Changes what the system reports. Answers whether it could.
-    fn watch(&mut self, registry: &Registry, interest: Interest) -> bool
-        ensures { self.new ≡ self.old }
+    /// Has the system report when there is something to read, and when there is room to write if that is asked for. Answers
+    /// whether it could.
+    fn watch<S: Sockets<Stream = T>>(&mut self, system: &mut S, writable: bool) -> bool
+        ensures same { self.new ≡ self.old }
+        ensures told { (number : ℕ) → is_registered_by number self.old.connection ≡ true → Steps (IsWatched (is_open self.old.connection) number writable result) (S.journal system.old) (S.journal system.new) }
     {
         match &mut self.connection {
-            Connection::Open(stream) => stream.report(registry, interest),
+            Connection::Open(stream) => system.watch(stream, writable).is_ok(),
             Connection::Pending(_) | Connection::Failed => true,
         }
     }
 
     /// Notes what the system reports. One that can't be watched on counts a fault.
-    pub fn note(&mut self, registry: &Registry, readable: bool, writable: bool)
+    pub fn note<S: Sockets<Stream = T>>(&mut self, system: &mut S, readable: bool, writable: bool)
         ensures noted { is_link_noted readable writable (Some self.new) ≡ true }
         ensures kept { (read write : Bool) → is_link_noted read write (Some self.old) ≡ true → is_link_noted read write (Some self.new) ≡ true }
         ensures readable { self.new.readable ≡ (self.old.readable || readable) }
@@ -371,9 +364,19 @@ impl LinkSocket {
         self.readable = self.readable || readable;
         if writable && !self.writable && !self.peer_closed {
             self.writable = true;
-            if !self.watch(registry, Interest::READABLE) {
+            if !self.watch(system, false) {
                 self.faults = raised(self.faults);
             }
+        }
+    }
+
+    /// Closes its stream, if it has one.
+    pub fn close<S: Sockets<Stream = T>>(self, system: &mut S)
+        ensures { (number : ℕ) → is_registered_by number self.connection ≡ true → Steps (IsShut (is_open self.connection) number) (S.journal system.old) (S.journal system.new) }
+    {
+        let LinkSocket { connection, .. } = self;
+        if let Connection::Open(stream) = connection {
+            system.close(stream);
         }
     }
 
@@ -438,7 +441,7 @@ impl LinkSocket {
     }
 }
 
-impl LinkSocket {
+impl<T: Drop> LinkSocket<T> {
     ghost use Rattle.std.specs.declared.time.Instant.{Instant};
 
     /// When the next try to connect is due, where there is one.
@@ -452,10 +455,9 @@ impl LinkSocket {
     }
 
     /// Tries again to connect, where it is time to. Where the clock can't be read, it fails.
-    pub fn attempt(
+    pub fn attempt<S: Sockets<Stream = T>>(
         &mut self,
-        rt: &HostRuntime,
-        registry: &Registry,
+        system: &mut S,
         now: Option<Instant>,
     ) -> Attempt
         ensures token { (token : ℕ) → is_registered_by token self.old.connection ≡ true → is_registered_by token self.new.connection ≡ true }
@@ -469,7 +471,7 @@ impl LinkSocket {
         ensures faults { self.old.faults ≤ self.new.faults }
         ensures wishes { self.new.wishes ≡ self.old.wishes }
     {
-        match self.connect(rt, registry, now) {
+        match self.connect(system, now) {
             Connected::To(stream) => {
                 self.open(stream);
                 Attempt::Done
@@ -484,7 +486,11 @@ impl LinkSocket {
         }
     }
 
-    fn connect(&mut self, rt: &HostRuntime, registry: &Registry, now: Option<Instant>) -> Connected
+    fn connect<S: Sockets<Stream = T>>(
+        &mut self,
+        system: &mut S,
+        now: Option<Instant>,
+    ) -> Connected<T>
         ensures to { (token : ℕ) → is_registered_by token self.old.connection ≡ true → is_connected_by token result ≡ true }
         ensures token { (token : ℕ) → is_registered_by token self.new.connection ≡ is_registered_by token self.old.connection }
         ensures before { result ≡ Connected.Before → is_pending self.old.connection ≡ false }
@@ -495,7 +501,7 @@ impl LinkSocket {
     {
         match &mut self.connection {
             Connection::Pending(retry) => match now {
-                Some(now) => retry.connect(rt, registry, now),
+                Some(now) => retry.connect(system, now),
                 None => Connected::Failed,
             },
             Connection::Open(_) | Connection::Failed => Connected::Before,
@@ -503,7 +509,7 @@ impl LinkSocket {
     }
 
     /// Goes on with a stream that was connected.
-    fn open(&mut self, stream: Registered<UnixStream>)
+    fn open(&mut self, stream: Numbered<T>)
         ensures { self.new ≡ record self.old { connection = Connection.Open stream; writable = true } }
     {
         self.connection = Connection::Open(stream);

@@ -2,14 +2,12 @@
 ghost use Rattle.std.specs.Prelude.{◌≡◌, ◌≢◌, ◌≤◌, ◌*◌, ◌&&◌, ◌||◌, not, Some, None, true, false};
 ghost use Rattle.proxy_net.specs.Connecting.{IsLater};
 ghost use Rattle.proxy_net.specs.Delays.{next_delay, is_accept_due, is_accept_early, accept_left, nanos_of};
-ghost use Rattle.mio.specs.declared.net.uds.stream.UnixStream.{UnixStream};
 ghost use Rattle.proxy_net.specs.Naming.{is_awaited, is_listener_placed};
 ghost use Rattle.proxy_net.specs.Noting.{is_listener_noted};
 
 use crate::bound_files::BoundFile;
 use crate::delays::{BLIND_DELAY, delay_after, delay_until, is_time, later};
-use crate::registered::Registered;
-use mio::net::{UnixListener, UnixStream};
+use crate::system::{Numbered, Sockets};
 use std::io::ErrorKind;
 use std::time::{Duration, Instant};
 
@@ -20,10 +18,10 @@ use std::time::{Duration, Instant};
 ///
 /// One that was named and of which nothing was accepted isn't named again until something is accepted or another client comes.
 #[derive(Drop)]
-pub struct ListenerSocket {
+pub struct ListenerSocket<L> {
     /// How often it failed.
     pub faults: u64,
-    listener: Registered<UnixListener>,
+    listener: Numbered<L>,
     // What its bind made, until that is removed.
     file: Option<BoundFile>,
     ready: bool,
@@ -39,22 +37,18 @@ pub struct ListenerSocket {
 
 /// What came of an accept.
 #[derive(Drop)]
-pub enum Arrival {
-    Client(UnixStream),
+pub enum Arrival<T> {
+    Client(Numbered<T>),
     NotReady,
     /// The listener's count rose.
     Failed,
 }
 
-impl ListenerSocket {
+impl<L: Drop> ListenerSocket<L> {
     ghost use Rattle.std.specs.declared.time.Instant.{Instant};
 
     /// A listener that nobody came to.
-    pub fn new(
-        faults: u64,
-        listener: Registered<UnixListener>,
-        file: Option<BoundFile>,
-    ) -> ListenerSocket
+    pub fn new(faults: u64, listener: Numbered<L>, file: Option<BoundFile>) -> ListenerSocket<L>
         ensures listener { result.listener ≡ listener }
         ensures file { result.file ≡ file }
         ensures faults { result.faults ≡ faults }
@@ -75,7 +69,11 @@ impl ListenerSocket {
     }
 
     /// Takes a client. Answers also whether it is to be queued. A failure isn't counted here.
-    pub fn accept(&mut self) -> (Arrival, bool)
+    pub fn accept<S: Sockets<Listener = L>>(
+        &mut self,
+        system: &mut S,
+        number: u64,
+    ) -> (Arrival<S::Stream>, bool)
         ensures placed { is_listener_placed (Some self.new) ≡ true }
         ensures queued { result.1 ≡ true → (self.new.queued ≡ true) × (self.old.queued ≡ false) }
         ensures stays { result.1 ≡ false → self.new.queued ≡ self.old.queued }
@@ -84,22 +82,28 @@ impl ListenerSocket {
         ensures ready { result.0 ≢ Arrival.NotReady → self.new.ready ≡ self.old.ready }
         ensures stalled { self.new.stalled ≡ self.old.stalled }
         ensures file { self.new.file ≡ self.old.file }
-        ensures served { (stream : UnixStream) → result.0 ≡ Arrival.Client stream → self.new.delay ≡ 0 }
+        ensures served { (stream : _) → result.0 ≡ Arrival.Client stream → self.new.delay ≡ 0 }
         ensures delay { result.0 ≡ Arrival.Failed → self.new.delay ≡ self.old.delay }
+        ensures number { (stream : _) → result.0 ≡ Arrival.Client stream → stream.number ≡ number }
     {
-        let arrival = self.take_client();
+        let arrival = self.take_client(system, number);
         (arrival, self.take_place())
     }
 
-    fn take_client(&mut self) -> Arrival
+    fn take_client<S: Sockets<Listener = L>>(
+        &mut self,
+        system: &mut S,
+        number: u64,
+    ) -> Arrival<S::Stream>
         ensures heeded { self.new.unheeded ≡ false }
         ensures ready { result ≢ Arrival.NotReady → self.new.ready ≡ self.old.ready }
-        ensures served { (stream : UnixStream) → result ≡ Arrival.Client stream → self.new.delay ≡ 0 }
+        ensures served { (stream : _) → result ≡ Arrival.Client stream → self.new.delay ≡ 0 }
         ensures delay { result ≡ Arrival.Failed → self.new.delay ≡ self.old.delay }
+        ensures number { (stream : _) → result ≡ Arrival.Client stream → stream.number ≡ number }
         ensures rest { self.new ≡ record self.old { ready = self.new.ready; unheeded = false; delay = self.new.delay } }
     {
         self.unheeded = false;
-        match self.listener.accept() {
+        match system.accept(&self.listener, number) {
             Ok(stream) => {
                 self.delay = 0;
                 Arrival::Client(stream)
@@ -109,7 +113,7 @@ impl ListenerSocket {
     }
 
     /// Answers an accept that the system refused. It isn't counted here.
-    fn refuse(&mut self, kind: ErrorKind) -> Arrival
+    fn refuse<T>(&mut self, kind: ErrorKind) -> Arrival<T>
         ensures nobody { kind ≡ ErrorKind.WouldBlock → (result ≡ Arrival.NotReady) × (self.new.ready ≡ false) }
         ensures again { kind ≡ ErrorKind.Interrupted → (result ≡ Arrival.NotReady) × (self.new.ready ≡ self.old.ready) }
         ensures fault { kind ≢ ErrorKind.WouldBlock → kind ≢ ErrorKind.Interrupted → result ≡ Arrival.Failed }
@@ -185,11 +189,11 @@ impl ListenerSocket {
     }
 
     /// Removes the file that its bind made, unless something else is at the path by now.
-    pub fn remove_file(&mut self, rt: &HostRuntime)
+    pub fn remove_file<S: Sockets>(&mut self, system: &mut S)
         ensures { self.new ≡ record self.old { file = None } }
     {
         if let Some(file) = self.file.take() {
-            file.remove(rt);
+            file.remove(system);
         }
     }
 

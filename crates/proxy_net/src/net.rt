@@ -1,14 +1,14 @@
 //! A net over Unix sockets.
-ghost use Rattle.std.specs.Prelude.{◌≡◌, IfOk, IfSome};
+ghost use Rattle.std.specs.Prelude.{◌≡◌, ◌≤◌, IfOk, IfSome, vec_capacity};
 ghost use Rattle.proxy_net.specs.Sockets.{IsConsistent};
+ghost use Rattle.proxy_net.specs.declared.system.TheConstants.{REPORTS};
 
+use crate::reports::Report;
 use crate::sockets::SocketSet;
+use crate::system::{REPORTS, Sockets, SystemSockets};
 use link_traits::{Accepted, Count, Got, Link, Net, NetFault, Ready, Took, Wishes};
-use mio::Events;
+use std::alloc::{AllocError, Global};
 use std::io;
-
-/// How many events are taken from the system at once.
-const EVENTS: usize = 256;
 
 /// A net over Unix sockets. What its links carry is not told.
 ///
@@ -25,26 +25,40 @@ const EVENTS: usize = 256;
 /// A connect to a bus that has no room for one more succeeds, and is tried again while the net waits, for five seconds. Until
 /// then reads and writes of that link aren't ready, and afterwards they fail.
 #[derive(Drop)]
-pub struct MioNet<'a> {
-    rt: &'a HostRuntime,
-    sockets: SocketSet,
-    events: Events,
+pub struct MioNet<S: Sockets + Drop> {
+    alloc: Global,
+    system: S,
+    sockets: SocketSet<S::Stream, S::Listener>,
+    reports: Vec<Report>,
     ghost consistent: { IsConsistent sockets },
+    ghost room: { REPORTS ≤ vec_capacity reports },
 }
 
-impl<'a> MioNet<'a> {
+impl<'a> MioNet<SystemSockets<'a>> {
+    ghost use Rattle.proxy_net.specs.Sockets.{shown, IsUnused};
+
+    /// A net over the sockets of the system, without listeners and links.
+    pub fn new(rt: &'a HostRuntime) -> io::Result<MioNet<SystemSockets<'a>>>
+        ensures { IfOk result (λ net. IsUnused (shown net.sockets)) }
+    {
+        Ok(MioNet::over(rt.alloc(), SystemSockets::new(rt)?)?)
+    }
+}
+
+impl<S: Sockets + Drop> MioNet<S> {
     ghost use Rattle.std.specs.Prelude.{ℕ, vec_len, false};
     ghost use Rattle.link_traits.specs.Views.{KeepsWishes};
     ghost use Rattle.proxy_net.specs.Sockets.{shown, GoesOn, IsUnused, IsWished, StaysClosed, has_file_at};
 
-    /// A net without listeners and links.
-    pub fn new(rt: &'a HostRuntime) -> io::Result<MioNet<'a>>
+    /// A net over the sockets of a system, without listeners and links.
+    pub fn over(alloc: Global, system: S) -> Result<MioNet<S>, AllocError>
         ensures { IfOk result (λ net. IsUnused (shown net.sockets)) }
     {
         Ok(MioNet {
-            rt,
-            sockets: SocketSet::new(rt)?,
-            events: Events::with_capacity(rt.alloc(), EVENTS)?,
+            alloc,
+            system,
+            sockets: SocketSet::new(alloc),
+            reports: Vec::with_capacity(alloc, REPORTS)?,
         })
     }
 
@@ -64,7 +78,7 @@ impl<'a> MioNet<'a> {
         ensures goes { GoesOn self.old.sockets self.new.sockets }
         ensures wishes { KeepsWishes (shown self.old.sockets) (shown self.new.sockets) }
     {
-        self.sockets.remove_files(self.rt);
+        self.sockets.remove_files(&mut self.system);
     }
 
     /// Waits until something is to be named. `None` where the system fails.
@@ -77,16 +91,17 @@ impl<'a> MioNet<'a> {
             if let Some(ready) = self.sockets.next() {
                 return Some(ready);
             }
-            if self.sockets.ask(self.rt, &mut self.events).is_err() {
+            let asked = self.sockets.ask(&mut self.system, &mut self.reports);
+            if asked.is_err() {
                 return None;
             }
-            self.sockets.note_all(self.rt, &self.events);
+            self.sockets.note_all(&mut self.system, &self.reports);
         }
         None
     }
 }
 
-impl<'a> Net for MioNet<'a> {
+impl<S: Sockets + Drop> Net for MioNet<S> {
     ghost use Rattle.std.specs.Prelude.{◌≢◌, ◌≤◌, ◌<◌, ◌+◌, ◌⊎◌, ℕ, [], ◌∷◌, length, vec_len, None, Some, OnOk, OnErr, IsErrOf, true, false};
     ghost use Rattle.link_traits.specs.Entries.{ready, shut};
     ghost use Rattle.link_traits.specs.Journals.{Journal, accepts, listens};
@@ -96,9 +111,10 @@ impl<'a> Net for MioNet<'a> {
     ghost use Rattle.link_traits.specs.declared.links.Wishes.{Wishes};
     ghost use Rattle.std.specs.Option.{option_map};
     ghost use Rattle.proxy_net.specs.Naming.{other_of};
+    ghost use Rattle.proxy_net.specs.Steps.{Steps, IsConnect, IsRead, IsWrite, IsShut};
     ghost use Rattle.std.specs.Prelude.{List};
     ghost use Rattle.proxy_net.specs.Sockets.{path_at, is_put_off_at, delay_at, is_readable_at, StaysUnread, StaysClosed, KeepsReports};
-    ghost use Rattle.proxy_net.specs.Sockets.{shown, is_pending_in, is_closed_at, is_peer_closed_at, is_stalled_at, IsJudgedAt, IsWished};
+    ghost use Rattle.proxy_net.specs.Sockets.{shown, is_open_at, is_pending_in, is_closed_at, is_peer_closed_at, is_stalled_at, IsJudgedAt, IsWished};
 
     ghost view = { λ net. shown net.sockets };
 
@@ -122,7 +138,7 @@ impl<'a> Net for MioNet<'a> {
         ensures failed { IsErrOf result NetFault.Failed → RoseAt Count.Own (shown self.old.sockets) (shown self.new.sockets) }
         ensures wishes { KeepsWishes (shown self.old.sockets) (shown self.new.sockets) }
     {
-        self.sockets.listen(self.rt, path)
+        self.sockets.listen(self.alloc, &mut self.system, path)
     }
 
     /// It is never quiet.
@@ -173,7 +189,7 @@ impl<'a> Net for MioNet<'a> {
         ensures new_wishes { (session : ℕ) → result ≡ Accepted.New session → (shown self.new.sockets).wishes (client_link session) ≡ Some no_wishes }
         ensures wishes { AfterAccept result (shown self.old.sockets) (shown self.new.sockets) }
     {
-        self.sockets.accept(self.rt, listener)
+        self.sockets.accept(&mut self.system, listener)
     }
 
     /// It is refused where the session has a link to its bus, and where the path is empty.
@@ -185,13 +201,17 @@ impl<'a> Net for MioNet<'a> {
         // It makes no link readable.
         ensures unread { StaysUnread self.old.sockets self.new.sockets }
 
+        // What the system is asked for it.
+        ensures asked { Steps (IsConnect (number_of (bus_link session)) path.now result) (S.journal self.old.system) (S.journal self.new.system) }
+
         // What the trait says.
         ensures told { Adds (shown self.old.sockets) (shown self.new.sockets) (connect_entry session path.now result ∷ []) }
         ensures failed { IsErrOf result NetFault.Failed → RoseAt (Count.Link (bus_link session)) (shown self.old.sockets) (shown self.new.sockets) }
         ensures new_wishes { OnOk result ((shown self.new.sockets).wishes (bus_link session) ≡ Some no_wishes) }
         ensures wishes { KeepsOthers (bus_link session) (shown self.old.sockets) (shown self.new.sockets) }
     {
-        self.sockets.connect(self.rt, session, path)
+        self.sockets
+            .connect(self.alloc, &mut self.system, session, path)
     }
 
     fn want(&mut self, link: Link, read: bool, write: bool)
@@ -221,6 +241,9 @@ impl<'a> Net for MioNet<'a> {
         ensures unread { StaysUnread self.old.sockets self.new.sockets }
         ensures closed { StaysClosed self.old.sockets self.new.sockets }
 
+        // What the system is asked for it.
+        ensures asked { Steps (IsRead (number_of link) into.new result) (S.journal self.old.system) (S.journal self.new.system) }
+
         // What the trait says.
         ensures told { Adds (shown self.old.sockets) (shown self.new.sockets) (read_entry link into.new result ∷ []) }
         ensures within { (n : ℕ) → result ≡ Got.Bytes n → n ≤ length into.new }
@@ -229,7 +252,7 @@ impl<'a> Net for MioNet<'a> {
         ensures not_ready { result ≡ Got.NotReady → RoseAt Count.Waits (shown self.old.sockets) (shown self.new.sockets) }
         ensures wishes { KeepsWishes (shown self.old.sockets) (shown self.new.sockets) }
     {
-        self.sockets.read(link, into)
+        self.sockets.read(&mut self.system, link, into)
     }
 
     fn write(&mut self, link: Link, piece: &[u8]) -> Took
@@ -240,6 +263,9 @@ impl<'a> Net for MioNet<'a> {
         ensures unread { is_peer_closed_at self.new.sockets (number_of link) ≡ is_peer_closed_at self.old.sockets (number_of link) → StaysUnread self.old.sockets self.new.sockets }
         ensures closed { StaysClosed self.old.sockets self.new.sockets }
 
+        // What the system is asked for it.
+        ensures asked { Steps (IsWrite (number_of link) piece.now result) (S.journal self.old.system) (S.journal self.new.system) }
+
         // What the trait says.
         ensures told { Adds (shown self.old.sockets) (shown self.new.sockets) (write_entry link piece.now result ∷ []) }
         ensures within { (n : ℕ) → result ≡ Took.Bytes n → n ≤ length piece.now }
@@ -248,7 +274,7 @@ impl<'a> Net for MioNet<'a> {
         ensures not_ready { result ≡ Took.NotReady → RoseAt Count.Waits (shown self.old.sockets) (shown self.new.sockets) }
         ensures wishes { KeepsWishes (shown self.old.sockets) (shown self.new.sockets) }
     {
-        self.sockets.write(link, piece)
+        self.sockets.write(&mut self.system, link, piece)
     }
 
     fn shut(&mut self, link: Link)
@@ -259,11 +285,14 @@ impl<'a> Net for MioNet<'a> {
         // It makes no link readable.
         ensures unread { StaysUnread self.old.sockets self.new.sockets }
 
+        // What the system is asked for it.
+        ensures asked { Steps (IsShut (is_open_at self.old.sockets (number_of link)) (number_of link)) (S.journal self.old.system) (S.journal self.new.system) }
+
         // What the trait says.
         ensures told { Adds (shown self.old.sockets) (shown self.new.sockets) (shut link ∷ []) }
         ensures gone { (shown self.new.sockets).wishes link ≡ None }
         ensures wishes { KeepsOthers link (shown self.old.sockets) (shown self.new.sockets) }
     {
-        self.sockets.shut(link);
+        self.sockets.shut(&mut self.system, link);
     }
 }

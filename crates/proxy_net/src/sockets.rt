@@ -12,6 +12,7 @@ ghost use Rattle.link_traits.specs.Numbers.{number_of as link_number};
 ghost use Rattle.proxy_net.specs.Naming.{is_to_fail, other_of};
 ghost use Rattle.proxy_net.specs.Room.{room_for};
 ghost use Rattle.proxy_net.specs.Registering.{is_registered_by};
+ghost use Rattle.proxy_net.specs.Steps.{Steps, IsShut};
 
 mod calls;
 mod making;
@@ -19,12 +20,11 @@ mod naming;
 
 use crate::link_sockets::{Connection, LinkSocket, raised};
 use crate::listeners::ListenerSocket;
+use crate::system::Sockets;
 use link_traits::tables::number_of;
 use link_traits::{Count, Link, Wishes};
-use mio::Poll;
-use std::alloc::AllocError;
+use std::alloc::{AllocError, Global};
 use std::collections::{BTreeMap, VecDeque};
-use std::io;
 
 /// The number of the first listener, above those of all links.
 const LISTENERS: u64 = 0x2_0000_0000;
@@ -34,16 +34,16 @@ const LISTENERS: u64 = 0x2_0000_0000;
 /// No count falls: what is counted of a listener or a link that isn't there is `absent`, which is at least what was counted of
 /// any link that was shut, and which a new listener or link begins with. So a link that was shut takes no room.
 #[derive(Drop)]
-pub struct SocketSet {
+pub struct SocketSet<T, L> {
     /// The net's own faults.
     own: u64,
     /// Calls that would have waited.
     waits: u64,
     /// What is counted of listeners and links that aren't there.
     absent: u64,
-    listeners: Vec<ListenerSocket>,
+    listeners: Vec<ListenerSocket<L>>,
     /// The links that were made and aren't shut, by their numbers.
-    links: BTreeMap<u64, LinkSocket>,
+    links: BTreeMap<u64, LinkSocket<T>>,
     /// How many clients were accepted.
     sessions: u32,
     /// Numbers of what is to be named.
@@ -52,7 +52,6 @@ pub struct SocketSet {
     named: u32,
     /// Numbers of links that aren't connected yet.
     pending: VecDeque<u64>,
-    poll: Poll,
     ghost room: { room_for 0 (deque_len ready) listeners.items links.entries ≤ deque_capacity ready },
 }
 
@@ -67,27 +66,26 @@ fn other_number(number: u64) -> u64
     }
 }
 
-impl SocketSet {
-    ghost use Rattle.proxy_net.specs.Sockets.{is_peer_closed_at, is_closed_at, given_up_at, is_to_fail_at, KeepsReports, StaysUnread, StaysClosed, shown, count_in, wishes_in, RoseIn, Grows, GoesOn, KeepsOthersIn, IsUnused, IsConsistent, HasRoomFor, has_place};
+impl<T: Drop, L: Drop> SocketSet<T, L> {
+    ghost use Rattle.proxy_net.specs.Sockets.{is_peer_closed_at, is_closed_at, given_up_at, is_to_fail_at, KeepsReports, StaysUnread, StaysClosed, shown, count_in, wishes_in, RoseIn, Grows, GoesOn, KeepsOthersIn, IsUnused, IsConsistent, HasRoomFor, has_place, is_link_registered, is_open_at};
     ghost use Rattle.link_traits.specs.declared.links.Wishes.{Wishes};
 
     /// No sockets.
-    pub fn new(rt: &HostRuntime) -> io::Result<SocketSet>
-        ensures unused { IfOk result (λ sockets. IsUnused (shown sockets)) }
-        ensures consistent { IfOk result (λ sockets. IsConsistent sockets) }
+    pub fn new(alloc: Global) -> SocketSet<T, L>
+        ensures unused { IsUnused (shown result) }
+        ensures consistent { IsConsistent result }
     {
-        Ok(SocketSet {
+        SocketSet {
             own: 0,
             waits: 0,
             absent: 0,
-            listeners: Vec::new(rt.alloc()),
-            links: BTreeMap::new(rt.alloc()),
+            listeners: Vec::new(alloc),
+            links: BTreeMap::new(alloc),
             sessions: 0,
-            ready: VecDeque::new(rt.alloc()),
+            ready: VecDeque::new(alloc),
             named: 0,
-            pending: VecDeque::new(rt.alloc()),
-            poll: Poll::new(rt)?,
-        })
+            pending: VecDeque::new(alloc),
+        }
     }
 
     /// Raises a count, unless it is at its greatest number.
@@ -160,7 +158,7 @@ impl SocketSet {
     }
 
     /// Makes a link, without a wish.
-    fn add_link(&mut self, link: Link, connection: Connection) -> Result<(), AllocError>
+    fn add_link(&mut self, link: Link, connection: Connection<T>) -> Result<(), AllocError>
         requires room { HasRoomFor 1 self.old }
         requires token { is_registered_by (link_number link) connection ≡ true }
         ensures sessions { self.new.sessions ≡ self.old.sessions }
@@ -180,7 +178,8 @@ impl SocketSet {
     }
 
     /// Closes a link and forgets it. One that isn't there stays so.
-    fn remove_link(&mut self, link: Link)
+    fn remove_link<S: Sockets<Stream = T, Listener = L>>(&mut self, system: &mut S, link: Link)
+        ensures told { is_link_registered self.old (link_number link) ≡ true → Steps (IsShut (is_open_at self.old (link_number link)) (link_number link)) (S.journal system.old) (S.journal system.new) }
         ensures gone { wishes_in self.new link ≡ None }
         ensures others { KeepsOthersIn link self.old self.new }
         ensures unread { StaysUnread self.old self.new }
@@ -188,6 +187,7 @@ impl SocketSet {
     {
         if let Some(socket) = self.links.remove(&number_of(link)) {
             self.absent = self.absent.max(socket.faults);
+            socket.close(system);
         }
     }
 

@@ -1,11 +1,11 @@
 //! What the streams of the system answer, by what a link does about it.
 ghost use Rattle.std.specs.Prelude.{◌≡◌, ◌≢◌, ◌≤◌, ◌<◌, ℕ, Ok, Some, IfErr, length, true};
 ghost use Rattle.std.specs.IoError.{error_kind};
-ghost use Rattle.proxy_net.specs.Streams.{IsRefusedRead, IsRefusedWrite};
+ghost use Rattle.proxy_net.specs.Streams.{IsRefusedRead, IsRefusedWrite, IsMeantRead, IsRefusalRead, IsMeantWrite, IsRefusalWrite};
+ghost use Rattle.proxy_net.specs.Steps.{Steps, IsRead, IsStreamWrite, got_of};
 
-use mio::net::UnixStream;
-use std::io;
-use std::io::{ErrorKind, Read, Write};
+use crate::system::{Numbered, Sockets};
+use std::io::{self, ErrorKind};
 
 /// What a read of a stream gave.
 #[derive(Clone, Copy)]
@@ -36,13 +36,18 @@ pub enum StreamWrite {
 }
 
 /// Reads once. A read that a signal interrupts is made again at once, since nothing is reported after it.
-pub fn read_stream(stream: &mut UnixStream, into: &mut [u8]) -> StreamRead
+pub fn read_stream<S: Sockets>(
+    system: &mut S,
+    stream: &Numbered<S::Stream>,
+    into: &mut [u8],
+) -> StreamRead
     ensures within { (n : ℕ) → result ≡ StreamRead.Bytes n → n ≤ length into.new }
     ensures progress { (n : ℕ) → result ≡ StreamRead.Bytes n → 0 < length into.new → 0 < n }
+    ensures told { Steps (IsRead stream.now.number into.new (got_of result)) (S.journal system.old) (S.journal system.new) }
 {
     let has_room = !into.is_empty();
     for _ in 0..u64::MAX {
-        if let Some(read) = read_of(stream.read(into), has_room) {
+        if let Some(read) = read_of(system.read(stream, into), has_room) {
             return read;
         }
     }
@@ -55,6 +60,7 @@ fn read_of(answer: io::Result<usize>, has_room: bool) -> Option<StreamRead>
     ensures end { answer ≡ Ok 0 → has_room ≡ true → result ≡ Some StreamRead.End }
     ensures refused { IfErr answer (λ error. IsRefusedRead (error_kind error) result) }
     ensures only { (n : ℕ) → result ≡ Some (StreamRead.Bytes n) → (answer ≡ Ok n) × (has_room ≡ true → 0 < n) }
+    ensures meant { IsMeantRead error_kind answer result }
 {
     match answer {
         Ok(0) if has_room => Some(StreamRead::End),
@@ -66,6 +72,7 @@ fn read_of(answer: io::Result<usize>, has_room: bool) -> Option<StreamRead>
 fn refused_read(kind: ErrorKind) -> Option<StreamRead>
     ensures none { (n : ℕ) → result ≡ Some (StreamRead.Bytes n) → ⊥ }
     ensures refused { IsRefusedRead kind result }
+    ensures meant { IsRefusalRead kind result }
 {
     match kind {
         ErrorKind::WouldBlock => Some(StreamRead::Nothing),
@@ -76,11 +83,16 @@ fn refused_read(kind: ErrorKind) -> Option<StreamRead>
 }
 
 /// Writes once. The system raises no signal where the peer closed.
-pub fn write_stream(stream: &mut UnixStream, piece: &[u8]) -> StreamWrite
+pub fn write_stream<S: Sockets>(
+    system: &mut S,
+    stream: &Numbered<S::Stream>,
+    piece: &[u8],
+) -> StreamWrite
     ensures within { (n : ℕ) → result ≡ StreamWrite.Bytes n → n ≤ length piece.now }
     ensures progress { (n : ℕ) → result ≡ StreamWrite.Bytes n → 0 < length piece.now → 0 < n }
+    ensures told { Steps (IsStreamWrite stream.now.number piece.now result) (S.journal system.old) (S.journal system.new) }
 {
-    write_of(stream.write(piece), !piece.is_empty())
+    write_of(system.write(stream, piece), !piece.is_empty())
 }
 
 /// What the answer of a write means. Of something, something is taken.
@@ -89,6 +101,7 @@ fn write_of(answer: io::Result<usize>, has_bytes: bool) -> StreamWrite
     ensures none { answer ≡ Ok 0 → has_bytes ≡ true → result ≡ StreamWrite.Fault }
     ensures refused { IfErr answer (λ error. IsRefusedWrite (error_kind error) result) }
     ensures only { (n : ℕ) → result ≡ StreamWrite.Bytes n → (answer ≡ Ok n) × (has_bytes ≡ true → 0 < n) }
+    ensures meant { IsMeantWrite error_kind answer result }
 {
     match answer {
         Ok(0) if has_bytes => StreamWrite::Fault,
@@ -100,6 +113,7 @@ fn write_of(answer: io::Result<usize>, has_bytes: bool) -> StreamWrite
 fn refused_write(kind: ErrorKind) -> StreamWrite
     ensures none { (n : ℕ) → result ≡ StreamWrite.Bytes n → ⊥ }
     ensures refused { IsRefusedWrite kind result }
+    ensures meant { IsRefusalWrite kind result }
 {
     match kind {
         ErrorKind::WouldBlock => StreamWrite::Full,

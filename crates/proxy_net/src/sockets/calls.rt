@@ -3,14 +3,16 @@ ghost use Rattle.std.specs.Prelude.{◌≡◌, ◌≤◌, ◌<◌, ℕ, None, le
 ghost use Rattle.std.specs.Option.{option_map};
 ghost use Rattle.link_traits.specs.Numbers.{number_of as link_number};
 ghost use Rattle.proxy_net.specs.Naming.{other_of};
+ghost use Rattle.proxy_net.specs.Steps.{Steps, IsRead, IsWrite, IsLinkWrite, IsShut};
 
 use super::{SocketSet, other_number};
 use crate::link_sockets::{LinkWrite, raised};
+use crate::system::Sockets;
 use link_traits::tables::number_of;
 use link_traits::{Count, Got, Link, Took, Wishes};
 
-impl SocketSet {
-    ghost use Rattle.proxy_net.specs.Sockets.{is_stalled_at, is_peer_closed_at, is_readable_at, StaysUnread, StaysClosed, KeepsReports, IsJudgedAt, wishes_in, is_pending_in, given_up_at, is_closed_at, is_to_fail_at, RoseIn, Grows, GoesOn, KeepsOthersIn};
+impl<T: Drop, L: Drop> SocketSet<T, L> {
+    ghost use Rattle.proxy_net.specs.Sockets.{is_stalled_at, is_peer_closed_at, is_readable_at, StaysUnread, StaysClosed, KeepsReports, IsJudgedAt, wishes_in, is_pending_in, given_up_at, is_closed_at, is_to_fail_at, is_link_registered, is_open_at, RoseIn, Grows, GoesOn, KeepsOthersIn};
     ghost use Rattle.link_traits.specs.declared.links.Wishes.{Wishes};
 
     /// Replaces the wishes of a link.
@@ -27,7 +29,12 @@ impl SocketSet {
     }
 
     /// Reads once.
-    pub fn read(&mut self, link: Link, into: &mut [u8]) -> Got
+    pub fn read<S: Sockets<Stream = T, Listener = L>>(
+        &mut self,
+        system: &mut S,
+        link: Link,
+        into: &mut [u8],
+    ) -> Got
         ensures within { (n : ℕ) → result ≡ Got.Bytes n → n ≤ length into.new }
         ensures progress { (n : ℕ) → result ≡ Got.Bytes n → 0 < length into.new → 0 < n }
         ensures missing { wishes_in self.old link ≡ None → result ≡ Got.Failed }
@@ -38,9 +45,10 @@ impl SocketSet {
         ensures waits { result ≡ Got.NotReady → is_readable_at self.new (link_number link) ≡ false }
         ensures unread { StaysUnread self.old self.new }
         ensures closed { StaysClosed self.old self.new }
+        ensures told { is_link_registered self.old (link_number link) ≡ true → Steps (IsRead (link_number link) into.new result) (S.journal system.old) (S.journal system.new) }
         ensures goes { GoesOn self.old self.new }
     {
-        let got = self.read_link(link, into);
+        let got = self.read_link(system, link, into);
         if got == Got::NotReady {
             self.waits = raised(self.waits);
         }
@@ -48,7 +56,12 @@ impl SocketSet {
     }
 
     /// Reads once, and counts no wait.
-    fn read_link(&mut self, link: Link, into: &mut [u8]) -> Got
+    fn read_link<S: Sockets<Stream = T, Listener = L>>(
+        &mut self,
+        system: &mut S,
+        link: Link,
+        into: &mut [u8],
+    ) -> Got
         ensures within { (n : ℕ) → result ≡ Got.Bytes n → n ≤ length into.new }
         ensures progress { (n : ℕ) → result ≡ Got.Bytes n → 0 < length into.new → 0 < n }
         ensures missing { wishes_in self.old link ≡ None → result ≡ Got.Failed }
@@ -59,12 +72,13 @@ impl SocketSet {
         ensures unread { StaysUnread self.old self.new }
         ensures closed { StaysClosed self.old self.new }
         ensures uncounted { self.new.waits ≡ self.old.waits }
+        ensures told { is_link_registered self.old (link_number link) ≡ true → Steps (IsRead (link_number link) into.new result) (S.journal system.old) (S.journal system.new) }
         ensures goes { GoesOn self.old self.new }
     {
         let number = number_of(link);
         match self.links.get_mut(&number) {
             Some(socket) => {
-                let got = socket.read(into);
+                let got = socket.read(system, into);
                 let is_new = socket.take_place();
                 self.queue(number, is_new);
                 got
@@ -77,7 +91,12 @@ impl SocketSet {
     }
 
     /// Writes once.
-    pub fn write(&mut self, link: Link, piece: &[u8]) -> Took
+    pub fn write<S: Sockets<Stream = T, Listener = L>>(
+        &mut self,
+        system: &mut S,
+        link: Link,
+        piece: &[u8],
+    ) -> Took
         ensures within { (n : ℕ) → result ≡ Took.Bytes n → n ≤ length piece.now }
         ensures progress { (n : ℕ) → result ≡ Took.Bytes n → 0 < length piece.now → 0 < n }
         ensures missing { wishes_in self.old link ≡ None → result ≡ Took.Failed }
@@ -86,9 +105,10 @@ impl SocketSet {
         ensures not_ready { result ≡ Took.NotReady → RoseIn Count.Waits self.old self.new }
         ensures unread { is_peer_closed_at self.new (link_number link) ≡ is_peer_closed_at self.old (link_number link) → StaysUnread self.old self.new }
         ensures closed { StaysClosed self.old self.new }
+        ensures told { is_link_registered self.old (link_number link) ≡ true → Steps (IsWrite (link_number link) piece.now result) (S.journal system.old) (S.journal system.new) }
         ensures goes { GoesOn self.old self.new }
     {
-        match self.write_link(link, piece) {
+        match self.write_link(system, link, piece) {
             LinkWrite::Bytes(n) => Took::Bytes(n),
             LinkWrite::NotReady => {
                 self.waits = raised(self.waits);
@@ -100,7 +120,12 @@ impl SocketSet {
     }
 
     /// Writes once, and counts no wait.
-    fn write_link(&mut self, link: Link, piece: &[u8]) -> LinkWrite
+    fn write_link<S: Sockets<Stream = T, Listener = L>>(
+        &mut self,
+        system: &mut S,
+        link: Link,
+        piece: &[u8],
+    ) -> LinkWrite
         ensures within { (n : ℕ) → result ≡ LinkWrite.Bytes n → n ≤ length piece.now }
         ensures progress { (n : ℕ) → result ≡ LinkWrite.Bytes n → 0 < length piece.now → 0 < n }
         ensures missing { wishes_in self.old link ≡ None → result ≡ LinkWrite.Failed }
@@ -110,12 +135,13 @@ impl SocketSet {
         ensures unread { is_peer_closed_at self.new (link_number link) ≡ is_peer_closed_at self.old (link_number link) → StaysUnread self.old self.new }
         ensures peers { StaysClosed self.old self.new }
         ensures waits { self.new.waits ≡ self.old.waits }
+        ensures told { is_link_registered self.old (link_number link) ≡ true → Steps (IsLinkWrite (link_number link) piece.now result) (S.journal system.old) (S.journal system.new) }
         ensures goes { GoesOn self.old self.new }
     {
         let number = number_of(link);
         match self.links.get_mut(&number) {
             Some(socket) => {
-                let wrote = socket.write(self.poll.registry(), piece);
+                let wrote = socket.write(system, piece);
                 let is_new = socket.take_place();
                 self.queue(number, is_new);
                 wrote
@@ -164,7 +190,8 @@ impl SocketSet {
     }
 
     /// Closes a link and forgets it. One that isn't there stays so.
-    pub fn shut(&mut self, link: Link)
+    pub fn shut<S: Sockets<Stream = T, Listener = L>>(&mut self, system: &mut S, link: Link)
+        ensures told { is_link_registered self.old (link_number link) ≡ true → Steps (IsShut (is_open_at self.old (link_number link)) (link_number link)) (S.journal system.old) (S.journal system.new) }
         ensures judged { IsJudgedAt self.new (other_of (link_number link)) }
         ensures revived { (listener : ℕ) → is_stalled_at self.new listener ≡ false }
         ensures gone { wishes_in self.new link ≡ None }
@@ -172,7 +199,7 @@ impl SocketSet {
         ensures unread { StaysUnread self.old self.new }
         ensures grows { Grows self.old self.new }
     {
-        self.remove_link(link);
+        self.remove_link(system, link);
         self.settle(number_of(link));
     }
 

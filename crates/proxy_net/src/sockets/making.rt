@@ -1,10 +1,10 @@
 //! How listeners and links are made.
-ghost use Rattle.std.specs.Prelude.{◌≡◌, ◌≢◌, ◌≤◌, ◌<◌, ◌+◌, ◌++◌, ◌∷◌, ◌⊎◌, ◌^◌, ℕ, List, [], Err, None, Some, true, false, IsErrOf, IsSome, IfOk, OnErr, OnOk, vec_len};
+ghost use Rattle.std.specs.Prelude.{◌≡◌, ◌≢◌, ◌≤◌, ◌<◌, ◌+◌, ◌++◌, ◌∷◌, ◌⊎◌, ◌^◌, ℕ, List, [], Err, None, Some, true, false, IsErrOf, IsSome, IfSome, IfOk, OnErr, OnOk, vec_len};
 ghost use Rattle.std.specs.VecDeque.{deque_len, deque_capacity};
 ghost use Rattle.std.specs.Option.{option_map};
 ghost use Rattle.std.specs.String.{string_bytes};
-ghost use Rattle.mio.specs.declared.net.uds.stream.UnixStream.{UnixStream};
 ghost use Rattle.proxy_net.specs.Delays.{next_delay};
+ghost use Rattle.proxy_net.specs.Steps.{Steps, IsConnect};
 ghost use Rattle.link_traits.specs.Answers.{no_wishes, client_link, bus_link};
 ghost use Rattle.link_traits.specs.Numbers.{number_of as link_number};
 
@@ -12,18 +12,21 @@ use super::{LISTENERS, SocketSet};
 use crate::bound_files::{BoundFile, FileIdentity, remove_made};
 use crate::link_sockets::{Connection, Retry, is_put_off, raised};
 use crate::listeners::{Arrival, ListenerSocket};
-use crate::registered::Registered;
+use crate::system::{Numbered, Sockets};
 use link_traits::tables::number_of;
 use link_traits::{Accepted, Count, Link, NetFault, Side};
-use mio::net::{UnixListener, UnixStream};
-use std::alloc::AllocError;
-use std::time::Instant;
+use std::alloc::{AllocError, Global};
 
-impl SocketSet {
+impl<T: Drop, L: Drop> SocketSet<T, L> {
     ghost use Rattle.proxy_net.specs.Sockets.{HasRoomFor, RoseIn, GoesOn, StaysUnread, path_at};
 
     /// Listens at a path. An empty one is refused, since the system would take a name of its own for it.
-    pub fn listen(&mut self, rt: &HostRuntime, path: &str) -> Result<u32, NetFault>
+    pub fn listen<S: Sockets<Stream = T, Listener = L>>(
+        &mut self,
+        alloc: Global,
+        system: &mut S,
+        path: &str,
+    ) -> Result<u32, NetFault>
         ensures numbered { IfOk result (λ listener. listener ≡ vec_len self.old.listeners) }
         ensures made { OnOk result (vec_len self.new.listeners ≡ vec_len self.old.listeners + 1) }
         ensures path { OnOk result (path.now ≢ []) }
@@ -33,7 +36,7 @@ impl SocketSet {
         ensures unread { StaysUnread self.old self.new }
         ensures goes { GoesOn self.old self.new }
     {
-        match self.make_listener(rt, path) {
+        match self.make_listener(alloc, system, path) {
             Err(NetFault::Failed) => {
                 self.own = raised(self.own);
                 Err(NetFault::Failed)
@@ -43,7 +46,12 @@ impl SocketSet {
     }
 
     /// Makes the next listener, and counts nothing.
-    fn make_listener(&mut self, rt: &HostRuntime, path: &str) -> Result<u32, NetFault>
+    fn make_listener<S: Sockets<Stream = T, Listener = L>>(
+        &mut self,
+        alloc: Global,
+        system: &mut S,
+        path: &str,
+    ) -> Result<u32, NetFault>
         ensures numbered { IfOk result (λ listener. listener ≡ vec_len self.old.listeners) }
         ensures made { OnOk result (vec_len self.new.listeners ≡ vec_len self.old.listeners + 1) }
         ensures path { OnOk result (path.now ≢ []) }
@@ -55,23 +63,19 @@ impl SocketSet {
         let Ok(listener) = u32::try_from(self.listeners.len()) else {
             return Err(NetFault::Failed);
         };
-        let Ok(own_path) = String::from_str(rt.alloc(), path) else {
+        let Ok(own_path) = String::from_str(alloc, path) else {
             return Err(NetFault::Memory);
         };
         if self.reserve_listener().is_err() {
             return Err(NetFault::Memory);
         }
-        let Some(socket) = bound(rt, path) else {
+        let Some(socket) = bound(system, path, LISTENERS + u64::from(listener)) else {
             return Err(NetFault::Failed);
         };
-        let identity = FileIdentity::at(rt, path);
+        let identity = system.identify(path);
         let file = bound_file(own_path, identity);
-        cleaned_up(
-            rt,
-            path,
-            identity,
-            self.add_listener(listener, socket, file),
-        )
+        let answer = self.add_listener(system, listener, socket, file);
+        cleaned_up(system, path, identity, answer)
     }
 
     /// Takes the room for one more listener.
@@ -85,14 +89,16 @@ impl SocketSet {
         self.reserve()
     }
 
-    fn add_listener(
+    fn add_listener<S: Sockets<Stream = T, Listener = L>>(
         &mut self,
+        system: &mut S,
         listener: u32,
-        socket: UnixListener,
+        socket: Numbered<L>,
         file: Option<BoundFile>,
     ) -> Result<u32, NetFault>
         requires room { HasRoomFor 1 self.old }
         requires next { listener ≡ vec_len self.old.listeners }
+        requires own { socket.number ≡ LISTENERS + listener }
         ensures numbered { IfOk result (λ number. number ≡ listener) }
         ensures made { OnOk result (vec_len self.new.listeners ≡ vec_len self.old.listeners + 1) }
         ensures err { OnErr result (vec_len self.new.listeners ≡ vec_len self.old.listeners) }
@@ -100,10 +106,10 @@ impl SocketSet {
         ensures unread { StaysUnread self.old self.new }
         ensures goes { GoesOn self.old self.new }
     {
-        let number = LISTENERS + u64::from(listener);
-        let Some(socket) = Registered::new(self.poll.registry(), number, socket) else {
+        let mut socket = socket;
+        if system.await_clients(&mut socket).is_err() {
             return Err(NetFault::Failed);
-        };
+        }
         match self
             .listeners
             .push(ListenerSocket::new(self.absent, socket, file))
@@ -115,13 +121,14 @@ impl SocketSet {
 }
 
 /// Binds a socket to a path. `None` where it is empty, and where the system refuses it, as where a file stands there.
-fn bound(rt: &HostRuntime, path: &str) -> Option<UnixListener>
-    ensures { IsSome result → path.now ≢ [] }
+fn bound<S: Sockets>(system: &mut S, path: &str, number: u64) -> Option<Numbered<S::Listener>>
+    ensures path { IsSome result → path.now ≢ [] }
+    ensures number { IfSome result (λ listener. listener.number ≡ number) }
 {
     if path.is_empty() {
         return None;
     }
-    UnixListener::bind(rt, path).ok()
+    system.bind(path, number).ok()
 }
 
 /// The file that a bind made at a path, if the system says which it is.
@@ -135,8 +142,8 @@ fn bound_file(path: String, identity: Option<FileIdentity>) -> Option<BoundFile>
 }
 
 /// Removes the file that a bind made, where the socket can't listen.
-fn cleaned_up(
-    rt: &HostRuntime,
+fn cleaned_up<S: Sockets>(
+    system: &mut S,
     path: &str,
     made: Option<FileIdentity>,
     answer: Result<u32, NetFault>,
@@ -146,26 +153,26 @@ fn cleaned_up(
     if let Some(made) = made
         && answer.is_err()
     {
-        remove_made(rt, path, made);
+        remove_made(system, path, made);
     }
     answer
 }
 
-impl SocketSet {
+impl<T: Drop, L: Drop> SocketSet<T, L> {
     ghost use Rattle.proxy_net.specs.Sockets.{GoesOn, has_file_at};
 
     /// Removes the files that the binds of the listeners made, unless something else is at their paths by now.
-    pub fn remove_files(&mut self, rt: &HostRuntime)
+    pub fn remove_files<S: Sockets<Stream = T, Listener = L>>(&mut self, system: &mut S)
         ensures removed { (place : ℕ) → has_file_at self.new place ≡ false }
         ensures number { vec_len self.new.listeners ≡ vec_len self.old.listeners }
         ensures goes { GoesOn self.old self.new }
     {
         for place in 0..self.listeners.len() {
-            self.remove_file(rt, place);
+            self.remove_file(system, place);
         }
     }
 
-    fn remove_file(&mut self, rt: &HostRuntime, place: usize)
+    fn remove_file<S: Sockets<Stream = T, Listener = L>>(&mut self, system: &mut S, place: usize)
         requires { place < 2 ^ 63 }
         ensures removed { has_file_at self.new place ≡ false }
         ensures others { (other : ℕ) → has_file_at self.old other ≡ false → has_file_at self.new other ≡ false }
@@ -173,16 +180,20 @@ impl SocketSet {
         ensures goes { GoesOn self.old self.new }
     {
         if let Some(socket) = self.listeners.get_mut(place) {
-            socket.remove_file(rt);
+            socket.remove_file(system);
         }
     }
 }
 
-impl SocketSet {
+impl<T: Drop, L: Drop> SocketSet<T, L> {
     ghost use Rattle.proxy_net.specs.Sockets.{HasRoomFor, wishes_in, RoseIn, Grows, GoesOn, AfterAcceptIn, StaysUnread, is_put_off_at, delay_at};
 
     /// Takes a client that waits at a listener.
-    pub fn accept(&mut self, rt: &HostRuntime, listener: u32) -> Accepted
+    pub fn accept<S: Sockets<Stream = T, Listener = L>>(
+        &mut self,
+        system: &mut S,
+        listener: u32,
+    ) -> Accepted
         ensures numbered { (session : ℕ) → result ≡ Accepted.New session → (session ≡ self.old.sessions + 1) × (self.new.sessions ≡ session) }
         ensures missing { vec_len self.old.listeners ≤ listener → (result ≡ Accepted.Failed) ⊎ (result ≡ Accepted.Memory) }
         ensures failed { result ≡ Accepted.Failed → RoseIn (Count.Listener listener) self.old self.new }
@@ -195,28 +206,38 @@ impl SocketSet {
         ensures grows { Grows self.old self.new }
     {
         if self.reserve().is_err() {
-            self.stall(rt, listener);
+            self.stall(system, listener);
             return Accepted::Memory;
         }
         let Some(session) = self.sessions.checked_add(1) else {
-            return self.fail_accept(rt, listener);
+            return self.fail_accept(system, listener);
         };
-        match self.take_client(listener) {
-            Arrival::Client(stream) => self.make_session(rt, listener, session, stream),
+        let link = Link {
+            session,
+            side: Side::Client,
+        };
+        match self.take_client(system, listener, number_of(link)) {
+            Arrival::Client(stream) => self.make_session(system, listener, session, stream),
             Arrival::NotReady => Accepted::NotReady,
-            Arrival::Failed => self.fail_accept(rt, listener),
+            Arrival::Failed => self.fail_accept(system, listener),
         }
     }
 
-    fn take_client(&mut self, listener: u32) -> Arrival
+    fn take_client<S: Sockets<Stream = T, Listener = L>>(
+        &mut self,
+        system: &mut S,
+        listener: u32,
+        number: u64,
+    ) -> Arrival<T>
+        ensures number { (stream : _) → result ≡ Arrival.Client stream → stream.number ≡ number }
         ensures room { HasRoomFor 1 self.old → HasRoomFor 1 self.new }
         ensures not_ready { result ≡ Arrival.NotReady → RoseIn Count.Waits self.old self.new }
         ensures missing { vec_len self.old.listeners ≤ listener → result ≡ Arrival.Failed }
-        ensures served { (stream : UnixStream) → result ≡ Arrival.Client stream → delay_at self.new listener ≡ 0 }
+        ensures served { (stream : _) → result ≡ Arrival.Client stream → delay_at self.new listener ≡ 0 }
         ensures unread { StaysUnread self.old self.new }
         ensures goes { GoesOn self.old self.new }
     {
-        let arrival = self.accept_at(listener);
+        let arrival = self.accept_at(system, listener, number);
         if matches!(arrival, Arrival::NotReady) {
             self.waits = raised(self.waits);
         }
@@ -224,17 +245,23 @@ impl SocketSet {
     }
 
     /// Accepts once, and queues a listener again that is to be named by that.
-    fn accept_at(&mut self, listener: u32) -> Arrival
+    fn accept_at<S: Sockets<Stream = T, Listener = L>>(
+        &mut self,
+        system: &mut S,
+        listener: u32,
+        number: u64,
+    ) -> Arrival<T>
+        ensures number { (stream : _) → result ≡ Arrival.Client stream → stream.number ≡ number }
         ensures room { HasRoomFor 1 self.old → HasRoomFor 1 self.new }
         ensures missing { vec_len self.old.listeners ≤ listener → result ≡ Arrival.Failed }
         ensures waits { self.new.waits ≡ self.old.waits }
-        ensures served { (stream : UnixStream) → result ≡ Arrival.Client stream → delay_at self.new listener ≡ 0 }
+        ensures served { (stream : _) → result ≡ Arrival.Client stream → delay_at self.new listener ≡ 0 }
         ensures unread { StaysUnread self.old self.new }
         ensures goes { GoesOn self.old self.new }
     {
         match self.listeners.get_mut(listener as usize) {
             Some(socket) => {
-                let (arrival, is_new) = socket.accept();
+                let (arrival, is_new) = socket.accept(system, number);
                 self.queue(LISTENERS + u64::from(listener), is_new);
                 arrival
             }
@@ -243,7 +270,7 @@ impl SocketSet {
     }
 
     /// Counts an accept that failed, and stalls its listener.
-    fn fail_accept(&mut self, rt: &HostRuntime, listener: u32) -> Accepted
+    fn fail_accept<S: Sockets>(&mut self, system: &S, listener: u32) -> Accepted
         ensures failed { result ≡ Accepted.Failed }
         ensures rose { RoseIn (Count.Listener listener) self.old self.new }
         ensures put_off { is_put_off_at self.new listener ≡ true }
@@ -251,11 +278,10 @@ impl SocketSet {
         ensures unread { StaysUnread self.old self.new }
         ensures goes { GoesOn self.old self.new }
     {
-        let now = Instant::now(rt).ok();
         match self.listeners.get_mut(listener as usize) {
             Some(socket) => {
                 socket.faults = raised(socket.faults);
-                socket.stall(now);
+                socket.stall(system.now());
             }
             None => self.absent = raised(self.absent),
         }
@@ -263,27 +289,27 @@ impl SocketSet {
     }
 
     /// Has a listener not be named until a link is shut, another client comes, or its delay is over.
-    fn stall(&mut self, rt: &HostRuntime, listener: u32)
+    fn stall<S: Sockets>(&mut self, system: &S, listener: u32)
         ensures put_off { is_put_off_at self.new listener ≡ true }
         ensures delay { listener < vec_len self.old.listeners → delay_at self.new listener ≡ next_delay (delay_at self.old listener) }
         ensures unread { StaysUnread self.old self.new }
         ensures goes { GoesOn self.old self.new }
     {
-        let now = Instant::now(rt).ok();
         if let Some(socket) = self.listeners.get_mut(listener as usize) {
-            socket.stall(now);
+            socket.stall(system.now());
         }
     }
 
     /// Makes a session of a client.
-    fn make_session(
+    fn make_session<S: Sockets>(
         &mut self,
-        rt: &HostRuntime,
+        system: &S,
         listener: u32,
         session: u32,
-        stream: UnixStream,
+        stream: Numbered<T>,
     ) -> Accepted
-        requires { HasRoomFor 1 self.old }
+        requires room { HasRoomFor 1 self.old }
+        requires own { stream.number ≡ link_number (client_link session) }
         ensures numbered { (other : ℕ) → result ≡ Accepted.New other → (other ≡ session) × (self.new.sessions ≡ session) }
         ensures failed { result ≡ Accepted.Failed → RoseIn (Count.Listener listener) self.old self.new }
         ensures ready { result ≢ Accepted.NotReady }
@@ -298,33 +324,37 @@ impl SocketSet {
             session,
             side: Side::Client,
         };
-        let Some(stream) = Registered::new(self.poll.registry(), number_of(link), stream) else {
-            return self.fail_accept(rt, listener);
-        };
         match self.add_link(link, Connection::Open(stream)) {
             Ok(()) => {
                 self.sessions = session;
                 Accepted::New(session)
             }
             Err(_) => {
-                self.stall(rt, listener);
+                self.stall(system, listener);
                 Accepted::Memory
             }
         }
     }
 }
 
-impl SocketSet {
+impl<T: Drop, L: Drop> SocketSet<T, L> {
     ghost use Rattle.proxy_net.specs.Sockets.{HasRoomFor, wishes_in, RoseIn, Grows, GoesOn, KeepsOthersIn, KeepsWishesIn, StaysUnread};
 
     /// Connects a session to the bus at a path. An empty one is refused, since the system would take a name of its own for it,
     /// and so is a session that has a link to its bus. Where the bus has no room for one more, it is tried again later.
-    pub fn connect(&mut self, rt: &HostRuntime, session: u32, path: &str) -> Result<(), NetFault>
+    pub fn connect<S: Sockets<Stream = T, Listener = L>>(
+        &mut self,
+        alloc: Global,
+        system: &mut S,
+        session: u32,
+        path: &str,
+    ) -> Result<(), NetFault>
         ensures path { OnOk result (path.now ≢ []) }
         ensures fresh { OnOk result (wishes_in self.old (bus_link session) ≡ None) }
         ensures err { OnErr result (KeepsWishesIn self.old self.new) }
         ensures failed { IsErrOf result NetFault.Failed → RoseIn (Count.Link (bus_link session)) self.old self.new }
         ensures own { OnOk result (wishes_in self.new (bus_link session) ≡ Some no_wishes) }
+        ensures told { Steps (IsConnect (link_number (bus_link session)) path.now result) (S.journal system.old) (S.journal system.new) }
         ensures others { KeepsOthersIn (bus_link session) self.old self.new }
         ensures unread { StaysUnread self.old self.new }
         ensures grows { Grows self.old self.new }
@@ -333,7 +363,7 @@ impl SocketSet {
             session,
             side: Side::Bus,
         };
-        match self.make_bus_link(rt, link, path) {
+        match self.make_bus_link(alloc, system, link, path) {
             Ok(()) => Ok(()),
             Err(NetFault::Failed) => {
                 self.raise(Count::Link(link));
@@ -343,9 +373,16 @@ impl SocketSet {
         }
     }
 
-    fn make_bus_link(&mut self, rt: &HostRuntime, link: Link, path: &str) -> Result<(), NetFault>
+    fn make_bus_link<S: Sockets<Stream = T, Listener = L>>(
+        &mut self,
+        alloc: Global,
+        system: &mut S,
+        link: Link,
+        path: &str,
+    ) -> Result<(), NetFault>
         ensures path { OnOk result (path.now ≢ []) }
         ensures fresh { OnOk result (wishes_in self.old link ≡ None) }
+        ensures told { Steps (IsConnect (link_number link) path.now result) (S.journal system.old) (S.journal system.new) }
         ensures err { OnErr result (GoesOn self.old self.new) }
         ensures own { OnOk result (wishes_in self.new link ≡ Some no_wishes) }
         ensures others { KeepsOthersIn link self.old self.new }
@@ -359,11 +396,11 @@ impl SocketSet {
         if self.reserve_pending().is_err() {
             return Err(NetFault::Memory);
         }
-        match UnixStream::connect(rt, path) {
+        match system.connect(path, number) {
             Ok(stream) => self.join(link, stream),
             Err(error) => {
                 if is_put_off(error.kind()) {
-                    return self.join_later(rt, link, path);
+                    return self.join_later(alloc, system, link, path);
                 }
                 Err(NetFault::Failed)
             }
@@ -382,17 +419,15 @@ impl SocketSet {
     }
 
     /// Makes a link of a stream.
-    fn join(&mut self, link: Link, stream: UnixStream) -> Result<(), NetFault>
-        requires { HasRoomFor 1 self.old }
+    fn join(&mut self, link: Link, stream: Numbered<T>) -> Result<(), NetFault>
+        requires room { HasRoomFor 1 self.old }
+        requires own { stream.number ≡ link_number link }
         ensures err { OnErr result (GoesOn self.old self.new) }
         ensures own { OnOk result (wishes_in self.new link ≡ Some no_wishes) }
         ensures others { KeepsOthersIn link self.old self.new }
         ensures unread { StaysUnread self.old self.new }
         ensures grows { Grows self.old self.new }
     {
-        let Some(stream) = Registered::new(self.poll.registry(), number_of(link), stream) else {
-            return Err(NetFault::Failed);
-        };
         match self.add_link(link, Connection::Open(stream)) {
             Ok(()) => Ok(()),
             Err(_) => Err(NetFault::Memory),
@@ -400,7 +435,13 @@ impl SocketSet {
     }
 
     /// Makes a link that is to be connected later. The connect would have waited, and is counted so.
-    fn join_later(&mut self, rt: &HostRuntime, link: Link, path: &str) -> Result<(), NetFault>
+    fn join_later<S: Sockets>(
+        &mut self,
+        alloc: Global,
+        system: &S,
+        link: Link,
+        path: &str,
+    ) -> Result<(), NetFault>
         requires room { HasRoomFor 1 self.old }
         requires pending { deque_len self.old.pending < deque_capacity self.old.pending }
         ensures pending { OnOk result (self.new.pending.items ≡ self.old.pending.items ++ link_number link ∷ []) }
@@ -410,10 +451,10 @@ impl SocketSet {
         ensures unread { StaysUnread self.old self.new }
         ensures grows { Grows self.old self.new }
     {
-        let Ok(now) = Instant::now(rt) else {
+        let Some(now) = system.now() else {
             return Err(NetFault::Failed);
         };
-        let Ok(path) = String::from_str(rt.alloc(), path) else {
+        let Ok(path) = String::from_str(alloc, path) else {
             return Err(NetFault::Memory);
         };
         let number = number_of(link);

@@ -1,5 +1,5 @@
 //! What the system reports of sockets, and what is named for it.
-ghost use Rattle.std.specs.Prelude.{◌≡◌, ◌≢◌, ◌≤◌, ◌<◌, ◌%◌, ◌&&◌, ◌⊎◌, ◌++◌, ◌+◌, ◌-◌, ◌*◌, ◌^◌, min, vec_len, ℕ, nat_eq, nat_lt, [], true, false, Some, None, IfSome, IfNone, OnErr, length, drop, take, slice_get};
+ghost use Rattle.std.specs.Prelude.{◌≡◌, ◌≢◌, ◌≤◌, ◌<◌, ◌%◌, ◌&&◌, ◌⊎◌, ◌++◌, ◌+◌, ◌-◌, ◌*◌, ◌^◌, min, vec_len, vec_capacity, ℕ, nat_eq, nat_lt, [], true, false, Some, None, IfSome, IfNone, OnErr, drop, take, slice_get};
 ghost use Rattle.std.specs.VecDeque.{deque_len};
 ghost use Rattle.std.specs.Option.{option_map};
 ghost use Rattle.std.specs.Time.{instant_nanos};
@@ -7,18 +7,17 @@ ghost use Rattle.std.specs.Duration.{as_nanos};
 ghost use Rattle.std.specs.List.{list_all, list_any};
 ghost use Rattle.std.specs.Ordering.{nat_cmp};
 ghost use Rattle.std.specs.BTreeMap as tree;
-ghost use Rattle.mio.specs.Events.{items, capacity as events_capacity};
 ghost use Rattle.link_traits.specs.Numbers.{number_of as link_number};
 ghost use Rattle.proxy_net.specs.Delays.{IsWithin, nanos_of};
-ghost use Rattle.proxy_net.specs.Noting.{is_link_noted, is_listener_noted, reports_read, tells_read, tells_write};
+ghost use Rattle.proxy_net.specs.Noting.{is_link_noted, is_listener_noted, reports_read};
 ghost use Rattle.proxy_net.specs.Naming.{is_link_unmarked, is_listener_unmarked};
 
 use super::{LISTENERS, SocketSet};
 use crate::delays::{BLIND_DELAY, delay_until};
 use crate::link_sockets::{Attempt, raised};
+use crate::reports::Report;
+use crate::system::{REPORTS, Sockets};
 use link_traits::{Link, Ready, Side};
-use mio::Events;
-use mio::event::Event;
 use std::io;
 use std::time::{Duration, Instant};
 
@@ -48,75 +47,95 @@ fn is_bus(number: u64) -> bool
     number < LISTENERS && number % 2 == 1
 }
 
-/// Whether an event says that a read wouldn't wait.
-fn is_read_told(event: &Event) -> bool
-    ensures { result ≡ tells_read event.now }
-{
-    event.is_error() || event.is_readable() || event.is_read_closed()
-}
-
-/// Whether an event says that a write wouldn't wait.
-fn is_write_told(event: &Event) -> bool
-    ensures { result ≡ tells_write event.now }
-{
-    event.is_error() || event.is_writable() || event.is_write_closed()
-}
-
-impl SocketSet {
-    ghost use Rattle.proxy_net.specs.Sockets.{is_stalled_at, GoesOn, IsReadIf, KeepsReports, IsWished, is_noted, is_event_noted, is_side_noted, KeepsNotes};
+impl<T: Drop, L: Drop> SocketSet<T, L> {
+    ghost use Rattle.proxy_net.specs.Sockets.{is_stalled_at, GoesOn, IsReadIf, KeepsReports, IsWished, is_noted, is_report_noted, is_side_noted, KeepsNotes};
 
     /// Asks the system what became ready, and waits for it where nothing is to be named yet.
-    pub fn ask(&mut self, rt: &HostRuntime, events: &mut Events) -> io::Result<()>
+    pub fn ask<S: Sockets<Stream = T, Listener = L>>(
+        &mut self,
+        system: &mut S,
+        reports: &mut Vec<Report>,
+    ) -> io::Result<()>
+        requires { REPORTS ≤ vec_capacity reports.old }
         ensures named { self.new.named ≡ 0 }
-        ensures err { OnErr result (items events.new ≡ []) }
-        ensures count { length (items events.new) ≤ events_capacity events.old }
-        ensures capacity { events_capacity events.new ≡ events_capacity events.old }
+        ensures err { OnErr result (reports.new.items ≡ []) }
+        ensures count { vec_len reports.new ≤ REPORTS }
+        ensures capacity { vec_capacity reports.new ≡ vec_capacity reports.old }
         ensures reports { KeepsReports self.old self.new }
         ensures goes { GoesOn self.old self.new }
     {
-        let timeout = self.timeout(rt);
+        let timeout = self.timeout(system);
         self.named = 0;
-        self.poll.poll(events, timeout)
+        system.wait(reports, timeout)
     }
 
     /// Notes what the system reported, of clients before what it reported of buses.
-    pub fn note_all(&mut self, rt: &HostRuntime, events: &Events)
-        ensures noted { list_all (is_event_noted self.new) (items events.now) ≡ true }
-        ensures reported { IsReadIf (λ number. list_any (reports_read number) (items events.now)) self.old self.new }
+    pub fn note_all<S: Sockets<Stream = T, Listener = L>>(
+        &mut self,
+        system: &mut S,
+        reports: &[Report],
+    )
+        ensures noted { list_all (is_report_noted self.new) reports.now ≡ true }
+        ensures reported { IsReadIf (λ number. list_any (reports_read number) reports.now) self.old self.new }
         ensures kept { KeepsNotes self.old self.new }
         ensures goes { GoesOn self.old self.new }
     {
-        self.note_side(events, false);
-        self.note_side(events, true);
-        self.retry_all(rt);
+        self.note_side(system, reports, false);
+        self.note_side(system, reports, true);
+        self.retry_all(system);
     }
 
     /// Notes what the system reported of buses, or of all else.
-    fn note_side(&mut self, events: &Events, of_buses: bool)
-        ensures noted { list_all (is_side_noted of_buses self.new) (items events.now) ≡ true }
-        ensures reported { IsReadIf (λ number. list_any (reports_read number) (items events.now)) self.old self.new }
+    fn note_side<S: Sockets<Stream = T, Listener = L>>(
+        &mut self,
+        system: &mut S,
+        reports: &[Report],
+        of_buses: bool,
+    )
+        ensures noted { list_all (is_side_noted of_buses self.new) reports.now ≡ true }
+        ensures reported { IsReadIf (λ number. list_any (reports_read number) reports.now) self.old self.new }
         ensures kept { KeepsNotes self.old self.new }
         ensures goes { GoesOn self.old self.new }
     {
-        for event in events.iter() {
-            if is_bus(event.token().0 as u64) == of_buses {
-                self.note_event(event);
-            }
+        for report in reports {
+            self.note_of_side(system, report, of_buses);
         }
     }
 
-    fn note_event(&mut self, event: &Event)
-        ensures noted { is_event_noted self.new event.now ≡ true }
-        ensures reported { IsReadIf (λ number. reports_read number event.now) self.old self.new }
+    /// Notes what was reported of a bus, or of all else.
+    fn note_of_side<S: Sockets<Stream = T, Listener = L>>(
+        &mut self,
+        system: &mut S,
+        report: &Report,
+        of_buses: bool,
+    )
+        ensures noted { is_side_noted of_buses self.new report.now ≡ true }
+        ensures reported { IsReadIf (λ number. reports_read number report.now) self.old self.new }
         ensures kept { KeepsNotes self.old self.new }
         ensures goes { GoesOn self.old self.new }
     {
-        let number = event.token().0 as u64;
-        self.note(number, is_read_told(event), is_write_told(event));
+        if is_bus(report.number) == of_buses {
+            self.note_report(system, report);
+        }
+    }
+
+    fn note_report<S: Sockets<Stream = T, Listener = L>>(&mut self, system: &mut S, report: &Report)
+        ensures noted { is_report_noted self.new report.now ≡ true }
+        ensures reported { IsReadIf (λ number. reports_read number report.now) self.old self.new }
+        ensures kept { KeepsNotes self.old self.new }
+        ensures goes { GoesOn self.old self.new }
+    {
+        self.note(system, report.number, report.readable, report.writable);
     }
 
     /// Notes that a listener has a client, or what a link is ready for.
-    fn note(&mut self, number: u64, readable: bool, writable: bool)
+    fn note<S: Sockets<Stream = T, Listener = L>>(
+        &mut self,
+        system: &mut S,
+        number: u64,
+        readable: bool,
+        writable: bool,
+    )
         ensures noted { is_noted self.new number readable writable ≡ true }
         ensures reported { IsReadIf (λ other. nat_eq number other && readable) self.old self.new }
         ensures kept { KeepsNotes self.old self.new }
@@ -125,18 +144,24 @@ impl SocketSet {
         if number >= LISTENERS {
             self.note_listener(number);
         } else {
-            self.note_link(number, readable, writable);
+            self.note_link(system, number, readable, writable);
         }
     }
 
-    fn note_link(&mut self, number: u64, readable: bool, writable: bool)
+    fn note_link<S: Sockets<Stream = T, Listener = L>>(
+        &mut self,
+        system: &mut S,
+        number: u64,
+        readable: bool,
+        writable: bool,
+    )
         ensures noted { is_link_noted readable writable (tree.get nat_cmp self.new.links number) ≡ true }
         ensures reported { IsReadIf (λ other. nat_eq number other && readable) self.old self.new }
         ensures kept { KeepsNotes self.old self.new }
         ensures goes { GoesOn self.old self.new }
     {
         if let Some(socket) = self.links.get_mut(&number) {
-            socket.note(self.poll.registry(), readable, writable);
+            socket.note(system, readable, writable);
             let is_new = socket.take_place();
             self.queue(number, is_new);
         }
@@ -270,13 +295,13 @@ impl SocketSet {
     }
 }
 
-impl SocketSet {
+impl<T: Drop, L: Drop> SocketSet<T, L> {
     ghost use Rattle.proxy_net.specs.Sockets.{GoesOn, IsReadIf, KeepsNotes, due_at, IsFirstDue, IsFirstLeft, accept_left_at, is_stalled_at, is_accept_due_at, is_accept_early_at};
     ghost use Rattle.std.specs.declared.time.Duration.{Duration};
 
     /// How long the system is waited for: not at all where something is to be named, and else until the next try to connect or
     /// to accept.
-    fn timeout(&self, rt: &HostRuntime) -> Option<Duration>
+    fn timeout<S: Sockets>(&self, system: &S) -> Option<Duration>
         ensures busy { self.now.ready.items ≢ [] → option_map (λ (d : Duration). as_nanos d) result ≡ Some 0 }
         ensures idle { result ≡ None → self.now.ready.items ≡ [] }
         ensures waits { result ≡ None → IsFirstDue self.now self.now.pending.items None }
@@ -289,7 +314,7 @@ impl SocketSet {
         if due.is_none() && !self.has_stalled() {
             return None;
         }
-        Some(self.delay(due, Instant::now(rt).ok()))
+        Some(self.delay(due, system.now()))
     }
 
     /// How long it is until the connect that is due then, or the first accept that failed, is tried again.
@@ -376,7 +401,7 @@ impl SocketSet {
     }
 
     /// Tries again what the system refused for a time, as far as it is time to.
-    fn retry_all(&mut self, rt: &HostRuntime)
+    fn retry_all<S: Sockets<Stream = T, Listener = L>>(&mut self, system: &mut S)
         ensures reported { IsReadIf (λ _. false) self.old self.new }
         ensures kept { KeepsNotes self.old self.new }
         ensures goes { GoesOn self.old self.new }
@@ -384,9 +409,9 @@ impl SocketSet {
         if self.pending.is_empty() && !self.has_stalled() {
             return;
         }
-        let now = Instant::now(rt).ok();
+        let now = system.now();
         self.retry_accepts(now);
-        self.retry_connects(rt, now);
+        self.retry_connects(system, now);
     }
 
     /// Names the stalled listeners again whose delay is over.
@@ -419,18 +444,26 @@ impl SocketSet {
     }
 
     /// Tries again to connect the links that aren't connected yet.
-    fn retry_connects(&mut self, rt: &HostRuntime, now: Option<Instant>)
+    fn retry_connects<S: Sockets<Stream = T, Listener = L>>(
+        &mut self,
+        system: &mut S,
+        now: Option<Instant>,
+    )
         ensures reported { IsReadIf (λ _. false) self.old self.new }
         ensures kept { KeepsNotes self.old self.new }
         ensures goes { GoesOn self.old self.new }
     {
         for _ in 0..self.pending.len() {
-            self.retry_first(rt, now);
+            self.retry_first(system, now);
         }
     }
 
     /// Tries the first of these again. It goes to their end, unless nothing is to be tried any more.
-    fn retry_first(&mut self, rt: &HostRuntime, now: Option<Instant>)
+    fn retry_first<S: Sockets<Stream = T, Listener = L>>(
+        &mut self,
+        system: &mut S,
+        now: Option<Instant>,
+    )
         ensures reported { IsReadIf (λ _. false) self.old self.new }
         ensures kept { KeepsNotes self.old self.new }
         ensures goes { GoesOn self.old self.new }
@@ -438,7 +471,7 @@ impl SocketSet {
         let Some(&number) = self.pending.front() else {
             return;
         };
-        match self.attempt(rt, number, now) {
+        match self.attempt(system, number, now) {
             Attempt::NotDue => self.pending.rotate_left(1),
             Attempt::WouldBlock => {
                 self.waits = raised(self.waits);
@@ -451,7 +484,12 @@ impl SocketSet {
     }
 
     /// Tries again to connect a link. Where it isn't there any more, nothing is to be tried.
-    fn attempt(&mut self, rt: &HostRuntime, number: u64, now: Option<Instant>) -> Attempt
+    fn attempt<S: Sockets<Stream = T, Listener = L>>(
+        &mut self,
+        system: &mut S,
+        number: u64,
+        now: Option<Instant>,
+    ) -> Attempt
         ensures pending { self.new.pending ≡ self.old.pending }
         ensures reported { IsReadIf (λ _. false) self.old self.new }
         ensures kept { KeepsNotes self.old self.new }
@@ -459,7 +497,7 @@ impl SocketSet {
     {
         match self.links.get_mut(&number) {
             Some(socket) => {
-                let attempt = socket.attempt(rt, self.poll.registry(), now);
+                let attempt = socket.attempt(system, now);
                 let is_new = socket.take_place();
                 self.queue(number, is_new);
                 attempt

@@ -2,4 +2,4 @@ use Rattle.proxy_net.specs.Sockets.{GoesOn, StaysClosed}
 use Rattle.proxy_net.proofs.net.MioNet.next.Given as goal
 
 abbrev pub invariant-loop : goal.invariant-loop
-invariant-loop l = record { goes : GoesOn l.fn.self.sockets l.self.sockets; closed : StaysClosed l.fn.self.sockets l.self.sockets }
+invariant-loop g l = record { goes : GoesOn l.fn.self.sockets l.self.sockets; closed : StaysClosed l.fn.self.sockets l.self.sockets }

@@ -5,39 +5,42 @@ use Rattle.proxy_net.proofs.Going.{goes_through, kept_rose, accept_through, keep
 use Rattle.proxy_net.proofs.sockets.SocketSet.accept.Goals as goal
 
 pub returns-in-Client-clause-failed : goal.returns-in-Client-clause-failed
-returns-in-Client-clause-failed c = λ failed.
+returns-in-Client-clause-failed g c = λ failed.
     let before = goes_through c.reserve.ensures.goes c.take_client.ensures.goes in
     kept_rose _ _ _ (before.counts (Listener c.args.listener)) (c.make_session.ensures.failed failed)
 
 pub returns-in-Client-clause-wishes : goal.returns-in-Client-clause-wishes
-returns-in-Client-clause-wishes c =
+returns-in-Client-clause-wishes g c =
     accept_through _ c.make_session.result (goes_through c.reserve.ensures.goes c.take_client.ensures.goes) c.make_session.ensures.wishes
 
 pub returns-in-NotReady-clause-not_ready : goal.returns-in-NotReady-clause-not_ready
-returns-in-NotReady-clause-not_ready c = λ _. kept_rose _ _ _ (c.reserve.ensures.goes.counts Waits) (c.in-NotReady.ensures.not_ready refl)
+returns-in-NotReady-clause-not_ready g c = λ _. kept_rose _ _ _ (c.reserve.ensures.goes.counts Waits) (c.in-NotReady.ensures.not_ready refl)
 
 pub returns-in-Failed-clause-failed : goal.returns-in-Failed-clause-failed
-returns-in-Failed-clause-failed c = λ _.
+returns-in-Failed-clause-failed g c = λ _.
     let before = goes_through c.reserve.ensures.goes c.take_client.ensures.goes in
     kept_rose _ _ _ (before.counts (Listener c.args.listener)) c.fail_accept-in-Failed.ensures.rose
 
 pub returns-in-Failed-clause-wishes : goal.returns-in-Failed-clause-wishes
-returns-in-Failed-clause-wishes c =
+returns-in-Failed-clause-wishes g c =
     let before = goes_through c.reserve.ensures.goes c.take_client.ensures.goes in
     subst (λ answer. AfterAcceptIn answer c.args.self.now c.fail_accept-in-Failed.new.self) (sym c.fail_accept-in-Failed.ensures.failed)
     (keeps_wishes (goes_through before c.fail_accept-in-Failed.ensures.goes))
 
 pub returns-then-is_err-clause-grows : goal.returns-then-is_err-clause-grows
-returns-then-is_err-clause-grows c = goes_grows (goes_through c.reserve.ensures.goes c.stall.ensures.goes)
+returns-then-is_err-clause-grows g c = goes_grows (goes_through c.reserve.ensures.goes c.stall.ensures.goes)
 
 pub returns-in_default-clause-grows : goal.returns-in_default-clause-grows
-returns-in_default-clause-grows c = goes_grows (goes_through c.reserve.ensures.goes c.fail_accept.ensures.goes)
+returns-in_default-clause-grows g c = goes_grows (goes_through c.reserve.ensures.goes c.fail_accept.ensures.goes)
 
 pub returns-in-Client-clause-grows : goal.returns-in-Client-clause-grows
-returns-in-Client-clause-grows c = grows_through (goes_through c.reserve.ensures.goes c.take_client.ensures.goes) c.make_session.ensures.grows
+returns-in-Client-clause-grows g c = grows_through (goes_through c.reserve.ensures.goes c.take_client.ensures.goes) c.make_session.ensures.grows
 
 pub returns-in-NotReady-clause-grows : goal.returns-in-NotReady-clause-grows
-returns-in-NotReady-clause-grows c = goes_grows (goes_through c.reserve.ensures.goes c.take_client.ensures.goes)
+returns-in-NotReady-clause-grows g c = goes_grows (goes_through c.reserve.ensures.goes c.take_client.ensures.goes)
 
 pub returns-in-Failed-clause-grows : goal.returns-in-Failed-clause-grows
-returns-in-Failed-clause-grows c = goes_grows (goes_through (goes_through c.reserve.ensures.goes c.take_client.ensures.goes) c.fail_accept-in-Failed.ensures.goes)
+returns-in-Failed-clause-grows g c = goes_grows (goes_through (goes_through c.reserve.ensures.goes c.take_client.ensures.goes) c.fail_accept-in-Failed.ensures.goes)
+
+pub returns-in_default-clause-failed : goal.returns-in_default-clause-failed
+returns-in_default-clause-failed g c = λ _. kept_rose _ _ _ (c.reserve.ensures.goes.counts (Listener c.args.listener)) c.fail_accept.ensures.rose

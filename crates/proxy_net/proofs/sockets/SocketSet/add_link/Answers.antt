@@ -6,7 +6,7 @@ use Rattle.proxy_net.proofs.Tokens.{own_link_made}
 use Rattle.proxy_net.proofs.sockets.SocketSet.add_link.Goals as goal
 
 pub returns-clause-grows : goal.returns-clause-grows
-returns-clause-grows c = record {
+returns-clause-grows g c = record {
   each = search rules;
   links = search rules;
   listeners = search rules;
@@ -18,6 +18,6 @@ returns-clause-grows c = record {
 }
 
 pub invariant_of-self : goal.invariant_of-self
-invariant_of-self c =
+invariant_of-self g c =
     let sockets = c.args.self.now in
     record { room = made_fits 0 (deque_len sockets.ready) (deque_capacity sockets.ready) sockets.listeners.items sockets.links.entries c.requires.room c.insert.result _ _ _ c.insert.ensures.entries c.insert.ensures.err }

@@ -3,4 +3,4 @@ use Rattle.proxy_net.proofs.Going.{kept_rose}
 use Rattle.proxy_net.proofs.sockets.SocketSet.answer_closed.Goals as goal
 
 pub returns-clause-not_ready : goal.returns-clause-not_ready
-returns-clause-not_ready c = λ _. kept_rose _ _ _ (c.judge_both.ensures.goes.counts Waits) c.raised-self.ensures.rose
+returns-clause-not_ready g c = λ _. kept_rose _ _ _ (c.judge_both.ensures.goes.counts Waits) c.raised-self.ensures.rose

@@ -4,7 +4,7 @@ use Rattle.proxy_net.proofs.Room.{at_most_one, link_fits, popped}
 use Rattle.proxy_net.proofs.sockets.SocketSet.name_link.Goals as goal
 
 pub invariant_of-self-then-is_nameable : goal.invariant_of-self-then-is_nameable
-invariant_of-self-then-is_nameable c =
+invariant_of-self-then-is_nameable g c =
     let sockets = c.args.self.now in
     record {
       room = link_fits 0 (deque_len sockets.ready) (deque_capacity sockets.ready) sockets.listeners.items sockets.links.entries sockets.room
@@ -12,7 +12,7 @@ invariant_of-self-then-is_nameable c =
     }
 
 pub invariant_of-self-2 : goal.invariant_of-self-2
-invariant_of-self-2 c =
+invariant_of-self-2 g c =
     let sockets = c.args.self.now in
     record {
       room = link_fits 0 (deque_len sockets.ready) (deque_capacity sockets.ready) sockets.listeners.items sockets.links.entries sockets.room

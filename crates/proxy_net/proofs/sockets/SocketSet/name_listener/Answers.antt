@@ -9,7 +9,7 @@ use Rattle.proxy_net.proofs.Room.{at_most_one, listener_fits, popped}
 use Rattle.proxy_net.proofs.sockets.SocketSet.name_listener.Goals as goal
 
 pub invariant_of-self-then-keeps_place : goal.invariant_of-self-then-keeps_place
-invariant_of-self-then-keeps_place c =
+invariant_of-self-then-keeps_place g c =
     let sockets = c.args.self.now in
     record {
       room = listener_fits 0 (deque_len sockets.ready) (deque_capacity sockets.ready) sockets.listeners.items sockets.links.entries sockets.room
@@ -17,7 +17,7 @@ invariant_of-self-then-keeps_place c =
     }
 
 pub invariant_of-self-2 : goal.invariant_of-self-2
-invariant_of-self-2 c =
+invariant_of-self-2 g c =
     let sockets = c.args.self.now in
     record {
       room = listener_fits 0 (deque_len sockets.ready) (deque_capacity sockets.ready) sockets.listeners.items sockets.links.entries sockets.room
@@ -25,12 +25,12 @@ invariant_of-self-2 c =
     }
 
 pub returns-then-keeps_place-clause-goes : goal.returns-then-keeps_place-clause-goes
-returns-then-keeps_place-clause-goes c =
+returns-then-keeps_place-clause-goes g c =
     let sockets = c.args.self.now in
     let items = sockets.listeners.items in
     listener_goes sockets _ (c.args.number - listeners_from) c.in-Some.socket.now c.keeps_place.new.self
     (slice_get_read items (length items) _ c.in-Some.socket.now refl c.in-Some.ensures.item.3.0 c.in-Some.ensures.value) refl refl refl refl refl refl
-    (grind (arith, c.keeps_place.ensures.named)) (ap (λ (s : ListenerSocket). s.listener) c.keeps_place.ensures.named)
+    (grind (arith, c.keeps_place.ensures.named)) (ap (λ (s : ListenerSocket _). s.listener) c.keeps_place.ensures.named)
     (λ _. grind (arith, c.keeps_place.ensures.named, c.keeps_place.ensures.place))
     (λ other _. all_stay sockets.ready.items c.rotate_left.new.self.items c.rotate_left.ensures.items other)
     (λ _. let same : listeners_from + (c.args.number - listeners_from) ≡ c.args.number = omega (arith, c.requires.of_listener) in
@@ -39,12 +39,12 @@ returns-then-keeps_place-clause-goes c =
     grind (arith, placed))
 
 pub returns-clause-goes : goal.returns-clause-goes
-returns-clause-goes c =
+returns-clause-goes g c =
     let sockets = c.args.self.now in
     let items = sockets.listeners.items in
     listener_goes sockets _ (c.args.number - listeners_from) c.in-Some.socket.now c.keeps_place.new.self
     (slice_get_read items (length items) _ c.in-Some.socket.now refl c.in-Some.ensures.item.3.0 c.in-Some.ensures.value) refl refl refl refl refl refl
-    (grind (arith, c.keeps_place.ensures.named)) (ap (λ (s : ListenerSocket). s.listener) c.keeps_place.ensures.named)
+    (grind (arith, c.keeps_place.ensures.named)) (ap (λ (s : ListenerSocket _). s.listener) c.keeps_place.ensures.named)
     (λ _. grind (arith, c.keeps_place.ensures.named, c.keeps_place.ensures.place))
     (λ other differs. others_stay sockets.ready.items c.pop_front-2.new.self.items c.args.number c.requires.first c.pop_front-2.ensures.rest other (λ e. differs (omega (arith, e, c.requires.of_listener))))
     (λ _. grind (arith, c.keeps_place.ensures.named, c.keeps_place.ensures.place))

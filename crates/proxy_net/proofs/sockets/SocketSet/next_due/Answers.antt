@@ -3,7 +3,7 @@ use Rattle.proxy_net.proofs.Dues.{one_due, not_due}
 use Rattle.proxy_net.proofs.sockets.SocketSet.next_due.Goals as goal
 
 pub loop-number-preserved-in-Some-due : goal.loop-number-preserved-in-Some-due
-loop-number-preserved-in-Some-due c = record {
+loop-number-preserved-in-Some-due g c = record {
   passed = c.loop-number.invariant.passed ++ c.in-Some.number.now ∷ [];
   split = c.loop-number.invariant.split ∙ ap (λ (l : List ℕ). c.loop-number.invariant.passed ++ l) c.in-Some.ensures.steps
       ∙ sym (append_assoc c.loop-number.invariant.passed (c.in-Some.number.now ∷ []) (c.next.new.self.head.now ++ c.next.new.self.wrapped.now));
@@ -12,7 +12,7 @@ loop-number-preserved-in-Some-due c = record {
 }
 
 pub loop-number-preserved : goal.loop-number-preserved
-loop-number-preserved c = record {
+loop-number-preserved g c = record {
   passed = c.loop-number.invariant.passed ++ c.in-Some.number.now ∷ [];
   split = c.loop-number.invariant.split ∙ ap (λ (l : List ℕ). c.loop-number.invariant.passed ++ l) c.in-Some.ensures.steps
       ∙ sym (append_assoc c.loop-number.invariant.passed (c.in-Some.number.now ∷ []) (c.next.new.self.head.now ++ c.next.new.self.wrapped.now));

@@ -1,16 +1,15 @@
-use Rattle.mio.specs.Events.{items}
 use Rattle.proxy_net.proofs.Going.{goes_through}
 use Rattle.proxy_net.proofs.Notes.{both_sides, all_kept}
 use Rattle.proxy_net.proofs.Reading.{read_through, read_weaker}
 use Rattle.proxy_net.proofs.sockets.SocketSet.note_all.Goals as goal
 
 pub returns-clause-noted : goal.returns-clause-noted
-returns-clause-noted c =
-    all_kept c.note_side-2.new.self c.retry_all.new.self c.retry_all.ensures.kept (items c.args.events.now)
-    (both_sides c.note_side.new.self c.note_side-2.new.self c.note_side-2.ensures.kept (items c.args.events.now) c.note_side.ensures.noted c.note_side-2.ensures.noted)
+returns-clause-noted g c =
+    all_kept c.note_side-2.new.self c.retry_all.new.self c.retry_all.ensures.kept c.args.reports.now
+    (both_sides c.note_side.new.self c.note_side-2.new.self c.note_side-2.ensures.kept c.args.reports.now c.note_side.ensures.noted c.note_side-2.ensures.noted)
 
 pub returns-clause-reported : goal.returns-clause-reported
-returns-clause-reported c = read_through c.note_side.ensures.reported (read_through c.note_side-2.ensures.reported (read_weaker (λ number e. cc) c.retry_all.ensures.reported))
+returns-clause-reported g c = read_through c.note_side.ensures.reported (read_through c.note_side-2.ensures.reported (read_weaker (λ number e. cc) c.retry_all.ensures.reported))
 
 pub returns-clause-goes : goal.returns-clause-goes
-returns-clause-goes c = goes_through c.note_side.ensures.goes (goes_through c.note_side-2.ensures.goes c.retry_all.ensures.goes)
+returns-clause-goes g c = goes_through c.note_side.ensures.goes (goes_through c.note_side-2.ensures.goes c.retry_all.ensures.goes)

@@ -4,7 +4,7 @@ use Rattle.proxy_net.proofs.Room.{listener_fits}
 use Rattle.proxy_net.proofs.sockets.SocketSet.raise_listener.Goals as goal
 
 pub invariant_of-self : goal.invariant_of-self
-invariant_of-self c =
+invariant_of-self g c =
     let sockets = c.args.self.now in
     record {
       room = listener_fits 0 (deque_len sockets.ready) (deque_capacity sockets.ready) sockets.listeners.items sockets.links.entries sockets.room

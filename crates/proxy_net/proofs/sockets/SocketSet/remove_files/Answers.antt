@@ -7,12 +7,12 @@ use Rattle.proxy_net.proofs.Going.{goes_through}
 use Rattle.proxy_net.proofs.sockets.SocketSet.remove_files.Goals as goal
 
 pub loop-place-preserved : goal.loop-place-preserved
-loop-place-preserved c = record {
+loop-place-preserved g c = record {
   goes = goes_through c.loop-place.invariant.goes c.remove_file.ensures.goes;
   number = c.remove_file.ensures.number ∙ c.loop-place.invariant.number;
   removed = one_more_place has_file_at c.loop-place.self c.remove_file.new.self c.loop-place.place c.loop-place.invariant.removed c.remove_file.ensures.removed c.remove_file.ensures.others;
 }
 
 pub returns-clause-removed : goal.returns-clause-removed
-returns-clause-removed c = all_places (λ (o : Option ListenerSocket). unwrap_or (option_map (λ (s : ListenerSocket). is_some s.file) o) false) refl c.loop-place.self.listeners.items
+returns-clause-removed g c = all_places (λ (o : Option (ListenerSocket _)). unwrap_or (option_map (λ (s : ListenerSocket _). is_some s.file) o) false) refl c.loop-place.self.listeners.items
     (λ other below. c.loop-place.invariant.removed other (grind (arith, below, c.loop-place.invariant.number)))

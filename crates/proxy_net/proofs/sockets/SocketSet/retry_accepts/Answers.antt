@@ -9,7 +9,7 @@ use Rattle.proxy_net.proofs.Notes.{notes_through}
 use Rattle.proxy_net.proofs.sockets.SocketSet.retry_accepts.Goals as goal
 
 pub loop-place-preserved : goal.loop-place-preserved
-loop-place-preserved c = record {
+loop-place-preserved g c = record {
   goes = goes_through c.loop-place.invariant.goes c.retry_accept.ensures.goes;
   kept = notes_through c.loop-place.invariant.kept c.retry_accept.ensures.kept;
   number = c.retry_accept.ensures.number ∙ c.loop-place.invariant.number;
@@ -19,5 +19,5 @@ loop-place-preserved c = record {
 }
 
 pub returns-clause-retried : goal.returns-clause-retried
-returns-clause-retried c = all_places (λ (o : Option ListenerSocket). unwrap_or (option_map (is_accept_due c.args.now) o) false) refl c.loop-place.self.listeners.items
+returns-clause-retried g c = all_places (λ (o : Option (ListenerSocket _)). unwrap_or (option_map (is_accept_due c.args.now) o) false) refl c.loop-place.self.listeners.items
     (λ other below. c.loop-place.invariant.retried other (grind (arith, below, c.loop-place.invariant.number)))

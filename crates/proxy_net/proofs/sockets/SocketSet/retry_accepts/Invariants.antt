@@ -3,7 +3,7 @@ use Rattle.proxy_net.specs.Sockets.{GoesOn, KeepsNotes, is_accept_due_at, is_acc
 use Rattle.proxy_net.proofs.sockets.SocketSet.retry_accepts.Given as goal
 
 abbrev pub invariant-loop-place : goal.invariant-loop-place
-invariant-loop-place l = record {
+invariant-loop-place g l = record {
   goes : GoesOn l.fn.self l.self;
   kept : KeepsNotes l.fn.self l.self;
   number : vec_len l.self.listeners ≡ vec_len l.fn.self.listeners;

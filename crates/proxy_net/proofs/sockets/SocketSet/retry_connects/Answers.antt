@@ -4,7 +4,7 @@ use Rattle.proxy_net.proofs.Reading.{read_through}
 use Rattle.proxy_net.proofs.sockets.SocketSet.retry_connects.Goals as goal
 
 pub loop-preserved : goal.loop-preserved
-loop-preserved c = record {
+loop-preserved g c = record {
   goes = goes_through c.loop.invariant.goes c.retry_first.ensures.goes;
   kept = notes_through c.loop.invariant.kept c.retry_first.ensures.kept;
   reported = read_through c.loop.invariant.reported c.retry_first.ensures.reported;

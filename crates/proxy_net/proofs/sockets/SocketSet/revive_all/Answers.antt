@@ -7,7 +7,7 @@ use Rattle.proxy_net.proofs.Going.{goes_through}
 use Rattle.proxy_net.proofs.sockets.SocketSet.revive_all.Goals as goal
 
 pub loop-place-preserved : goal.loop-place-preserved
-loop-place-preserved c = record {
+loop-place-preserved g c = record {
   goes = goes_through c.loop-place.invariant.goes c.revive.ensures.goes;
   number = c.revive.ensures.number ∙ c.loop-place.invariant.number;
   links = c.revive.ensures.links ∙ c.loop-place.invariant.links;
@@ -15,5 +15,5 @@ loop-place-preserved c = record {
 }
 
 pub returns-clause-revived : goal.returns-clause-revived
-returns-clause-revived c = all_places (λ (o : Option ListenerSocket). unwrap_or (option_map (λ (s : ListenerSocket). s.stalled) o) false) refl c.loop-place.self.listeners.items
+returns-clause-revived g c = all_places (λ (o : Option (ListenerSocket _)). unwrap_or (option_map (λ (s : ListenerSocket _). s.stalled) o) false) refl c.loop-place.self.listeners.items
     (λ other below. c.loop-place.invariant.revived other (grind (arith, below, c.loop-place.invariant.number)))

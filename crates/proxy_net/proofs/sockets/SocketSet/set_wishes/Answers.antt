@@ -4,7 +4,7 @@ use Rattle.proxy_net.proofs.Room.{link_fits}
 use Rattle.proxy_net.proofs.sockets.SocketSet.set_wishes.Goals as goal
 
 pub invariant_of-self : goal.invariant_of-self
-invariant_of-self c =
+invariant_of-self g c =
     let sockets = c.args.self.now in
     record {
       room = link_fits 0 (deque_len sockets.ready) (deque_capacity sockets.ready) sockets.listeners.items sockets.links.entries sockets.room
@@ -12,7 +12,7 @@ invariant_of-self c =
     }
 
 pub queue-requires : goal.queue-requires
-queue-requires c = λ is_new.
+queue-requires g c = λ is_new.
     let sockets = c.args.self.now in
     link_fits 0 (deque_len sockets.ready) (deque_capacity sockets.ready) sockets.listeners.items sockets.links.entries sockets.room
     1 (deque_len sockets.ready) (deque_capacity sockets.ready) _ c.in-Some.socket.now _ _ c.in-Some.ensures.value (c.get_mut.follows.holds c.take_place-is_new.new.self).0 (grind (arith, is_new, c.take_place-is_new.ensures.took, c.take_place-is_new.ensures.same)) (omega arith)

@@ -1,0 +1,46 @@
+-- What calls lead to, by the answer.
+use Rattle.std.proofs.Common.{ℕ, ◌≡◌, inl, inr, Bool, true, false, List, [], ◌∷◌, ◌++◌, Option, Result, Ok, Err, refl, ap, ap₂}
+use Rattle.std.specs.declared.io.ErrorKind.{ErrorKind}
+use Rattle.std.specs.declared.io.ErrorKind.TheVariants.{WouldBlock}
+use Rattle.link_traits.specs.declared.links.Took.{Took}
+use Rattle.link_traits.specs.declared.links.Took.TheVariants.{Bytes as TookBytes, NotReady as WriteNotReady, Failed as WriteFailed}
+use Rattle.link_traits.specs.declared.links.NetFault.{NetFault}
+use Rattle.proxy_net.specs.SystemCalls.{SystemCall, connect, write, Tells}
+use Rattle.proxy_net.specs.Steps.{Steps, IsRetryOf, IsWrite, IsLinkWrite, IsConnectionWrite, IsRoomAwaited, IsConnect}
+use Rattle.proxy_net.specs.declared.streams.StreamWrite.TheVariants.{Again, Fault as WriteFault}
+use Rattle.proxy_net.specs.declared.link_sockets.LinkWrite.{LinkWrite}
+use Rattle.proxy_net.specs.declared.link_sockets.LinkWrite.TheVariants.{Bytes as LinkBytes, NotReady as LinkNotReady, PeerClosed as LinkClosed, Failed as LinkFailed}
+use Rattle.proxy_net.proofs.Telling.{steps_one}
+
+-- a write for which there was no room, and what was done about it
+pub room_awaited : (waits : Bool) (number : ℕ) (piece : List ℕ) (wrote : LinkWrite) (first second : List SystemCall) → first ≡ write number (Err WouldBlock) ∷ [] → IsRoomAwaited waits number wrote second
+    → IsLinkWrite number piece wrote (second ++ first)
+room_awaited true number piece LinkNotReady first second was awaited = inr (inr (ap₂ (λ (s f : List SystemCall). s ++ f) awaited was))
+room_awaited true number piece LinkFailed first second was awaited = inr (inr (inr (awaited.0, ap₂ (λ (s f : List SystemCall). s ++ f) awaited.1 was)))
+room_awaited true number piece (LinkBytes n) first second was awaited = absurd awaited
+room_awaited true number piece LinkClosed first second was awaited = absurd awaited
+room_awaited false number piece LinkNotReady first second was awaited = inr (inl (WouldBlock, ap₂ (λ (s f : List SystemCall). s ++ f) awaited was))
+room_awaited false number piece LinkFailed first second was awaited = absurd awaited
+room_awaited false number piece (LinkBytes n) first second was awaited = absurd awaited
+room_awaited false number piece LinkClosed first second was awaited = absurd awaited
+
+pub again_waits : (number : ℕ) (piece : List ℕ) (calls : List SystemCall) → IsConnectionWrite number piece Again calls → IsWrite number piece WriteNotReady calls
+again_waits number piece calls is = elim is [ inl none ↦ inl none | inr refused ↦ inr (inl refused) ]
+
+pub fault_fails : (number : ℕ) (piece : List ℕ) (calls : List SystemCall) → IsConnectionWrite number piece WriteFault calls → IsWrite number piece WriteFailed calls
+fault_fails number piece calls is = elim is [ inl none ↦ inl none | inr some ↦ elim some [ inl nothing ↦ inr (inl nothing) | inr refused ↦ inr (inr (inl refused)) ] ]
+
+-- a write to a peer that closed took nothing
+pub closed_took : (number : ℕ) (piece : List ℕ) (took : Took) → ((n : ℕ) → took ≡ TookBytes n → ⊥) → (calls : List SystemCall) → IsLinkWrite number piece LinkClosed calls → IsWrite number piece took calls
+closed_took number piece (TookBytes n) none calls is = absurd (none n refl)
+closed_took number piece WriteNotReady none calls is = inr (inl is)
+closed_took number piece WriteFailed none calls is = inr (inr (inl is))
+
+-- a connect that was made once
+pub connected_once : (number : ℕ) (path : List ℕ) (fault : Option ErrorKind) (result : Result (Unit {0}) NetFault) (calls : List SystemCall) → calls ≡ connect number path fault ∷ [] → IsConnect number path result calls
+connected_once number path fault (Ok done) calls is = (fault, is)
+connected_once number path fault (Err refused) calls is = inr (fault, is)
+
+-- a connect that was tried again
+pub tried_once : (number : ℕ) (path own : List ℕ) (fault : Option ErrorKind) {old new : Option (List SystemCall)} → path ≡ own → Tells old new (connect number path fault ∷ []) → Steps (IsRetryOf number own) old new
+tried_once number path own fault same told = steps_one (connect number path fault ∷ []) told (inr (fault, ap (λ (p : List ℕ). connect number p fault ∷ []) same))

@@ -1,0 +1,88 @@
+-- What the answer of a system's read or write means to a link.
+use Rattle.std.proofs.Common.{ℕ, ◌≡◌, inl, inr, Bool, true, false, is_ok, List, [], ◌∷◌, Option, Some, None, Result, Ok, Err, refl, ap, subst, ◌∙◌, take, sym, arith}
+use Rattle.std.specs.declared.io.ErrorKind.{ErrorKind}
+use Rattle.std.specs.declared.io.ErrorKind.TheVariants.{WouldBlock, Interrupted, ConnectionReset}
+use Rattle.proxy_net.specs.SystemCalls.{SystemCall, close, watch, read, write, fault_of, IsToldRead, IsToldWrite, Tells}
+use Rattle.proxy_net.specs.Steps.{Steps, IsRead, IsStreamWrite, IsConnectionWrite, IsWatched, IsShut, got_of}
+use Rattle.proxy_net.specs.Streams.{IsMeantRead, IsMeantWrite}
+use Rattle.proxy_net.specs.declared.streams.StreamRead.{StreamRead}
+use Rattle.proxy_net.specs.declared.streams.StreamRead.TheVariants.{Bytes, End, Nothing, Fault}
+use Rattle.proxy_net.specs.declared.streams.StreamWrite.{StreamWrite}
+use Rattle.proxy_net.specs.declared.streams.StreamWrite.TheVariants.{Bytes as WriteBytes, Full, PeerClosed, Again, Fault as WriteFault}
+use Rattle.proxy_net.specs.Connecting.{is_open}
+use Rattle.proxy_net.specs.Registering.{is_registered_by}
+use Rattle.proxy_net.specs.declared.link_sockets.Connection.{Connection}
+use Rattle.proxy_net.specs.declared.link_sockets.Connection.TheVariants.{Open, Pending, Failed}
+use Rattle.proxy_net.specs.declared.system.Numbered.{Numbered}
+use Rattle.std.proofs.lemmas.Bool.Decides.{nat_tests}
+use Rattle.proxy_net.proofs.Telling.{steps_one}
+
+module _ {E : Type 0} (kind : E → ErrorKind) (number : ℕ) where
+  pub read_told : (into : List ℕ) (answer : Result ℕ E) (meaning : StreamRead) {old new : Option (List SystemCall)} → IsToldRead kind number into answer old new → IsMeantRead kind answer (Some meaning)
+      → Steps (IsRead number into (got_of meaning)) old new
+  read_told into (Ok n) (Bytes m) told meant = steps_one (read number (Ok (take n into)) ∷ []) told (ap (λ (k : ℕ). read number (Ok (take k into)) ∷ []) meant)
+  read_told into (Ok n) End told meant = steps_one (read number (Ok (take n into)) ∷ []) told (inl (ap (λ (k : ℕ). read number (Ok (take k into)) ∷ []) meant))
+  read_told into (Ok n) Nothing told meant = absurd meant
+  read_told into (Ok n) Fault told meant = absurd meant
+  read_told into (Err error) (Bytes m) told meant = absurd meant
+  read_told into (Err error) End told meant =
+      steps_one (read number (Err (kind error)) ∷ []) (told.0 (λ e. let no : ConnectionReset ≡ Interrupted = sym meant ∙ e in cc)) (inr (ap (λ (k : ErrorKind). read number (Err k) ∷ []) meant))
+  read_told into (Err error) Nothing told meant =
+      steps_one (read number (Err (kind error)) ∷ []) (told.0 (λ e. let no : WouldBlock ≡ Interrupted = sym meant ∙ e in cc)) (inr (ap (λ (k : ErrorKind). read number (Err k) ∷ []) meant))
+  read_told into (Err error) Fault told meant = steps_one (read number (Err (kind error)) ∷ []) (told.0 meant) (inr (kind error, refl))
+
+  -- a read that is made again
+  pub read_again : (into : List ℕ) (answer : Result ℕ E) {old new : Option (List SystemCall)} → IsToldRead kind number into answer old new → IsMeantRead kind answer None → Tells old new []
+  read_again into (Ok n) told meant = absurd meant
+  read_again into (Err error) told meant = told.1 meant
+
+  pub write_told : (piece : List ℕ) (answer : Result ℕ E) (meaning : StreamWrite) {old new : Option (List SystemCall)} → IsToldWrite kind number piece answer old new → IsMeantWrite kind answer meaning
+      → Steps (IsStreamWrite number piece meaning) old new
+  write_told piece (Ok n) (WriteBytes m) told meant = steps_one (write number (Ok (take n piece)) ∷ []) told (ap (λ (k : ℕ). write number (Ok (take k piece)) ∷ []) meant)
+  write_told piece (Ok n) Full told meant = absurd meant
+  write_told piece (Ok n) PeerClosed told meant = absurd meant
+  write_told piece (Ok n) Again told meant = absurd meant
+  write_told piece (Ok n) WriteFault told meant = steps_one (write number (Ok (take n piece)) ∷ []) told (inl (ap (λ (k : ℕ). write number (Ok (take k piece)) ∷ []) meant))
+  write_told piece (Err error) (WriteBytes m) told meant = absurd meant
+  write_told piece (Err error) Full told meant = steps_one (write number (Err (kind error)) ∷ []) told (ap (λ (k : ErrorKind). write number (Err k) ∷ []) meant)
+  write_told piece (Err error) PeerClosed told meant = steps_one (write number (Err (kind error)) ∷ []) told (kind error, refl)
+  write_told piece (Err error) Again told meant = steps_one (write number (Err (kind error)) ∷ []) told (kind error, refl)
+  write_told piece (Err error) WriteFault told meant = steps_one (write number (Err (kind error)) ∷ []) told (inr (kind error, refl))
+
+-- what the stream of a link answers to a write is what the link's connection answers
+pub stream_writes : (number : ℕ) (piece : List ℕ) (write : StreamWrite) (calls : List SystemCall) → IsStreamWrite number piece write calls → IsConnectionWrite number piece write calls
+stream_writes number piece (WriteBytes n) calls is = is
+stream_writes number piece Full calls is = is
+stream_writes number piece PeerClosed calls is = is
+stream_writes number piece Again calls is = inr is
+stream_writes number piece WriteFault calls is = inr is
+
+-- a watch, by whether it was made
+pub watch_told : {E : Type 0} (kind : E → ErrorKind) (number : ℕ) (writable : Bool) (answer : Result (Unit {0}) E) (made : Bool) {old new : Option (List SystemCall)} → Tells old new (watch number writable (fault_of kind answer) ∷ [])
+    → made ≡ is_ok answer → Steps (IsWatched true number writable made) old new
+watch_told kind number writable (Ok done) true told same = steps_one (watch number writable None ∷ []) told refl
+watch_told kind number writable (Ok done) false told same = cc
+watch_told kind number writable (Err error) true told same = cc
+watch_told kind number writable (Err error) false told same = steps_one (watch number writable (Some (kind error)) ∷ []) told (kind error, refl)
+
+-- a connection whose stream is watched ..
+pub open_watched : {T : Type 0} (connection : Connection T) (stream : Numbered T) → connection ≡ Open stream → (number : ℕ) → is_registered_by number connection ≡ true → (writable made : Bool) {old new : Option (List SystemCall)}
+    → Steps (IsWatched true stream.number writable made) old new → Steps (IsWatched (is_open connection) number writable made) old new
+open_watched (Open other) stream is number own writable made {old = old} {new = new} s =
+    let same : other ≡ stream = cc in
+    let numbered : other.number ≡ number = grind (arith, nat_tests, own) in
+    let from : stream.number ≡ other.number = ap (λ (x : Numbered _). x.number) (sym same) in
+    subst (λ (n : ℕ). Steps (IsWatched true n writable made) old new) (from ∙ numbered) s
+open_watched (Pending retry) stream is number own writable made s = cc
+open_watched Failed stream is number own writable made s = cc
+
+-- .. or closed
+pub open_closed : {T : Type 0} (connection : Connection T) (stream : Numbered T) → connection ≡ Open stream → (number : ℕ) → is_registered_by number connection ≡ true → {old new : Option (List SystemCall)}
+    → Tells old new (close stream.number ∷ []) → Steps (IsShut (is_open connection) number) old new
+open_closed (Open other) stream is number own told =
+    let same : other ≡ stream = cc in
+    let numbered : other.number ≡ number = grind (arith, nat_tests, own) in
+    let from : stream.number ≡ other.number = ap (λ (x : Numbered _). x.number) (sym same) in
+    steps_one (close stream.number ∷ []) told (ap (λ (n : ℕ). close n ∷ []) (from ∙ numbered))
+open_closed (Pending retry) stream is number own told = cc
+open_closed Failed stream is number own told = cc

@@ -1,0 +1,21 @@
+use Rattle.std.proofs.Common.{Err, refl, subst}
+use Rattle.link_traits.specs.declared.links.NetFault.TheVariants.{Failed}
+use Rattle.proxy_net.specs.Steps.{Steps, IsConnect}
+use Rattle.proxy_net.proofs.Telling.{steps_one}
+use Rattle.proxy_net.proofs.Leading.{connected_once}
+use Rattle.proxy_net.proofs.sockets.SocketSet.make_bus_link.Goals as goal
+
+pub returns-in-Ok-clause-told : goal.returns-in-Ok-clause-told
+returns-in-Ok-clause-told g c =
+    subst (λ n. Steps (IsConnect n c.args.path.now c.join.result) (g.S.Sockets.journal c.args.system.now) (g.S.Sockets.journal c.connect.new.self)) c.number_of-number.ensures.number
+    (steps_one _ c.in-Ok.ensures.told (connected_once c.number_of-number.result c.args.path.now _ c.join.result _ refl))
+
+pub returns-then-is_put_off-clause-told : goal.returns-then-is_put_off-clause-told
+returns-then-is_put_off-clause-told g c =
+    subst (λ n. Steps (IsConnect n c.args.path.now c.join_later.result) (g.S.Sockets.journal c.args.system.now) (g.S.Sockets.journal c.connect.new.self)) c.number_of-number.ensures.number
+    (steps_one _ c.in-Err.ensures.told (connected_once c.number_of-number.result c.args.path.now _ c.join_later.result _ refl))
+
+pub returns-else-is_put_off-clause-told : goal.returns-else-is_put_off-clause-told
+returns-else-is_put_off-clause-told g c =
+    subst (λ n. Steps (IsConnect n c.args.path.now (Err Failed)) (g.S.Sockets.journal c.args.system.now) (g.S.Sockets.journal c.connect.new.self)) c.number_of-number.ensures.number
+    (steps_one _ c.in-Err.ensures.told (connected_once c.number_of-number.result c.args.path.now _ (Err Failed) _ refl))

@@ -1,0 +1,38 @@
+-- What a system was asked, and what it answered.
+use Rattle.std.specs.Prelude.{ℕ, ◌≡◌, ◌≢◌, Bool, List, [], ◌∷◌, ◌++◌, take, Option, Some, None, Result, Ok, Err}
+use Rattle.std.specs.declared.io.ErrorKind.{ErrorKind}
+use Rattle.std.specs.declared.io.ErrorKind.TheVariants.{Interrupted}
+use Rattle.proxy_net.specs.declared.reports.Report.{Report}
+
+-- A call, with the number of its socket, its path or its bytes, and the kind of the fault for which it was refused. An accept has
+-- the listener's number and that of the stream.
+pub data SystemCall : Type 0 where
+  bind : ℕ → List ℕ → Option ErrorKind → SystemCall
+  await_clients : ℕ → Option ErrorKind → SystemCall
+  accept : ℕ → ℕ → Option ErrorKind → SystemCall
+  connect : ℕ → List ℕ → Option ErrorKind → SystemCall
+  watch : ℕ → Bool → Option ErrorKind → SystemCall
+  read : ℕ → Result (List ℕ) ErrorKind → SystemCall
+  write : ℕ → Result (List ℕ) ErrorKind → SystemCall
+  close : ℕ → SystemCall
+  wait : List Report → SystemCall
+  remove : List ℕ → SystemCall
+
+-- the kind of the error, where there is one
+abbrev pub fault_of : {T E : Type 0} → (E → ErrorKind) → Result T E → Option ErrorKind
+fault_of kind (Ok value) = None
+fault_of kind (Err error) = Some (kind error)
+
+-- Where the journal is still told, it was told before, and these calls were added. A system may cease to tell.
+pub record Tells (old new : Option (List SystemCall)) (added : List SystemCall) : Type 0 where
+  pub told : (after : List SystemCall) → new ≡ Some after → (before : List SystemCall) × (old ≡ Some before) × (after ≡ added ++ before)
+
+-- A read is told with the bytes that it gave, or the kind of its error. One that a signal interrupted isn't told.
+abbrev pub IsToldRead : {E : Type 0} → (E → ErrorKind) → ℕ → List ℕ → Result ℕ E → Option (List SystemCall) → Option (List SystemCall) → Type 0
+IsToldRead kind number into (Ok n) old new = Tells old new (read number (Ok (take n into)) ∷ [])
+IsToldRead kind number into (Err error) old new = (kind error ≢ Interrupted → Tells old new (read number (Err (kind error)) ∷ [])) × (kind error ≡ Interrupted → Tells old new [])
+
+-- A write is told with the bytes that it took, or the kind of its error.
+abbrev pub IsToldWrite : {E : Type 0} → (E → ErrorKind) → ℕ → List ℕ → Result ℕ E → Option (List SystemCall) → Option (List SystemCall) → Type 0
+IsToldWrite kind number piece (Ok n) old new = Tells old new (write number (Ok (take n piece)) ∷ [])
+IsToldWrite kind number piece (Err error) old new = Tells old new (write number (Err (kind error)) ∷ [])
