@@ -97,7 +97,6 @@ class Client:
     def __init__(self, path):
         self.sock = socket.socket(socket.AF_UNIX)
         self.sock.connect(path)
-        # Line by line, as xdg-dbus-proxy wants it.
         uid = str(os.getuid()).encode().hex().encode()
         self.sock.sendall(b"\0AUTH EXTERNAL " + uid + b"\r\n")
         while not self.sock.recv(4096).endswith(b"\r\n"):
@@ -176,11 +175,10 @@ def main():
         listener.bind(os.path.join(folder, "bus"))
         listener.listen(1024)
         threading.Thread(target=serve_bus, args=(listener,), daemon=True).start()
-        print("| proxy | idle, KB | after bursts of 64 | of 256 | of 1,024 |")
-        print("|---|---|---|---|---|")
-        for name, command in [("zamtigarn", [os.path.abspath(options.program)]), ("xdg-dbus-proxy", ["xdg-dbus-proxy"])]:
-            cells = [measure(command, options.sessions, burst, folder) for burst in (64, 256, 1024)]
-            print("| %s | %.1f | %.1f | %.1f | %.1f |" % (name, cells[0][0], *[after for _, after in cells]), flush=True)
+        print("| idle, KB | after bursts of 64 | of 256 | of 1,024 |")
+        print("|---|---|---|---|")
+        cells = [measure([os.path.abspath(options.program)], options.sessions, burst, folder) for burst in (64, 256, 1024)]
+        print("| %.1f | %.1f | %.1f | %.1f |" % (cells[0][0], *[after for _, after in cells]))
 
 
 if __name__ == "__main__":
