@@ -263,7 +263,7 @@ ROWS = [
     ("rules on many names: a call by the last, and its answer", rules_on_many_names),
     ("rules on one name: a call by the last, and its answer", rules_on_one_name),
     ("unique names known: a shown signal of one", signals_of_known_senders),
-    ("names with an owner: an owner that is told again", owners_of_named_entries),
+    ("names with an owner: the same owner once more", owners_of_named_entries),
     ("calls outstanding, answered in order", outstanding(lambda serials: serials)),
     ("calls outstanding, answered in reverse", outstanding(lambda serials: serials[::-1])),
     ("calls outstanding, answered at random", outstanding(shuffled)),
