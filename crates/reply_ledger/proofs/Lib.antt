@@ -3,3 +3,4 @@ pub mod Counting
 pub mod Maps
 pub mod OneLess
 pub mod Queue
+pub mod Taking

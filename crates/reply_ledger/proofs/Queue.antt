@@ -1,5 +1,5 @@
 -- A queue of answers that are expected, and the others.
-use Rattle.std.proofs.Common.{◌≡◌, ◌≢◌, ◌≤◌, ◌<◌, ◌+◌, ◌-◌, ◌↔◌, ℕ, zero, suc, IsTrue, nat_lt, Option, Some, None, IfSome, IfNone, Result, Ok, Err, List, [], ◌∷◌, ◌++◌, All, length, get_or, set, take, drop, refl, ap, ap₂, sym, ◌∙◌, arith, inl, inr}
+use Rattle.std.proofs.Common.{◌≡◌, ◌≢◌, ◌≤◌, ◌<◌, ◌+◌, ◌-◌, ◌↔◌, ℕ, zero, suc, IsTrue, nat_lt, Option, Some, None, IsSome, is_some, IfSome, IfNone, Result, Ok, Err, List, [], ◌∷◌, ◌++◌, All, length, get_or, set, take, drop, refl, ap, ap₂, sym, subst, ◌∙◌, arith, inl, inr}
 use Rattle.std.specs.List.{remove}
 use Rattle.std.specs.List.Sorted.{IsSearchInRange, IsBinarySearchResult, IsNonDecreasingBy}
 use Rattle.std.specs.Option.{option_map}
@@ -182,6 +182,17 @@ module _ (m : Kinds) (queue : List Awaited) (kept : IsInOrder m queue) (i : ℕ)
           let len : length (set queue i b) ≡ length queue = length-set queue i b in
           ap (λ (p : ℕ). get m p) (same_positions k d) ∙ kept.apart k d (omega arith);
     }
+
+-- each entry's answer is expected
+there_is : (queue : List Awaited) (k : ℕ) → k < length queue → (a : Awaited) × (a ≡ get_or queue k a)
+there_is [] k lt = absurd (omega arith)
+there_is (a ∷ queue) zero lt = (a, refl)
+there_is (a ∷ queue) (suc k) lt = let at = there_is queue k (omega arith) in (at.0, at.1)
+
+pub expected_at : (m : Kinds) (queue : List Awaited) → IsInOrder m queue → (k : ℕ) (d : Awaited) → k < length queue → IsSome (get (with_queue m queue) (get_or queue k d).position)
+expected_at m queue kept k d lt =
+    let at = there_is queue k lt in
+    subst (λ (a : Awaited). IsSome (get (with_queue m queue) a.position)) (get_or_read queue k at.0 lt at.1 d) (ap is_some (kind_at m queue kept k at.0 lt at.1))
 
 -- the entry at an index is taken out
 module _ (m : Kinds) (queue : List Awaited) (kept : IsInOrder m queue) (i p : ℕ) (there : position_at queue i ≡ Some p) where

@@ -1,5 +1,5 @@
 -- The answers that are expected: a queue of entries, each with its position, and the others.
-use Rattle.std.specs.Prelude.{◌≡◌, ◌≢◌, ◌<◌, ℕ, Option, None, List, [], ◌∷◌, All, slice_get}
+use Rattle.std.specs.Prelude.{◌≡◌, ◌≢◌, ◌<◌, ◌≤◌, ◌+◌, ℕ, Option, None, IsSome, List, [], ◌∷◌, All, length, slice_get}
 use Rattle.std.specs.List.{AllPairs}
 use Rattle.std.specs.Option.{option_map}
 use Rattle.std.specs.Ordering.{nat_cmp}
@@ -36,3 +36,12 @@ IsAbsent queue position = All (λ a. a.position ≢ position) queue
 pub record IsInOrder (others : Kinds) (queue : List Awaited) : Type 0 where
   pub ascending : IsAscending queue
   pub apart : All (λ a. get others a.position ≡ None) queue
+
+-- What it takes to find one answer: at most two look-ups, and one for each answer that is passed over. Those are expected, and
+-- their messages were sent earlier.
+pub record TakeCost (expected : Kinds) (position before after : ℕ) : Type 0 where
+  pub passed : List ℕ
+  pub ascending : AllPairs (λ a b. a < b) passed
+  pub earlier : All (λ p. p < position) passed
+  pub are_expected : All (λ p. IsSome (get expected p)) passed
+  pub steps : after ≤ before + 2 + length passed

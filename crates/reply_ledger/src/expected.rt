@@ -1,13 +1,15 @@
 //! The answers that are expected.
-ghost use Rattle.std.specs.Prelude.{◌≡◌, ◌≤◌, ◌<◌, ◌↔◌, false, IfNone, IfSome, IsTrue, OnErr, OnOk, All, Some, drop, length, slice_set, take};
+ghost use Rattle.std.specs.Prelude.{◌≡◌, ◌≤◌, ◌<◌, ◌+◌, ◌↔◌, false, IfNone, IfSome, IsTrue, OnErr, OnOk, All, Some, drop, length, slice_set, take};
 ghost use Rattle.std.specs.FinMap as map;
 ghost use Rattle.std.specs.Option.{option_copied, option_map};
-ghost use Rattle.reply_ledger.specs.Expected.{IsAbsent, IsAscending, kinds_of, position_at, with_queue};
+ghost use Rattle.reply_ledger.specs.Expected.{IsAbsent, IsAscending, IsInOrder, TakeCost, kinds_of, position_at, with_queue};
 
 use crate::kind::Kind;
+use name_patterns::Steps;
 use std::alloc::{AllocError, Global};
 use std::collections::{BTreeMap, VecDeque};
 use std::marker::Model;
+use std::sync::ledger::Ledger as StepLedger;
 
 /// A queue without entries keeps room for at most so many.
 const KEPT: usize = 64;
@@ -69,70 +71,62 @@ impl Expected {
     }
 
     /// The answer to the message with this serial is for this.
-    pub(crate) fn expect(&mut self, position: u32, kind: Kind) -> Result<(), AllocError>
+    pub(crate) fn expect<L: StepLedger>(
+        &mut self,
+        position: u32,
+        kind: Kind,
+        steps: &mut Steps<L>,
+    ) -> Result<(), AllocError>
         ensures ok { OnOk result (self.new ≡ map.insert self.old position kind) }
         ensures err { OnErr result (self.new ≡ self.old) }
+        ensures cost { steps.new ≤ steps.old + 3 }
     {
-        if is_behind(&self.queue, position) && !has(&self.others, position) {
+        if is_behind(&self.queue, position) && !has(&self.others, position, steps) {
             self.queue.push_back(Awaited { position, kind })?;
             return Ok(());
         }
-        match index_of(&self.queue, position) {
+        match index_of(&self.queue, position, steps) {
             Some(index) => {
                 replace(&mut self.queue, index, Awaited { position, kind });
                 Ok(())
             }
-            None => put(&mut self.others, position, kind),
+            None => put(&mut self.others, position, kind, steps),
         }
     }
 
     /// What the answer to the message with this serial is for, if one is expected.
-    pub(crate) fn peek(&self, position: u32) -> Option<&Kind>
-        ensures { option_copied result ≡ map.get self.now position }
+    pub(crate) fn peek<L: StepLedger>(&self, position: u32, steps: &mut Steps<L>) -> Option<&Kind>
+        ensures is { option_copied result ≡ map.get self.now position }
+        ensures cost { steps.new ≤ steps.old + 2 }
     {
         if let Some(first) = self.queue.front()
             && first.position == position
         {
             return Some(&first.kind);
         }
+        steps.tick();
         if let Some(kind) = self.others.get(&position) {
             return Some(kind);
         }
-        match index_of(&self.queue, position) {
+        match index_of(&self.queue, position, steps) {
             Some(index) => Some(&self.queue[index].kind),
             None => None,
         }
     }
 
     /// Takes what that answer is for: then none is expected there.
-    pub(crate) fn take(&mut self, position: u32) -> Option<Kind>
+    pub(crate) fn take<L: StepLedger>(
+        &mut self,
+        position: u32,
+        steps: &mut Steps<L>,
+    ) -> Option<Kind>
         ensures was { result ≡ map.get self.old position }
         ensures left { self.new ≡ map.remove self.old position }
+        ensures cost { TakeCost self.old position steps.old steps.new }
     {
-        let kind = self.remove(position);
+        let kind = remove(&mut self.queue, &mut self.others, position, steps);
         self.release();
         kind
-    }
-
-    /// As `take`, and the queue keeps its memory.
-    fn remove(&mut self, position: u32) -> Option<Kind>
-        ensures was { result ≡ map.get self.old position }
-        ensures left { self.new ≡ map.remove self.old position }
-    {
-        if is_first(&self.queue, position) {
-            return kind_of(self.queue.pop_front());
-        }
-        if let Some(kind) = self.others.remove(&position) {
-            return Some(kind);
-        }
-        match index_of(&self.queue, position) {
-            Some(index) => {
-                // The bus passed over those before it. Where memory for them is refused, they stay where they are.
-                let moved = move_front(&mut self.queue, &mut self.others, index);
-                kind_of(self.queue.remove(index - moved))
-            }
-            None => None,
-        }
     }
 
     /// Frees what a queue without entries doesn't keep.
@@ -142,6 +136,42 @@ impl Expected {
         if self.queue.is_empty() && self.queue.capacity() > KEPT {
             self.queue = VecDeque::new(self.alloc);
         }
+    }
+}
+
+/// Takes what the answer at a position is for out of a queue and the others.
+fn remove<L: StepLedger>(
+    queue: &mut VecDeque<Awaited>,
+    others: &mut BTreeMap<u32, Kind>,
+    position: u32,
+    steps: &mut Steps<L>,
+) -> Option<Kind>
+    requires { IsInOrder (kinds_of others.old.entries) queue.old.items }
+    ensures order { IsInOrder (kinds_of others.new.entries) queue.new.items }
+    ensures was { result ≡ map.get (with_queue (kinds_of others.old.entries) queue.old.items) position }
+    ensures left { with_queue (kinds_of others.new.entries) queue.new.items ≡ map.remove (with_queue (kinds_of others.old.entries) queue.old.items) position }
+
+    // An answer that is passed over is a step, ..
+    ensures cost { TakeCost (with_queue (kinds_of others.old.entries) queue.old.items) position steps.old steps.new }
+
+    // .. and leaves the queue by it. So each answer is passed over once, and all takes together cost at most two steps each
+    // and one for each answer that was expected.
+    ensures once { steps.new + length queue.new.items ≤ steps.old + 2 + length queue.old.items }
+{
+    if is_first(queue, position) {
+        return kind_of(queue.pop_front());
+    }
+    steps.tick();
+    if let Some(kind) = others.remove(&position) {
+        return Some(kind);
+    }
+    match index_of(queue, position, steps) {
+        Some(index) => {
+            // The bus passed over those before it. Where memory for them is refused, they stay where they are.
+            let moved = move_front(queue, others, index, steps);
+            kind_of(queue.remove(index - moved))
+        }
+        None => None,
     }
 }
 
@@ -181,45 +211,66 @@ fn replace(queue: &mut VecDeque<Awaited>, index: usize, entry: Awaited)
 }
 
 /// Whether one of the others has a position.
-fn has(others: &BTreeMap<u32, Kind>, position: u32) -> bool
-    ensures { result ≡ map.contains_key (kinds_of others.now.entries) position }
+fn has<L: StepLedger>(others: &BTreeMap<u32, Kind>, position: u32, steps: &mut Steps<L>) -> bool
+    ensures has { result ≡ map.contains_key (kinds_of others.now.entries) position }
+    ensures cost { steps.new ≤ steps.old + 1 }
 {
-    !others.is_empty() && others.contains_key(&position)
+    if others.is_empty() {
+        return false;
+    }
+    steps.tick();
+    others.contains_key(&position)
 }
 
 /// Where a position is in a queue whose positions ascend, if it is there.
-fn index_of(queue: &VecDeque<Awaited>, position: u32) -> Option<usize>
+fn index_of<L: StepLedger>(
+    queue: &VecDeque<Awaited>,
+    position: u32,
+    steps: &mut Steps<L>,
+) -> Option<usize>
     ensures found { IfSome result (λ i. position_at queue.now.items i ≡ Some position) }
     ensures absent { IfNone result (IsAscending queue.now.items → IsAbsent queue.now.items position) }
+    ensures cost { steps.new ≡ steps.old + 1 }
 {
+    steps.tick();
     queue
         .binary_search_by_key(&position, |awaited| awaited.position)
         .ok()
 }
 
 /// Puts what an answer is for among the others.
-fn put(others: &mut BTreeMap<u32, Kind>, position: u32, kind: Kind) -> Result<(), AllocError>
+fn put<L: StepLedger>(
+    others: &mut BTreeMap<u32, Kind>,
+    position: u32,
+    kind: Kind,
+    steps: &mut Steps<L>,
+) -> Result<(), AllocError>
     ensures ok { OnOk result (kinds_of others.new.entries ≡ map.insert (kinds_of others.old.entries) position kind) }
     ensures err { OnErr result (others.new.entries ≡ others.old.entries) }
+    ensures cost { steps.new ≡ steps.old + 1 }
 {
+    steps.tick();
     others.insert(position, kind)?;
     Ok(())
 }
 
 /// Moves the first entries of a queue to the others: so many, or fewer where memory is refused. It answers how many.
-fn move_front(
+fn move_front<L: StepLedger>(
     queue: &mut VecDeque<Awaited>,
     others: &mut BTreeMap<u32, Kind>,
     count: usize,
+    steps: &mut Steps<L>,
 ) -> usize
     ensures most { result ≤ count }
     ensures queue { queue.new.items ≡ drop result queue.old.items }
     ensures others { kinds_of others.new.entries ≡ with_queue (kinds_of others.old.entries) (take result queue.old.items) }
+    ensures cost { steps.new ≡ steps.old + result }
 {
     for moved in 0..count {
         if !move_first(queue, others) {
             return moved;
         }
+        steps.tick();
     }
     count
 }

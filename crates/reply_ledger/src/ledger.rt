@@ -1,15 +1,18 @@
 //! The ledger.
-ghost use Rattle.std.specs.Prelude.{◌≡◌, ◌+◌, ◌-◌, ◌^◌, ◌<◌, ℕ, Bool, false, OnOk, OnErr, nat_lt, if◌then◌else◌};
+ghost use Rattle.std.specs.Prelude.{◌≡◌, ◌+◌, ◌-◌, ◌^◌, ◌<◌, ◌≤◌, ℕ, Bool, false, OnOk, OnErr, nat_lt, if◌then◌else◌};
 ghost use Rattle.std.specs.FinMap as map;
 ghost use Rattle.std.specs.Option.{option_copied};
 ghost use Rattle.dbus_names.specs.Texts.{Text};
+ghost use Rattle.reply_ledger.specs.Expected.{TakeCost};
 ghost use Rattle.reply_ledger.specs.Owed.{KeepsOwedAlone, count_of, is_pair, one_less, one_more};
 
 use crate::expected::Expected;
 use crate::kind::Kind;
 use crate::owed::Owed;
+use name_patterns::Steps;
 use std::alloc::{AllocError, Global};
-use std::marker::Model;
+use std::marker::{Brand, Model};
+use std::sync::ledger::{Blank, Ledger as StepLedger};
 
 /// The answers of the bus that are expected, and the replies that the client owes.
 ///
@@ -52,14 +55,36 @@ impl Ledger {
         ensures ok { OnOk result (self.new ≡ record self.old { expected = map.insert self.old.expected position kind }) }
         ensures err { OnErr result (self.new ≡ self.old) }
     {
-        self.expected.expect(position, kind)
+        expect_from::<Brand>(self, position, kind, Blank::new(1))
+    }
+
+    /// What `expect` does: it takes at most three look-ups.
+    pub fn expect_counted<L: StepLedger>(
+        &mut self,
+        position: u32,
+        kind: Kind,
+        steps: &mut Steps<L>,
+    ) -> Result<(), AllocError>
+        ensures ok { OnOk result (self.new ≡ record self.old { expected = map.insert self.old.expected position kind }) }
+        ensures err { OnErr result (self.new ≡ self.old) }
+        ensures cost { steps.new ≤ steps.old + 3 }
+    {
+        self.expected.expect(position, kind, steps)
     }
 
     /// What the answer to the message that was sent with this serial is for, if one is expected.
     pub fn peek(&self, position: u32) -> Option<&Kind>
         ensures { option_copied result ≡ map.get self.now.expected position }
     {
-        self.expected.peek(position)
+        peek_from::<Brand>(self, position, Blank::new(1))
+    }
+
+    /// What `peek` answers: it takes at most two look-ups.
+    pub fn peek_counted<L: StepLedger>(&self, position: u32, steps: &mut Steps<L>) -> Option<&Kind>
+        ensures is { option_copied result ≡ map.get self.now.expected position }
+        ensures cost { steps.new ≤ steps.old + 2 }
+    {
+        self.expected.peek(position, steps)
     }
 
     /// Takes what that answer is for: then none is expected there.
@@ -67,7 +92,21 @@ impl Ledger {
         ensures was { result ≡ map.get self.old.expected position }
         ensures left { self.new ≡ record self.old { expected = map.remove self.old.expected position } }
     {
-        self.expected.take(position)
+        take_from::<Brand>(self, position, Blank::new(1))
+    }
+
+    /// What `take` does: it takes at most two look-ups, and one for each answer that is expected earlier and is passed over.
+    /// Each is passed over once, so all takes together cost no more than two look-ups each and one for each `expect`.
+    pub fn take_counted<L: StepLedger>(
+        &mut self,
+        position: u32,
+        steps: &mut Steps<L>,
+    ) -> Option<Kind>
+        ensures was { result ≡ map.get self.old.expected position }
+        ensures left { self.new ≡ record self.old { expected = map.remove self.old.expected position } }
+        ensures cost { TakeCost self.old.expected position steps.old steps.new }
+    {
+        self.expected.take(position, steps)
     }
 
     /// A call came from this sender with this serial, and wants a reply. Where memory is refused, or there is no room for a
@@ -110,4 +149,44 @@ impl Ledger {
     {
         self.owed.answer(dest, serial)
     }
+}
+
+// One answer more is expected. The steps are counted in a ledger of their own.
+fn expect_from<L: StepLedger>(
+    ledger: &mut Ledger,
+    position: u32,
+    kind: Kind,
+    blank: Blank,
+) -> Result<(), AllocError>
+    requires name { blank.name ≡ L.name }
+    requires parts { blank.parts ≡ L.parts }
+    requires some { 0 < blank.parts }
+    ensures ok { OnOk result (ledger.new ≡ record ledger.old { expected = map.insert ledger.old.expected position kind }) }
+    ensures err { OnErr result (ledger.new ≡ ledger.old) }
+{
+    let mut steps: Steps<L> = Steps::new(blank);
+    ledger.expect_counted(position, kind, &mut steps)
+}
+
+// What an answer is for.
+fn peek_from<L: StepLedger>(ledger: &Ledger, position: u32, blank: Blank) -> Option<&Kind>
+    requires name { blank.name ≡ L.name }
+    requires parts { blank.parts ≡ L.parts }
+    requires some { 0 < blank.parts }
+    ensures { option_copied result ≡ map.get ledger.now.expected position }
+{
+    let mut steps: Steps<L> = Steps::new(blank);
+    ledger.peek_counted(position, &mut steps)
+}
+
+// An answer is taken.
+fn take_from<L: StepLedger>(ledger: &mut Ledger, position: u32, blank: Blank) -> Option<Kind>
+    requires name { blank.name ≡ L.name }
+    requires parts { blank.parts ≡ L.parts }
+    requires some { 0 < blank.parts }
+    ensures was { result ≡ map.get ledger.old.expected position }
+    ensures left { ledger.new ≡ record ledger.old { expected = map.remove ledger.old.expected position } }
+{
+    let mut steps: Steps<L> = Steps::new(blank);
+    ledger.take_counted(position, &mut steps)
 }

@@ -1,4 +1,4 @@
-use Rattle.std.proofs.Common.{◌≡◌, ℕ, false, not, List, [], ◌∷◌, length, ap, sym, ◌∙◌, arith, is_some}
+use Rattle.std.proofs.Common.{◌≡◌, ℕ, false, List, [], ◌∷◌, length, ap, sym, ◌∙◌, arith, is_some}
 use Rattle.std.specs.Ordering.{nat_cmp}
 use Rattle.std.specs.FinMap as map
 use Rattle.byte_lists.proofs.NumberMaps.{get_at}
@@ -9,8 +9,8 @@ none_there : (es : List (ℕ × Kind)) (p : ℕ) → (length es ≡ 0) → false
 none_there [] p none = ap is_some (sym (get_at [] p))
 none_there (e ∷ es) p none = absurd (omega arith)
 
-pub returns-then-not-is_empty : goal.returns-then-not-is_empty
-returns-then-not-is_empty c = c.contains_key.ensures ∙ ap is_some (sym (get_at c.args.others.now.entries c.args.position))
+pub returns-then-is_empty-clause-has : goal.returns-then-is_empty-clause-has
+returns-then-is_empty-clause-has g c = none_there c.args.others.now.entries c.args.position (c.is_empty.ensures.0 c.if-is_empty.true)
 
-pub returns-else-not-is_empty : goal.returns-else-not-is_empty
-returns-else-not-is_empty c = ap not c.if-not-is_empty.false ∙ none_there c.args.others.now.entries c.args.position (c.is_empty.ensures.0 c.if-not-is_empty.false)
+pub returns-clause-has : goal.returns-clause-has
+returns-clause-has g c = c.contains_key.ensures ∙ ap is_some (sym (get_at c.args.others.now.entries c.args.position))

@@ -7,7 +7,7 @@ use Rattle.reply_ledger.proofs.Queue.{inserted-in_order, pushed, replaced, repla
 use Rattle.reply_ledger.proofs.expected.Expected.expect.Goals as goal
 
 pub returns-then-not-has-clause-ok : goal.returns-then-not-has-clause-ok
-returns-then-not-has-clause-ok c =
+returns-then-not-has-clause-ok g c =
     let m = kinds_of c.self.inside.others.entries in
     ap (with_queue m) c.in_ok-push_back.ensures.items
     ∙ pushed m c.self.inside.queue.items (record { position = c.args.position; kind = c.args.kind })
@@ -16,12 +16,12 @@ returns-then-not-has-clause-ok c =
 -- ---- at a position of the queue
 
 pub invariant_of-self-in-Some : goal.invariant_of-self-in-Some
-invariant_of-self-in-Some c =
+invariant_of-self-in-Some g c =
     rw c.replace.ensures
     (replaced-in_order (kinds_of c.self.inside.others.entries) c.self.inside.queue.items c.self.invariant c.in-Some.index c.args.position c.in-Some.ensures.found c.args.kind)
 
 pub returns-in-Some-clause-ok : goal.returns-in-Some-clause-ok
-returns-in-Some-clause-ok c =
+returns-in-Some-clause-ok g c =
     let m = kinds_of c.self.inside.others.entries in
     ap (with_queue m) c.replace.ensures
     ∙ replaced m c.self.inside.queue.items c.self.invariant c.in-Some.index c.args.position c.in-Some.ensures.found c.args.kind
@@ -40,11 +40,11 @@ put-is (Ok x) old new queue p v m ok absent is = ap (λ n. with_queue n queue) o
 put-is (Err e) old new queue p v m ok absent is = tt
 
 pub invariant_of-self-in-None : goal.invariant_of-self-in-None
-invariant_of-self-in-None c =
+invariant_of-self-in-None g c =
     put-in_order c.put.result c.self.inside.others.entries c.put.new.others.entries c.self.inside.queue.items c.args.position c.args.kind c.put.ensures.ok c.put.ensures.err c.self.invariant
     (c.in-None.ensures.absent c.self.invariant.ascending)
 
 pub returns-in-None-clause-ok : goal.returns-in-None-clause-ok
-returns-in-None-clause-ok c =
+returns-in-None-clause-ok g c =
     put-is c.put.result c.self.inside.others.entries c.put.new.others.entries c.self.inside.queue.items c.args.position c.args.kind c.args.self.now c.put.ensures.ok
     (c.in-None.ensures.absent c.self.invariant.ascending) c.self.view_is
