@@ -22,11 +22,7 @@ pub(crate) fn read_u32(order: Order, bytes: &[u8], at: usize) -> u32
     requires { at + 4 ≤ length bytes.now }
     ensures { result ≡ number_at order bytes.now at }
 {
-    let cells = [bytes[at], bytes[at + 1], bytes[at + 2], bytes[at + 3]];
-    match order {
-        Order::Little => u32::from_le_bytes(cells),
-        Order::Big => u32::from_be_bytes(cells),
-    }
+    order.read_u32(&bytes[at..])
 }
 
 /// The byte order that the first byte states.

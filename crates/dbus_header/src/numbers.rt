@@ -16,11 +16,7 @@ pub fn write_u32(order: Order, bytes: &mut [u8], place: usize, number: u32)
     requires { place + 4 ≤ length bytes.old }
     ensures { bytes.new ≡ with_number order place number bytes.old }
 {
-    let cells = match order {
-        Order::Little => number.to_le_bytes(),
-        Order::Big => number.to_be_bytes(),
-    };
-    bytes[place..place + 4].copy_from_slice(&cells);
+    bytes[place..place + 4].copy_from_slice(&order.bytes_of_u32(number));
 }
 
 /// Where the serial stands in a message.

@@ -8,6 +8,7 @@ mod basic;
 mod containers;
 mod cursor;
 mod laws;
+mod numbers;
 mod steps;
 mod texts;
 mod values;

@@ -2,7 +2,7 @@
 ghost use Rattle.std.specs.Prelude.{◌≡◌, ◌⊎◌, ◌≤◌, ◌<◌, ◌+◌, ◌^◌, Some, None, IfSome, option_map, length};
 ghost use Rattle.std.specs.Int.{w32};
 ghost use Rattle.dbus_values.specs.Values.{padding as padding_to};
-ghost use Rattle.dbus_values.specs.Reading.{all_zero, some_bytes, aligned, a_width, number_of};
+ghost use Rattle.dbus_values.specs.Reading.{all_zero, some_bytes, aligned, a_width};
 ghost use Rattle.dbus_values.specs.Seen.{place_seen, bytes_seen, number_seen};
 ghost use Rattle.dbus_values.specs.Alignments.{IsAlignment};
 
@@ -39,19 +39,6 @@ pub fn is_zero(bytes: &[u8]) -> bool
     true
 }
 
-/// A number of four bytes.
-#[inline]
-fn number(order: Order, bytes: &[u8]) -> u32
-    requires { length bytes.now ≡ 4 }
-    ensures { result ≡ number_of order w32 bytes.now }
-{
-    let number = [bytes[0], bytes[1], bytes[2], bytes[3]];
-    match order {
-        Order::Little => u32::from_le_bytes(number),
-        Order::Big => u32::from_be_bytes(number),
-    }
-}
-
 impl<'a> Cursor<'a> {
     /// The next so many bytes, and the cursor behind them.
     #[inline(always)]
@@ -85,6 +72,6 @@ impl<'a> Cursor<'a> {
         ensures { option_map number_seen result ≡ a_width order w32 (place_seen self.entry) }
     {
         let (bytes, behind) = self.take(4)?;
-        Some((number(order, bytes), behind))
+        Some((order.read_u32(bytes), behind))
     }
 }

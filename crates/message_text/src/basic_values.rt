@@ -151,15 +151,10 @@ fn put_number(order: Order, width: usize, number: u64, out: &mut Vec<u8>) -> Res
     requires { width ≤ 8 }
     ensures { IfOk result (λ done. out.new.items ≡ out.old.items ++ number_part order width number) }
 {
+    let bytes = order.bytes_of_u64(number);
     match order {
-        Order::Little => {
-            let bytes = number.to_le_bytes();
-            out.extend_from_slice(&bytes[..width])
-        }
-        Order::Big => {
-            let bytes = number.to_be_bytes();
-            out.extend_from_slice(&bytes[8 - width..])
-        }
+        Order::Little => out.extend_from_slice(&bytes[..width]),
+        Order::Big => out.extend_from_slice(&bytes[8 - width..]),
     }
 }
 

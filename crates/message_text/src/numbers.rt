@@ -10,18 +10,11 @@ use dbus_values::Order;
 pub(crate) fn number(order: Order, bytes: &[u8]) -> u64
     ensures { result ≡ number_in order bytes.now }
 {
-    match (order, bytes) {
-        (_, [byte]) => u64::from(*byte),
-        (Order::Little, [a, b]) => u64::from(u16::from_le_bytes([*a, *b])),
-        (Order::Big, [a, b]) => u64::from(u16::from_be_bytes([*a, *b])),
-        (Order::Little, [a, b, c, d]) => u64::from(u32::from_le_bytes([*a, *b, *c, *d])),
-        (Order::Big, [a, b, c, d]) => u64::from(u32::from_be_bytes([*a, *b, *c, *d])),
-        (Order::Little, [a, b, c, d, e, f, g, h]) => {
-            u64::from_le_bytes([*a, *b, *c, *d, *e, *f, *g, *h])
-        }
-        (Order::Big, [a, b, c, d, e, f, g, h]) => {
-            u64::from_be_bytes([*a, *b, *c, *d, *e, *f, *g, *h])
-        }
+    match bytes {
+        [byte] => u64::from(*byte),
+        [_, _] => u64::from(order.read_u16(bytes)),
+        [_, _, _, _] => u64::from(order.read_u32(bytes)),
+        [_, _, _, _, _, _, _, _] => order.read_u64(bytes),
         _ => 0,
     }
 }

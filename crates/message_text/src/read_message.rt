@@ -42,13 +42,13 @@ fn put_head(
 ) -> Result<(), AllocError>
     ensures { IfOk result (λ done. out.new.items ≡ out.old.items ++ head_bytes order kind flags serial) }
 {
-    let (first, serial) = match order {
-        Order::Little => (b'l', serial.to_le_bytes()),
-        Order::Big => (b'B', serial.to_be_bytes()),
+    let first = match order {
+        Order::Little => b'l',
+        Order::Big => b'B',
     };
     out.extend_from_slice(&[first, kind, flags, 1])?;
     out.extend_from_slice(&NO_LEN)?;
-    out.extend_from_slice(&serial)?;
+    out.extend_from_slice(&order.bytes_of_u32(serial))?;
     out.extend_from_slice(&NO_LEN)
 }
 

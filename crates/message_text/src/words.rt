@@ -63,10 +63,7 @@ fn double(out: &mut Vec<u8>, order: Order, number: u64) -> Result<(), AllocError
     ensures { IfOk result (λ done. out.new.items ≡ out.old.items ++ number_word order 100 number) }
 {
     out.extend_from_slice(b"0x")?;
-    match order {
-        Order::Little => hex(out, &number.to_le_bytes()),
-        Order::Big => hex(out, &number.to_be_bytes()),
-    }
+    hex(out, &order.bytes_of_u64(number))
 }
 
 /// A number of the type with a code.

@@ -1,8 +1,7 @@
 //! The strings of a list, written one after the other.
 ghost use Rattle.std.specs.Prelude.{◌≡◌, ◌≤◌, ◌<◌, ◌++◌, ◌+◌, ◌-◌, ◌^◌, length};
-ghost use Rattle.std.specs.Int.{w32};
 ghost use Rattle.dbus_header.specs.Message.{with_number};
-ghost use Rattle.dbus_values.specs.Values.{a_string, number_bytes as bytes_of, spelled};
+ghost use Rattle.dbus_values.specs.Values.{a_string, spelled};
 ghost use Rattle.name_filters.specs.Names.{kept_names, names_bytes};
 
 use bytes::BytesMut;
@@ -49,19 +48,9 @@ fn put_name(into: &mut BytesMut, order: Order, start: usize, name: &str)
 {
     let padding = (4 - (into.len() - start) % 4) % 4;
     into.extend_reserved(&ZEROS[..padding]);
-    into.extend_reserved(&number_bytes(order, name.len() as u32));
+    into.extend_reserved(&order.bytes_of_u32(name.len() as u32));
     into.extend_reserved(name.as_bytes());
     into.extend_reserved(&END);
-}
-
-/// The four bytes of a number.
-fn number_bytes(order: Order, number: u32) -> [u8; 4]
-    ensures { result ≡ bytes_of order w32 number }
-{
-    match order {
-        Order::Little => number.to_le_bytes(),
-        Order::Big => number.to_be_bytes(),
-    }
 }
 
 /// Writes a number of four bytes at a place.

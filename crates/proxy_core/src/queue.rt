@@ -12,22 +12,11 @@ ghost use Rattle.unique_names.specs.Taught.{kept_level};
 use crate::incoming::Incoming;
 use bytes::BytesMut;
 use dbus_header::{Message, SERIAL_PLACE, set_serial};
-use dbus_values::Order;
 use name_filters::cut;
 use out_queue::OutQueue;
 use policy_args::Policy;
 use std::alloc::{AllocError, Global};
 use unique_names::Tracker;
-
-/// A number of four bytes in an order.
-fn cells(order: Order, number: u32) -> [u8; 4]
-    ensures { result ≡ number_bytes order w32 number }
-{
-    match order {
-        Order::Little => number.to_le_bytes(),
-        Order::Big => number.to_be_bytes(),
-    }
-}
 
 /// A message that is read is valid, and its bytes spell it.
 pub(crate) fn is_spelled(bytes: &[u8])
@@ -62,7 +51,7 @@ fn push_with(
     ensures ok { OnOk result (queue.new ≡ queue.old ++ (take place incoming.now.message.now.bytes.now ++ number_bytes incoming.now.message.now.order w32 number ++ drop (place + 4) incoming.now.message.now.bytes.now)) }
     ensures err { OnErr result (queue.new ≡ queue.old) }
 {
-    let cells = cells(incoming.message.order, number);
+    let cells = incoming.message.order.bytes_of_u32(number);
     match incoming.shared {
         Some(bytes) => queue.push_shared(bytes, place, cells),
         None => queue.push_with(incoming.message.bytes, place, cells),

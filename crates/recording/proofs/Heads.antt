@@ -1,7 +1,7 @@
 -- The first six bytes of a file, looked at in two parts.
 use Rattle.std.proofs.Common.{◌≡◌, ℕ, Bool, true, false, cond, List, length, take, get_or, Result, Ok, Err, refl, ap, ◌∙◌}
 use Rattle.std.specs.Prelude.{not, ◌==◌, ◌||◌, nat_lt, bytes_eq}
-use Rattle.recording.specs.declared.RecordingKind.TheVariants.{BadMagic, BadVersion, Cut, BadAuth}
+use Rattle.recording.specs.declared.RecordingKind.TheVariants.{BadMagic, BadVersion, Cut}
 use Rattle.recording.specs.declared.BadRecording.{BadRecording}
 use Rattle.recording.specs.Recording.{◌>>=◌, magic, head_of, refused}
 use Rattle.recording.specs.Passes.{version_of, auth_of}

@@ -1,5 +1,5 @@
 -- A file of version 1 gives its recording, as one session's.
-use Rattle.std.proofs.Common.{◌≡◌, ℕ, Bool, true, false, cond, List, ◌∷◌, ◌++◌, length, drop, Result, Ok, refl, ap, ◌∙◌, arith}
+use Rattle.std.proofs.Common.{◌≡◌, ℕ, Bool, true, false, List, ◌∷◌, ◌++◌, length, drop, Result, Ok, refl, ap, ◌∙◌, arith}
 use Rattle.std.specs.Prelude.{nat_lt}
 use Rattle.recording.specs.declared.RecordingKind.TheVariants.{TooLong}
 use Rattle.recording.specs.declared.BadRecording.{BadRecording}

@@ -1,13 +1,11 @@
 -- What a record of a file of version 2 without a fault is.
-use Rattle.std.proofs.Common.{◌≡◌, ℕ, ◌+◌, ◌≤◌, Bool, true, false, cond, List, length, take, drop, get_or, Result, Ok, Err, refl, sym, ap, ◌∙◌, arith}
-use Rattle.std.specs.Prelude.{not, ◌&&◌, ◌==◌, nat_lt}
+use Rattle.std.proofs.Common.{◌≡◌, ℕ, ◌+◌, ◌≤◌, Bool, true, false, List, length, get_or, Ok, refl, sym, ap, ◌∙◌, arith}
+use Rattle.std.specs.Prelude.{not, ◌==◌, nat_lt}
 use Rattle.std.proofs.lemmas.Bool.{ltb-false, eqb-true}
 use Rattle.recording.specs.declared.RecordingKind.TheVariants.{BadKind, Cut, BadLength, BadSession, TooManySessions, BadEnd}
-use Rattle.recording.specs.declared.BadRecording.{BadRecording}
 use Rattle.recording.specs.declared.TheConstants.{SESSION_LIMIT}
-use Rattle.recording.specs.Recording.{refused}
 use Rattle.recording.specs.Sessions.{number_at, with_session, record_session, session_record_len, is_wrong_length, is_wrong_end}
-use Rattle.recording.proofs.Fronts.{ok, ok_is, passed}
+use Rattle.recording.proofs.Fronts.{ok_is, passed}
 
 -- its kind and its session have no fault after records of these sessions
 pub record NamesSession (before bytes : List ℕ) (session : ℕ) : Type 0 where

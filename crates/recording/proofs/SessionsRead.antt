@@ -1,5 +1,5 @@
 -- A recording of many sessions that is found is spelled by the file's bytes, and can be played.
-use Rattle.std.proofs.Common.{◌≡◌, ℕ, zero, suc, ◌+◌, ◌^◌, ◌<◌, ◌≤◌, Bool, true, false, cond, List, [], ◌∷◌, ◌++◌, length, take, drop, get_or, map, Result, Ok, Err, refl, sym, ap, subst, ◌∙◌, append_assoc, arith, inl, inr, ⊎_elim}
+use Rattle.std.proofs.Common.{◌≡◌, ℕ, zero, suc, ◌+◌, ◌^◌, ◌<◌, ◌≤◌, Bool, true, false, cond, List, [], ◌∷◌, ◌++◌, length, take, drop, get_or, map, Result, Ok, Err, refl, sym, ap, subst, ◌∙◌, append_assoc, arith, inl, inr}
 use Rattle.std.specs.Prelude.{not, ◌&&◌, ◌||◌, ◌==◌, ◌⊎◌, nat_lt, nat_le, bytes_eq, IfOk}
 use Rattle.std.specs.List.{flat_map, AllByRecursion}
 use Rattle.std.specs.Int.{w32, to_le_bytes}
@@ -12,15 +12,14 @@ use Rattle.std.proofs.lemmas.Nat.{le_bytes_4}
 use Rattle.byte_lists.proofs.Bytes.{bytes_eq-true, AreBytes-take, AreBytes-drop, two_pieces, from_le_bytes-below}
 use Rattle.byte_lists.specs.Bytes.{AreBytes}
 use Rattle.recording.specs.declared.RecordingKind.TheVariants.{BadMagic, BadVersion, Cut, BadAuth, TooLong}
-use Rattle.recording.specs.declared.BadRecording.{BadRecording}
 use Rattle.recording.specs.declared.RecordingRefusal.{RecordingRefusal}
 use Rattle.recording.specs.declared.sessions.Sessions.{Sessions as DeclaredSessions}
 use Rattle.recording.specs.Gives.{GivesUnlessMemory}
 use Rattle.recording.specs.declared.TheConstants.{RECORDING_LIMIT, SESSION_LIMIT}
 use Rattle.recording.specs.Recording.{Event, Bytes, Finished, Recording, magic, auth_byte, ◌>>=◌, recording_of}
 use Rattle.recording.specs.Seen.{Fits, size, size_of}
-use Rattle.recording.specs.Sessions.{What, Happened, SessionEvent, Sessions, one_session_event, migrated, record_head, kind_of, bytes_of, spelled_session_event, spelled_sessions, with_session, sessions_named, number_at, record_session, session_record_len, is_wrong_length, is_wrong_end, what_of, session_events_at, FileHead, file_head_of, one_session_of, of_version_2, by_version, sessions_of}
-use Rattle.recording.specs.SessionsSeen.{WhatFits, EventFits, EventsFit, IsReadable, what_size, sessions_seen, sessions_size}
+use Rattle.recording.specs.Sessions.{What, Happened, SessionEvent, Sessions, one_session_event, migrated, record_head, kind_of, bytes_of, spelled_session_event, spelled_sessions, with_session, sessions_named, record_session, session_record_len, is_wrong_length, is_wrong_end, what_of, session_events_at, FileHead, file_head_of, one_session_of, of_version_2, by_version, sessions_of}
+use Rattle.recording.specs.SessionsSeen.{WhatFits, EventFits, IsReadable, what_size, sessions_seen, sessions_size}
 use Rattle.recording.proofs.Fronts.{ok, ok_is, passed, bind}
 use Rattle.recording.proofs.RecordingRead.{recording-is}
 use Rattle.recording.proofs.SessionFronts.{names_session, session_front_is, stop_has_byte}

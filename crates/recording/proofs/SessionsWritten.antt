@@ -1,5 +1,5 @@
 -- A recording of many sessions that is spelled is read again.
-use Rattle.std.proofs.Common.{◌≡◌, ℕ, zero, suc, ◌+◌, ◌^◌, ◌<◌, ◌≤◌, Bool, true, false, cond, List, [], ◌∷◌, ◌++◌, length, take, drop, get_or, Result, Ok, refl, sym, ap, ◌∙◌, arith}
+use Rattle.std.proofs.Common.{◌≡◌, ℕ, zero, suc, ◌+◌, ◌^◌, ◌<◌, ◌≤◌, Bool, true, false, List, [], ◌∷◌, ◌++◌, length, take, drop, get_or, Ok, refl, sym, ap, ◌∙◌, arith}
 use Rattle.std.specs.Prelude.{not, ◌&&◌, ◌==◌, nat_lt, nat_le}
 use Rattle.std.specs.List.{flat_map, AllByRecursion}
 use Rattle.std.specs.Int.{w32, to_le_bytes, from_le_bytes}
@@ -8,7 +8,6 @@ use Rattle.std.proofs.lemmas.Bool.{le-ltb, le-leb, ne_eqb}
 use Rattle.std.proofs.lemmas.Nat.{from_le_bytes-to_le_bytes_4}
 use Rattle.recording.specs.declared.Side.TheVariants.{Client, Bus}
 use Rattle.recording.specs.declared.RecordingKind.TheVariants.{BadKind, Cut, BadLength, TooLong, BadSession, TooManySessions, BadEnd}
-use Rattle.recording.specs.declared.BadRecording.{BadRecording}
 use Rattle.recording.specs.declared.TheConstants.{RECORDING_LIMIT, SESSION_LIMIT}
 use Rattle.recording.specs.Recording.{Bytes, Finished, magic, auth_byte, ◌>>=◌, refused}
 use Rattle.recording.specs.Sessions.{What, Happened, Stopped, SessionEvent, Sessions, kind_of, bytes_of, spelled_session_event, spelled_sessions, with_session, sessions_named, record_session, session_record_len, is_wrong_length, is_wrong_end, what_of, session_events_at, FileHead, file_head_of, by_version, sessions_of}

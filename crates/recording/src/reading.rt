@@ -12,6 +12,7 @@ use crate::{
     BUS_BYTES, BUS_END, BadRecording, CLIENT_BYTES, CLIENT_END, Event, HEAD_LEN, MAGIC,
     RECORD_HEAD_LEN, RECORDING_LIMIT, Recording, RecordingKind, RecordingRefusal, Side, VERSION,
 };
+use byteorder::{ByteOrder, LittleEndian};
 use bytes::Bytes;
 use std::alloc::{AllocError, Global};
 
@@ -155,7 +156,7 @@ pub(crate) fn number(bytes: &[u8], at: usize) -> u32
     requires { at + 4 ≤ length bytes.now }
     ensures { result ≡ number_at at bytes.now }
 {
-    u32::from_le_bytes([bytes[at], bytes[at + 1], bytes[at + 2], bytes[at + 3]])
+    LittleEndian::read_u32(&bytes[at..])
 }
 
 /// The second pass: the events of a file without a fault, which has this many records. The one

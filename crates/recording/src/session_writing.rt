@@ -8,6 +8,7 @@ use crate::{
     BUS_BYTES, BUS_END, CLIENT_BYTES, CLIENT_END, HEAD_LEN, MAGIC, SESSION_RECORD_HEAD_LEN,
     SESSIONS_VERSION, STOP, Side,
 };
+use byteorder::{ByteOrder, LittleEndian};
 
 /// The first bytes of a file of version 2, before its records.
 pub fn session_file_head(auth: bool) -> [u8; HEAD_LEN]
@@ -50,7 +51,8 @@ pub fn stopped_record(session: u32, end: u8) -> [u8; 10]
 fn head(kind: u8, session: u32, len: u32) -> [u8; SESSION_RECORD_HEAD_LEN]
     ensures { result ≡ record_head kind session len }
 {
-    let [a, b, c, d] = session.to_le_bytes();
-    let [e, f, g, h] = len.to_le_bytes();
-    [kind, a, b, c, d, e, f, g, h]
+    let mut head = [kind; SESSION_RECORD_HEAD_LEN];
+    LittleEndian::write_u32(&mut head[1..5], session);
+    LittleEndian::write_u32(&mut head[5..9], len);
+    head
 }

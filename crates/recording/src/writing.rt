@@ -8,6 +8,7 @@ use crate::{
     BUS_BYTES, BUS_END, CLIENT_BYTES, CLIENT_END, Event, HEAD_LEN, MAGIC, RECORD_HEAD_LEN,
     RECORDING_LIMIT, Recording, Side, VERSION,
 };
+use byteorder::{ByteOrder, LittleEndian};
 use bytes::Bytes;
 use std::alloc::{AllocError, Global};
 
@@ -66,7 +67,8 @@ fn put_record(file: &mut Vec<u8>, kind: u8, bytes: &[u8]) -> Result<(), AllocErr
     requires { length bytes.now < 2 ^ 32 }
     ensures { OnOk result (file.new.items ≡ file.old.items ++ spelled_record kind bytes.now) }
 {
-    file.push(kind)?;
-    file.extend_from_slice(&(bytes.len() as u32).to_le_bytes())?;
+    let mut head = [kind; RECORD_HEAD_LEN];
+    LittleEndian::write_u32(&mut head[1..5], bytes.len() as u32);
+    file.extend_from_slice(&head)?;
     file.extend_from_slice(bytes)
 }
