@@ -97,27 +97,27 @@ signal_within most ns See within = first_within most ns within
 signal_within most ns Talk within = omega arith
 signal_within most ns Own within = omega arith
 
-start_within : (most : ℕ) (m : Message) (level : Level) → IsWithin most (on_start m level)
-start_within most m Hidden = none_within most m _ ArgNotTalk refl
-start_within most m See = none_within most m _ ArgNotTalk refl
-start_within most m Talk = omega arith
-start_within most m Own = omega arith
+start_within : (most : ℕ) (policy : Policy) (m : Message) (numbers : List ℕ) (level : Level) → IsWithin most (on_start policy m numbers level)
+start_within most policy m numbers Hidden = none_within most m _ ArgNotTalk refl
+start_within most policy m numbers See = either_within most _ Pass (refused m AccessDenied ArgNotTalk) (omega arith) (none_within most m AccessDenied ArgNotTalk refl)
+start_within most policy m numbers Talk = omega arith
+start_within most policy m numbers Own = omega arith
 
-text_within : (most : ℕ) (m : Message) (demand : TextDemand) (text : Text) (level : Level) → IsWithin most (on_text m demand text level)
-text_within most m NoEavesdrop text level = either_within most _ (refused m AccessDenied Eavesdrop) Pass (none_within most m AccessDenied Eavesdrop refl) (omega arith)
-text_within most m SeenOwner text level = either_within most _ Pass (refused m NameHasNoOwner ArgNotVisible) (omega arith) (none_within most m NameHasNoOwner ArgNotVisible refl)
-text_within most m SeenName text level = either_within most _ Pass (refused m False ArgNotVisible) (omega arith) (none_within most m False ArgNotVisible refl)
-text_within most m Startable text level = start_within most m level
-text_within most m Ownable text level = either_within most _ Pass (refused m AccessDenied ArgNotOwn) (omega arith) (none_within most m AccessDenied ArgNotOwn refl)
+text_within : (most : ℕ) (policy : Policy) (m : Message) (demand : TextDemand) (text : Text) (numbers : List ℕ) (level : Level) → IsWithin most (on_text policy m demand text numbers level)
+text_within most policy m NoEavesdrop text numbers level = either_within most _ (refused m AccessDenied Eavesdrop) Pass (none_within most m AccessDenied Eavesdrop refl) (omega arith)
+text_within most policy m SeenOwner text numbers level = either_within most _ Pass (refused m NameHasNoOwner ArgNotVisible) (omega arith) (none_within most m NameHasNoOwner ArgNotVisible refl)
+text_within most policy m SeenName text numbers level = either_within most _ Pass (refused m False ArgNotVisible) (omega arith) (none_within most m False ArgNotVisible refl)
+text_within most policy m Startable text numbers level = start_within most policy m numbers level
+text_within most policy m Ownable text numbers level = either_within most _ Pass (refused m AccessDenied ArgNotOwn) (omega arith) (none_within most m AccessDenied ArgNotOwn refl)
 
-argument_within : (most : ℕ) (known : Knowledge) (m : Message) (demand : TextDemand) (text : Option Text) → IsWithin most (on_argument known m demand text)
-argument_within most known m demand None = none_within most m AccessDenied BadArgument refl
-argument_within most known m demand (Some text) = text_within most m demand text (known.level text)
+argument_within : (most : ℕ) (policy : Policy) (known : Knowledge) (m : Message) (demand : TextDemand) (text : Option Text) → IsWithin most (on_argument policy known m demand text)
+argument_within most policy known m demand None = none_within most m AccessDenied BadArgument refl
+argument_within most policy known m demand (Some text) = text_within most policy m demand text (known.entries text) (known.level text)
 
-bus_call_within : (most : ℕ) (known : Knowledge) (m : Message) (demand : Demand) → IsWithin most (on_bus_call known m demand)
-bus_call_within most known m Free = omega arith
-bus_call_within most known m (OnText demand) = argument_within most known m demand (first_text m)
-bus_call_within most known m Unlisted = none_within most m AccessDenied BusMember refl
+bus_call_within : (most : ℕ) (policy : Policy) (known : Knowledge) (m : Message) (demand : Demand) → IsWithin most (on_bus_call policy known m demand)
+bus_call_within most policy known m Free = omega arith
+bus_call_within most policy known m (OnText demand) = argument_within most policy known m demand (first_text m)
+bus_call_within most policy known m Unlisted = none_within most m AccessDenied BusMember refl
 
 role_within : (most : ℕ) (policy : Policy) (known : Knowledge) (m : Message) (role : ClientRole) → ((name : Text) → AreWithin most (known.entries name)) →
     IsWithin most (verdict_at policy known m role)
@@ -127,7 +127,7 @@ role_within most policy known m Broadcast within = omega arith
 role_within most policy known m (SignalTo name) within = signal_within most (known.entries name) (known.level name) (within name)
 role_within most policy known m StandardBusCall within = omega arith
 role_within most policy known m OtherBusCall within = none_within most m AccessDenied BusInterface refl
-role_within most policy known m BusCall within = bus_call_within most known m (demand_of (text_or_empty (member m)))
+role_within most policy known m BusCall within = bus_call_within most policy known m (demand_of (text_or_empty (member m)))
 role_within most policy known m (CallTo name) within = call_within most policy m name (known.entries name) (known.level name) (within name)
 
 entries_within : (policy : Policy) (facts : List Fact) (name : Text) → AreWithin (length policy.entries) (entries policy facts name)

@@ -234,6 +234,24 @@ ReleaseName => Drop(ArgNotOwn) Drop(ArgNotOwn) Drop(ArgNotOwn) Pass
 BecomeMonitor => Drop(BusMember) Drop(BusMember) Drop(BusMember) Drop(BusMember)
 ";
 
+/// Words of a policy, the text of a call of StartServiceByName, and the verdict.
+const STARTS: &str = "\
+--call=org.a.C=* org.a.C => Ping(AccessDenied, ArgNotTalk)
+--start-called --call=org.a.C=* org.a.C => Pass
+--start-called --call=org.a.C=org.x.I.M@/p org.a.C => Pass
+--start-called --call=org.a.*=* org.a.C.D => Pass
+--start-called --see=org.a.* --call=org.a.C=* org.a.C => Pass
+--start-called --see=org.a.* --call=org.a.C=* org.a.D => Ping(AccessDenied, ArgNotTalk)
+--start-called --see=org.a.* --call=org.a.C=* org.b.C => Ping(ServiceUnknown, ArgNotTalk)
+--start-called --call=org.a.C=* org.a.C.D => Ping(ServiceUnknown, ArgNotTalk)
+--start-called --see=org.a.C org.a.C => Ping(AccessDenied, ArgNotTalk)
+--start-called --broadcast=org.a.C=* org.a.C => Ping(AccessDenied, ArgNotTalk)
+--start-called --property=org.a.C=org.x.I.P org.a.C => Ping(AccessDenied, ArgNotTalk)
+--start-called --talk=org.a.C org.a.C => Pass
+--start-called org.a.C => Ping(ServiceUnknown, ArgNotTalk)
+--start-called --call=org.a.C=* org..C => Ping(ServiceUnknown, ArgNotTalk)
+";
+
 /// Members of the bus, and the verdicts on a call of each that has no body, one whose body is a number and one whose body
 /// begins with one.
 const WITHOUT_TEXT: &str = "\
@@ -419,6 +437,12 @@ fn told_with_known_fields(alloc: Global, row: &str) -> Result<String, AllocError
     told(alloc, &everything_under(alloc, "--known-fields")?, row)
 }
 
+fn told_start(alloc: Global, row: &str) -> Result<String, AllocError> {
+    let (words, name) = row.rsplit_once(' ').unwrap_or(("", row));
+    let row = format!(in alloc; "call path=/ member=StartServiceByName signature=su text={name} number=0")?;
+    told(alloc, &nothing(alloc, words)?, &row)
+}
+
 /// The verdicts on a call of the bus with each of these bodies.
 fn told_bodies(alloc: Global, call: &str, bodies: &[&str]) -> Result<String, AllocError> {
     let known = everything(alloc)?;
@@ -504,6 +528,12 @@ fn members_of_the_bus_are_judged_by_the_level_of_their_text(rt: HostRuntime) -> 
     assert_eq!(rt; wrong_row(rt.alloc(), MEMBERS, &told_member)?, None);
     assert_eq!(rt; wrong_row(rt.alloc(), MEMBERS, &told_bare_member)?, None);
     assert_eq!(rt; wrong_row(rt.alloc(), UNANSWERED, &told_unanswered)?, None);
+    Ok(())
+}
+
+#[test]
+fn names_that_may_be_called_may_be_started_if_the_policy_says_so(rt: HostRuntime) -> Result<(), Fail> {
+    assert_eq!(rt; wrong_row(rt.alloc(), STARTS, &told_start)?, None);
     Ok(())
 }
 

@@ -36,10 +36,10 @@ by-test : (policy : Policy) (test : Bool) (is : nat_lt 65535 (length policy.entr
 by-test policy test is = ap (λ b. if b then Err TooMany else Ok policy) is
 
 -- the keys are the entries' words
-module _ {Z : Type 0} {sloppy known_fields : Bool} (keys : List (String Z)) (entries : List Entry) (policy : Policy) (e : Entry) (word : List ℕ)
-    (words : map (λ k. string_bytes k) keys ≡ map entry_word entries) (is : policy_with entries sloppy known_fields ≡ policy) (named : entry_word e ≡ word) where
+module _ {Z : Type 0} {sloppy known_fields start_called : Bool} (keys : List (String Z)) (entries : List Entry) (policy : Policy) (e : Entry) (word : List ℕ)
+    (words : map (λ k. string_bytes k) keys ≡ map entry_word entries) (is : policy_with entries sloppy known_fields start_called ≡ policy) (named : entry_word e ≡ word) where
   abbrev held : List Entry → Policy
-  held es = policy_with es sloppy known_fields
+  held es = policy_with es sloppy known_fields start_called
 
   given-is : is_given entries e ≡ list_any (λ k. bytes_eq word (string_bytes k)) keys
   given-is =
@@ -66,7 +66,7 @@ module _ {Z : Type 0} {sloppy known_fields : Bool} (keys : List (String Z)) (ent
       ap (λ p. with_one_more p e) (sym is) ∙ by-entries (held entries) e (entries ++ e ∷ []) (grown false absent)
       ∙ by-test (held (entries ++ e ∷ [])) true (past (length (entries ++ e ∷ [])) many)
 
-  pub adds-one : (new : List Entry) → list_any (λ k. bytes_eq word (string_bytes k)) keys ≡ false → length entries < 65535 → new ≡ entries ++ e ∷ [] → with_one_more policy e ≡ Ok (policy_with new sloppy known_fields)
+  pub adds-one : (new : List Entry) → list_any (λ k. bytes_eq word (string_bytes k)) keys ≡ false → length entries < 65535 → new ≡ entries ++ e ∷ [] → with_one_more policy e ≡ Ok (policy_with new sloppy known_fields start_called)
   adds-one new absent room pushed =
       let few : length (entries ++ e ∷ []) ≤ 65535 = omega (arith, one_longer) in
       ap (λ p. with_one_more p e) (sym is) ∙ by-entries (held entries) e (entries ++ e ∷ []) (grown false absent)

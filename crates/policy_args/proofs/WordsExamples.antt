@@ -87,11 +87,11 @@ unfolding options_of
 log_of_filter = refl
 
 -- once or more means the same, and neither is an entry
-truth_values : options_of (codes "--sloppy-names" ∷ codes "--talk=org.a.T" ∷ codes "--sloppy-names" ∷ codes "--known-fields" ∷ []) ≡ Ok (record { filter = false; log = false; policy = policy_with (talk_T ∷ []) true true })
+truth_values : options_of (codes "--sloppy-names" ∷ codes "--talk=org.a.T" ∷ codes "--sloppy-names" ∷ codes "--known-fields" ∷ codes "--start-called" ∷ []) ≡ Ok (record { filter = false; log = false; policy = policy_with (talk_T ∷ []) true true true })
 unfolding options_of talk_T
 truth_values = refl
 
-sloppy_alone : options_of (codes "--sloppy-names" ∷ []) ≡ Ok (record { filter = false; log = false; policy = policy_with [] true false })
+sloppy_alone : options_of (codes "--sloppy-names" ∷ []) ≡ Ok (record { filter = false; log = false; policy = policy_with [] true false false })
 unfolding options_of
 sloppy_alone = refl
 

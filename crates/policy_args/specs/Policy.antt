@@ -97,13 +97,15 @@ pub record Policy : Type 0 where
   pub sloppy : Bool
   -- a message of the client with a header field of an unknown code is refused
   pub known_fields : Bool
+  -- a name at See that a Call entry covers may be started; this changes no level
+  pub start_called : Bool
 
-abbrev pub policy_with : List Entry → Bool → Bool → Policy
-policy_with entries sloppy known_fields = record { entries = entries; sloppy = sloppy; known_fields = known_fields }
+abbrev pub policy_with : List Entry → Bool → Bool → Bool → Policy
+policy_with entries sloppy known_fields start_called = record { entries = entries; sloppy = sloppy; known_fields = known_fields; start_called = start_called }
 
 -- the policy that has these entries, and is nothing else
 abbrev pub policy_of : List Entry → Policy
-policy_of entries = policy_with entries false false
+policy_of entries = policy_with entries false false false
 
 -- the greatest level that the entries which cover the name give
 abbrev pub granted : List Entry → List ℕ → Level

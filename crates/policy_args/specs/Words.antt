@@ -90,7 +90,8 @@ with_option o w =
     else (if bytes_eq w (codes "--log") then Ok (record o { log = true })
     else (if bytes_eq w (codes "--sloppy-names") then Ok (record o { policy = record (o.policy) { sloppy = true } })
     else (if bytes_eq w (codes "--known-fields") then Ok (record o { policy = record (o.policy) { known_fields = true } })
-    else (entry_of w >>= λ e. with_policy o (with_entry o.policy.entries e)))))
+    else (if bytes_eq w (codes "--start-called") then Ok (record o { policy = record (o.policy) { start_called = true } })
+    else (entry_of w >>= λ e. with_policy o (with_entry o.policy.entries e))))))
 
 unfoldable pub options_of : List (List ℕ) → Result PolicyOptions BadWord
 options_of words = each_word with_option 0 no_options words

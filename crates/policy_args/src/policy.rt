@@ -41,6 +41,7 @@ pub struct Policy {
     index: PatternIndex,
     sloppy: bool,
     known_fields: bool,
+    start_called: bool,
 }
 
 impl Model for Policy {
@@ -55,7 +56,7 @@ impl Model for Policy {
 
     ghost Value = { PolicyValue };
 
-    ghost view = { λ p. policy_with p.entries.items p.sloppy p.known_fields };
+    ghost view = { λ p. policy_with p.entries.items p.sloppy p.known_fields p.start_called };
 
     ghost invariant = { λ p. (map (λ k. string_bytes k) p.words.keys ≡ map entry_word p.entries.items) × (length p.entries.items ≤ 65535) × (AreOf p.entries.items p.patterns) × (list_all (λ e. is_pattern e.pattern) p.entries.items ≡ true) × (Indexes (ranked p.entries.items) p.index) };
 }
@@ -72,6 +73,7 @@ impl Policy {
             index: PatternIndex::new(alloc),
             sloppy: false,
             known_fields: false,
+            start_called: false,
         }
     }
 
@@ -90,6 +92,14 @@ impl Policy {
         self.known_fields
     }
 
+    /// Whether a name at See that a Call entry covers may be started by StartServiceByName. A client of GLib starts the
+    /// service of the name that it wants to call, and doesn't go on where that is refused.
+    pub fn start_called(&self) -> bool
+        ensures { result ≡ self.now.start_called }
+    {
+        self.start_called
+    }
+
     // Shows owner changes of all unique names from now on.
     pub(crate) fn set_sloppy(&mut self)
         ensures { self.new ≡ record self.old { sloppy = true } }
@@ -102,6 +112,13 @@ impl Policy {
         ensures { self.new ≡ record self.old { known_fields = true } }
     {
         self.known_fields = true;
+    }
+
+    // Lets names be started that may be called from now on.
+    pub(crate) fn set_start_called(&mut self)
+        ensures { self.new ≡ record self.old { start_called = true } }
+    {
+        self.start_called = true;
     }
 
     /// How many entries the policy has, at most 65,535.

@@ -84,6 +84,9 @@ const OPTIONS: &str = "\
 --sloppy => UnknownOption 0
 --known-fields --talk=org.a.T --known-fields => false false 1
 --known-fields=x => UnknownOption 0
+--start-called --talk=org.a.T --start-called => false false 1
+--start-called=x => UnknownOption 0
+--start => UnknownOption 0
 --property => UnknownOption 0
 --properties=org.a.P=org.a.I.P => UnknownOption 0
 --Property=org.a.P=org.a.I.P => UnknownOption 0
@@ -101,10 +104,12 @@ org.a.T => UnknownOption 0
 
 /// The words of a proxy line, and the truth values of each block's policy.
 const TRUTH_VALUES: &str = "\
-unix:path=/a /p => false false;
-unix:path=/a /p --sloppy-names unix:path=/b /q --known-fields => true false;false true;
-unix:path=/a /p --filter unix:path=/b /q --sloppy-names --sloppy-names --known-fields => false false;true true;
-unix:path=/a /p --known-fields --talk=org.a.T unix:path=/b /q => false true;false false;
+unix:path=/a /p => false false false;
+unix:path=/a /p --sloppy-names unix:path=/b /q --known-fields => true false false;false true false;
+unix:path=/a /p --filter unix:path=/b /q --sloppy-names --sloppy-names --known-fields => false false false;true true false;
+unix:path=/a /p --known-fields --talk=org.a.T unix:path=/b /q => false true false;false false false;
+unix:path=/a /p unix:path=/b /q --start-called => false false false;false false true;
+unix:path=/a /p --start-called --known-fields unix:path=/b /q --sloppy-names => false true true;true false false;
 ";
 
 /// A name and the words of a policy file, and the name's level.
@@ -260,7 +265,8 @@ fn told_options(alloc: Global, row: &str) -> Result<String, AllocError> {
     told_read(alloc, read_options(alloc, &words))
 }
 
-/// Of each block, whether owner changes of unique names are shown, and whether known header fields alone pass.
+/// Of each block, whether owner changes of unique names are shown, whether known header fields alone pass, and whether names that
+/// may be called may be started.
 fn told_truth_values(alloc: Global, row: &str) -> Result<String, AllocError> {
     let words = split(alloc, row)?;
     let line = match read_line(alloc, &words) {
@@ -270,7 +276,12 @@ fn told_truth_values(alloc: Global, row: &str) -> Result<String, AllocError> {
     let mut told = String::new(alloc);
     for block in &line.blocks {
         let policy = &block.options.policy;
-        let text = format!(in alloc; "{} {};", policy.sloppy(), policy.known_fields())?;
+        let text = format!(in alloc;
+            "{} {} {};",
+            policy.sloppy(),
+            policy.known_fields(),
+            policy.start_called()
+        )?;
         told.push_str(&text)?;
     }
     Ok(told)

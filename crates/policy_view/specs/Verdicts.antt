@@ -92,6 +92,15 @@ rules_calls (to_call rule) = true
 rules_calls (to_broadcast rule) = false
 rules_calls (to_property rule) = true
 
+-- the entry has a rule on calls of methods
+abbrev pub calls_methods : Grant → Bool
+calls_methods to_see = false
+calls_methods to_talk = false
+calls_methods to_own = false
+calls_methods (to_call rule) = true
+calls_methods (to_broadcast rule) = false
+calls_methods (to_property rule) = false
+
 -- the entry of that number passes the test
 abbrev pub passes : (Grant → Bool) → Option Entry → Bool
 passes test None = false
@@ -164,29 +173,34 @@ demand_of member =
     else (if bytes_eq member (codes "StartServiceByName") then OnText Startable
     else (if is_one_of member name_members then OnText Ownable else Unlisted)))))
 
-abbrev pub on_start : Message → Level → Verdict
-on_start m Hidden = refused m ServiceUnknown ArgNotTalk
-on_start m See = refused m AccessDenied ArgNotTalk
-on_start m Talk = Pass
-on_start m Own = Pass
+-- A name that is only seen may be started where the policy lets called names be started, and one of the name's entries has a rule
+-- on calls of methods.
+abbrev pub may_start : Policy → List ℕ → Bool
+may_start policy numbers = policy.start_called && list_any (entry_passes policy calls_methods) numbers
 
-abbrev pub on_text : Message → TextDemand → Text → Level → Verdict
-on_text m NoEavesdrop text level =
+abbrev pub on_start : Policy → Message → List ℕ → Level → Verdict
+on_start policy m numbers Hidden = refused m ServiceUnknown ArgNotTalk
+on_start policy m numbers See = if may_start policy numbers then Pass else refused m AccessDenied ArgNotTalk
+on_start policy m numbers Talk = Pass
+on_start policy m numbers Own = Pass
+
+abbrev pub on_text : Policy → Message → TextDemand → Text → List ℕ → Level → Verdict
+on_text policy m NoEavesdrop text numbers level =
     if stands_in (codes "eavesdrop") text then refused m AccessDenied Eavesdrop else Pass
-on_text m SeenOwner text level = if at_least See level then Pass else refused m NameHasNoOwner ArgNotVisible
-on_text m SeenName text level = if at_least See level then Pass else refused m False ArgNotVisible
-on_text m Startable text level = on_start m level
-on_text m Ownable text level = if at_least Own level then Pass else refused m AccessDenied ArgNotOwn
+on_text policy m SeenOwner text numbers level = if at_least See level then Pass else refused m NameHasNoOwner ArgNotVisible
+on_text policy m SeenName text numbers level = if at_least See level then Pass else refused m False ArgNotVisible
+on_text policy m Startable text numbers level = on_start policy m numbers level
+on_text policy m Ownable text numbers level = if at_least Own level then Pass else refused m AccessDenied ArgNotOwn
 
 -- the text that is asked of has to stand
-abbrev pub on_argument : Knowledge → Message → TextDemand → Option Text → Verdict
-on_argument known m demand None = refused m AccessDenied BadArgument
-on_argument known m demand (Some text) = on_text m demand text (known.level text)
+abbrev pub on_argument : Policy → Knowledge → Message → TextDemand → Option Text → Verdict
+on_argument policy known m demand None = refused m AccessDenied BadArgument
+on_argument policy known m demand (Some text) = on_text policy m demand text (known.entries text) (known.level text)
 
-abbrev pub on_bus_call : Knowledge → Message → Demand → Verdict
-on_bus_call known m Free = Pass
-on_bus_call known m (OnText demand) = on_argument known m demand (first_text m)
-on_bus_call known m Unlisted = refused m AccessDenied BusMember
+abbrev pub on_bus_call : Policy → Knowledge → Message → Demand → Verdict
+on_bus_call policy known m Free = Pass
+on_bus_call policy known m (OnText demand) = on_argument policy known m demand (first_text m)
+on_bus_call policy known m Unlisted = refused m AccessDenied BusMember
 
 abbrev pub text_or_empty : Option Text → Text
 text_or_empty None = []
@@ -204,7 +218,7 @@ verdict_at policy known m Broadcast = Pass
 verdict_at policy known m (SignalTo name) = on_signal (known.entries name) (known.level name)
 verdict_at policy known m StandardBusCall = Pass
 verdict_at policy known m OtherBusCall = refused m AccessDenied BusInterface
-verdict_at policy known m BusCall = on_bus_call known m (demand_of (text_or_empty (member m)))
+verdict_at policy known m BusCall = on_bus_call policy known m (demand_of (text_or_empty (member m)))
 verdict_at policy known m (CallTo name) = on_call policy m name (known.entries name) (known.level name)
 
 -- A field of an unknown code may mean something to a bus or to those that it passes the message on to, and isn't looked at here.

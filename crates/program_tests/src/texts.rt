@@ -11,7 +11,7 @@ use tool_words::{
 };
 
 /// Each option of a policy file, as the help shows it, and a word of it.
-const OPTIONS: [(&str, &str); 10] = [
+const OPTIONS: [(&str, &str); 11] = [
     ("--filter", "--filter"),
     ("--log", "--log"),
     ("--see=NAME", "--see=org.a.B"),
@@ -25,6 +25,7 @@ const OPTIONS: [(&str, &str); 10] = [
     ),
     ("--sloppy-names", "--sloppy-names"),
     ("--known-fields", "--known-fields"),
+    ("--start-called", "--start-called"),
 ];
 
 /// Each option that a proxy line alone has, as the help shows it.

@@ -26,6 +26,7 @@ const POLICIES: &str = "\
 --see=org.a.B | --filter => 7 not within: owner org.a.B;
 --filter --log --sloppy-names --known-fields --see=org.a.B | --see=org.a.B => 0 within;entry 1 by 1;
 --see=org.a.B | --filter --log --sloppy-names --known-fields --see=org.a.B => 0 within;entry 1 by 1;
+--start-called --call=org.a.B=* | --call=org.a.B=* => 0 within;entry 1 by 1;
 --call=org.a.N=@/p | --call=org.a.N=@/p/* => 0 within;entry 1 by 1;
 --call=org.a.N=@/p/* | --call=org.a.N=@/p => 7 not within: call org.a.N /p/z0 z0.z0 z0;
 --call=org.a.N=@/p/q/* | --call=org.a.N=@/p/* => 0 within;entry 1 by 1;

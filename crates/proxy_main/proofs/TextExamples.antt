@@ -34,6 +34,7 @@ help_text : HELP.now
     ++ codes "  --property=NAME=PROP   it is seen, and the properties that match PROP may be read and set\n"
     ++ codes "  --sloppy-names         owner changes of all unique names are shown\n"
     ++ codes "  --known-fields         messages of the client with header fields of unknown codes are refused\n"
+    ++ codes "  --start-called         names that --call lets be called may be started\n"
     ++ codes "NAME is a well-known bus name, or N.* for N and all names below it. RULE is [METHOD][@PATH],\n"
     ++ codes "and PROP is INTERFACE.PROPERTY[@PATH].\n"
     ++ codes "Among the words of blocks alone:\n"

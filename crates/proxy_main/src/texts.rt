@@ -33,6 +33,7 @@ The options of a block, and those in the file POLICY, where each is ended by a N
   --property=NAME=PROP   it is seen, and the properties that match PROP may be read and set
   --sloppy-names         owner changes of all unique names are shown
   --known-fields         messages of the client with header fields of unknown codes are refused
+  --start-called         names that --call lets be called may be started
 NAME is a well-known bus name, or N.* for N and all names below it. RULE is [METHOD][@PATH],
 and PROP is INTERFACE.PROPERTY[@PATH].
 Among the words of blocks alone:

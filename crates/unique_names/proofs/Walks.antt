@@ -1,5 +1,5 @@
 -- How many look-ups a walk over the numbers of a name takes.
-use Rattle.std.proofs.Common.{◌≡◌, ◌≤◌, ◌+◌, ◌*◌, ℕ, suc, List, [], ◌∷◌, length, ap, ◌∙◌, arith}
+use Rattle.std.proofs.Common.{◌≡◌, ◌+◌, ◌*◌, ℕ, suc, List, [], ◌∷◌, length, ap, ◌∙◌, arith}
 use Rattle.std.proofs.Math.Nat.{one-mul, suc-mul}
 use Rattle.dbus_names.specs.Texts.{Text}
 use Rattle.name_patterns.specs.Ranks.{elements}

@@ -88,6 +88,7 @@ impl Tracker {
 
     /// The numbers of the entries that cover a name, or a name that it owned, from 1, ascending and each once.
     pub fn entries<'a>(&'a self, policy: &'a Policy, name: &'a str) -> Entries<'a>
+        ensures name { result.name ≡ name.entry.now }
         ensures kept { result.numbers ≡ kept_numbers policy.entry.now self.entry.now name.entry.now }
         ensures exact { (facts : List FactValue) → Taught self.entry.now policy.entry.now facts → result.numbers ≡ entries_of policy.entry.now facts name.entry.now }
         ensures within { Fits self.entry.now policy.entry.now → AreNumbers (length policy.entry.now.entries) result.numbers }
@@ -207,7 +208,8 @@ impl Tracker {
 
     // The entries of a name, by what is kept.
     fn entries_of<'a>(&'a self, policy: &'a Policy, name: &'a str) -> Entries<'a>
-        ensures { result.numbers ≡ kept_numbers policy.entry.now self.entry.now name.entry.now }
+        ensures name { result.name ≡ name.entry.now }
+        ensures numbers { result.numbers ≡ kept_numbers policy.entry.now self.entry.now name.entry.now }
     {
         let known = numbers_in(self.known(name));
         if is_unique(name.as_bytes()) {

@@ -8,7 +8,7 @@ use Rattle.dbus_header.proofs.MessageBodies.{same-contents}
 use Rattle.name_patterns.specs.Ranks.{elements}
 use Rattle.policy_args.specs.Policy.{Policy}
 use Rattle.policy_view.specs.Shown.{BusRole, bus_role}
-use Rattle.policy_view.specs.Verdicts.{ClientRole, client_role}
+use Rattle.policy_view.specs.Verdicts.{ClientRole}
 use Rattle.reply_ledger.specs.declared.kind.Kind.{Kind as Expected}
 use Rattle.unique_names.specs.Merged.{NameNumbers}
 use Rattle.unique_names.specs.Taught.{Ids}

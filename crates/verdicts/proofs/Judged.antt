@@ -40,27 +40,29 @@ client-role-of m = by (m.kind == 1) (m.kind == 2) (m.kind == 3) (m.kind == 4)
 
 -- ---- each row
 
-start-row : (m : Message) (level : Level) → start_by m.flags level ≡ on_start m level
-start-row m Hidden = refl
-start-row m See = refl
-start-row m Talk = refl
-start-row m Own = refl
+start-row : (policy : Policy) (m : Message) (numbers : List ℕ) (level : Level) → start_by policy m.flags numbers level ≡ on_start policy m numbers level
+start-row policy m numbers Hidden = refl
+start-row policy m numbers See = refl
+start-row policy m numbers Talk = refl
+start-row policy m numbers Own = refl
 
-text-row : (m : Message) (demand : TextDemand) (text : Text) (level : Level) → text_by m.flags demand text level ≡ on_text m demand text level
-text-row m NoEavesdrop text level = refl
-text-row m SeenOwner text level = refl
-text-row m SeenName text level = refl
-text-row m Startable text level = start-row m level
-text-row m Ownable text level = refl
+text-row : (policy : Policy) (m : Message) (demand : TextDemand) (text : Text) (numbers : List ℕ) (level : Level) →
+    text_by policy m.flags demand text numbers level ≡ on_text policy m demand text numbers level
+text-row policy m NoEavesdrop text numbers level = refl
+text-row policy m SeenOwner text numbers level = refl
+text-row policy m SeenName text numbers level = refl
+text-row policy m Startable text numbers level = start-row policy m numbers level
+text-row policy m Ownable text numbers level = refl
 
-argument-row : (known : Knowledge) (m : Message) (demand : TextDemand) (text : Option Text) → argument_by known.level m.flags demand text ≡ on_argument known m demand text
-argument-row known m demand None = refl
-argument-row known m demand (Some text) = text-row m demand text (known.level text)
+argument-row : (policy : Policy) (known : Knowledge) (m : Message) (demand : TextDemand) (text : Option Text) →
+    argument_by policy known.entries known.level m.flags demand text ≡ on_argument policy known m demand text
+argument-row policy known m demand None = refl
+argument-row policy known m demand (Some text) = text-row policy m demand text (known.entries text) (known.level text)
 
-bus-row : (known : Knowledge) (m : Message) (demand : Demand) → bus_call_by known.level m.flags (first_text m) demand ≡ on_bus_call known m demand
-bus-row known m Free = refl
-bus-row known m (OnText demand) = argument-row known m demand (first_text m)
-bus-row known m Unlisted = refl
+bus-row : (policy : Policy) (known : Knowledge) (m : Message) (demand : Demand) → bus_call_by policy known.entries known.level m.flags (first_text m) demand ≡ on_bus_call policy known m demand
+bus-row policy known m Free = refl
+bus-row policy known m (OnText demand) = argument-row policy known m demand (first_text m)
+bus-row policy known m Unlisted = refl
 
 seen-row : (policy : Policy) (m : Message) (numbers : List ℕ) → seen_call_by policy (contents_of m) (property_request m) numbers ≡ on_seen_call policy m numbers
 seen-row policy m numbers =
@@ -84,7 +86,7 @@ role-row policy known m Broadcast = refl
 role-row policy known m (SignalTo name) = refl
 role-row policy known m StandardBusCall = refl
 role-row policy known m OtherBusCall = refl
-role-row policy known m BusCall = bus-row known m (demand_of (text_or_empty (member m)))
+role-row policy known m BusCall = bus-row policy known m (demand_of (text_or_empty (member m)))
 role-row policy known m (CallTo name) = call-row policy m name (known.entries name) (known.level name)
 
 field-row : (m : Message) → unknown_field_by (contents_of m) ≡ on_unknown_field (kind_of m) m

@@ -16,7 +16,7 @@ use Rattle.policy_view.specs.Knowledge.{Knowledge}
 use Rattle.policy_view.specs.Properties.{PropertyRequest}
 use Rattle.policy_view.specs.Sent.{Exchange}
 use Rattle.policy_view.specs.Texts.{stands_in}
-use Rattle.policy_view.specs.Verdicts.{ClientRole, OfUnknownType, Reply, Broadcast, SignalTo, StandardBusCall, OtherBusCall, BusCall, CallTo, Demand, Free, OnText, Unlisted, TextDemand, NoEavesdrop, SeenOwner, SeenName, Startable, Ownable, demand_of, entry_passes, lets_pass, number_or_0, on_signal, rules_calls, text_or_empty}
+use Rattle.policy_view.specs.Verdicts.{ClientRole, OfUnknownType, Reply, Broadcast, SignalTo, StandardBusCall, OtherBusCall, BusCall, CallTo, Demand, Free, OnText, Unlisted, TextDemand, NoEavesdrop, SeenOwner, SeenName, Startable, Ownable, demand_of, entry_passes, lets_pass, may_start, number_or_0, on_signal, rules_calls, text_or_empty}
 use Rattle.policy_view.specs.declared.Reason.{Reason}
 use Rattle.policy_view.specs.declared.Reason.TheVariants.{NotVisible, OnlySee, NoRule, BusMember, BusInterface, ArgNotVisible, ArgNotTalk, ArgNotOwn, Eavesdrop, NotOutstanding, UnknownType, BadArgument, UnknownField}
 use Rattle.policy_view.specs.declared.Verdict.{Verdict}
@@ -63,11 +63,11 @@ call_by policy x request name numbers Own = Pass
 
 -- ---- calls to the bus
 
-abbrev pub start_by : ℕ → Level → Verdict
-start_by flags Hidden = refused_by flags ServiceUnknown ArgNotTalk
-start_by flags See = refused_by flags AccessDenied ArgNotTalk
-start_by flags Talk = Pass
-start_by flags Own = Pass
+abbrev pub start_by : Policy → ℕ → List ℕ → Level → Verdict
+start_by policy flags numbers Hidden = refused_by flags ServiceUnknown ArgNotTalk
+start_by policy flags numbers See = if may_start policy numbers then Pass else refused_by flags AccessDenied ArgNotTalk
+start_by policy flags numbers Talk = Pass
+start_by policy flags numbers Own = Pass
 
 -- a text at a level and above alone
 abbrev pub from_level : ℕ → Level → Instead → Reason → Level → Verdict
@@ -76,21 +76,21 @@ from_level flags least what reason level = if at_least least level then Pass els
 abbrev pub match_by : ℕ → Text → Verdict
 match_by flags text = if stands_in (codes "eavesdrop") text then refused_by flags AccessDenied Eavesdrop else Pass
 
-abbrev pub text_by : ℕ → TextDemand → Text → Level → Verdict
-text_by flags NoEavesdrop text level = match_by flags text
-text_by flags SeenOwner text level = from_level flags See NameHasNoOwner ArgNotVisible level
-text_by flags SeenName text level = from_level flags See False ArgNotVisible level
-text_by flags Startable text level = start_by flags level
-text_by flags Ownable text level = from_level flags Own AccessDenied ArgNotOwn level
+abbrev pub text_by : Policy → ℕ → TextDemand → Text → List ℕ → Level → Verdict
+text_by policy flags NoEavesdrop text numbers level = match_by flags text
+text_by policy flags SeenOwner text numbers level = from_level flags See NameHasNoOwner ArgNotVisible level
+text_by policy flags SeenName text numbers level = from_level flags See False ArgNotVisible level
+text_by policy flags Startable text numbers level = start_by policy flags numbers level
+text_by policy flags Ownable text numbers level = from_level flags Own AccessDenied ArgNotOwn level
 
-abbrev pub argument_by : (Text → Level) → ℕ → TextDemand → Option Text → Verdict
-argument_by level flags demand None = refused_by flags AccessDenied BadArgument
-argument_by level flags demand (Some text) = text_by flags demand text (level text)
+abbrev pub argument_by : Policy → (Text → List ℕ) → (Text → Level) → ℕ → TextDemand → Option Text → Verdict
+argument_by policy entries level flags demand None = refused_by flags AccessDenied BadArgument
+argument_by policy entries level flags demand (Some text) = text_by policy flags demand text (entries text) (level text)
 
-abbrev pub bus_call_by : (Text → Level) → ℕ → Option Text → Demand → Verdict
-bus_call_by level flags first Free = Pass
-bus_call_by level flags first (OnText demand) = argument_by level flags demand first
-bus_call_by level flags first Unlisted = refused_by flags AccessDenied BusMember
+abbrev pub bus_call_by : Policy → (Text → List ℕ) → (Text → Level) → ℕ → Option Text → Demand → Verdict
+bus_call_by policy entries level flags first Free = Pass
+bus_call_by policy entries level flags first (OnText demand) = argument_by policy entries level flags demand first
+bus_call_by policy entries level flags first Unlisted = refused_by flags AccessDenied BusMember
 
 -- ---- each role
 
@@ -107,7 +107,7 @@ role_by policy known x first request Broadcast = Pass
 role_by policy known x first request (SignalTo name) = on_signal (known.entries name) (known.level name)
 role_by policy known x first request StandardBusCall = Pass
 role_by policy known x first request OtherBusCall = refused_by x.flags AccessDenied BusInterface
-role_by policy known x first request BusCall = bus_call_by known.level x.flags first (demand_of (text_or_empty x.parts.member))
+role_by policy known x first request BusCall = bus_call_by policy known.entries known.level x.flags first (demand_of (text_or_empty x.parts.member))
 role_by policy known x first request (CallTo name) = call_by policy x request name (known.entries name) (known.level name)
 
 -- ---- fields of unknown codes

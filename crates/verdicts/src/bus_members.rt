@@ -1,14 +1,17 @@
 //! The members of the bus, and what each asks of a call of it.
 ghost use Rattle.std.specs.Prelude.{◌≡◌, ◌≤◌, ◌+◌, codes};
 ghost use Rattle.dbus_header.specs.Seen.{text_seen};
+ghost use Rattle.name_patterns.specs.Ranks.{elements};
 ghost use Rattle.policy_view.specs.Texts.{stands_in};
-ghost use Rattle.policy_view.specs.Verdicts.{demand_of as demand_by, text_or_empty};
-ghost use Rattle.unique_names.specs.Taught.{kept_level};
-ghost use Rattle.verdicts.specs.Counted.{text_steps};
+ghost use Rattle.policy_view.specs.Verdicts.{demand_of as demand_by, may_start as may_start_by, text_or_empty};
+ghost use Rattle.unique_names.specs.Taught.{kept_level, kept_numbers};
+ghost use Rattle.verdicts.specs.Counted.{name_steps, text_steps};
+ghost use Rattle.verdicts.specs.Entries.{steps_for};
 ghost use Rattle.verdicts.specs.Judging.{argument_by, bus_call_by, first_text_in, from_level, match_by, start_by, text_by};
 ghost use Rattle.verdicts.specs.Seen.{demand_seen, text_demand_seen};
 
 use crate::calls::refused;
+use crate::entries::is_called;
 use dbus_header::{Instead, Message};
 use name_patterns::Steps;
 use policy_args::{Level, Policy};
@@ -25,7 +28,7 @@ pub(crate) enum TextDemand {
     SeenOwner,
     /// The name is seen; else the answer is false.
     SeenName,
-    /// The name may be talked to.
+    /// The name may be started.
     Startable,
     /// The name may be owned.
     Ownable,
@@ -70,7 +73,7 @@ pub(crate) fn judge_bus_call<L: Ledger>(
     message: &Message<'_>,
     steps: &mut Steps<L>,
 ) -> Verdict
-    ensures verdict { result ≡ bus_call_by (kept_level policy.now tracker.now) message.now.flags (first_text_in message.now.bytes.now) (demand_by (text_or_empty (text_seen message.now.member))) }
+    ensures verdict { result ≡ bus_call_by policy.now (kept_numbers policy.now tracker.now) (kept_level policy.now tracker.now) message.now.flags (first_text_in message.now.bytes.now) (demand_by (text_or_empty (text_seen message.now.member))) }
     ensures cost { steps.new ≤ steps.old + text_steps policy.now tracker.now (first_text_in message.now.bytes.now) }
 {
     match demand_of(message.member.unwrap_or("")) {
@@ -98,21 +101,30 @@ fn judge_argument<L: Ledger>(
     text: Option<&str>,
     steps: &mut Steps<L>,
 ) -> Verdict
-    ensures verdict { result ≡ argument_by (kept_level policy.now tracker.now) message.now.flags (text_demand_seen demand) (text_seen text.entry) }
+    ensures verdict { result ≡ argument_by policy.now (kept_numbers policy.now tracker.now) (kept_level policy.now tracker.now) message.now.flags (text_demand_seen demand) (text_seen text.entry) }
     ensures cost { steps.new ≤ steps.old + text_steps policy.now tracker.now (text_seen text.entry) }
 {
     match text {
         None => refused(message, Instead::AccessDenied, Reason::BadArgument),
         Some(text) => {
             let level = tracker.level_counted(policy, text, steps);
-            judge_text(message, demand, text, level)
+            judge_text(policy, tracker, message, demand, text, level, steps)
         }
     }
 }
 
 // The text has this level, as a name.
-fn judge_text(message: &Message<'_>, demand: TextDemand, text: &str, level: Level) -> Verdict
-    ensures { result ≡ text_by message.now.flags (text_demand_seen demand) text.now level }
+fn judge_text<L: Ledger>(
+    policy: &Policy,
+    tracker: &Tracker,
+    message: &Message<'_>,
+    demand: TextDemand,
+    text: &str,
+    level: Level,
+    steps: &mut Steps<L>,
+) -> Verdict
+    ensures verdict { result ≡ text_by policy.now message.now.flags (text_demand_seen demand) text.now (kept_numbers policy.now tracker.now text.now) level }
+    ensures cost { steps.new + elements text.now + 1 ≤ steps.old + name_steps policy.now tracker.now text.now }
 {
     let hidden = Reason::ArgNotVisible;
     match demand {
@@ -121,7 +133,7 @@ fn judge_text(message: &Message<'_>, demand: TextDemand, text: &str, level: Leve
             pass_from(message, level, Level::See, Instead::NameHasNoOwner, hidden)
         }
         TextDemand::SeenName => pass_from(message, level, Level::See, Instead::False, hidden),
-        TextDemand::Startable => judge_start(message, level),
+        TextDemand::Startable => judge_start(policy, tracker, message, text, level, steps),
         TextDemand::Ownable => {
             let reason = Reason::ArgNotOwn;
             pass_from(message, level, Level::Own, Instead::AccessDenied, reason)
@@ -147,15 +159,47 @@ fn speaks_of_eavesdrop(text: &str) -> bool
     text.contains("eavesdrop")
 }
 
-// A service that may be started is talked to.
-fn judge_start(message: &Message<'_>, level: Level) -> Verdict
-    ensures { result ≡ start_by message.now.flags level }
+// A name that may be talked to may be started, and one that is only seen where that is asked for.
+fn judge_start<L: Ledger>(
+    policy: &Policy,
+    tracker: &Tracker,
+    message: &Message<'_>,
+    name: &str,
+    level: Level,
+    steps: &mut Steps<L>,
+) -> Verdict
+    ensures verdict { result ≡ start_by policy.now message.now.flags (kept_numbers policy.now tracker.now name.now) level }
+    ensures cost { steps.new ≤ steps.old + 1 + steps_for name.now (kept_numbers policy.now tracker.now name.now) }
 {
     match level {
         Level::None => refused(message, Instead::ServiceUnknown, Reason::ArgNotTalk),
-        Level::See => refused(message, Instead::AccessDenied, Reason::ArgNotTalk),
+        Level::See => {
+            if may_start(policy, tracker, name, steps) {
+                Verdict::Pass
+            } else {
+                refused(message, Instead::AccessDenied, Reason::ArgNotTalk)
+            }
+        }
         Level::Talk | Level::Own => Verdict::Pass,
     }
+}
+
+// Whether a name that is only seen may be started: one of its entries has a rule on calls of methods. What is known of a unique
+// name is looked up for that, which is a step.
+fn may_start<L: Ledger>(
+    policy: &Policy,
+    tracker: &Tracker,
+    name: &str,
+    steps: &mut Steps<L>,
+) -> bool
+    ensures may { result ≡ may_start_by policy.now (kept_numbers policy.now tracker.now name.now) }
+    ensures cost { steps.new ≤ steps.old + 1 + steps_for name.now (kept_numbers policy.now tracker.now name.now) }
+{
+    if !policy.start_called() {
+        return false;
+    }
+    steps.tick();
+    is_called(policy, tracker.entries(policy, name), steps)
 }
 
 // What passes from a level on, and is refused below it.

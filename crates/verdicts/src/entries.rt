@@ -5,7 +5,7 @@ ghost use Rattle.std.specs.Option.{option_copied};
 ghost use Rattle.dbus_header.specs.Read.{message_seen};
 ghost use Rattle.policy_args.specs.Policy.{entry_at};
 ghost use Rattle.policy_view.specs.Texts.{matches as rule_matches};
-ghost use Rattle.policy_view.specs.Verdicts.{entry_passes, rules_calls as grant_rules_calls};
+ghost use Rattle.policy_view.specs.Verdicts.{calls_methods as grant_calls_methods, entry_passes, rules_calls as grant_rules_calls};
 ghost use Rattle.verdicts.specs.Entries.{entry_steps, lowest_with};
 ghost use Rattle.verdicts.specs.Judging.{allows as grant_allows, seen_call_by, unruled_by};
 ghost use Rattle.verdicts.specs.Properties.{property_request_in};
@@ -118,6 +118,24 @@ pub(crate) fn is_announced<L: Ledger>(
     false
 }
 
+/// Whether an entry with one of these numbers has a Call rule. Each that is looked at is a step.
+pub(crate) fn is_called<L: Ledger>(
+    policy: &Policy,
+    mut numbers: Entries<'_>,
+    steps: &mut Steps<L>,
+) -> bool
+    ensures called { result ≡ list_any (entry_passes policy.now grant_calls_methods) numbers.entry.numbers }
+    ensures cost { steps.new ≤ steps.old + entry_steps numbers.entry }
+{
+    while let Some(number) = numbers.next_counted(steps) {
+        steps.tick();
+        if calls_methods(policy, number) {
+            return true;
+        }
+    }
+    false
+}
+
 // The entry of a number, if the policy has so many.
 fn entry(policy: &Policy, number: u32) -> Option<&Entry>
     ensures { option_copied result ≡ entry_at policy.now.entries number }
@@ -168,6 +186,22 @@ fn is_ruling_calls(grant: &Grant) -> bool
     ensures { result ≡ grant_rules_calls grant.now }
 {
     matches!(grant, Grant::Call(_) | Grant::Property(_))
+}
+
+// Whether it has a rule on calls of methods.
+fn calls_methods(policy: &Policy, number: u32) -> bool
+    ensures { result ≡ entry_passes policy.now grant_calls_methods number }
+{
+    match entry(policy, number) {
+        None => false,
+        Some(entry) => is_calling_methods(&entry.grant),
+    }
+}
+
+fn is_calling_methods(grant: &Grant) -> bool
+    ensures { result ≡ grant_calls_methods grant.now }
+{
+    matches!(grant, Grant::Call(_))
 }
 
 // Whether it has a Broadcast rule that matches the signal.

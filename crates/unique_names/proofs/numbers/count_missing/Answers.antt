@@ -5,7 +5,7 @@ use Rattle.unique_names.specs.Inserted.{ascends_from, missing_in}
 use Rattle.unique_names.specs.Merged.{look_ups, merged_from}
 use Rattle.unique_names.proofs.Ascending.{absent-if, count-absent, count-present, present-if, rest-ascends, weaker}
 use Rattle.unique_names.proofs.Merging.{merged-ascends}
-use Rattle.unique_names.proofs.Walks.{none-found, one-found}
+use Rattle.unique_names.proofs.Walks.{one-found}
 use Rattle.unique_names.proofs.numbers.count_missing.Goals as goal
 
 pub loop-number-init : goal.loop-number-init

@@ -1,10 +1,10 @@
 use Rattle.std.proofs.Common.{◌≡◌, ◌≤◌, ◌+◌, true, [], ap, sym, subst, List, ℕ, ◌∙◌, arith, vec_len, vec_capacity}
 use Rattle.name_patterns.specs.Ranks.{elements}
 use Rattle.unique_names.specs.Inserted.{ascends_from, missing_in, with_number, with_numbers}
-use Rattle.unique_names.specs.Merged.{look_ups, merged_from}
+use Rattle.unique_names.specs.Merged.{look_ups}
 use Rattle.unique_names.proofs.Ascending.{is-least, one-more, rest-ascends, room-left, weaker, with-ascends}
 use Rattle.unique_names.proofs.Merging.{merged-ascends}
-use Rattle.unique_names.proofs.Walks.{none-found, one-found}
+use Rattle.unique_names.proofs.Walks.{one-found}
 use Rattle.unique_names.proofs.numbers.insert_covering.Goals as goal
 
 pub loop-number-init : goal.loop-number-init
