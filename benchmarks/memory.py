@@ -33,15 +33,17 @@ class Stream:
 
     def messages(self):
         """The messages that stand whole, each as its kind, its serial and its first field's bytes."""
-        found = []
-        while len(self.data) >= 16:
-            body = int.from_bytes(self.data[4:8], "little")
-            fields = int.from_bytes(self.data[12:16], "little")
+        found, at = [], 0
+        while len(self.data) >= at + 16:
+            body = int.from_bytes(self.data[at + 4 : at + 8], "little")
+            fields = int.from_bytes(self.data[at + 12 : at + 16], "little")
             whole = 16 + (fields + 7) // 8 * 8 + body
-            if len(self.data) < whole:
+            if len(self.data) < at + whole:
                 break
-            found.append((self.data[1], int.from_bytes(self.data[8:12], "little"), self.data[16 : 16 + fields]))
-            self.data = self.data[whole:]
+            serial = int.from_bytes(self.data[at + 8 : at + 12], "little")
+            found.append((self.data[at + 1], serial, self.data[at + 16 : at + 16 + fields]))
+            at += whole
+        self.data = self.data[at:]
         return found
 
 
@@ -64,6 +66,10 @@ def answers_to(stream):
             continue
         if b"Hello" in fields:
             said += message(RETURN, 1, texts(":1.5"), reply=serial, sender=BUS_NAME, signature="s")
+        elif b"GetNameOwner" in fields:
+            said += message(RETURN, 1, texts(":1.9"), reply=serial, sender=BUS_NAME, signature="s")
+        elif BUS_NAME.encode() in fields:
+            said += message(RETURN, 1, reply=serial, sender=BUS_NAME)
         else:
             said += message(RETURN, 1, reply=serial, sender=":1.9")
     return said
@@ -135,10 +141,10 @@ def resident(pid):
     raise ValueError(pid)
 
 
-def measure(command, sessions, burst, folder):
+def measure(program, sessions, burst, folder):
     """KB for each session after its start, and after its bursts."""
     bus, path = os.path.join(folder, "bus"), os.path.join(folder, "proxy")
-    process = subprocess.Popen([*command, "unix:path=" + bus, path, "--filter", "--talk=" + NAME])
+    process = subprocess.Popen([program, "unix:path=" + bus, path, "--filter", "--talk=" + NAME])
     try:
         while not os.path.exists(path):
             time.sleep(0.01)
@@ -165,7 +171,7 @@ def measure(command, sessions, burst, folder):
 
 def main():
     parser = argparse.ArgumentParser(description=__doc__)
-    parser.add_argument("--program", default=os.path.join(HERE, "../crates/zamtigarn/out/zamtigarn"))
+    parser.add_argument("--program", action="append", help="a proxy to measure; may be given more than once")
     parser.add_argument("--sessions", type=int, default=200)
     options = parser.parse_args()
     _, most = resource.getrlimit(resource.RLIMIT_NOFILE)
@@ -175,10 +181,12 @@ def main():
         listener.bind(os.path.join(folder, "bus"))
         listener.listen(1024)
         threading.Thread(target=serve_bus, args=(listener,), daemon=True).start()
-        print("| idle, KB | after bursts of 64 | of 256 | of 1,024 |")
-        print("|---|---|---|---|")
-        cells = [measure([os.path.abspath(options.program)], options.sessions, burst, folder) for burst in (64, 256, 1024)]
-        print("| %.1f | %.1f | %.1f | %.1f |" % (cells[0][0], *[after for _, after in cells]))
+        print("| proxy | idle, KB | after bursts of 64 | of 256 | of 1,024 |")
+        print("|---|---|---|---|---|")
+        for program in options.program or [os.path.join(HERE, "../crates/zamtigarn/out/zamtigarn")]:
+            cells = [measure(os.path.abspath(program), options.sessions, burst, folder) for burst in (64, 256, 1024)]
+            name = os.path.basename(program)
+            print("| %s | %.1f | %.1f | %.1f | %.1f |" % (name, cells[0][0], *[after for _, after in cells]))
 
 
 if __name__ == "__main__":
