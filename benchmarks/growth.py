@@ -1,8 +1,8 @@
 #!/usr/bin/env python3
 """How the cost of a message grows with the policy and with what the proxy keeps, as instructions that callgrind counts.
 
-Each row plays recordings that this script makes through `replay`. What a message costs is the difference between two
-recordings, one of which has more of the same messages, so that reading the policy and what comes first don't count."""
+Each row plays recordings that this script makes through `replay`. What a message costs is the difference between
+recordings that have more and more of the same messages, so that reading the policy and what comes first don't count."""
 import argparse
 import os
 import random
@@ -145,10 +145,13 @@ class Replays:
 
 
 def slope(replays, words, first, more, count, whole=recording):
-    """The instructions of each of `count` messages: `more(n)` gives the events of the first n of them."""
-    low = replays.count(words, whole(first + more(count)))
-    high = replays.count(words, whole(first + more(2 * count)))
-    return (high - low) / count
+    """The instructions of each of `count` messages: `more(n)` gives the events of the first n of them.
+
+    Of the three steps between four lengths it is the middle one: what is done once on the way, as moving a buffer that grew
+    or putting freed memory together, falls into one step alone."""
+    counts = [replays.count(words, whole(first + more(k * count))) for k in (1, 2, 3, 4)]
+    steps = sorted(after - before for before, after in zip(counts, counts[1:]))
+    return steps[1] / count
 
 
 def names(n, option="talk"):
