@@ -1,5 +1,5 @@
 -- What holds over one call and then another.
-use Rattle.std.proofs.Common.{ℕ, ◌≤◌, ◌<◌, ◌-◌, ◌^◌, ◌∙◌, arith, subst}
+use Rattle.std.proofs.Common.{ℕ, vec_len, ◌≤◌, ◌<◌, ◌-◌, ◌^◌, ◌∙◌, arith, subst}
 use Rattle.link_traits.specs.Told.{Rose}
 use Rattle.link_traits.specs.Tables.{HasWish}
 use Rattle.link_traits.specs.declared.links.Accepted.{Accepted}
@@ -25,16 +25,20 @@ goes_through p q = record {
   counts = λ count. let x = p.counts count in let y = q.counts count in omega (arith, x, y);
   wishes = λ link. q.wishes link ∙ p.wishes link;
   sessions = q.sessions ∙ p.sessions;
+  number = q.number ∙ p.number;
+  paths = λ number path at. p.paths number path (q.paths number path at);
   links = λ link placed. q.links link (p.links link placed);
   listeners = λ listener placed. q.listeners listener (p.listeners listener placed);
   link_places = λ number below queued. q.link_places number below (p.link_places number below queued);
   listener_places = λ place below queued. q.listener_places place below (p.listener_places place below queued);
   link_tokens = λ number own. q.link_tokens number (p.link_tokens number own);
   listener_tokens = λ place own. q.listener_tokens place (p.listener_tokens place own);
+  files = λ place path below at. p.files place path below (q.files place path (omega (arith, below, p.number)) at);
+  retries = λ number tried. q.retries number (p.retries number tried);
 }
 
 pub goes_grows : {T L : Type 0} → {a b : SocketSet T L} → GoesOn a b → Grows a b
-goes_grows p = record { each = p.counts; links = p.links; listeners = p.listeners; link_places = p.link_places; listener_places = p.listener_places; link_tokens = p.link_tokens; listener_tokens = p.listener_tokens }
+goes_grows p = record { each = p.counts; links = p.links; listeners = p.listeners; link_places = p.link_places; listener_places = p.listener_places; link_tokens = p.link_tokens; listener_tokens = p.listener_tokens; retries = p.retries; files = p.files }
 
 -- what only grows after what goes on
 pub grows_through : {T L : Type 0} → {a b c : SocketSet T L} → GoesOn a b → Grows b c → Grows a c
@@ -46,11 +50,13 @@ grows_through p q = record {
   listener_places = λ place below queued. q.listener_places place below (p.listener_places place below queued);
   link_tokens = λ number own. q.link_tokens number (p.link_tokens number own);
   listener_tokens = λ place own. q.listener_tokens place (p.listener_tokens place own);
+  files = λ place path below at. p.files place path below (q.files place path (omega (arith, below, p.number)) at);
+  retries = λ number tried. q.retries number (p.retries number tried);
 }
 
 -- what goes on after what only grows
-pub grows_on : {T L : Type 0} → {a b c : SocketSet T L} → Grows a b → GoesOn b c → Grows a c
-grows_on p q = record {
+pub grows_on : {T L : Type 0} → {a b c : SocketSet T L} → vec_len a.listeners ≤ vec_len b.listeners → Grows a b → GoesOn b c → Grows a c
+grows_on number p q = record {
   each = λ count. let x = p.each count in let y = q.counts count in omega (arith, x, y);
   links = λ link placed. q.links link (p.links link placed);
   listeners = λ listener placed. q.listeners listener (p.listeners listener placed);
@@ -58,6 +64,8 @@ grows_on p q = record {
   listener_places = λ place below queued. q.listener_places place below (p.listener_places place below queued);
   link_tokens = λ number own. q.link_tokens number (p.link_tokens number own);
   listener_tokens = λ place own. q.listener_tokens place (p.listener_tokens place own);
+  files = λ place path below at. p.files place path below (q.files place path (omega (arith, below, number)) at);
+  retries = λ number tried. q.retries number (p.retries number tried);
 }
 
 pub keeps_wishes : {T L : Type 0} → {a b : SocketSet T L} → GoesOn a b → KeepsWishesIn a b

@@ -6,8 +6,11 @@ pub mod Reading
 pub mod Tokens
 pub mod Room
 pub mod Written
+pub mod Tries
 pub mod Judging
 mod Putting
 pub mod Telling
+pub mod Answering
+pub mod Listening
 pub mod Meaning
 pub mod Leading

@@ -3,7 +3,7 @@ use Rattle.std.proofs.Common.{◌≡◌, List, [], ◌∷◌, ◌++◌, Option, 
 use Rattle.proxy_net.specs.SystemCalls.{SystemCall, Tells}
 use Rattle.proxy_net.specs.Steps.{Steps}
 
-append_after : (a b c : List SystemCall) → a ++ (b ++ c) ≡ (a ++ b) ++ c
+pub append_after : (a b c : List SystemCall) → a ++ (b ++ c) ≡ (a ++ b) ++ c
 append_after [] b c = refl
 append_after (call ∷ a) b c = ap (λ (xs : List SystemCall). call ∷ xs) (append_after a b c)
 

@@ -1,10 +1,11 @@
 -- What goes on where one listener is written.
-use Rattle.std.proofs.Common.{ℕ, suc, zero, ◌≡◌, ◌≢◌, ◌≤◌, ◌+◌, nat_eq, Bool, true, false, not, ◌||◌, Option, Some, None, List, [], ◌∷◌, ◌++◌, refl, ap, ap₂, sym, subst, ◌∙◌, arith, drop, take, slice_get, slice_set, unwrap_or}
+use Rattle.std.proofs.Common.{ℕ, suc, zero, ◌≡◌, ◌≢◌, ◌≤◌, ◌+◌, nat_eq, Bool, true, false, not, ◌||◌, Option, Some, None, List, [], ◌∷◌, ◌++◌, refl, ap, ap₂, sym, subst, ◌∙◌, arith, length, drop, take, slice_get, slice_set, unwrap_or}
 use Rattle.std.specs.Option.{option_map}
 use Rattle.std.specs.List.{list_any}
 use Rattle.std.specs.Ordering.{nat_cmp}
 use Rattle.std.specs.BTreeMap as tree
 use Rattle.std.specs.BTreeMap.{BTreeMap}
+use Rattle.std.proofs.lemmas.List.{length-set}
 use Rattle.std.proofs.lemmas.List.Folds.{list_any-append}
 use Rattle.std.proofs.lemmas.Bool.Decides.{nat_tests}
 use Rattle.link_traits.specs.declared.links.Count.{Count}
@@ -12,8 +13,11 @@ use Rattle.link_traits.specs.declared.links.Count.TheVariants.{Own, Listener, Li
 use Rattle.link_traits.specs.Numbers.{number_of}
 use Rattle.proxy_net.specs.declared.link_sockets.LinkSocket.{LinkSocket}
 use Rattle.proxy_net.specs.Naming.{is_link_placed, is_listener_placed, is_listener_unmarked, is_link_unmarked}
+use Rattle.proxy_net.specs.Connecting.{is_pending, tried_path}
 use Rattle.proxy_net.specs.Registering.{is_own_link, is_own_listener, listeners_from}
-use Rattle.proxy_net.specs.Sockets.{GoesOn, count_in, has_place, is_listener_queued}
+use Rattle.std.specs.String.{string_bytes}
+use Rattle.proxy_net.specs.Sockets.{GoesOn, count_in, has_place, is_listener_queued, path_in}
+use Rattle.proxy_net.specs.declared.bound_files.BoundFile.{BoundFile}
 use Rattle.proxy_net.specs.declared.listeners.ListenerSocket.{ListenerSocket}
 use Rattle.proxy_net.specs.declared.sockets.SocketSet.{SocketSet}
 use Rattle.proxy_net.proofs.Notes.{or_kept}
@@ -80,14 +84,15 @@ all_stay (item ∷ items) rotated are other among =
 module _ {T L : Type 0} (a b : SocketSet T L) (place : ℕ) (old new : ListenerSocket L) where
   -- one listener is written
   pub listener_goes : slice_get a.listeners.items place ≡ Some old → b.listeners.items ≡ slice_set a.listeners.items place new
-      → b.links ≡ a.links → b.own ≡ a.own → b.waits ≡ a.waits → b.absent ≡ a.absent → b.sessions ≡ a.sessions
-      → old.faults ≤ new.faults → new.listener ≡ old.listener → (is_listener_placed (Some old) ≡ true → is_listener_placed (Some new) ≡ true)
+      → b.links ≡ a.links → b.pending.items ≡ a.pending.items → b.own ≡ a.own → b.waits ≡ a.waits → b.absent ≡ a.absent → b.sessions ≡ a.sessions
+      → old.faults ≤ new.faults → new.listener ≡ old.listener → new.file ≡ old.file → (is_listener_placed (Some old) ≡ true → is_listener_placed (Some new) ≡ true)
       → ((other : ℕ) → other ≢ listeners_from + place → has_place a other ≡ true → has_place b other ≡ true)
       → ((is_listener_unmarked (Some old) || has_place a (listeners_from + place)) ≡ true → (is_listener_unmarked (Some new) || has_place b (listeners_from + place)) ≡ true) → GoesOn a b
-  listener_goes found are links own waits absent sessions faults listener placed others queued = record {
+  listener_goes found are links pending own waits absent sessions faults listener file placed others queued = record {
     counts = counted;
     wishes = λ link. ap (λ (m : BTreeMap ℕ (LinkSocket _)). option_map (λ (s : LinkSocket _). s.wishes) (tree.get nat_cmp m (number_of link))) links;
     sessions = sessions;
+    number = let same : length b.listeners.items ≡ length a.listeners.items = ap length are ∙ length-set a.listeners.items place new in grind (arith, same);
     links = λ link p. ap (λ (m : BTreeMap ℕ (LinkSocket _)). is_link_placed (tree.get nat_cmp m (number_of link))) links ∙ p;
     listeners = λ at p. ap (λ (xs : List (ListenerSocket _)). is_listener_placed (slice_get xs at)) are ∙ at_each (λ _ o. is_listener_placed o ≡ true) a.listeners.items place old new found placed at p;
     link_places = λ number below p. ap (λ (m : BTreeMap ℕ (LinkSocket _)). is_link_unmarked (tree.get nat_cmp m number) || has_place b number) links
@@ -100,6 +105,11 @@ module _ {T L : Type 0} (a b : SocketSet T L) (place : ℕ) (old new : ListenerS
     link_tokens = λ number p. ap (λ (m : BTreeMap ℕ (LinkSocket _)). is_own_link number (tree.get nat_cmp m number)) links ∙ p;
     listener_tokens = λ at p. ap (λ (xs : List (ListenerSocket _)). is_own_listener at (slice_get xs at)) are
         ∙ at_each (λ k o. is_own_listener k o ≡ true) a.listeners.items place old new found (λ own_token. ap (λ (l : _). nat_eq l.number (listeners_from + place)) listener ∙ own_token) at p;
+    paths = λ number path at. ap (λ (m : BTreeMap ℕ (LinkSocket _)). unwrap_or (option_map (λ (s : LinkSocket _). tried_path s.connection) (tree.get nat_cmp m number)) None) (sym links) ∙ at;
+    files = λ at path below p. at_each (λ k o. path_in o ≡ Some path → path_in (slice_get a.listeners.items k) ≡ Some path) a.listeners.items place old new found
+        (λ was e. was (ap (λ (f : Option BoundFile). option_map (λ (x : BoundFile). string_bytes x.path) f) (sym file) ∙ e)) at (λ e. e)
+        (ap (λ (xs : List (ListenerSocket _)). path_in (slice_get xs at)) (sym are) ∙ p);
+    retries = λ number p. ap₂ (λ (m : BTreeMap ℕ (LinkSocket _)) (xs : List ℕ). not (unwrap_or (option_map (λ (s : LinkSocket _). is_pending s.connection) (tree.get nat_cmp m number)) false) || list_any (nat_eq number) xs) links pending ∙ p;
   }
     where
       counted : (count : Count) → count_in a count ≤ count_in b count

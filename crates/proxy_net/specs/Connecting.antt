@@ -1,5 +1,6 @@
 -- Connects that are tried again.
-use Rattle.std.specs.Prelude.{ℕ, ◌≡◌, ◌+◌, Bool, true, false, Option, Some, None}
+use Rattle.std.specs.Prelude.{ℕ, ◌≡◌, ◌+◌, Bool, true, false, List, Option, Some, None}
+use Rattle.std.specs.String.{string_bytes}
 use Rattle.std.specs.Time.{instant_nanos, FitsClock}
 use Rattle.std.specs.declared.time.Instant.{Instant}
 use Rattle.proxy_net.specs.declared.link_sockets.Connection.{Connection}
@@ -25,6 +26,12 @@ abbrev pub due_of : {T : Type 0} → Connection T → Option Instant
 due_of (Open stream) = None
 due_of (Pending retry) = Some retry.due
 due_of Failed = None
+
+-- the path to which a connect is tried again, where there is a try
+abbrev pub tried_path : {T : Type 0} → Connection T → Option (List ℕ)
+tried_path (Open stream) = None
+tried_path (Pending retry) = Some (string_bytes retry.path)
+tried_path Failed = None
 
 -- it has a stream
 abbrev pub is_open : {T : Type 0} → Connection T → Bool

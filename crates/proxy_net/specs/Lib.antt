@@ -8,4 +8,5 @@ pub mod Streams
 pub mod Room
 pub mod Reports
 pub mod SystemCalls
+pub mod Answers
 pub mod Steps

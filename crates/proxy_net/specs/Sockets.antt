@@ -1,5 +1,5 @@
--- What a set of sockets shows, and how that goes on from call to call. It tells no journal.
-use Rattle.std.specs.Prelude.{ℕ, ◌≡◌, ◌≤◌, ◌<◌, ◌+◌, ◌-◌, ◌^◌, nat_eq, nat_lt, ◌||◌, not, if◌then◌else◌, false, true, Bool, List, Option, Some, None, slice_get, unwrap_or, is_some}
+-- What a set of sockets shows, and how that goes on from call to call.
+use Rattle.std.specs.Prelude.{ℕ, ◌≡◌, ◌≤◌, ◌<◌, ◌+◌, ◌-◌, ◌^◌, nat_eq, nat_lt, ◌||◌, not, if◌then◌else◌, false, true, Bool, List, Option, Some, None, slice_get, unwrap_or, is_some, vec_len}
 use Rattle.std.specs.Option.{option_map}
 use Rattle.std.specs.List.{list_any}
 use Rattle.std.specs.Ordering.{nat_cmp}
@@ -20,11 +20,13 @@ use Rattle.link_traits.specs.declared.links.Ready.TheVariants.{Listener as OfLis
 use Rattle.link_traits.specs.declared.links.Accepted.{Accepted}
 use Rattle.link_traits.specs.declared.links.Accepted.TheVariants.{New, NotReady, Failed as Refused, Memory}
 use Rattle.link_traits.specs.Answers.{client_link}
+use Rattle.proxy_net.specs.Answers.{net_journal}
+use Rattle.proxy_net.specs.SystemCalls.{SystemCall, was_bound}
 use Rattle.proxy_net.specs.Room.{room_for}
 use Rattle.std.specs.VecDeque.{deque_len, deque_capacity}
 use Rattle.proxy_net.specs.Naming.{other_of, is_link_placed, is_listener_placed, is_link_unmarked, is_listener_unmarked, is_link_closed, is_to_fail}
 use Rattle.proxy_net.specs.declared.reports.Report.{Report}
-use Rattle.proxy_net.specs.Connecting.{is_pending, is_open, due_of}
+use Rattle.proxy_net.specs.Connecting.{is_pending, is_open, due_of, tried_path}
 use Rattle.proxy_net.specs.Delays.{is_accept_due, is_accept_early, accept_left, is_put_off, IsWithin}
 use Rattle.std.specs.String.{string_bytes}
 use Rattle.proxy_net.specs.Registering.{is_own_link, is_own_listener, listeners_from}
@@ -51,9 +53,10 @@ count_in sockets Waits = sockets.waits
 count_in sockets (Listener listener) = unwrap_or (option_map (λ (s : ListenerSocket _). s.faults) (slice_get sockets.listeners.items listener)) sockets.absent
 count_in sockets (OfLink link) = unwrap_or (option_map (λ (s : LinkSocket _). s.faults) (socket_in sockets link)) sockets.absent
 
-abbrev pub shown : {T L : Type 0} → SocketSet T L → NetView
-shown sockets = record {
-  journal = None;
+-- what a net shows of its sockets and of the journal of its system
+abbrev pub shown : {T L : Type 0} → SocketSet T L → Option (List SystemCall) → NetView
+shown sockets calls = record {
+  journal = net_journal calls;
   counts = count_in sockets;
   wishes = wishes_in sockets;
   script_done = false;
@@ -95,8 +98,27 @@ is_link_registered sockets number = is_own_link number (tree.get nat_cmp sockets
 abbrev pub is_listener_registered : {T L : Type 0} → SocketSet T L → ℕ → Bool
 is_listener_registered sockets place = is_own_listener place (slice_get sockets.listeners.items place)
 
--- what is ready for a wish is marked as queued, what is marked so stands in the queue, and each socket
--- is registered by its own number
+-- the path at which the bind of a listener made a file that isn't removed yet
+abbrev pub path_in : {L : Type 0} → Option (ListenerSocket L) → Option (List ℕ)
+path_in socket = unwrap_or (option_map (λ (s : ListenerSocket _). option_map (λ (f : BoundFile). string_bytes f.path) s.file) socket) None
+
+abbrev pub path_at : {T L : Type 0} → SocketSet T L → ℕ → Option (List ℕ)
+path_at sockets place = path_in (slice_get sockets.listeners.items place)
+
+-- the link of a number isn't connected yet
+abbrev pub is_pending_at : {T L : Type 0} → SocketSet T L → ℕ → Bool
+is_pending_at sockets number = unwrap_or (option_map (λ (s : LinkSocket _). is_pending s.connection) (tree.get nat_cmp sockets.links number)) false
+
+-- the path to which the connect of the link of a number is tried again, where there is a try
+abbrev pub tried_path_at : {T L : Type 0} → SocketSet T L → ℕ → Option (List ℕ)
+tried_path_at sockets number = unwrap_or (option_map (λ (s : LinkSocket _). tried_path s.connection) (tree.get nat_cmp sockets.links number)) None
+
+-- a link that isn't connected yet is among those whose connect is tried again
+abbrev pub is_retried : {T L : Type 0} → SocketSet T L → ℕ → Bool
+is_retried sockets number = not (is_pending_at sockets number) || list_any (nat_eq number) sockets.pending.items
+
+-- what is ready for a wish is marked as queued, what is marked so stands in the queue, each socket is
+-- registered by its own number, and each connect that isn't made yet is tried again
 pub record IsConsistent {T L : Type 0} (sockets : SocketSet T L) : Type 0 where
   pub links : (link : Link) → has_link_placed sockets link ≡ true
   pub listeners : (listener : ℕ) → has_listener_placed sockets listener ≡ true
@@ -104,9 +126,11 @@ pub record IsConsistent {T L : Type 0} (sockets : SocketSet T L) : Type 0 where
   pub listener_places : (place : ℕ) → place < 2 ^ 32 → is_listener_queued sockets place ≡ true
   pub link_tokens : (number : ℕ) → is_link_registered sockets number ≡ true
   pub listener_tokens : (place : ℕ) → is_listener_registered sockets place ≡ true
+  pub retries : (number : ℕ) → is_retried sockets number ≡ true
 
 -- no count falls, nothing that is ready for a wish falls out of the queue, what is marked as queued
--- stands in it, and what is registered by its own number stays so
+-- stands in it, what is registered by its own number stays so, no connect is forgotten, and no listener
+-- gets another file
 pub record Grows {T L : Type 0} (old new : SocketSet T L) : Type 0 where
   pub each : (count : Count) → count_in old count ≤ count_in new count
   pub links : (link : Link) → has_link_placed old link ≡ true → has_link_placed new link ≡ true
@@ -115,20 +139,27 @@ pub record Grows {T L : Type 0} (old new : SocketSet T L) : Type 0 where
   pub listener_places : (place : ℕ) → place < 2 ^ 32 → is_listener_queued old place ≡ true → is_listener_queued new place ≡ true
   pub link_tokens : (number : ℕ) → is_link_registered old number ≡ true → is_link_registered new number ≡ true
   pub listener_tokens : (place : ℕ) → is_listener_registered old place ≡ true → is_listener_registered new place ≡ true
+  pub files : (place : ℕ) (path : List ℕ) → place < vec_len old.listeners → path_at new place ≡ Some path → path_at old place ≡ Some path
+  pub retries : (number : ℕ) → is_retried old number ≡ true → is_retried new number ≡ true
 
--- no count falls, the wishes of all links and the number of sessions are as before, nothing that is
--- ready for a wish falls out of the queue, what is marked as queued stands in it, and what is
--- registered by its own number stays so
+-- no count falls, the wishes of all links and the numbers of listeners and sessions are as before,
+-- nothing that is ready for a wish falls out of the queue, what is marked as queued stands in it, what
+-- is registered by its own number stays so, no connect is forgotten or tried at another path, and no
+-- listener gets another file
 pub record GoesOn {T L : Type 0} (old new : SocketSet T L) : Type 0 where
   pub counts : (count : Count) → count_in old count ≤ count_in new count
   pub wishes : (link : Link) → wishes_in new link ≡ wishes_in old link
   pub sessions : new.sessions ≡ old.sessions
+  pub number : vec_len new.listeners ≡ vec_len old.listeners
   pub links : (link : Link) → has_link_placed old link ≡ true → has_link_placed new link ≡ true
   pub listeners : (listener : ℕ) → has_listener_placed old listener ≡ true → has_listener_placed new listener ≡ true
   pub link_places : (number : ℕ) → number < listeners_from → is_link_queued old number ≡ true → is_link_queued new number ≡ true
   pub listener_places : (place : ℕ) → place < 2 ^ 32 → is_listener_queued old place ≡ true → is_listener_queued new place ≡ true
   pub link_tokens : (number : ℕ) → is_link_registered old number ≡ true → is_link_registered new number ≡ true
   pub listener_tokens : (place : ℕ) → is_listener_registered old place ≡ true → is_listener_registered new place ≡ true
+  pub files : (place : ℕ) (path : List ℕ) → place < vec_len old.listeners → path_at new place ≡ Some path → path_at old place ≡ Some path
+  pub retries : (number : ℕ) → is_retried old number ≡ true → is_retried new number ≡ true
+  pub paths : (number : ℕ) (path : List ℕ) → tried_path_at new number ≡ Some path → tried_path_at old number ≡ Some path
 
 -- the link of a number has a stream
 abbrev pub is_open_at : {T L : Type 0} → SocketSet T L → ℕ → Bool
@@ -154,6 +185,13 @@ AfterAcceptIn NotReady old new = KeepsWishesIn old new
 AfterAcceptIn Refused old new = KeepsWishesIn old new
 AfterAcceptIn Memory old new = KeepsWishesIn old new
 
+-- how many sessions were accepted after an accept that answered so
+abbrev pub sessions_after : Accepted → ℕ → ℕ
+sessions_after (New session) before = session
+sessions_after NotReady before = before
+sessions_after Refused before = before
+sessions_after Memory before = before
+
 -- whether the writes of the link of a number fail by now, where there is one
 abbrev pub given_up_at : {T L : Type 0} → SocketSet T L → ℕ → Option Bool
 given_up_at sockets number = option_map (λ (s : LinkSocket _). s.given_up) (tree.get nat_cmp sockets.links number)
@@ -173,10 +211,6 @@ pub record StaysUnread {T L : Type 0} (old new : SocketSet T L) : Type 0 where
 -- no peer that was known to have closed is forgotten
 pub record StaysClosed {T L : Type 0} (old new : SocketSet T L) : Type 0 where
   pub each : (number : ℕ) → is_peer_closed_at old number ≡ true → is_peer_closed_at new number ≡ true
-
--- the link of a number isn't connected yet
-abbrev pub is_pending_at : {T L : Type 0} → SocketSet T L → ℕ → Bool
-is_pending_at sockets number = unwrap_or (option_map (λ (s : LinkSocket _). is_pending s.connection) (tree.get nat_cmp sockets.links number)) false
 
 -- Each link that is readable was so before, or is one of those that are reported, or wasn't connected
 -- yet. Each that isn't connected yet wasn't so before, and no close is forgotten.
@@ -224,13 +258,13 @@ pub record IsFirstLeft {T L : Type 0} (sockets : SocketSet T L) (now : Option In
   pub by : (place left : ℕ) → place < count → accept_left_at sockets now place ≡ Some left → IsWithin left first
   pub one : (nanos : ℕ) → first ≡ Some nanos → (place : ℕ) × (accept_left_at sockets now place ≡ Some nanos)
 
-abbrev pub path_in : {L : Type 0} → Option (ListenerSocket L) → Option (List ℕ)
-path_in None = None
-path_in (Some socket) = option_map (λ (f : BoundFile). string_bytes f.path) socket.file
+-- a listener has a file that its bind made at a path
+abbrev pub HasFileAt : {T L : Type 0} → SocketSet T L → List ℕ → Type 0
+HasFileAt sockets path = (place : ℕ) × (path_at sockets place ≡ Some path)
 
--- the path at which the bind of the listener at a place made a file that isn't removed yet
-abbrev pub path_at : {T L : Type 0} → SocketSet T L → ℕ → Option (List ℕ)
-path_at sockets place = path_in (slice_get sockets.listeners.items place)
+-- where the journal is told, each file that a listener has was made by that listener's bind to its path
+pub record AreBound {T L : Type 0} (calls : Option (List SystemCall)) (sockets : SocketSet T L) : Type 0 where
+  pub told : (before : List SystemCall) → calls ≡ Some before → (place : ℕ) (path : List ℕ) → path_at sockets place ≡ Some path → was_bound (listeners_from + place) path before ≡ true
 
 -- the listener at a place has a file
 abbrev pub has_file_at : {T L : Type 0} → SocketSet T L → ℕ → Bool

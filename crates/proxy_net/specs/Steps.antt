@@ -7,7 +7,18 @@ use Rattle.link_traits.specs.declared.links.Got.TheVariants.{Bytes as GotBytes, 
 use Rattle.link_traits.specs.declared.links.Took.{Took}
 use Rattle.link_traits.specs.declared.links.Took.TheVariants.{Bytes as TookBytes, NotReady as WriteNotReady, Failed as WriteFailed}
 use Rattle.link_traits.specs.declared.links.NetFault.{NetFault}
-use Rattle.proxy_net.specs.SystemCalls.{SystemCall, connect, watch, read, write, close}
+use Rattle.link_traits.specs.declared.links.Accepted.{Accepted}
+use Rattle.link_traits.specs.declared.links.Accepted.TheVariants.{New, NotReady as AcceptNotReady, Failed as AcceptFailed, Memory}
+use Rattle.link_traits.specs.Answers.{client_link}
+use Rattle.link_traits.specs.Entries.{Entry}
+use Rattle.link_traits.specs.Numbers.{number_of}
+use Rattle.std.specs.String.{string_bytes}
+use Rattle.proxy_net.specs.Answers.{answers_in}
+use Rattle.proxy_net.specs.SystemCalls.{SystemCall, bind, await_clients, accept, connect, watch, read, write, close, remove, answered}
+use Rattle.proxy_net.specs.declared.link_sockets.Connection.{Connection}
+use Rattle.proxy_net.specs.declared.link_sockets.Connection.TheVariants.{Open, Pending, Failed}
+use Rattle.proxy_net.specs.declared.listeners.Arrival.{Arrival}
+use Rattle.proxy_net.specs.declared.listeners.Arrival.TheVariants.{Client, NotReady as NobodyCame, Failed as ArrivalFailed}
 use Rattle.proxy_net.specs.declared.streams.StreamRead.{StreamRead}
 use Rattle.proxy_net.specs.declared.streams.StreamRead.TheVariants.{Bytes, End, Nothing, Fault}
 use Rattle.proxy_net.specs.declared.streams.StreamWrite.{StreamWrite}
@@ -18,6 +29,10 @@ use Rattle.proxy_net.specs.declared.link_sockets.LinkWrite.TheVariants.{Bytes as
 -- where the journal is still told, it was told before, and calls of this kind were added
 pub record Steps (P : List SystemCall → Type 0) (old new : Option (List SystemCall)) : Type 0 where
   pub told : (after : List SystemCall) → new ≡ Some after → (before : List SystemCall) × (calls : List SystemCall) × (old ≡ Some before) × (after ≡ calls ++ before) × P calls
+
+-- calls among which the net answered nothing
+abbrev pub IsSilent : List SystemCall → Type 0
+IsSilent calls = answers_in calls ≡ []
 
 -- A read of a socket: the bytes that are answered are those that the system gave, of that socket. It ends where the system gave
 -- no byte, or reset it.
@@ -96,3 +111,66 @@ IsConnectionWrite number piece WriteFault calls = (calls ≡ []) ⊎ ((calls ≡
 -- a try to connect to this path again, as the link of this number, or no try yet
 abbrev pub IsRetryOf : ℕ → List ℕ → List SystemCall → Type 0
 IsRetryOf number path calls = (calls ≡ []) ⊎ ((fault : Option ErrorKind) × (calls ≡ connect number path fault ∷ []))
+
+-- .. of a link's connection, which alone has a path while it isn't connected yet
+abbrev pub IsRetryIn : {T : Type 0} → Connection T → List SystemCall → Type 0
+IsRetryIn (Open stream) calls = calls ≡ []
+IsRetryIn (Pending retry) calls = IsRetryOf retry.token (string_bytes retry.path) calls
+IsRetryIn Failed calls = calls ≡ []
+
+-- calls of this kind, and then the net's answer
+abbrev pub IsAnswered : Entry → (List SystemCall → Type 0) → List SystemCall → Type 0
+IsAnswered entry P calls = (asked : List SystemCall) × (calls ≡ answered entry ∷ asked) × P asked
+
+-- the file at a path is removed, or nothing is asked
+abbrev pub IsRemoval : List ℕ → List SystemCall → Type 0
+IsRemoval path calls = (calls ≡ []) ⊎ (calls ≡ remove path ∷ [])
+
+-- the file that a bind made is removed, if it made one at this path
+abbrev pub IsFileRemoval : Option (List ℕ) → List SystemCall → Type 0
+IsFileRemoval None calls = calls ≡ []
+IsFileRemoval (Some path) calls = IsRemoval path calls
+
+-- a call that removes the file at one of these paths
+abbrev pub IsRemovalAmong : (List ℕ → Type 0) → SystemCall → Type 0
+IsRemovalAmong P call = (path : List ℕ) × (call ≡ remove path) × P path
+
+-- the files at these paths are removed, or some of them, and nothing else is asked
+abbrev pub AreRemovals : (List ℕ → Type 0) → List SystemCall → Type 0
+AreRemovals P [] = Unit {0}
+AreRemovals P (call ∷ before) = IsRemovalAmong P call × AreRemovals P before
+
+-- a bind to a path, where that isn't empty
+abbrev pub IsBind : {L : Type 0} → ℕ → List ℕ → Option L → List SystemCall → Type 0
+IsBind number path (Some _) calls = calls ≡ bind number path None ∷ []
+IsBind number path None calls = (calls ≡ []) ⊎ ((kind : ErrorKind) × (calls ≡ bind number path (Some kind) ∷ []))
+
+-- clients of a listener are awaited
+abbrev pub IsAwait : ℕ → Result ℕ NetFault → List SystemCall → Type 0
+IsAwait number (Ok _) calls = calls ≡ await_clients number None ∷ []
+IsAwait number (Err _) calls = (fault : Option ErrorKind) × (calls ≡ await_clients number fault ∷ [])
+
+-- the file at the path of a listen that failed is removed, or nothing is asked
+abbrev pub IsCleanUp : List ℕ → Result ℕ NetFault → List SystemCall → Type 0
+IsCleanUp path (Ok _) calls = calls ≡ []
+IsCleanUp path (Err _) calls = IsRemoval path calls
+
+-- A listen: a socket is bound to the path, and its clients are awaited. Where that can't be, no file but the one at the path is removed.
+abbrev pub IsListen : ℕ → List ℕ → Result ℕ NetFault → List SystemCall → Type 0
+IsListen number path (Ok _) calls = calls ≡ await_clients number None ∷ bind number path None ∷ []
+IsListen number path (Err _) calls = (calls ≡ []) ⊎ (((kind : ErrorKind) × (calls ≡ bind number path (Some kind) ∷ []))
+    ⊎ (((fault : Option ErrorKind) × (calls ≡ await_clients number fault ∷ bind number path None ∷ []))
+    ⊎ ((fault : Option ErrorKind) × (calls ≡ remove path ∷ await_clients number fault ∷ bind number path None ∷ []))))
+
+-- a client is taken at the listener of a number, as the stream of another number
+abbrev pub IsArrival : {T : Type 0} → ℕ → ℕ → Arrival T → List SystemCall → Type 0
+IsArrival listener number (Client _) calls = calls ≡ accept listener number None ∷ []
+IsArrival listener number NobodyCame calls = (kind : ErrorKind) × (calls ≡ accept listener number (Some kind) ∷ [])
+IsArrival listener number ArrivalFailed calls = (calls ≡ []) ⊎ ((kind : ErrorKind) × (calls ≡ accept listener number (Some kind) ∷ []))
+
+-- An accept at the listener of a number: a client is taken there, as the client link of the session that is answered.
+abbrev pub IsAccept : ℕ → Accepted → List SystemCall → Type 0
+IsAccept listener (New session) calls = calls ≡ accept listener (number_of (client_link session)) None ∷ []
+IsAccept listener AcceptNotReady calls = (number : ℕ) × (kind : ErrorKind) × (calls ≡ accept listener number (Some kind) ∷ [])
+IsAccept listener AcceptFailed calls = (calls ≡ []) ⊎ ((number : ℕ) × (fault : Option ErrorKind) × (calls ≡ accept listener number fault ∷ []))
+IsAccept listener Memory calls = (calls ≡ []) ⊎ ((number : ℕ) × (fault : Option ErrorKind) × (calls ≡ accept listener number fault ∷ []))

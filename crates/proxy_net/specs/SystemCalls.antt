@@ -1,11 +1,13 @@
 -- What a system was asked, and what it answered.
-use Rattle.std.specs.Prelude.{ℕ, ◌≡◌, ◌≢◌, Bool, List, [], ◌∷◌, ◌++◌, take, Option, Some, None, Result, Ok, Err}
+use Rattle.std.specs.List.{list_any}
+use Rattle.std.specs.Prelude.{ℕ, ◌≡◌, ◌≢◌, ◌&&◌, nat_eq, bytes_eq, Bool, false, List, [], ◌∷◌, ◌++◌, take, Option, Some, None, Result, Ok, Err}
 use Rattle.std.specs.declared.io.ErrorKind.{ErrorKind}
 use Rattle.std.specs.declared.io.ErrorKind.TheVariants.{Interrupted}
+use Rattle.link_traits.specs.Entries.{Entry}
 use Rattle.proxy_net.specs.declared.reports.Report.{Report}
 
 -- A call, with the number of its socket, its path or its bytes, and the kind of the fault for which it was refused. An accept has
--- the listener's number and that of the stream.
+-- the listener's number and that of the stream. Beside its own calls stands what a net over the system answered.
 pub data SystemCall : Type 0 where
   bind : ℕ → List ℕ → Option ErrorKind → SystemCall
   await_clients : ℕ → Option ErrorKind → SystemCall
@@ -17,6 +19,26 @@ pub data SystemCall : Type 0 where
   close : ℕ → SystemCall
   wait : List Report → SystemCall
   remove : List ℕ → SystemCall
+  answered : Entry → SystemCall
+
+-- a bind of the socket of a number to a path, which was made
+abbrev pub is_bind : ℕ → List ℕ → SystemCall → Bool
+is_bind number path (bind bound at None) = nat_eq bound number && bytes_eq at path
+is_bind number path (bind bound at (Some kind)) = false
+is_bind number path (await_clients listener fault) = false
+is_bind number path (accept listener stream fault) = false
+is_bind number path (connect link at fault) = false
+is_bind number path (watch link writable fault) = false
+is_bind number path (read link answer) = false
+is_bind number path (write link answer) = false
+is_bind number path (close link) = false
+is_bind number path (wait reports) = false
+is_bind number path (remove at) = false
+is_bind number path (answered entry) = false
+
+-- the socket of a number was bound to a path
+abbrev pub was_bound : ℕ → List ℕ → List SystemCall → Bool
+was_bound number path calls = list_any (is_bind number path) calls
 
 -- the kind of the error, where there is one
 abbrev pub fault_of : {T E : Type 0} → (E → ErrorKind) → Result T E → Option ErrorKind

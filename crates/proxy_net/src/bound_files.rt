@@ -1,5 +1,8 @@
 //! The files that binds make.
-ghost use Rattle.std.specs.Prelude.{◌≡◌, true, false, IfSome};
+ghost use Rattle.std.specs.Prelude.{◌≡◌, ◌∷◌, [], true, false, IfSome};
+ghost use Rattle.std.specs.String.{string_bytes};
+ghost use Rattle.proxy_net.specs.SystemCalls.{Tells, remove};
+ghost use Rattle.proxy_net.specs.Steps.{Steps, IsRemoval};
 
 use crate::system::Sockets;
 
@@ -36,13 +39,17 @@ impl BoundFile {
     }
 
     /// Removes it, unless something else is at its path by now.
-    pub fn remove<S: Sockets>(&self, system: &mut S) {
+    pub fn remove<S: Sockets>(&self, system: &mut S)
+        ensures { Steps (IsRemoval (string_bytes self.now.path)) (S.journal system.old) (S.journal system.new) }
+    {
         remove_made(system, self.path.as_str(), self.identity);
     }
 }
 
 /// Removes what is at a path, if it is the file that was made there.
-pub fn remove_made<S: Sockets>(system: &mut S, path: &str, made: FileIdentity) {
+pub fn remove_made<S: Sockets>(system: &mut S, path: &str, made: FileIdentity)
+    ensures { Steps (IsRemoval path.now) (S.journal system.old) (S.journal system.new) }
+{
     if let Some(found) = system.identify(path)
         && found == made
     {
@@ -53,6 +60,7 @@ pub fn remove_made<S: Sockets>(system: &mut S, path: &str, made: FileIdentity) {
 /// Removes a file that was found at a path.
 fn remove_found<S: Sockets>(system: &mut S, path: &str, found: FileIdentity, made: FileIdentity)
     requires { found ≡ made }
+    ensures { Tells (S.journal system.old) (S.journal system.new) (remove path.now ∷ []) }
 {
     let _ = system.remove_file(path);
 }

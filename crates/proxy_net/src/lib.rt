@@ -3,6 +3,7 @@
 //! A `MioNet` is driven by the calls of `link_traits::Net`.
 #![tactic(auto)]
 
+mod answers;
 mod bound_files;
 mod delays;
 mod link_sockets;
@@ -13,6 +14,7 @@ mod sockets;
 mod streams;
 pub mod system;
 
+pub use answers::Answer;
 pub use bound_files::FileIdentity;
 pub use net::MioNet;
 pub use reports::Report;

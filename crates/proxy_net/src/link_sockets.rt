@@ -6,8 +6,9 @@ ghost use Rattle.link_traits.specs.Answers.{no_wishes};
 ghost use Rattle.proxy_net.specs.Naming.{is_ready, is_link_placed, is_link_closed, is_to_fail};
 ghost use Rattle.proxy_net.specs.Registering.{is_registered_by, is_connected_by};
 ghost use Rattle.proxy_net.specs.Noting.{is_link_noted};
-ghost use Rattle.proxy_net.specs.Connecting.{IsLater, is_open, is_pending, is_given_up as is_failed, due_of};
-ghost use Rattle.proxy_net.specs.Steps.{Steps, IsRead, IsLinkWrite, IsConnectionWrite, IsRoomAwaited, IsWatched, IsRetryOf, IsShut, got_of};
+ghost use Rattle.proxy_net.specs.Connecting.{IsLater, is_open, is_pending, is_given_up as is_failed, due_of, tried_path};
+ghost use Rattle.std.specs.Prelude.{List};
+ghost use Rattle.proxy_net.specs.Steps.{Steps, IsRead, IsLinkWrite, IsConnectionWrite, IsRoomAwaited, IsWatched, IsRetryOf, IsRetryIn, IsShut, IsSilent, got_of};
 ghost use Rattle.std.specs.String.{string_bytes};
 ghost use Rattle.std.specs.Time.{instant_nanos};
 
@@ -345,6 +346,7 @@ impl<T: Drop> LinkSocket<T> {
     fn watch<S: Sockets<Stream = T>>(&mut self, system: &mut S, writable: bool) -> bool
         ensures same { self.new ≡ self.old }
         ensures told { (number : ℕ) → is_registered_by number self.old.connection ≡ true → Steps (IsWatched (is_open self.old.connection) number writable result) (S.journal system.old) (S.journal system.new) }
+        ensures silent { Steps IsSilent (S.journal system.old) (S.journal system.new) }
     {
         match &mut self.connection {
             Connection::Open(stream) => system.watch(stream, writable).is_ok(),
@@ -359,6 +361,7 @@ impl<T: Drop> LinkSocket<T> {
         ensures readable { self.new.readable ≡ (self.old.readable || readable) }
         ensures writable { self.new.writable ≡ (self.old.writable || (writable && not self.old.peer_closed)) }
         ensures rest { self.new ≡ record self.old { faults = self.new.faults; readable = self.new.readable; writable = self.new.writable } }
+        ensures silent { Steps IsSilent (S.journal system.old) (S.journal system.new) }
         ensures faults { self.old.faults ≤ self.new.faults }
     {
         self.readable = self.readable || readable;
@@ -470,6 +473,8 @@ impl<T: Drop> LinkSocket<T> {
         ensures closed { self.new.peer_closed ≡ self.old.peer_closed }
         ensures faults { self.old.faults ≤ self.new.faults }
         ensures wishes { self.new.wishes ≡ self.old.wishes }
+        ensures paths { (path : List ℕ) → tried_path self.new.connection ≡ Some path → tried_path self.old.connection ≡ Some path }
+        ensures told { Steps (IsRetryIn self.old.connection) (S.journal system.old) (S.journal system.new) }
     {
         match self.connect(system, now) {
             Connected::To(stream) => {
@@ -498,6 +503,8 @@ impl<T: Drop> LinkSocket<T> {
         ensures pending { is_pending self.new.connection ≡ is_pending self.old.connection }
         ensures early { (time due : Instant) → now ≡ Some time → due_of self.old.connection ≡ Some due → instant_nanos time < instant_nanos due → (result ≡ Connected.NotDue) × (self.new ≡ self.old) }
         ensures rest { self.new ≡ record self.old { connection = self.new.connection } }
+        ensures path { tried_path self.new.connection ≡ tried_path self.old.connection }
+        ensures told { Steps (IsRetryIn self.old.connection) (S.journal system.old) (S.journal system.new) }
     {
         match &mut self.connection {
             Connection::Pending(retry) => match now {

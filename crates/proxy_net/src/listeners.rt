@@ -4,6 +4,8 @@ ghost use Rattle.proxy_net.specs.Connecting.{IsLater};
 ghost use Rattle.proxy_net.specs.Delays.{next_delay, is_accept_due, is_accept_early, accept_left, nanos_of};
 ghost use Rattle.proxy_net.specs.Naming.{is_awaited, is_listener_placed};
 ghost use Rattle.proxy_net.specs.Noting.{is_listener_noted};
+ghost use Rattle.proxy_net.specs.Sockets.{path_in};
+ghost use Rattle.proxy_net.specs.Steps.{Steps, IsArrival, IsFileRemoval};
 
 use crate::bound_files::BoundFile;
 use crate::delays::{BLIND_DELAY, delay_after, delay_until, is_time, later};
@@ -85,6 +87,7 @@ impl<L: Drop> ListenerSocket<L> {
         ensures served { (stream : _) → result.0 ≡ Arrival.Client stream → self.new.delay ≡ 0 }
         ensures delay { result.0 ≡ Arrival.Failed → self.new.delay ≡ self.old.delay }
         ensures number { (stream : _) → result.0 ≡ Arrival.Client stream → stream.number ≡ number }
+        ensures told { Steps (IsArrival self.old.listener.number number result.0) (S.journal system.old) (S.journal system.new) }
     {
         let arrival = self.take_client(system, number);
         (arrival, self.take_place())
@@ -100,6 +103,7 @@ impl<L: Drop> ListenerSocket<L> {
         ensures served { (stream : _) → result ≡ Arrival.Client stream → self.new.delay ≡ 0 }
         ensures delay { result ≡ Arrival.Failed → self.new.delay ≡ self.old.delay }
         ensures number { (stream : _) → result ≡ Arrival.Client stream → stream.number ≡ number }
+        ensures told { Steps (IsArrival self.old.listener.number number result) (S.journal system.old) (S.journal system.new) }
         ensures rest { self.new ≡ record self.old { ready = self.new.ready; unheeded = false; delay = self.new.delay } }
     {
         self.unheeded = false;
@@ -114,6 +118,7 @@ impl<L: Drop> ListenerSocket<L> {
 
     /// Answers an accept that the system refused. It isn't counted here.
     fn refuse<T>(&mut self, kind: ErrorKind) -> Arrival<T>
+        ensures none { (stream : _) → result ≡ Arrival.Client stream → ⊥ }
         ensures nobody { kind ≡ ErrorKind.WouldBlock → (result ≡ Arrival.NotReady) × (self.new.ready ≡ false) }
         ensures again { kind ≡ ErrorKind.Interrupted → (result ≡ Arrival.NotReady) × (self.new.ready ≡ self.old.ready) }
         ensures fault { kind ≢ ErrorKind.WouldBlock → kind ≢ ErrorKind.Interrupted → result ≡ Arrival.Failed }
@@ -190,7 +195,8 @@ impl<L: Drop> ListenerSocket<L> {
 
     /// Removes the file that its bind made, unless something else is at the path by now.
     pub fn remove_file<S: Sockets>(&mut self, system: &mut S)
-        ensures { self.new ≡ record self.old { file = None } }
+        ensures told { Steps (IsFileRemoval (path_in (Some self.old))) (S.journal system.old) (S.journal system.new) }
+        ensures rest { self.new ≡ record self.old { file = None } }
     {
         if let Some(file) = self.file.take() {
             file.remove(system);

@@ -1,8 +1,10 @@
 //! A net over Unix sockets.
-ghost use Rattle.std.specs.Prelude.{◌≡◌, ◌≤◌, IfOk, IfSome, vec_capacity};
-ghost use Rattle.proxy_net.specs.Sockets.{IsConsistent};
+ghost use Rattle.std.specs.Prelude.{◌≡◌, ◌≤◌, IfOk, IfSome, vec_capacity, vec_len};
+ghost use Rattle.proxy_net.specs.Sockets.{IsConsistent, AreBound};
+ghost use Rattle.proxy_net.specs.Answers.{IsCounted};
 ghost use Rattle.proxy_net.specs.declared.system.TheConstants.{REPORTS};
 
+use crate::answers::Answer;
 use crate::reports::Report;
 use crate::sockets::SocketSet;
 use crate::system::{REPORTS, Sockets, SystemSockets};
@@ -10,7 +12,7 @@ use link_traits::{Accepted, Count, Got, Link, Net, NetFault, Ready, Took, Wishes
 use std::alloc::{AllocError, Global};
 use std::io;
 
-/// A net over Unix sockets. What its links carry is not told.
+/// A net over Unix sockets. Each of its answers is told to its system, so that it tells its journal if the system tells its own.
 ///
 /// It names a link only for a wish that is true. A thing that is ready goes on being named, in turn with the others, until it
 /// answered that it would wait. A link that answered so to a read isn't named for reading again until the system reports
@@ -32,27 +34,33 @@ pub struct MioNet<S: Sockets + Drop> {
     reports: Vec<Report>,
     ghost consistent: { IsConsistent sockets },
     ghost room: { REPORTS ≤ vec_capacity reports },
+    ghost counted: { IsCounted (S.journal system) (vec_len sockets.listeners) sockets.sessions },
+    ghost bound: { AreBound (S.journal system) sockets },
 }
 
 impl<'a> MioNet<SystemSockets<'a>> {
+    ghost use Rattle.std.specs.Prelude.{None};
     ghost use Rattle.proxy_net.specs.Sockets.{shown, IsUnused};
 
     /// A net over the sockets of the system, without listeners and links.
     pub fn new(rt: &'a HostRuntime) -> io::Result<MioNet<SystemSockets<'a>>>
-        ensures { IfOk result (λ net. IsUnused (shown net.sockets)) }
+        ensures { IfOk result (λ net. IsUnused (shown net.sockets None)) }
     {
         Ok(MioNet::over(rt.alloc(), SystemSockets::new(rt)?)?)
     }
 }
 
 impl<S: Sockets + Drop> MioNet<S> {
-    ghost use Rattle.std.specs.Prelude.{ℕ, vec_len, false};
+    ghost use Rattle.std.specs.Prelude.{ℕ, false, ◌≢◌};
+    ghost use Rattle.proxy_net.specs.Answers.{IsUnanswered};
+    ghost use Rattle.proxy_net.specs.Steps.{Steps, IsSilent, AreRemovals};
     ghost use Rattle.link_traits.specs.Views.{KeepsWishes};
-    ghost use Rattle.proxy_net.specs.Sockets.{shown, GoesOn, IsUnused, IsWished, StaysClosed, has_file_at};
+    ghost use Rattle.proxy_net.specs.Sockets.{shown, RoseIn, GoesOn, IsUnused, IsWished, StaysClosed, HasFileAt, has_file_at};
 
-    /// A net over the sockets of a system, without listeners and links.
+    /// A net over the sockets of a system, without listeners and links. No net answered anything over that system before.
     pub fn over(alloc: Global, system: S) -> Result<MioNet<S>, AllocError>
-        ensures { IfOk result (λ net. IsUnused (shown net.sockets)) }
+        requires { IsUnanswered (S.journal system) }
+        ensures { IfOk result (λ net. IsUnused (shown net.sockets (S.journal net.system))) }
     {
         Ok(MioNet {
             alloc,
@@ -64,7 +72,7 @@ impl<S: Sockets + Drop> MioNet<S> {
 
     /// What is counted: faults, and calls that would have waited.
     pub fn count(&self, count: Count) -> u64
-        ensures { result ≡ (shown self.now.sockets).counts count }
+        ensures { result ≡ (shown self.now.sockets (S.journal self.now.system)).counts count }
     {
         self.sockets.count(count)
     }
@@ -75,8 +83,13 @@ impl<S: Sockets + Drop> MioNet<S> {
         // No listener has a file any more, and nothing else changes.
         ensures removed { (listener : ℕ) → has_file_at self.new.sockets listener ≡ false }
         ensures listeners { vec_len self.new.sockets.listeners ≡ vec_len self.old.sockets.listeners }
+        ensures asked { Steps (AreRemovals (HasFileAt self.old.sockets)) (S.journal self.old.system) (S.journal self.new.system) }
+
+        // A file that a listener has was made by its bind.
+        ensures bound { AreBound (S.journal self.old.system) self.old.sockets }
+
         ensures goes { GoesOn self.old.sockets self.new.sockets }
-        ensures wishes { KeepsWishes (shown self.old.sockets) (shown self.new.sockets) }
+        ensures wishes { KeepsWishes (shown self.old.sockets (S.journal self.old.system)) (shown self.new.sockets (S.journal self.new.system)) }
     {
         self.sockets.remove_files(&mut self.system);
     }
@@ -85,6 +98,7 @@ impl<S: Sockets + Drop> MioNet<S> {
     fn next(&mut self) -> Option<Ready>
         ensures wished { IfSome result (IsWished self.old.sockets self.new.sockets) }
         ensures closed { StaysClosed self.old.sockets self.new.sockets }
+        ensures silent { Steps IsSilent (S.journal self.old.system) (S.journal self.new.system) }
         ensures goes { GoesOn self.old.sockets self.new.sockets }
     {
         for _ in 0..u64::MAX {
@@ -99,10 +113,28 @@ impl<S: Sockets + Drop> MioNet<S> {
         }
         None
     }
+
+    /// Waits until something is to be named, and tells no answer.
+    fn next_or_failed(&mut self) -> Ready
+        ensures wished { result ≢ Ready.Failed → IsWished self.old.sockets self.new.sockets result }
+        ensures closed { StaysClosed self.old.sockets self.new.sockets }
+        ensures failed { result ≡ Ready.Failed → RoseIn Count.Own self.old.sockets self.new.sockets }
+        ensures waits { result ≢ Ready.Quiet }
+        ensures silent { Steps IsSilent (S.journal self.old.system) (S.journal self.new.system) }
+        ensures goes { GoesOn self.old.sockets self.new.sockets }
+    {
+        match self.next() {
+            Some(ready) => ready,
+            None => {
+                self.sockets.raise(Count::Own);
+                Ready::Failed
+            }
+        }
+    }
 }
 
 impl<S: Sockets + Drop> Net for MioNet<S> {
-    ghost use Rattle.std.specs.Prelude.{◌≢◌, ◌≤◌, ◌<◌, ◌+◌, ◌⊎◌, ℕ, [], ◌∷◌, length, vec_len, None, Some, OnOk, OnErr, IsErrOf, true, false};
+    ghost use Rattle.std.specs.Prelude.{◌≢◌, ◌≤◌, ◌<◌, ◌+◌, ◌⊎◌, ℕ, [], ◌∷◌, length, None, Some, OnOk, OnErr, IsErrOf, true, false};
     ghost use Rattle.link_traits.specs.Entries.{ready, shut};
     ghost use Rattle.link_traits.specs.Journals.{Journal, accepts, listens};
     ghost use Rattle.link_traits.specs.Answers.{listen_entry, accept_entry, connect_entry, read_entry, write_entry, no_wishes, client_link, bus_link, AfterAccept};
@@ -111,12 +143,13 @@ impl<S: Sockets + Drop> Net for MioNet<S> {
     ghost use Rattle.link_traits.specs.declared.links.Wishes.{Wishes};
     ghost use Rattle.std.specs.Option.{option_map};
     ghost use Rattle.proxy_net.specs.Naming.{other_of};
-    ghost use Rattle.proxy_net.specs.Steps.{Steps, IsConnect, IsRead, IsWrite, IsShut};
+    ghost use Rattle.proxy_net.specs.Registering.{listeners_from};
+    ghost use Rattle.proxy_net.specs.Steps.{Steps, IsAnswered, IsListen, IsAccept, IsConnect, IsRead, IsWrite, IsShut};
     ghost use Rattle.std.specs.Prelude.{List};
     ghost use Rattle.proxy_net.specs.Sockets.{path_at, is_put_off_at, delay_at, is_readable_at, StaysUnread, StaysClosed, KeepsReports};
     ghost use Rattle.proxy_net.specs.Sockets.{shown, is_open_at, is_pending_in, is_closed_at, is_peer_closed_at, is_stalled_at, IsJudgedAt, IsWished};
 
-    ghost view = { λ net. shown net.sockets };
+    ghost view = { λ net. shown net.sockets (S.journal net.system) };
 
     /// It is refused where a file stands at the path, and where the path is empty. No file that stood there is removed.
     fn listen(&mut self, path: &str) -> Result<u32, NetFault>
@@ -132,13 +165,18 @@ impl<S: Sockets + Drop> Net for MioNet<S> {
         // It makes no link readable.
         ensures unread { StaysUnread self.old.sockets self.new.sockets }
 
+        // What the system is asked for it, and told then.
+        ensures asked { Steps (IsAnswered (listen_entry path.now result) (IsListen (listeners_from + vec_len self.old.sockets.listeners) path.now result)) (S.journal self.old.system) (S.journal self.new.system) }
+
         // What the trait says.
-        ensures told { Adds (shown self.old.sockets) (shown self.new.sockets) (listen_entry path.now result ∷ []) }
-        ensures numbered { IfOk result (λ listener. (before : Journal) → (shown self.old.sockets).journal ≡ Some before → listener ≡ listens before) }
-        ensures failed { IsErrOf result NetFault.Failed → RoseAt Count.Own (shown self.old.sockets) (shown self.new.sockets) }
-        ensures wishes { KeepsWishes (shown self.old.sockets) (shown self.new.sockets) }
+        ensures told { Adds (shown self.old.sockets (S.journal self.old.system)) (shown self.new.sockets (S.journal self.new.system)) (listen_entry path.now result ∷ []) }
+        ensures numbered { IfOk result (λ listener. (before : Journal) → (shown self.old.sockets (S.journal self.old.system)).journal ≡ Some before → listener ≡ listens before) }
+        ensures failed { IsErrOf result NetFault.Failed → RoseAt Count.Own (shown self.old.sockets (S.journal self.old.system)) (shown self.new.sockets (S.journal self.new.system)) }
+        ensures wishes { KeepsWishes (shown self.old.sockets (S.journal self.old.system)) (shown self.new.sockets (S.journal self.new.system)) }
     {
-        self.sockets.listen(self.alloc, &mut self.system, path)
+        let answer = self.sockets.listen(self.alloc, &mut self.system, path);
+        self.system.tell(Answer::Listen(answer), path.as_bytes());
+        answer
     }
 
     /// It is never quiet.
@@ -151,18 +189,14 @@ impl<S: Sockets + Drop> Net for MioNet<S> {
         ensures closed { StaysClosed self.old.sockets self.new.sockets }
 
         // What the trait says.
-        ensures told { Adds (shown self.old.sockets) (shown self.new.sockets) (ready result ∷ []) }
-        ensures failed { result ≡ Ready.Failed → RoseAt Count.Own (shown self.old.sockets) (shown self.new.sockets) }
-        ensures quiet { result ≡ Ready.Quiet → (shown self.new.sockets).script_done ≡ true }
-        ensures wishes { KeepsWishes (shown self.old.sockets) (shown self.new.sockets) }
+        ensures told { Adds (shown self.old.sockets (S.journal self.old.system)) (shown self.new.sockets (S.journal self.new.system)) (ready result ∷ []) }
+        ensures failed { result ≡ Ready.Failed → RoseAt Count.Own (shown self.old.sockets (S.journal self.old.system)) (shown self.new.sockets (S.journal self.new.system)) }
+        ensures quiet { result ≡ Ready.Quiet → (shown self.new.sockets (S.journal self.new.system)).script_done ≡ true }
+        ensures wishes { KeepsWishes (shown self.old.sockets (S.journal self.old.system)) (shown self.new.sockets (S.journal self.new.system)) }
     {
-        match self.next() {
-            Some(ready) => ready,
-            None => {
-                self.sockets.raise(Count::Own);
-                Ready::Failed
-            }
-        }
+        let ready = self.next_or_failed();
+        self.system.tell(Answer::Wait(ready), &[]);
+        ready
     }
 
     /// If it fails or is refused memory, the listener isn't named again until a link is shut, another client comes, or its delay
@@ -181,37 +215,46 @@ impl<S: Sockets + Drop> Net for MioNet<S> {
         // It makes no link readable.
         ensures unread { StaysUnread self.old.sockets self.new.sockets }
 
+        // What the system is asked for it, and told then.
+        ensures asked { Steps (IsAnswered (accept_entry listener result) (IsAccept (listeners_from + listener) result)) (S.journal self.old.system) (S.journal self.new.system) }
+
         // What the trait says.
-        ensures told { Adds (shown self.old.sockets) (shown self.new.sockets) (accept_entry listener result ∷ []) }
-        ensures numbered { (session : ℕ) → result ≡ Accepted.New session → (before : Journal) → (shown self.old.sockets).journal ≡ Some before → session ≡ accepts before + 1 }
-        ensures failed { result ≡ Accepted.Failed → RoseAt (Count.Listener listener) (shown self.old.sockets) (shown self.new.sockets) }
-        ensures not_ready { result ≡ Accepted.NotReady → RoseAt Count.Waits (shown self.old.sockets) (shown self.new.sockets) }
-        ensures new_wishes { (session : ℕ) → result ≡ Accepted.New session → (shown self.new.sockets).wishes (client_link session) ≡ Some no_wishes }
-        ensures wishes { AfterAccept result (shown self.old.sockets) (shown self.new.sockets) }
+        ensures told { Adds (shown self.old.sockets (S.journal self.old.system)) (shown self.new.sockets (S.journal self.new.system)) (accept_entry listener result ∷ []) }
+        ensures numbered { (session : ℕ) → result ≡ Accepted.New session → (before : Journal) → (shown self.old.sockets (S.journal self.old.system)).journal ≡ Some before → session ≡ accepts before + 1 }
+        ensures failed { result ≡ Accepted.Failed → RoseAt (Count.Listener listener) (shown self.old.sockets (S.journal self.old.system)) (shown self.new.sockets (S.journal self.new.system)) }
+        ensures not_ready { result ≡ Accepted.NotReady → RoseAt Count.Waits (shown self.old.sockets (S.journal self.old.system)) (shown self.new.sockets (S.journal self.new.system)) }
+        ensures new_wishes { (session : ℕ) → result ≡ Accepted.New session → (shown self.new.sockets (S.journal self.new.system)).wishes (client_link session) ≡ Some no_wishes }
+        ensures wishes { AfterAccept result (shown self.old.sockets (S.journal self.old.system)) (shown self.new.sockets (S.journal self.new.system)) }
     {
-        self.sockets.accept(&mut self.system, listener)
+        let answer = self.sockets.accept(&mut self.system, listener);
+        self.system.tell(Answer::Accept(listener, answer), &[]);
+        answer
     }
 
     /// It is refused where the session has a link to its bus, and where the path is empty.
     fn connect(&mut self, session: u32, path: &str) -> Result<(), NetFault>
         ensures path { OnOk result (path.now ≢ []) }
-        ensures fresh { OnOk result ((shown self.old.sockets).wishes (bus_link session) ≡ None) }
-        ensures err { OnErr result (KeepsWishes (shown self.old.sockets) (shown self.new.sockets)) }
+        ensures fresh { OnOk result ((shown self.old.sockets (S.journal self.old.system)).wishes (bus_link session) ≡ None) }
+        ensures err { OnErr result (KeepsWishes (shown self.old.sockets (S.journal self.old.system)) (shown self.new.sockets (S.journal self.new.system))) }
 
         // It makes no link readable.
         ensures unread { StaysUnread self.old.sockets self.new.sockets }
 
-        // What the system is asked for it.
-        ensures asked { Steps (IsConnect (number_of (bus_link session)) path.now result) (S.journal self.old.system) (S.journal self.new.system) }
+        // What the system is asked for it, and told then.
+        ensures asked { Steps (IsAnswered (connect_entry session path.now result) (IsConnect (number_of (bus_link session)) path.now result)) (S.journal self.old.system) (S.journal self.new.system) }
 
         // What the trait says.
-        ensures told { Adds (shown self.old.sockets) (shown self.new.sockets) (connect_entry session path.now result ∷ []) }
-        ensures failed { IsErrOf result NetFault.Failed → RoseAt (Count.Link (bus_link session)) (shown self.old.sockets) (shown self.new.sockets) }
-        ensures new_wishes { OnOk result ((shown self.new.sockets).wishes (bus_link session) ≡ Some no_wishes) }
-        ensures wishes { KeepsOthers (bus_link session) (shown self.old.sockets) (shown self.new.sockets) }
+        ensures told { Adds (shown self.old.sockets (S.journal self.old.system)) (shown self.new.sockets (S.journal self.new.system)) (connect_entry session path.now result ∷ []) }
+        ensures failed { IsErrOf result NetFault.Failed → RoseAt (Count.Link (bus_link session)) (shown self.old.sockets (S.journal self.old.system)) (shown self.new.sockets (S.journal self.new.system)) }
+        ensures new_wishes { OnOk result ((shown self.new.sockets (S.journal self.new.system)).wishes (bus_link session) ≡ Some no_wishes) }
+        ensures wishes { KeepsOthers (bus_link session) (shown self.old.sockets (S.journal self.old.system)) (shown self.new.sockets (S.journal self.new.system)) }
     {
-        self.sockets
-            .connect(self.alloc, &mut self.system, session, path)
+        let answer = self
+            .sockets
+            .connect(self.alloc, &mut self.system, session, path);
+        self.system
+            .tell(Answer::Connect(session, answer), path.as_bytes());
+        answer
     }
 
     fn want(&mut self, link: Link, read: bool, write: bool)
@@ -222,15 +265,15 @@ impl<S: Sockets + Drop> Net for MioNet<S> {
         ensures reports { KeepsReports self.old.sockets self.new.sockets }
 
         // What the trait says.
-        ensures told { Adds (shown self.old.sockets) (shown self.new.sockets) [] }
-        ensures own { (shown self.new.sockets).wishes link ≡ option_map (λ (_ : Wishes). record { read = read; write = write }) ((shown self.old.sockets).wishes link) }
-        ensures wishes { KeepsOthers link (shown self.old.sockets) (shown self.new.sockets) }
+        ensures told { Adds (shown self.old.sockets (S.journal self.old.system)) (shown self.new.sockets (S.journal self.new.system)) [] }
+        ensures own { (shown self.new.sockets (S.journal self.new.system)).wishes link ≡ option_map (λ (_ : Wishes). record { read = read; write = write }) ((shown self.old.sockets (S.journal self.old.system)).wishes link) }
+        ensures wishes { KeepsOthers link (shown self.old.sockets (S.journal self.old.system)) (shown self.new.sockets (S.journal self.new.system)) }
     {
         self.sockets.want(link, Wishes { read, write });
     }
 
     fn read(&mut self, link: Link, into: &mut [u8]) -> Got
-        ensures missing { (shown self.old.sockets).wishes link ≡ None → result ≡ Got.Failed }
+        ensures missing { (shown self.old.sockets (S.journal self.old.system)).wishes link ≡ None → result ≡ Got.Failed }
         ensures pending { is_pending_in self.old.sockets link ≡ true → result ≡ Got.NotReady }
 
         // An end that was told is known from then on.
@@ -241,40 +284,44 @@ impl<S: Sockets + Drop> Net for MioNet<S> {
         ensures unread { StaysUnread self.old.sockets self.new.sockets }
         ensures closed { StaysClosed self.old.sockets self.new.sockets }
 
-        // What the system is asked for it.
-        ensures asked { Steps (IsRead (number_of link) into.new result) (S.journal self.old.system) (S.journal self.new.system) }
+        // What the system is asked for it, and told then.
+        ensures asked { Steps (IsAnswered (read_entry link into.new result) (IsRead (number_of link) into.new result)) (S.journal self.old.system) (S.journal self.new.system) }
 
         // What the trait says.
-        ensures told { Adds (shown self.old.sockets) (shown self.new.sockets) (read_entry link into.new result ∷ []) }
+        ensures told { Adds (shown self.old.sockets (S.journal self.old.system)) (shown self.new.sockets (S.journal self.new.system)) (read_entry link into.new result ∷ []) }
         ensures within { (n : ℕ) → result ≡ Got.Bytes n → n ≤ length into.new }
         ensures progress { (n : ℕ) → result ≡ Got.Bytes n → 0 < length into.new → 0 < n }
-        ensures failed { result ≡ Got.Failed → RoseAt (Count.Link link) (shown self.old.sockets) (shown self.new.sockets) }
-        ensures not_ready { result ≡ Got.NotReady → RoseAt Count.Waits (shown self.old.sockets) (shown self.new.sockets) }
-        ensures wishes { KeepsWishes (shown self.old.sockets) (shown self.new.sockets) }
+        ensures failed { result ≡ Got.Failed → RoseAt (Count.Link link) (shown self.old.sockets (S.journal self.old.system)) (shown self.new.sockets (S.journal self.new.system)) }
+        ensures not_ready { result ≡ Got.NotReady → RoseAt Count.Waits (shown self.old.sockets (S.journal self.old.system)) (shown self.new.sockets (S.journal self.new.system)) }
+        ensures wishes { KeepsWishes (shown self.old.sockets (S.journal self.old.system)) (shown self.new.sockets (S.journal self.new.system)) }
     {
-        self.sockets.read(&mut self.system, link, into)
+        let got = self.sockets.read(&mut self.system, link, into);
+        self.system.tell(Answer::Read(link, got), into);
+        got
     }
 
     fn write(&mut self, link: Link, piece: &[u8]) -> Took
-        ensures missing { (shown self.old.sockets).wishes link ≡ None → result ≡ Took.Failed }
+        ensures missing { (shown self.old.sockets (S.journal self.old.system)).wishes link ≡ None → result ≡ Took.Failed }
         ensures pending { is_pending_in self.old.sockets link ≡ true → result ≡ Took.NotReady }
 
         // Only the write that finds for the first time that the peer closed makes a link readable. A write forgets no close.
         ensures unread { is_peer_closed_at self.new.sockets (number_of link) ≡ is_peer_closed_at self.old.sockets (number_of link) → StaysUnread self.old.sockets self.new.sockets }
         ensures closed { StaysClosed self.old.sockets self.new.sockets }
 
-        // What the system is asked for it.
-        ensures asked { Steps (IsWrite (number_of link) piece.now result) (S.journal self.old.system) (S.journal self.new.system) }
+        // What the system is asked for it, and told then.
+        ensures asked { Steps (IsAnswered (write_entry link piece.now result) (IsWrite (number_of link) piece.now result)) (S.journal self.old.system) (S.journal self.new.system) }
 
         // What the trait says.
-        ensures told { Adds (shown self.old.sockets) (shown self.new.sockets) (write_entry link piece.now result ∷ []) }
+        ensures told { Adds (shown self.old.sockets (S.journal self.old.system)) (shown self.new.sockets (S.journal self.new.system)) (write_entry link piece.now result ∷ []) }
         ensures within { (n : ℕ) → result ≡ Took.Bytes n → n ≤ length piece.now }
         ensures progress { (n : ℕ) → result ≡ Took.Bytes n → 0 < length piece.now → 0 < n }
-        ensures failed { result ≡ Took.Failed → RoseAt (Count.Link link) (shown self.old.sockets) (shown self.new.sockets) }
-        ensures not_ready { result ≡ Took.NotReady → RoseAt Count.Waits (shown self.old.sockets) (shown self.new.sockets) }
-        ensures wishes { KeepsWishes (shown self.old.sockets) (shown self.new.sockets) }
+        ensures failed { result ≡ Took.Failed → RoseAt (Count.Link link) (shown self.old.sockets (S.journal self.old.system)) (shown self.new.sockets (S.journal self.new.system)) }
+        ensures not_ready { result ≡ Took.NotReady → RoseAt Count.Waits (shown self.old.sockets (S.journal self.old.system)) (shown self.new.sockets (S.journal self.new.system)) }
+        ensures wishes { KeepsWishes (shown self.old.sockets (S.journal self.old.system)) (shown self.new.sockets (S.journal self.new.system)) }
     {
-        self.sockets.write(&mut self.system, link, piece)
+        let took = self.sockets.write(&mut self.system, link, piece);
+        self.system.tell(Answer::Write(link, took), piece);
+        took
     }
 
     fn shut(&mut self, link: Link)
@@ -285,14 +332,15 @@ impl<S: Sockets + Drop> Net for MioNet<S> {
         // It makes no link readable.
         ensures unread { StaysUnread self.old.sockets self.new.sockets }
 
-        // What the system is asked for it.
-        ensures asked { Steps (IsShut (is_open_at self.old.sockets (number_of link)) (number_of link)) (S.journal self.old.system) (S.journal self.new.system) }
+        // What the system is asked for it, and told then.
+        ensures asked { Steps (IsAnswered (shut link) (IsShut (is_open_at self.old.sockets (number_of link)) (number_of link))) (S.journal self.old.system) (S.journal self.new.system) }
 
         // What the trait says.
-        ensures told { Adds (shown self.old.sockets) (shown self.new.sockets) (shut link ∷ []) }
-        ensures gone { (shown self.new.sockets).wishes link ≡ None }
-        ensures wishes { KeepsOthers link (shown self.old.sockets) (shown self.new.sockets) }
+        ensures told { Adds (shown self.old.sockets (S.journal self.old.system)) (shown self.new.sockets (S.journal self.new.system)) (shut link ∷ []) }
+        ensures gone { (shown self.new.sockets (S.journal self.new.system)).wishes link ≡ None }
+        ensures wishes { KeepsOthers link (shown self.old.sockets (S.journal self.old.system)) (shown self.new.sockets (S.journal self.new.system)) }
     {
         self.sockets.shut(&mut self.system, link);
+        self.system.tell(Answer::Shut(link), &[]);
     }
 }

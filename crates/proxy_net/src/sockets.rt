@@ -2,7 +2,7 @@
 //!
 //! What is ready and wished for stands in a queue, and what was named goes to its end, so that a busy link doesn't hold up the
 //! others. Room in it is taken where a listener or a link is made. What is marked as queued stands in it.
-ghost use Rattle.std.specs.Prelude.{◌≡◌, ◌≤◌, ◌+◌, ◌++◌, ◌∷◌, [], ℕ, Bool, true, if◌then◌else◌, unwrap_or, None, Some, IfOk, OnOk, OnErr, vec_len};
+ghost use Rattle.std.specs.Prelude.{◌≡◌, ◌≤◌, ◌+◌, ◌++◌, ◌∷◌, ◌||◌, [], not, nat_eq, ℕ, Bool, List, Option, true, if◌then◌else◌, unwrap_or, None, Some, IfOk, OnOk, OnErr, vec_len};
 ghost use Rattle.std.specs.VecDeque.{deque_len, deque_capacity};
 ghost use Rattle.std.specs.Option.{option_map};
 ghost use Rattle.std.specs.Ordering.{nat_cmp};
@@ -11,8 +11,11 @@ ghost use Rattle.link_traits.specs.Answers.{no_wishes};
 ghost use Rattle.link_traits.specs.Numbers.{number_of as link_number};
 ghost use Rattle.proxy_net.specs.Naming.{is_to_fail, other_of};
 ghost use Rattle.proxy_net.specs.Room.{room_for};
+ghost use Rattle.std.specs.List.{list_any};
+ghost use Rattle.proxy_net.specs.Connecting.{is_pending};
 ghost use Rattle.proxy_net.specs.Registering.{is_registered_by};
 ghost use Rattle.proxy_net.specs.Steps.{Steps, IsShut};
+ghost use Rattle.proxy_net.specs.SystemCalls.{SystemCall};
 
 mod calls;
 mod making;
@@ -72,7 +75,8 @@ impl<T: Drop, L: Drop> SocketSet<T, L> {
 
     /// No sockets.
     pub fn new(alloc: Global) -> SocketSet<T, L>
-        ensures unused { IsUnused (shown result) }
+        ensures unused { (calls : Option (List SystemCall)) → IsUnused (shown result calls) }
+        ensures empty { (vec_len result.listeners ≡ 0) × (result.sessions ≡ 0) }
         ensures consistent { IsConsistent result }
     {
         SocketSet {
@@ -161,6 +165,7 @@ impl<T: Drop, L: Drop> SocketSet<T, L> {
     fn add_link(&mut self, link: Link, connection: Connection<T>) -> Result<(), AllocError>
         requires room { HasRoomFor 1 self.old }
         requires token { is_registered_by (link_number link) connection ≡ true }
+        requires tried { (not (is_pending connection) || list_any (nat_eq (link_number link)) self.old.pending.items) ≡ true }
         ensures sessions { self.new.sessions ≡ self.old.sessions }
         ensures pending { self.new.pending ≡ self.old.pending }
         ensures listeners { self.new.listeners ≡ self.old.listeners }
@@ -181,6 +186,8 @@ impl<T: Drop, L: Drop> SocketSet<T, L> {
     fn remove_link<S: Sockets<Stream = T, Listener = L>>(&mut self, system: &mut S, link: Link)
         ensures told { is_link_registered self.old (link_number link) ≡ true → Steps (IsShut (is_open_at self.old (link_number link)) (link_number link)) (S.journal system.old) (S.journal system.new) }
         ensures gone { wishes_in self.new link ≡ None }
+        ensures sessions { self.new.sessions ≡ self.old.sessions }
+        ensures number { vec_len self.new.listeners ≡ vec_len self.old.listeners }
         ensures others { KeepsOthersIn link self.old self.new }
         ensures unread { StaysUnread self.old self.new }
         ensures grows { Grows self.old self.new }
@@ -195,6 +202,7 @@ impl<T: Drop, L: Drop> SocketSet<T, L> {
     fn set_wishes(&mut self, link: Link, wishes: Wishes) -> bool
         ensures closed { result ≡ is_peer_closed_at self.new (link_number link) }
         ensures sessions { self.new.sessions ≡ self.old.sessions }
+        ensures number { vec_len self.new.listeners ≡ vec_len self.old.listeners }
         ensures own { wishes_in self.new link ≡ option_map (λ (_ : Wishes). wishes) (wishes_in self.old link) }
         ensures others { KeepsOthersIn link self.old self.new }
         ensures reports { KeepsReports self.old self.new }

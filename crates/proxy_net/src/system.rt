@@ -5,6 +5,7 @@ ghost use Rattle.mio.specs.Interest.{is_readable, is_writable, is_priority};
 ghost use Rattle.proxy_net.specs.Reports.{report_of};
 ghost use Rattle.proxy_net.specs.declared.system.TheConstants.{REPORTS};
 
+use crate::answers::Answer;
 use crate::bound_files::FileIdentity;
 use crate::reports::Report;
 use mio::event::Event;
@@ -46,7 +47,8 @@ impl<T> Numbered<T> {
 pub trait Sockets {
     ghost use Rattle.std.specs.Prelude.{◌≤◌, ◌<◌, ◌∷◌, [], ℕ, List, Option, OnErr, length, vec_len, vec_capacity};
     ghost use Rattle.std.specs.IoError.{error_kind};
-    ghost use Rattle.proxy_net.specs.SystemCalls.{SystemCall, bind, await_clients, accept, connect, watch, read, write, close, wait, remove, fault_of, IsToldRead, IsToldWrite, Tells};
+    ghost use Rattle.proxy_net.specs.Answers.{entry_of};
+    ghost use Rattle.proxy_net.specs.SystemCalls.{SystemCall, bind, await_clients, accept, connect, watch, read, write, close, wait, remove, answered, fault_of, IsToldRead, IsToldWrite, Tells};
 
     /// A socket that listens.
     type Listener: Drop;
@@ -118,6 +120,11 @@ pub trait Sockets {
 
     /// The time, if the clock can be read.
     fn now(&self) -> Option<Instant>;
+
+    /// Notes in the journal what a net over these sockets answered, with the path or the bytes that it was given. It does
+    /// nothing else.
+    fn tell(&mut self, answer: Answer, bytes: &[u8])
+        ensures { Tells (journal self.old) (journal self.new) (answered (entry_of answer bytes.now) ∷ []) };
 }
 
 /// The sockets of the system, over epoll. It tells no journal.
@@ -224,6 +231,8 @@ impl<'a> Sockets for SystemSockets<'a> {
     fn now(&self) -> Option<Instant> {
         Instant::now(self.rt).ok()
     }
+
+    fn tell(&mut self, _answer: Answer, _bytes: &[u8]) {}
 }
 
 /// Reading, and writing too if that is asked for.

@@ -1,5 +1,5 @@
 //! What is done with links that stand: their wishes, reads, writes and ends.
-ghost use Rattle.std.specs.Prelude.{◌≡◌, ◌≤◌, ◌<◌, ℕ, None, length, false, true, unwrap_or};
+ghost use Rattle.std.specs.Prelude.{◌≡◌, ◌≤◌, ◌<◌, ℕ, None, length, false, true, unwrap_or, vec_len};
 ghost use Rattle.std.specs.Option.{option_map};
 ghost use Rattle.link_traits.specs.Numbers.{number_of as link_number};
 ghost use Rattle.proxy_net.specs.Naming.{other_of};
@@ -19,6 +19,8 @@ impl<T: Drop, L: Drop> SocketSet<T, L> {
     pub fn want(&mut self, link: Link, wishes: Wishes)
         ensures judged { is_peer_closed_at self.new (link_number link) ≡ true → IsJudgedAt self.new (link_number link) }
         ensures own { wishes_in self.new link ≡ option_map (λ (_ : Wishes). wishes) (wishes_in self.old link) }
+        ensures sessions { self.new.sessions ≡ self.old.sessions }
+        ensures number { vec_len self.new.listeners ≡ vec_len self.old.listeners }
         ensures others { KeepsOthersIn link self.old self.new }
         ensures reports { KeepsReports self.old self.new }
         ensures grows { Grows self.old self.new }
@@ -195,6 +197,8 @@ impl<T: Drop, L: Drop> SocketSet<T, L> {
         ensures judged { IsJudgedAt self.new (other_of (link_number link)) }
         ensures revived { (listener : ℕ) → is_stalled_at self.new listener ≡ false }
         ensures gone { wishes_in self.new link ≡ None }
+        ensures sessions { self.new.sessions ≡ self.old.sessions }
+        ensures number { vec_len self.new.listeners ≡ vec_len self.old.listeners }
         ensures others { KeepsOthersIn link self.old self.new }
         ensures unread { StaysUnread self.old self.new }
         ensures grows { Grows self.old self.new }

@@ -4,7 +4,7 @@ ghost use Rattle.std.specs.VecDeque.{deque_len, deque_capacity};
 ghost use Rattle.std.specs.Option.{option_map};
 ghost use Rattle.std.specs.String.{string_bytes};
 ghost use Rattle.proxy_net.specs.Delays.{next_delay};
-ghost use Rattle.proxy_net.specs.Steps.{Steps, IsConnect};
+ghost use Rattle.proxy_net.specs.Steps.{Steps, IsConnect, IsListen, IsBind, IsAwait, IsCleanUp, IsRemoval, IsArrival, IsAccept};
 ghost use Rattle.link_traits.specs.Answers.{no_wishes, client_link, bus_link};
 ghost use Rattle.link_traits.specs.Numbers.{number_of as link_number};
 
@@ -18,7 +18,7 @@ use link_traits::{Accepted, Count, Link, NetFault, Side};
 use std::alloc::{AllocError, Global};
 
 impl<T: Drop, L: Drop> SocketSet<T, L> {
-    ghost use Rattle.proxy_net.specs.Sockets.{HasRoomFor, RoseIn, GoesOn, StaysUnread, path_at};
+    ghost use Rattle.proxy_net.specs.Sockets.{HasRoomFor, RoseIn, Grows, GoesOn, KeepsWishesIn, StaysUnread, path_at};
 
     /// Listens at a path. An empty one is refused, since the system would take a name of its own for it.
     pub fn listen<S: Sockets<Stream = T, Listener = L>>(
@@ -33,8 +33,11 @@ impl<T: Drop, L: Drop> SocketSet<T, L> {
         ensures err { OnErr result (vec_len self.new.listeners ≡ vec_len self.old.listeners) }
         ensures file { (own : List ℕ) → path_at self.new (vec_len self.old.listeners) ≡ Some own → own ≡ path.now }
         ensures failed { IsErrOf result NetFault.Failed → RoseIn Count.Own self.old self.new }
+        ensures told { Steps (IsListen (LISTENERS + vec_len self.old.listeners) path.now result) (S.journal system.old) (S.journal system.new) }
         ensures unread { StaysUnread self.old self.new }
-        ensures goes { GoesOn self.old self.new }
+        ensures sessions { self.new.sessions ≡ self.old.sessions }
+        ensures wishes { KeepsWishesIn self.old self.new }
+        ensures grows { Grows self.old self.new }
     {
         match self.make_listener(alloc, system, path) {
             Err(NetFault::Failed) => {
@@ -57,8 +60,11 @@ impl<T: Drop, L: Drop> SocketSet<T, L> {
         ensures path { OnOk result (path.now ≢ []) }
         ensures err { OnErr result (vec_len self.new.listeners ≡ vec_len self.old.listeners) }
         ensures file { (own : List ℕ) → path_at self.new (vec_len self.old.listeners) ≡ Some own → own ≡ path.now }
+        ensures told { Steps (IsListen (LISTENERS + vec_len self.old.listeners) path.now result) (S.journal system.old) (S.journal system.new) }
         ensures unread { StaysUnread self.old self.new }
-        ensures goes { GoesOn self.old self.new }
+        ensures sessions { self.new.sessions ≡ self.old.sessions }
+        ensures wishes { KeepsWishesIn self.old self.new }
+        ensures grows { Grows self.old self.new }
     {
         let Ok(listener) = u32::try_from(self.listeners.len()) else {
             return Err(NetFault::Failed);
@@ -103,13 +109,38 @@ impl<T: Drop, L: Drop> SocketSet<T, L> {
         ensures made { OnOk result (vec_len self.new.listeners ≡ vec_len self.old.listeners + 1) }
         ensures err { OnErr result (vec_len self.new.listeners ≡ vec_len self.old.listeners) }
         ensures file { OnOk result (path_at self.new listener ≡ option_map (λ (f : BoundFile). string_bytes f.path) file) }
+        ensures told { Steps (IsAwait (LISTENERS + listener) result) (S.journal system.old) (S.journal system.new) }
         ensures unread { StaysUnread self.old self.new }
-        ensures goes { GoesOn self.old self.new }
+        ensures sessions { self.new.sessions ≡ self.old.sessions }
+        ensures wishes { KeepsWishesIn self.old self.new }
+        ensures grows { Grows self.old self.new }
     {
         let mut socket = socket;
-        if system.await_clients(&mut socket).is_err() {
+        let Ok(()) = system.await_clients(&mut socket) else {
             return Err(NetFault::Failed);
-        }
+        };
+        self.keep_listener(listener, socket, file)
+    }
+
+    /// Keeps a socket whose clients are awaited, as the next listener.
+    fn keep_listener(
+        &mut self,
+        listener: u32,
+        socket: Numbered<L>,
+        file: Option<BoundFile>,
+    ) -> Result<u32, NetFault>
+        requires room { HasRoomFor 1 self.old }
+        requires next { listener ≡ vec_len self.old.listeners }
+        requires own { socket.number ≡ LISTENERS + listener }
+        ensures numbered { IfOk result (λ number. number ≡ listener) }
+        ensures made { OnOk result (vec_len self.new.listeners ≡ vec_len self.old.listeners + 1) }
+        ensures err { OnErr result (vec_len self.new.listeners ≡ vec_len self.old.listeners) }
+        ensures file { OnOk result (path_at self.new listener ≡ option_map (λ (f : BoundFile). string_bytes f.path) file) }
+        ensures unread { StaysUnread self.old self.new }
+        ensures sessions { self.new.sessions ≡ self.old.sessions }
+        ensures wishes { KeepsWishesIn self.old self.new }
+        ensures grows { Grows self.old self.new }
+    {
         match self
             .listeners
             .push(ListenerSocket::new(self.absent, socket, file))
@@ -124,11 +155,15 @@ impl<T: Drop, L: Drop> SocketSet<T, L> {
 fn bound<S: Sockets>(system: &mut S, path: &str, number: u64) -> Option<Numbered<S::Listener>>
     ensures path { IsSome result → path.now ≢ [] }
     ensures number { IfSome result (λ listener. listener.number ≡ number) }
+    ensures told { Steps (IsBind number path.now result) (S.journal system.old) (S.journal system.new) }
 {
     if path.is_empty() {
         return None;
     }
-    system.bind(path, number).ok()
+    match system.bind(path, number) {
+        Ok(listener) => Some(listener),
+        Err(_) => None,
+    }
 }
 
 /// The file that a bind made at a path, if the system says which it is.
@@ -148,22 +183,35 @@ fn cleaned_up<S: Sockets>(
     made: Option<FileIdentity>,
     answer: Result<u32, NetFault>,
 ) -> Result<u32, NetFault>
-    ensures { result ≡ answer }
+    ensures answer { result ≡ answer }
+    ensures told { Steps (IsCleanUp path.now answer) (S.journal system.old) (S.journal system.new) }
 {
-    if let Some(made) = made
-        && answer.is_err()
-    {
+    match answer {
+        Ok(listener) => Ok(listener),
+        Err(fault) => {
+            remove_bound(system, path, made);
+            Err(fault)
+        }
+    }
+}
+
+/// Removes the file that a bind made at a path, if the system said which it is.
+fn remove_bound<S: Sockets>(system: &mut S, path: &str, made: Option<FileIdentity>)
+    ensures { Steps (IsRemoval path.now) (S.journal system.old) (S.journal system.new) }
+{
+    if let Some(made) = made {
         remove_made(system, path, made);
     }
-    answer
 }
 
 impl<T: Drop, L: Drop> SocketSet<T, L> {
-    ghost use Rattle.proxy_net.specs.Sockets.{GoesOn, has_file_at};
+    ghost use Rattle.proxy_net.specs.Sockets.{GoesOn, HasFileAt, has_file_at, path_at};
+    ghost use Rattle.proxy_net.specs.Steps.{IsFileRemoval, AreRemovals};
 
     /// Removes the files that the binds of the listeners made, unless something else is at their paths by now.
     pub fn remove_files<S: Sockets<Stream = T, Listener = L>>(&mut self, system: &mut S)
         ensures removed { (place : ℕ) → has_file_at self.new place ≡ false }
+        ensures told { Steps (AreRemovals (HasFileAt self.old)) (S.journal system.old) (S.journal system.new) }
         ensures number { vec_len self.new.listeners ≡ vec_len self.old.listeners }
         ensures goes { GoesOn self.old self.new }
     {
@@ -176,6 +224,8 @@ impl<T: Drop, L: Drop> SocketSet<T, L> {
         requires { place < 2 ^ 63 }
         ensures removed { has_file_at self.new place ≡ false }
         ensures others { (other : ℕ) → has_file_at self.old other ≡ false → has_file_at self.new other ≡ false }
+        ensures told { Steps (IsFileRemoval (path_at self.old place)) (S.journal system.old) (S.journal system.new) }
+        ensures files { (other : ℕ) (path : List ℕ) → path_at self.new other ≡ Some path → path_at self.old other ≡ Some path }
         ensures number { vec_len self.new.listeners ≡ vec_len self.old.listeners }
         ensures goes { GoesOn self.old self.new }
     {
@@ -186,7 +236,7 @@ impl<T: Drop, L: Drop> SocketSet<T, L> {
 }
 
 impl<T: Drop, L: Drop> SocketSet<T, L> {
-    ghost use Rattle.proxy_net.specs.Sockets.{HasRoomFor, wishes_in, RoseIn, Grows, GoesOn, AfterAcceptIn, StaysUnread, is_put_off_at, delay_at};
+    ghost use Rattle.proxy_net.specs.Sockets.{HasRoomFor, wishes_in, RoseIn, Grows, GoesOn, AfterAcceptIn, StaysUnread, is_put_off_at, delay_at, sessions_after, is_listener_registered};
 
     /// Takes a client that waits at a listener.
     pub fn accept<S: Sockets<Stream = T, Listener = L>>(
@@ -202,6 +252,9 @@ impl<T: Drop, L: Drop> SocketSet<T, L> {
         ensures wishes { AfterAcceptIn result self.old self.new }
         ensures put_off { (result ≡ Accepted.Failed) ⊎ (result ≡ Accepted.Memory) → is_put_off_at self.new listener ≡ true }
         ensures served { (session : ℕ) → result ≡ Accepted.New session → delay_at self.new listener ≡ 0 }
+        ensures told { is_listener_registered self.old listener ≡ true → Steps (IsAccept (LISTENERS + listener) result) (S.journal system.old) (S.journal system.new) }
+        ensures sessions { self.new.sessions ≡ sessions_after result self.old.sessions }
+        ensures number { vec_len self.new.listeners ≡ vec_len self.old.listeners }
         ensures unread { StaysUnread self.old self.new }
         ensures grows { Grows self.old self.new }
     {
@@ -234,6 +287,7 @@ impl<T: Drop, L: Drop> SocketSet<T, L> {
         ensures not_ready { result ≡ Arrival.NotReady → RoseIn Count.Waits self.old self.new }
         ensures missing { vec_len self.old.listeners ≤ listener → result ≡ Arrival.Failed }
         ensures served { (stream : _) → result ≡ Arrival.Client stream → delay_at self.new listener ≡ 0 }
+        ensures told { is_listener_registered self.old listener ≡ true → Steps (IsArrival (LISTENERS + listener) number result) (S.journal system.old) (S.journal system.new) }
         ensures unread { StaysUnread self.old self.new }
         ensures goes { GoesOn self.old self.new }
     {
@@ -256,6 +310,7 @@ impl<T: Drop, L: Drop> SocketSet<T, L> {
         ensures missing { vec_len self.old.listeners ≤ listener → result ≡ Arrival.Failed }
         ensures waits { self.new.waits ≡ self.old.waits }
         ensures served { (stream : _) → result ≡ Arrival.Client stream → delay_at self.new listener ≡ 0 }
+        ensures told { is_listener_registered self.old listener ≡ true → Steps (IsArrival (LISTENERS + listener) number result) (S.journal system.old) (S.journal system.new) }
         ensures unread { StaysUnread self.old self.new }
         ensures goes { GoesOn self.old self.new }
     {
@@ -317,6 +372,8 @@ impl<T: Drop, L: Drop> SocketSet<T, L> {
         ensures wishes { AfterAcceptIn result self.old self.new }
         ensures put_off { (result ≡ Accepted.Failed) ⊎ (result ≡ Accepted.Memory) → is_put_off_at self.new listener ≡ true }
         ensures listeners { (other : ℕ) → result ≡ Accepted.New other → self.new.listeners ≡ self.old.listeners }
+        ensures sessions { self.new.sessions ≡ sessions_after result self.old.sessions }
+        ensures number { vec_len self.new.listeners ≡ vec_len self.old.listeners }
         ensures unread { StaysUnread self.old self.new }
         ensures grows { Grows self.old self.new }
     {
@@ -356,6 +413,8 @@ impl<T: Drop, L: Drop> SocketSet<T, L> {
         ensures own { OnOk result (wishes_in self.new (bus_link session) ≡ Some no_wishes) }
         ensures told { Steps (IsConnect (link_number (bus_link session)) path.now result) (S.journal system.old) (S.journal system.new) }
         ensures others { KeepsOthersIn (bus_link session) self.old self.new }
+        ensures sessions { self.new.sessions ≡ self.old.sessions }
+        ensures number { vec_len self.new.listeners ≡ vec_len self.old.listeners }
         ensures unread { StaysUnread self.old self.new }
         ensures grows { Grows self.old self.new }
     {
@@ -386,6 +445,8 @@ impl<T: Drop, L: Drop> SocketSet<T, L> {
         ensures err { OnErr result (GoesOn self.old self.new) }
         ensures own { OnOk result (wishes_in self.new link ≡ Some no_wishes) }
         ensures others { KeepsOthersIn link self.old self.new }
+        ensures sessions { self.new.sessions ≡ self.old.sessions }
+        ensures number { vec_len self.new.listeners ≡ vec_len self.old.listeners }
         ensures unread { StaysUnread self.old self.new }
         ensures grows { Grows self.old self.new }
     {
@@ -425,6 +486,8 @@ impl<T: Drop, L: Drop> SocketSet<T, L> {
         ensures err { OnErr result (GoesOn self.old self.new) }
         ensures own { OnOk result (wishes_in self.new link ≡ Some no_wishes) }
         ensures others { KeepsOthersIn link self.old self.new }
+        ensures sessions { self.new.sessions ≡ self.old.sessions }
+        ensures number { vec_len self.new.listeners ≡ vec_len self.old.listeners }
         ensures unread { StaysUnread self.old self.new }
         ensures grows { Grows self.old self.new }
     {
@@ -434,7 +497,8 @@ impl<T: Drop, L: Drop> SocketSet<T, L> {
         }
     }
 
-    /// Makes a link that is to be connected later. The connect would have waited, and is counted so.
+    /// Makes a link that is to be connected later. The connect would have waited, and is counted so. If memory is refused, its
+    /// number stands among those that are tried again until the next try, which finds no link.
     fn join_later<S: Sockets>(
         &mut self,
         alloc: Global,
@@ -448,6 +512,8 @@ impl<T: Drop, L: Drop> SocketSet<T, L> {
         ensures err { OnErr result (GoesOn self.old self.new) }
         ensures own { OnOk result (wishes_in self.new link ≡ Some no_wishes) }
         ensures others { KeepsOthersIn link self.old self.new }
+        ensures sessions { self.new.sessions ≡ self.old.sessions }
+        ensures number { vec_len self.new.listeners ≡ vec_len self.old.listeners }
         ensures unread { StaysUnread self.old self.new }
         ensures grows { Grows self.old self.new }
     {
@@ -458,10 +524,10 @@ impl<T: Drop, L: Drop> SocketSet<T, L> {
             return Err(NetFault::Memory);
         };
         let number = number_of(link);
+        let _ = self.pending.push_back(number);
         match self.add_link(link, Connection::Pending(Retry::new(number, path, now))) {
             Ok(()) => {
                 self.waits = raised(self.waits);
-                let _ = self.pending.push_back(number);
                 Ok(())
             }
             Err(_) => Err(NetFault::Memory),

@@ -11,6 +11,7 @@ ghost use Rattle.link_traits.specs.Numbers.{number_of as link_number};
 ghost use Rattle.proxy_net.specs.Delays.{IsWithin, nanos_of};
 ghost use Rattle.proxy_net.specs.Noting.{is_link_noted, is_listener_noted, reports_read};
 ghost use Rattle.proxy_net.specs.Naming.{is_link_unmarked, is_listener_unmarked};
+ghost use Rattle.proxy_net.specs.Steps.{Steps, IsSilent};
 
 use super::{LISTENERS, SocketSet};
 use crate::delays::{BLIND_DELAY, delay_until};
@@ -62,6 +63,7 @@ impl<T: Drop, L: Drop> SocketSet<T, L> {
         ensures count { vec_len reports.new ≤ REPORTS }
         ensures capacity { vec_capacity reports.new ≡ vec_capacity reports.old }
         ensures reports { KeepsReports self.old self.new }
+        ensures silent { Steps IsSilent (S.journal system.old) (S.journal system.new) }
         ensures goes { GoesOn self.old self.new }
     {
         let timeout = self.timeout(system);
@@ -78,6 +80,7 @@ impl<T: Drop, L: Drop> SocketSet<T, L> {
         ensures noted { list_all (is_report_noted self.new) reports.now ≡ true }
         ensures reported { IsReadIf (λ number. list_any (reports_read number) reports.now) self.old self.new }
         ensures kept { KeepsNotes self.old self.new }
+        ensures silent { Steps IsSilent (S.journal system.old) (S.journal system.new) }
         ensures goes { GoesOn self.old self.new }
     {
         self.note_side(system, reports, false);
@@ -95,6 +98,7 @@ impl<T: Drop, L: Drop> SocketSet<T, L> {
         ensures noted { list_all (is_side_noted of_buses self.new) reports.now ≡ true }
         ensures reported { IsReadIf (λ number. list_any (reports_read number) reports.now) self.old self.new }
         ensures kept { KeepsNotes self.old self.new }
+        ensures silent { Steps IsSilent (S.journal system.old) (S.journal system.new) }
         ensures goes { GoesOn self.old self.new }
     {
         for report in reports {
@@ -112,6 +116,7 @@ impl<T: Drop, L: Drop> SocketSet<T, L> {
         ensures noted { is_side_noted of_buses self.new report.now ≡ true }
         ensures reported { IsReadIf (λ number. reports_read number report.now) self.old self.new }
         ensures kept { KeepsNotes self.old self.new }
+        ensures silent { Steps IsSilent (S.journal system.old) (S.journal system.new) }
         ensures goes { GoesOn self.old self.new }
     {
         if is_bus(report.number) == of_buses {
@@ -123,6 +128,7 @@ impl<T: Drop, L: Drop> SocketSet<T, L> {
         ensures noted { is_report_noted self.new report.now ≡ true }
         ensures reported { IsReadIf (λ number. reports_read number report.now) self.old self.new }
         ensures kept { KeepsNotes self.old self.new }
+        ensures silent { Steps IsSilent (S.journal system.old) (S.journal system.new) }
         ensures goes { GoesOn self.old self.new }
     {
         self.note(system, report.number, report.readable, report.writable);
@@ -139,6 +145,7 @@ impl<T: Drop, L: Drop> SocketSet<T, L> {
         ensures noted { is_noted self.new number readable writable ≡ true }
         ensures reported { IsReadIf (λ other. nat_eq number other && readable) self.old self.new }
         ensures kept { KeepsNotes self.old self.new }
+        ensures silent { Steps IsSilent (S.journal system.old) (S.journal system.new) }
         ensures goes { GoesOn self.old self.new }
     {
         if number >= LISTENERS {
@@ -158,6 +165,7 @@ impl<T: Drop, L: Drop> SocketSet<T, L> {
         ensures noted { is_link_noted readable writable (tree.get nat_cmp self.new.links number) ≡ true }
         ensures reported { IsReadIf (λ other. nat_eq number other && readable) self.old self.new }
         ensures kept { KeepsNotes self.old self.new }
+        ensures silent { Steps IsSilent (S.journal system.old) (S.journal system.new) }
         ensures goes { GoesOn self.old self.new }
     {
         if let Some(socket) = self.links.get_mut(&number) {
@@ -296,7 +304,7 @@ impl<T: Drop, L: Drop> SocketSet<T, L> {
 }
 
 impl<T: Drop, L: Drop> SocketSet<T, L> {
-    ghost use Rattle.proxy_net.specs.Sockets.{GoesOn, IsReadIf, KeepsNotes, due_at, IsFirstDue, IsFirstLeft, accept_left_at, is_stalled_at, is_accept_due_at, is_accept_early_at};
+    ghost use Rattle.proxy_net.specs.Sockets.{GoesOn, IsReadIf, KeepsNotes, due_at, IsFirstDue, IsFirstLeft, is_pending_at, accept_left_at, is_stalled_at, is_accept_due_at, is_accept_early_at};
     ghost use Rattle.std.specs.declared.time.Duration.{Duration};
 
     /// How long the system is waited for: not at all where something is to be named, and else until the next try to connect or
@@ -404,6 +412,7 @@ impl<T: Drop, L: Drop> SocketSet<T, L> {
     fn retry_all<S: Sockets<Stream = T, Listener = L>>(&mut self, system: &mut S)
         ensures reported { IsReadIf (λ _. false) self.old self.new }
         ensures kept { KeepsNotes self.old self.new }
+        ensures silent { Steps IsSilent (S.journal system.old) (S.journal system.new) }
         ensures goes { GoesOn self.old self.new }
     {
         if self.pending.is_empty() && !self.has_stalled() {
@@ -451,6 +460,7 @@ impl<T: Drop, L: Drop> SocketSet<T, L> {
     )
         ensures reported { IsReadIf (λ _. false) self.old self.new }
         ensures kept { KeepsNotes self.old self.new }
+        ensures silent { Steps IsSilent (S.journal system.old) (S.journal system.new) }
         ensures goes { GoesOn self.old self.new }
     {
         for _ in 0..self.pending.len() {
@@ -466,6 +476,7 @@ impl<T: Drop, L: Drop> SocketSet<T, L> {
     )
         ensures reported { IsReadIf (λ _. false) self.old self.new }
         ensures kept { KeepsNotes self.old self.new }
+        ensures silent { Steps IsSilent (S.journal system.old) (S.journal system.new) }
         ensures goes { GoesOn self.old self.new }
     {
         let Some(&number) = self.pending.front() else {
@@ -491,8 +502,10 @@ impl<T: Drop, L: Drop> SocketSet<T, L> {
         now: Option<Instant>,
     ) -> Attempt
         ensures pending { self.new.pending ≡ self.old.pending }
+        ensures done { result ≡ Attempt.Done → is_pending_at self.new number ≡ false }
         ensures reported { IsReadIf (λ _. false) self.old self.new }
         ensures kept { KeepsNotes self.old self.new }
+        ensures silent { Steps IsSilent (S.journal system.old) (S.journal system.new) }
         ensures goes { GoesOn self.old self.new }
     {
         match self.links.get_mut(&number) {

@@ -1,3 +1,5 @@
+use Rattle.std.proofs.Common.{◌∙◌}
+use Rattle.proxy_net.proofs.Answering.{bound_kept, consistent_goes, silent_none, counted_kept, silent_through}
 use Rattle.proxy_net.proofs.Going.{goes_through, wished_before}
 use Rattle.proxy_net.proofs.Reading.{closed_through, reports_closed}
 use Rattle.proxy_net.proofs.net.MioNet.next.Goals as goal
@@ -17,8 +19,39 @@ returns-then-is_err-clause-closed g c = closed_through c.loop.invariant.closed (
 pub returns-then-is_err-clause-goes : goal.returns-then-is_err-clause-goes
 returns-then-is_err-clause-goes g c = goes_through c.loop.invariant.goes (goes_through c.next.ensures.goes c.ask-asked.ensures.goes)
 
+pub returns-then-is_err-clause-silent : goal.returns-then-is_err-clause-silent
+returns-then-is_err-clause-silent g c = silent_through c.loop.invariant.silent c.ask-asked.ensures.silent
+
 pub loop-preserved : goal.loop-preserved
 loop-preserved g c = record {
+  silent = silent_through c.loop.invariant.silent (silent_through c.ask-asked.ensures.silent c.note_all.ensures.silent);
   goes = goes_through c.loop.invariant.goes (goes_through c.next.ensures.goes (goes_through c.ask-asked.ensures.goes c.note_all.ensures.goes));
   closed = closed_through c.loop.invariant.closed (closed_through (reports_closed c.next.ensures.reports) (closed_through (reports_closed c.ask-asked.ensures.reports) (record { each = c.note_all.ensures.reported.closed })));
+}
+
+pub invariant_of-self-then-is_err-clause-counted : goal.invariant_of-self-then-is_err-clause-counted
+invariant_of-self-then-is_err-clause-counted g c =
+    counted_kept c.loop.self.counted c.ask-asked.ensures.silent (c.ask-asked.ensures.goes.number ∙ c.next.ensures.goes.number) (c.ask-asked.ensures.goes.sessions ∙ c.next.ensures.goes.sessions)
+
+pub invariant_of-self-in-loop-clause-counted : goal.invariant_of-self-in-loop-clause-counted
+invariant_of-self-in-loop-clause-counted g c =
+    counted_kept c.loop.self.counted (silent_through c.ask-asked.ensures.silent c.note_all.ensures.silent) (c.note_all.ensures.goes.number ∙ c.ask-asked.ensures.goes.number ∙ c.next.ensures.goes.number)
+    (c.note_all.ensures.goes.sessions ∙ c.ask-asked.ensures.goes.sessions ∙ c.next.ensures.goes.sessions)
+
+pub invariant_of-self-then-is_err-clause-bound : goal.invariant_of-self-then-is_err-clause-bound
+invariant_of-self-then-is_err-clause-bound g c =
+    let goes = goes_through c.next.ensures.goes c.ask-asked.ensures.goes in
+    bound_kept c.loop.self.sockets c.ask-asked.new.self c.ask-asked.ensures.silent goes.number goes.files c.loop.self.bound
+
+pub invariant_of-self-in-loop-clause-bound : goal.invariant_of-self-in-loop-clause-bound
+invariant_of-self-in-loop-clause-bound g c =
+    let goes = goes_through c.next.ensures.goes (goes_through c.ask-asked.ensures.goes c.note_all.ensures.goes) in
+    bound_kept c.loop.self.sockets c.note_all.new.self (silent_through c.ask-asked.ensures.silent c.note_all.ensures.silent) goes.number goes.files c.loop.self.bound
+
+pub invariant_of-self : goal.invariant_of-self
+invariant_of-self g c = record {
+  consistent = consistent_goes c.loop.self.sockets c.next.new.self c.next.ensures.goes c.loop.self.consistent;
+  room = c.loop.self.room;
+  counted = counted_kept c.loop.self.counted (silent_none (g.S.Sockets.journal c.loop.self.system)) c.next.ensures.goes.number c.next.ensures.goes.sessions;
+  bound = bound_kept c.loop.self.sockets c.next.new.self (silent_none (g.S.Sockets.journal c.loop.self.system)) c.next.ensures.goes.number c.next.ensures.goes.files c.loop.self.bound;
 }

@@ -1,5 +1,17 @@
-use Rattle.proxy_net.proofs.Reading.{closed_through}
+use Rattle.std.proofs.Common.{refl}
+use Rattle.link_traits.specs.Entries.{ready}
+use Rattle.proxy_net.proofs.Answering.{asked_then_told, bound_kept, told_one, counted_same}
 use Rattle.proxy_net.proofs.net.MioNetNet.wait.Goals as goal
 
-pub returns-in-None-clause-closed : goal.returns-in-None-clause-closed
-returns-in-None-clause-closed g c = closed_through c.next.ensures.closed c.raise.ensures.closed
+pub returns-clause-told : goal.returns-clause-told
+returns-clause-told g c =
+    told_one c.args.self.now.sockets c.next_or_failed-ready.new.self.sockets (ready c.next_or_failed-ready.result) c.next_or_failed-ready.ensures.silent c.tell.ensures c.next_or_failed-ready.ensures.goes.counts
+
+pub invariant_of-self : goal.invariant_of-self
+invariant_of-self g c = record {
+  consistent = c.next_or_failed-ready.new.self.consistent;
+  room = c.next_or_failed-ready.new.self.room;
+  counted = counted_same (ready c.next_or_failed-ready.result) c.args.self.now.counted c.next_or_failed-ready.ensures.silent c.tell.ensures
+      (refl, refl) c.next_or_failed-ready.ensures.goes.number c.next_or_failed-ready.ensures.goes.sessions;
+  bound = bound_kept c.args.self.now.sockets c.next_or_failed-ready.new.self.sockets (asked_then_told (ready c.next_or_failed-ready.result) c.next_or_failed-ready.ensures.silent c.tell.ensures) c.next_or_failed-ready.ensures.goes.number c.next_or_failed-ready.ensures.goes.files c.args.self.now.bound;
+}

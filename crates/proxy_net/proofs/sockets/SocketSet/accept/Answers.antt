@@ -2,6 +2,12 @@ use Rattle.std.proofs.Common.{refl, subst, sym}
 use Rattle.proxy_net.specs.Sockets.{AfterAcceptIn}
 use Rattle.link_traits.specs.declared.links.Count.TheVariants.{Listener, Waits}
 use Rattle.proxy_net.proofs.Going.{goes_through, kept_rose, accept_through, keeps_wishes, goes_grows, grows_through}
+use Rattle.std.proofs.Common.{◌+◌, ◌∙◌, inl, ap}
+use Rattle.proxy_net.specs.Registering.{listeners_from}
+use Rattle.proxy_net.specs.Sockets.{sessions_after}
+use Rattle.proxy_net.specs.Steps.{Steps, IsAccept}
+use Rattle.proxy_net.proofs.Telling.{steps_none, steps_weaker}
+use Rattle.proxy_net.proofs.Listening.{arrived, failed_arrival}
 use Rattle.proxy_net.proofs.sockets.SocketSet.accept.Goals as goal
 
 pub returns-in-Client-clause-failed : goal.returns-in-Client-clause-failed
@@ -44,3 +50,32 @@ returns-in-Failed-clause-grows g c = goes_grows (goes_through (goes_through c.re
 
 pub returns-in_default-clause-failed : goal.returns-in_default-clause-failed
 returns-in_default-clause-failed g c = λ _. kept_rose _ _ _ (c.reserve.ensures.goes.counts (Listener c.args.listener)) c.fail_accept.ensures.rose
+
+pub returns-in_default-clause-told : goal.returns-in_default-clause-told
+returns-in_default-clause-told g c = λ own.
+    subst (λ answer. Steps (IsAccept (listeners_from + c.args.listener) answer) (g.S.Sockets.journal c.args.system.now) (g.S.Sockets.journal c.args.system.now)) (sym c.fail_accept.ensures.failed) (steps_none _ (inl refl))
+
+pub returns-in-Client-clause-told : goal.returns-in-Client-clause-told
+returns-in-Client-clause-told g c = λ own.
+    steps_weaker (arrived (listeners_from + c.args.listener) c.number_of.result _ c.make_session.result c.number_of.ensures.number c.make_session.ensures.ready (λ other e. (c.make_session.ensures.numbered other e).0))
+    (c.in-Client.ensures.told (c.reserve.ensures.goes.listener_tokens c.args.listener own))
+
+pub returns-in-NotReady-clause-told : goal.returns-in-NotReady-clause-told
+returns-in-NotReady-clause-told g c = λ own. steps_weaker (λ calls is. (c.number_of.result, is.0, is.1)) (c.in-NotReady.ensures.told (c.reserve.ensures.goes.listener_tokens c.args.listener own))
+
+pub returns-in-Failed-clause-told : goal.returns-in-Failed-clause-told
+returns-in-Failed-clause-told g c = λ own.
+    subst (λ answer. Steps (IsAccept (listeners_from + c.args.listener) answer) (g.S.Sockets.journal c.args.system.now) (g.S.Sockets.journal c.take_client.new.system)) (sym c.fail_accept-in-Failed.ensures.failed)
+    (steps_weaker (failed_arrival (listeners_from + c.args.listener) c.number_of.result) (c.in-Failed.ensures.told (c.reserve.ensures.goes.listener_tokens c.args.listener own)))
+
+pub returns-in_default-clause-sessions : goal.returns-in_default-clause-sessions
+returns-in_default-clause-sessions g c =
+    c.fail_accept.ensures.goes.sessions ∙ c.reserve.ensures.goes.sessions ∙ sym (ap (λ answer. sessions_after answer c.args.self.now.sessions) c.fail_accept.ensures.failed)
+
+pub returns-in-Client-clause-sessions : goal.returns-in-Client-clause-sessions
+returns-in-Client-clause-sessions g c =
+    c.make_session.ensures.sessions ∙ ap (sessions_after c.make_session.result) (c.take_client.ensures.goes.sessions ∙ c.reserve.ensures.goes.sessions)
+
+pub returns-in-Failed-clause-sessions : goal.returns-in-Failed-clause-sessions
+returns-in-Failed-clause-sessions g c =
+    c.fail_accept-in-Failed.ensures.goes.sessions ∙ c.take_client.ensures.goes.sessions ∙ c.reserve.ensures.goes.sessions ∙ sym (ap (λ answer. sessions_after answer c.args.self.now.sessions) c.fail_accept-in-Failed.ensures.failed)

@@ -9,6 +9,9 @@ use Rattle.proxy_net.specs.declared.listeners.ListenerSocket.{ListenerSocket}
 use Rattle.std.proofs.lemmas.Option.{slice_get_read}
 use Rattle.proxy_net.proofs.Written.{listener_goes, still_queued}
 use Rattle.proxy_net.proofs.Room.{listener_fits}
+use Rattle.std.proofs.Common.{subst}
+use Rattle.proxy_net.specs.Steps.{Steps, IsArrival}
+use Rattle.proxy_net.proofs.Listening.{own_number}
 use Rattle.proxy_net.proofs.sockets.SocketSet.accept_at.Goals as goal
 
 pub invariant_of-self : goal.invariant_of-self
@@ -41,7 +44,14 @@ returns-in-Some-clause-goes g c =
     let items = sockets.listeners.items in
     let found = slice_get_read items (length items) _ c.in-Some.socket.now refl c.in-Some.ensures.item.3.0 c.in-Some.ensures.value in
     listener_goes sockets c.queue.new.self c.args.listener c.in-Some.socket.now c.accept-arrival.new.self found (ap (λ (v : Vec (ListenerSocket _) Global). v.items) c.queue.ensures.listeners)
-    c.queue.ensures.links c.queue.ensures.own c.queue.ensures.waits c.queue.ensures.absent c.queue.ensures.sessions
-    (omega (arith, c.accept-arrival.ensures.uncounted)) c.accept-arrival.ensures.listener (λ _. c.accept-arrival.ensures.placed) (λ other _. c.queue.ensures.kept other)
+    c.queue.ensures.links (ap (λ (d : _). d.items) c.queue.ensures.pending) c.queue.ensures.own c.queue.ensures.waits c.queue.ensures.absent c.queue.ensures.sessions
+    (omega (arith, c.accept-arrival.ensures.uncounted)) c.accept-arrival.ensures.listener c.accept-arrival.ensures.file (λ _. c.accept-arrival.ensures.placed) (λ other _. c.queue.ensures.kept other)
     (still_queued c.in-Some.socket.now c.accept-arrival.new.self (has_place sockets (listeners_from + c.args.listener)) (has_place c.queue.new.self (listeners_from + c.args.listener)) c.accept-arrival.result.1
     (λ e. ap (has_place c.queue.new.self) (ap (λ n. listeners_from + n) (sym c.from.ensures)) ∙ c.queue.ensures.placed e) (c.queue.ensures.kept (listeners_from + c.args.listener)) c.accept-arrival.ensures.stays)
+
+pub returns-in-Some-clause-told : goal.returns-in-Some-clause-told
+returns-in-Some-clause-told g c = λ own.
+    let items = c.args.self.now.listeners.items in
+    let found = slice_get_read items (length items) _ c.in-Some.socket.now refl c.in-Some.ensures.item.3.0 c.in-Some.ensures.value in
+    subst (λ n. Steps (IsArrival n c.args.number c.accept-arrival.result.0) (g.S.Sockets.journal c.args.system.now) (g.S.Sockets.journal c.accept-arrival.new.system))
+    (own_number items c.args.listener c.in-Some.socket.now found own) c.accept-arrival.ensures.told

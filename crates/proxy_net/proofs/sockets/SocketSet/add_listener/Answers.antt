@@ -1,9 +1,9 @@
-use Rattle.std.proofs.Common.{is_ok}
-use Rattle.std.specs.VecDeque.{deque_len, deque_capacity}
-use Rattle.proxy_net.proofs.Room.{listener_made_fits}
+use Rattle.link_traits.specs.declared.links.NetFault.TheVariants.{Failed}
+use Rattle.proxy_net.proofs.Listening.{awaited, not_awaited}
 use Rattle.proxy_net.proofs.sockets.SocketSet.add_listener.Goals as goal
 
-pub invariant_of-self : goal.invariant_of-self
-invariant_of-self g c =
-    let sockets = c.args.self.now in
-    record { room = listener_made_fits 0 (deque_len sockets.ready) (deque_capacity sockets.ready) sockets.listeners.items sockets.links.entries c.requires.room (is_ok c.push.result) _ _ c.push.ensures.items }
+pub returns-in_default-clause-told : goal.returns-in_default-clause-told
+returns-in_default-clause-told g c = not_awaited _ Failed c.requires.own c.await_clients.ensures.told
+
+pub returns-clause-told : goal.returns-clause-told
+returns-clause-told g c = awaited c.keep_listener.result c.requires.own c.in-Ok.ensures.told

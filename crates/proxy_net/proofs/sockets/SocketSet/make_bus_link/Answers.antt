@@ -3,6 +3,8 @@ use Rattle.link_traits.specs.declared.links.NetFault.TheVariants.{Failed}
 use Rattle.proxy_net.specs.Steps.{Steps, IsConnect}
 use Rattle.proxy_net.proofs.Telling.{steps_one}
 use Rattle.proxy_net.proofs.Leading.{connected_once}
+use Rattle.std.proofs.lemmas.Result.{on_err_weaker}
+use Rattle.proxy_net.proofs.Going.{goes_through, grows_through}
 use Rattle.proxy_net.proofs.sockets.SocketSet.make_bus_link.Goals as goal
 
 pub returns-in-Ok-clause-told : goal.returns-in-Ok-clause-told
@@ -19,3 +21,15 @@ pub returns-else-is_put_off-clause-told : goal.returns-else-is_put_off-clause-to
 returns-else-is_put_off-clause-told g c =
     subst (λ n. Steps (IsConnect n c.args.path.now (Err Failed)) (g.S.Sockets.journal c.args.system.now) (g.S.Sockets.journal c.connect.new.self)) c.number_of-number.ensures.number
     (steps_one _ c.in-Err.ensures.told (connected_once c.number_of-number.result c.args.path.now _ (Err Failed) _ refl))
+
+pub returns-then-is_put_off-clause-err : goal.returns-then-is_put_off-clause-err
+returns-then-is_put_off-clause-err g c = on_err_weaker c.join_later.result (goes_through c.reserve_pending.ensures.goes) c.join_later.ensures.err
+
+pub returns-then-is_put_off-clause-grows : goal.returns-then-is_put_off-clause-grows
+returns-then-is_put_off-clause-grows g c = grows_through c.reserve_pending.ensures.goes c.join_later.ensures.grows
+
+pub returns-in-Ok-clause-err : goal.returns-in-Ok-clause-err
+returns-in-Ok-clause-err g c = on_err_weaker c.join.result (goes_through c.reserve_pending.ensures.goes) c.join.ensures.err
+
+pub returns-in-Ok-clause-grows : goal.returns-in-Ok-clause-grows
+returns-in-Ok-clause-grows g c = grows_through c.reserve_pending.ensures.goes c.join.ensures.grows

@@ -29,8 +29,8 @@ returns-then-keeps_place-clause-goes g c =
     let sockets = c.args.self.now in
     let items = sockets.listeners.items in
     listener_goes sockets _ (c.args.number - listeners_from) c.in-Some.socket.now c.keeps_place.new.self
-    (slice_get_read items (length items) _ c.in-Some.socket.now refl c.in-Some.ensures.item.3.0 c.in-Some.ensures.value) refl refl refl refl refl refl
-    (grind (arith, c.keeps_place.ensures.named)) (ap (λ (s : ListenerSocket _). s.listener) c.keeps_place.ensures.named)
+    (slice_get_read items (length items) _ c.in-Some.socket.now refl c.in-Some.ensures.item.3.0 c.in-Some.ensures.value) refl refl refl refl refl refl refl
+    (grind (arith, c.keeps_place.ensures.named)) (ap (λ (s : ListenerSocket _). s.listener) c.keeps_place.ensures.named) (ap (λ (s : ListenerSocket _). s.file) c.keeps_place.ensures.named)
     (λ _. grind (arith, c.keeps_place.ensures.named, c.keeps_place.ensures.place))
     (λ other _. all_stay sockets.ready.items c.rotate_left.new.self.items c.rotate_left.ensures.items other)
     (λ _. let same : listeners_from + (c.args.number - listeners_from) ≡ c.args.number = omega (arith, c.requires.of_listener) in
@@ -43,8 +43,8 @@ returns-clause-goes g c =
     let sockets = c.args.self.now in
     let items = sockets.listeners.items in
     listener_goes sockets _ (c.args.number - listeners_from) c.in-Some.socket.now c.keeps_place.new.self
-    (slice_get_read items (length items) _ c.in-Some.socket.now refl c.in-Some.ensures.item.3.0 c.in-Some.ensures.value) refl refl refl refl refl refl
-    (grind (arith, c.keeps_place.ensures.named)) (ap (λ (s : ListenerSocket _). s.listener) c.keeps_place.ensures.named)
+    (slice_get_read items (length items) _ c.in-Some.socket.now refl c.in-Some.ensures.item.3.0 c.in-Some.ensures.value) refl refl refl refl refl refl refl
+    (grind (arith, c.keeps_place.ensures.named)) (ap (λ (s : ListenerSocket _). s.listener) c.keeps_place.ensures.named) (ap (λ (s : ListenerSocket _). s.file) c.keeps_place.ensures.named)
     (λ _. grind (arith, c.keeps_place.ensures.named, c.keeps_place.ensures.place))
     (λ other differs. others_stay sockets.ready.items c.pop_front-2.new.self.items c.args.number c.requires.first c.pop_front-2.ensures.rest other (λ e. differs (omega (arith, e, c.requires.of_listener))))
     (λ _. grind (arith, c.keeps_place.ensures.named, c.keeps_place.ensures.place))

@@ -1,6 +1,7 @@
 use Rattle.proxy_net.proofs.Going.{goes_through}
 use Rattle.proxy_net.proofs.Notes.{both_sides, all_kept}
 use Rattle.proxy_net.proofs.Reading.{read_through, read_weaker}
+use Rattle.proxy_net.proofs.Answering.{silent_through}
 use Rattle.proxy_net.proofs.sockets.SocketSet.note_all.Goals as goal
 
 pub returns-clause-noted : goal.returns-clause-noted
@@ -13,3 +14,6 @@ returns-clause-reported g c = read_through c.note_side.ensures.reported (read_th
 
 pub returns-clause-goes : goal.returns-clause-goes
 returns-clause-goes g c = goes_through c.note_side.ensures.goes (goes_through c.note_side-2.ensures.goes c.retry_all.ensures.goes)
+
+pub returns-clause-silent : goal.returns-clause-silent
+returns-clause-silent g c = silent_through c.note_side.ensures.silent (silent_through c.note_side-2.ensures.silent c.retry_all.ensures.silent)

@@ -36,8 +36,8 @@ returns-in-Some-clause-goes g c =
     let items = sockets.listeners.items in
     let found = slice_get_read items (length items) _ c.in-Some.socket.now refl c.in-Some.ensures.item.3.0 c.in-Some.ensures.value in
     listener_goes sockets c.queue.new.self c.args.place c.in-Some.socket.now c.retry-is_new.new.self found (ap (λ (v : Vec (ListenerSocket _) Global). v.items) c.queue.ensures.listeners)
-    c.queue.ensures.links c.queue.ensures.own c.queue.ensures.waits c.queue.ensures.absent c.queue.ensures.sessions
-    (grind (arith, c.retry-is_new.ensures.rest)) (ap (λ (s : ListenerSocket _). s.listener) c.retry-is_new.ensures.rest) c.retry-is_new.ensures.placed (λ other _. c.queue.ensures.kept other)
+    c.queue.ensures.links (ap (λ (d : _). d.items) c.queue.ensures.pending) c.queue.ensures.own c.queue.ensures.waits c.queue.ensures.absent c.queue.ensures.sessions
+    (grind (arith, c.retry-is_new.ensures.rest)) (ap (λ (s : ListenerSocket _). s.listener) c.retry-is_new.ensures.rest) (ap (λ (s : ListenerSocket _). s.file) c.retry-is_new.ensures.rest) c.retry-is_new.ensures.placed (λ other _. c.queue.ensures.kept other)
     (still_queued c.in-Some.socket.now c.retry-is_new.new.self (has_place sockets (listeners_from + c.args.place)) (has_place c.queue.new.self (listeners_from + c.args.place)) c.retry-is_new.result
     (λ e. c.queue.ensures.placed e) (c.queue.ensures.kept (listeners_from + c.args.place)) c.retry-is_new.ensures.stays)
 
