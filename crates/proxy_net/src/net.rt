@@ -70,6 +70,13 @@ impl<S: Sockets + Drop> MioNet<S> {
         })
     }
 
+    /// The system, as the calls left it.
+    pub fn system(&self) -> &S
+        ensures { result.now ≡ self.now.system }
+    {
+        &self.system
+    }
+
     /// What is counted: faults, and calls that would have waited.
     pub fn count(&self, count: Count) -> u64
         ensures { result ≡ (shown self.now.sockets (S.journal self.now.system)).counts count }

@@ -1,0 +1,4 @@
+pub mod Notes
+pub mod Streams
+pub mod Scripts
+pub mod Sockets
