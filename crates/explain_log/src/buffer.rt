@@ -1,6 +1,7 @@
 //! Lines on their way to a sink.
 ghost use Rattle.std.specs.Prelude.{◌≡◌, ◌≤◌, ◌++◌, ℕ, List, [], OnErr, OnOk, IsTrue, false, length};
-ghost use Rattle.link_traits.specs.Told.{added, Rose};
+ghost use Rattle.link_traits.specs.Told.{added};
+ghost use Rattle.link_traits.specs.Views.{SinkRose};
 ghost use Rattle.explain_log.specs.Buffers.{GoesOut};
 ghost use Rattle.explain_log.specs.Lines.{log_line};
 
@@ -53,11 +54,11 @@ impl LineBuffer {
     /// Puts bytes after what waits. If they can't be joined what waits is written first, and if they can't be kept then either,
     /// they are written too.
     fn put<S: Sink>(&mut self, sink: &mut S, bytes: &[u8]) -> Result<(), SinkFault>
-        ensures ok { OnOk result (GoesOut (self.old ++ bytes.now) self.new (S.told sink.old) (S.told sink.new)) }
+        ensures ok { OnOk result (GoesOut (self.old ++ bytes.now) self.new (S.view sink.old).told (S.view sink.new).told) }
         ensures most { OnOk result (length self.new ≤ LONG) }
-        ensures err { OnErr result ((rest : List ℕ) × GoesOut (self.old ++ bytes.now) rest (S.told sink.old) (S.told sink.new)) }
-        ensures cause { OnErr result (Rose (S.faults sink.old) (S.faults sink.new)) }
-        ensures count { S.faults sink.old ≤ S.faults sink.new }
+        ensures err { OnErr result ((rest : List ℕ) × GoesOut (self.old ++ bytes.now) rest (S.view sink.old).told (S.view sink.new).told) }
+        ensures cause { OnErr result (SinkRose (S.view sink.old) (S.view sink.new)) }
+        ensures count { (S.view sink.old).faults ≤ (S.view sink.new).faults }
     {
         if self.keep(bytes) {
             return Ok(());
@@ -77,11 +78,11 @@ impl LineBuffer {
         session: u32,
         note: &Note,
     ) -> Result<(), SinkFault>
-        ensures ok { OnOk result (GoesOut (self.old ++ log_line session note.now) self.new (S.told sink.old) (S.told sink.new)) }
+        ensures ok { OnOk result (GoesOut (self.old ++ log_line session note.now) self.new (S.view sink.old).told (S.view sink.new).told) }
         ensures most { OnOk result (length self.new ≤ LONG) }
-        ensures err { OnErr result ((rest : List ℕ) × GoesOut (self.old ++ log_line session note.now) rest (S.told sink.old) (S.told sink.new)) }
-        ensures cause { OnErr result (Rose (S.faults sink.old) (S.faults sink.new)) }
-        ensures count { S.faults sink.old ≤ S.faults sink.new }
+        ensures err { OnErr result ((rest : List ℕ) × GoesOut (self.old ++ log_line session note.now) rest (S.view sink.old).told (S.view sink.new).told) }
+        ensures cause { OnErr result (SinkRose (S.view sink.old) (S.view sink.new)) }
+        ensures count { (S.view sink.old).faults ≤ (S.view sink.new).faults }
     {
         let mut numbers = Numbers::new();
         for piece in pieces(&mut numbers, session, note) {
@@ -92,10 +93,10 @@ impl LineBuffer {
 
     /// Writes what waits. On an error, a prefix of it was written.
     pub fn write_out<S: Sink>(&mut self, sink: &mut S) -> Result<(), SinkFault>
-        ensures ok { OnOk result ((self.new ≡ []) × (S.told sink.new ≡ added self.old (S.told sink.old))) }
-        ensures err { OnErr result ((rest : List ℕ) × GoesOut self.old rest (S.told sink.old) (S.told sink.new)) }
-        ensures cause { OnErr result (Rose (S.faults sink.old) (S.faults sink.new)) }
-        ensures count { S.faults sink.old ≤ S.faults sink.new }
+        ensures ok { OnOk result ((self.new ≡ []) × ((S.view sink.new).told ≡ added self.old (S.view sink.old).told)) }
+        ensures err { OnErr result ((rest : List ℕ) × GoesOut self.old rest (S.view sink.old).told (S.view sink.new).told) }
+        ensures cause { OnErr result (SinkRose (S.view sink.old) (S.view sink.new)) }
+        ensures count { (S.view sink.old).faults ≤ (S.view sink.new).faults }
     {
         write_all(sink, &self.bytes)?;
         self.bytes.clear();

@@ -1,9 +1,10 @@
 -- The files that words need, word by word.
-use Rattle.std.proofs.Common.{◌≡◌, ◌<◌, ◌⊎◌, inl, inr, ℕ, ◌+◌, List, [], ◌∷◌, ◌++◌, Option, Some, None, refl, ap, sym, ◌∙◌, length, subst, map, take, drop, String, string_bytes, slice_index_or, append_assoc}
+use Rattle.std.proofs.Common.{◌≡◌, ◌<◌, ◌⊎◌, inl, inr, ℕ, ◌+◌, List, [], ◌∷◌, ◌++◌, Option, Some, None, refl, ap, sym, ◌∙◌, length, subst, take, drop, String, string_bytes, slice_index_or, append_assoc}
 use Rattle.std.specs.List.{cons_option}
 use Rattle.std.proofs.lemmas.List.{append-nil, map-append, take-append-drop}
 use Rattle.std.proofs.lemmas.List.Elements.{filter_map-append}
 use Rattle.link_traits.specs.Told.{ReadFront}
+use Rattle.link_traits.specs.Texts.{texts_of}
 use Rattle.line_words.specs.declared.reading.LineStop.{LineStop}
 use Rattle.line_words.specs.declared.reading.LineStop.TheVariants as stop
 use Rattle.line_words.specs.Words.{Told, Line, Untold, args_path, line_from, line_in}
@@ -38,9 +39,9 @@ sound_more was now first word same so_far next others =
     ∙ ap (λ (paths : List (List ℕ)). paths ++ up_to_bad was others) (sym two)
 
 pub sound_then : {Z : Type 0} (was now : Told) (words : List (String Z)) (i : ℕ) (word : String Z) → i < length words → word ≡ slice_index_or words i word → ((p : List ℕ) → now p ≡ was p) →
-    NoneIsBad was (map (λ w. string_bytes w) (take i words)) → NoneIsBad now (string_bytes word ∷ []) → NoneIsBad was (map (λ w. string_bytes w) (take (i + 1) words))
+    NoneIsBad was (texts_of (take i words)) → NoneIsBad now (string_bytes word ∷ []) → NoneIsBad was (texts_of (take (i + 1) words))
 sound_then was now words i word lt is same so_far next =
-    subst (λ (ws : List (List ℕ)). NoneIsBad was ws) (sym (words_then words i word lt is)) (sound_more was now (map (λ w. string_bytes w) (take i words)) (string_bytes word) same so_far next)
+    subst (λ (ws : List (List ℕ)). NoneIsBad was ws) (sym (words_then words i word lt is)) (sound_more was now (texts_of (take i words)) (string_bytes word) same so_far next)
 
 -- where no file is bad, all are needed
 pub all_needed : (told : Told) (words reads new_reads : List (List ℕ)) → NoneIsBad told words → new_reads ≡ reads ++ paths_in words → new_reads ≡ reads ++ needed_by told words
@@ -100,23 +101,23 @@ settles_rest was now words before rest same h settled = by (h was (knows_all was
 
 pub stops_needed : {Z : Type 0} (was now : Told) (words : List (String Z)) (i : ℕ) (word : String Z) (before reads between new_reads : List (List ℕ)) (why : LineStop) →
     i < length words → word ≡ slice_index_or words i word → ((p : List ℕ) → now p ≡ was p) →
-    between ≡ reads ++ paths_in (map (λ w. string_bytes w) (take i words)) → new_reads ≡ between ++ paths_in (string_bytes word ∷ []) →
-    NoneIsBad was (map (λ w. string_bytes w) (take i words)) → Expands was [] (map (λ w. string_bytes w) words) before (map (λ w. string_bytes w) (drop i words)) → EndsNeeded now before (string_bytes word) why →
-    NeededUntil (IsSettled (line_in was (map (λ w. string_bytes w) words))) (needed_by was (map (λ w. string_bytes w) words)) reads new_reads why
+    between ≡ reads ++ paths_in (texts_of (take i words)) → new_reads ≡ between ++ paths_in (string_bytes word ∷ []) →
+    NoneIsBad was (texts_of (take i words)) → Expands was [] (texts_of words) before (texts_of (drop i words)) → EndsNeeded now before (string_bytes word) why →
+    NeededUntil (IsSettled (line_in was (texts_of words))) (needed_by was (texts_of words)) reads new_reads why
 stops_needed {Z = Z} was now words i word before reads between new_reads why lt is same so_far next sound expands ends =
-    subst (λ (ws : List (List ℕ)). NeededUntil (IsSettled (line_in was (map (λ w. string_bytes w) words))) (needed_by was ws) reads new_reads why) (sym parts)
-    (needed_until was now first rest (string_bytes word) reads between new_reads same so_far next sound (IsSettled (line_in was (map (λ w. string_bytes w) words))) before why
-    (λ settled. subst (λ (ws : List (List ℕ)). IsSettled (line_from now before ws)) (next_word words i word lt is) (settles_rest was now (map (λ w. string_bytes w) words) before (map (λ w. string_bytes w) (drop i words)) same expands settled))
+    subst (λ (ws : List (List ℕ)). NeededUntil (IsSettled (line_in was (texts_of words))) (needed_by was ws) reads new_reads why) (sym parts)
+    (needed_until was now first rest (string_bytes word) reads between new_reads same so_far next sound (IsSettled (line_in was (texts_of words))) before why
+    (λ settled. subst (λ (ws : List (List ℕ)). IsSettled (line_from now before ws)) (next_word words i word lt is) (settles_rest was now (texts_of words) before (texts_of (drop i words)) same expands settled))
     ends)
   where
     first : List (List ℕ)
-    first = map (λ w. string_bytes w) (take i words)
+    first = texts_of (take i words)
 
     rest : List (List ℕ)
-    rest = map (λ w. string_bytes w) (drop (i + 1) words)
+    rest = texts_of (drop (i + 1) words)
 
-    parts : map (λ w. string_bytes w) words ≡ first ++ string_bytes word ∷ rest
+    parts : texts_of words ≡ first ++ string_bytes word ∷ rest
     parts =
-        ap (λ (ws : List (String Z)). map (λ w. string_bytes w) ws) (sym (take-append-drop i words))
+        ap (λ (ws : List (String Z)). texts_of ws) (sym (take-append-drop i words))
         ∙ map-append (λ w. string_bytes w) (take i words) (drop i words)
         ∙ ap (λ (ws : List (List ℕ)). first ++ ws) (next_word words i word lt is)

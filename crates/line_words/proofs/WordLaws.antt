@@ -2,13 +2,15 @@
 use Rattle.std.proofs.Common.{◌≡◌, ◌≤◌, ◌<◌, ◌⊎◌, inl, inr, ℕ, ◌+◌, List, [], ◌∷◌, ◌++◌, Option, Some, None, Result, Ok, Err, IfSome, refl, ap, sym, ◌∙◌, length, cond, nat_lt, arith, subst, map, drop, String, string_bytes, slice_index_or, Bool, true, false, bytes_eq}
 use Rattle.std.proofs.lemmas.Bool.Decides.{nat_tests}
 use Rattle.std.proofs.lemmas.List.{drop_more}
+use Rattle.link_traits.specs.Texts.{texts_of}
 use Rattle.byte_lists.proofs.Bytes.{bytes_eq-refl}
 use Rattle.policy_args.specs.declared.BadWord.{BadWord}
 use Rattle.policy_args.specs.Words.{words_in}
+use Rattle.policy_args.specs.ProxyLine.{line_of}
 use Rattle.line_words.specs.declared.reading.TheConstants.{ARGS_LIMIT}
 use Rattle.line_words.specs.declared.reading.LineStop.{LineStop}
 use Rattle.line_words.specs.declared.reading.LineStop.TheVariants as stop
-use Rattle.line_words.specs.Words.{Told, Line, Untold, TooLong, Bad, with_words, with_file, with_word, args_path, line_from}
+use Rattle.line_words.specs.Words.{Told, Line, Untold, TooLong, Bad, with_words, with_file, with_word, args_path, read_all, line_from, line_in}
 use Rattle.line_words.specs.Stops.{IsSettled, Agrees, without, StopsFrom, Knows, Expands, FileStops, IsBehind}
 
 -- ---- what is known of the files
@@ -127,7 +129,7 @@ told_same was now a b x y same h some knows = h some (λ p. by p (knows p))
 
 -- the next of the words that are left
 pub next_word : {Z : Type 0} (words : List (String Z)) (i : ℕ) (word : String Z) → i < length words → word ≡ slice_index_or words i word →
-    map (λ w. string_bytes w) (drop i words) ≡ string_bytes word ∷ map (λ w. string_bytes w) (drop (i + 1) words)
+    texts_of (drop i words) ≡ string_bytes word ∷ texts_of (drop (i + 1) words)
 next_word words i word lt e = ap (map (λ w. string_bytes w)) (drop_more words i word lt ∙ ap (λ (w : String _). w ∷ drop (i + 1) words) (sym e))
 
 -- what is told alike gives the same line
@@ -161,3 +163,10 @@ stops_same was now before words (stop.File path) same h = sym (line_same (withou
 stops_same was now before words stop.TooLong same h = agrees_same was now before words TooLong same h
 stops_same was now before words (stop.Bad bad) same h = agrees_same was now before words (Bad bad) same h
 stops_same was now before words stop.Memory same h = tt
+
+-- what the words come to, once each file's words are in the place of the word that names it
+pub come_to : (told : Told) (words all : List (List ℕ)) (this : Line) → Expands told [] words all [] → read_all (line_of all) ≡ this → Agrees (line_in told words) this
+come_to told words all this expands is settled = elim (expands told (knows_all told)) [
+  | inl untold ↦ absurd (subst (λ (line : Line). IsSettled line) untold settled)
+  | inr same ↦ same ∙ is
+]

@@ -1,6 +1,7 @@
 //! Words, each file of words put in the place of the word that names it, and the line that they give.
-ghost use Rattle.std.specs.Prelude.{◌≡◌, ◌≤◌, ℕ, [], ◌∷◌, ◌++◌, List, Ok, length, map, option_map, string_bytes, IfOk, IfErr, IfSome, OnOk};
-ghost use Rattle.link_traits.specs.Told.{Rose};
+ghost use Rattle.std.specs.Prelude.{◌≡◌, ◌≤◌, ℕ, [], ◌∷◌, ◌++◌, List, Ok, length, option_map, IfOk, IfErr, IfSome, OnOk};
+ghost use Rattle.link_traits.specs.Views.{FilesRose};
+ghost use Rattle.link_traits.specs.Texts.{texts_of};
 ghost use Rattle.policy_args.specs.Reading.{line_seen};
 ghost use Rattle.policy_args.specs.Words.{words_in};
 ghost use Rattle.line_words.specs.Words.{args_path, Reads, line_in};
@@ -39,20 +40,20 @@ pub fn read_words<'a, F: Files>(
     files: &mut F,
     words: &'a [String],
 ) -> Result<ProxyLine, LineStop<'a>>
-    ensures line { IfOk result (λ line. Agrees (line_in (F.told files.old) (map (λ w. string_bytes w) words.now)) (Reads (line_seen line))) }
-    ensures stops { IfErr result (λ stop. StopsBy (F.told files.old) (map (λ w. string_bytes w) words.now) stop) }
-    ensures cause { IfErr result (λ stop. CausedBy (Rose (F.faults files.old) (F.faults files.new)) stop) }
-    ensures count { F.faults files.old ≤ F.faults files.new }
-    ensures kept { (p : List ℕ) → F.told files.new p ≡ F.told files.old p }
+    ensures line { IfOk result (λ line. Agrees (line_in (F.view files.old).told (texts_of words.now)) (Reads (line_seen line))) }
+    ensures stops { IfErr result (λ stop. StopsBy (F.view files.old).told (texts_of words.now) stop) }
+    ensures cause { IfErr result (λ stop. CausedBy (FilesRose (F.view files.old) (F.view files.new)) stop) }
+    ensures count { (F.view files.old).faults ≤ (F.view files.new).faults }
+    ensures kept { (p : List ℕ) → (F.view files.new).told p ≡ (F.view files.old).told p }
 
     // Each file that the words name was read once, in the order of the words, and no other. Where they
     // stop, a front of these was, up to the one that could not be.
-    ensures read { OnOk result (F.reads files.new ≡ F.reads files.old ++ paths_in (map (λ w. string_bytes w) words.now)) }
-    ensures until { IfErr result (λ stop. ReadUntil (paths_in (map (λ w. string_bytes w) words.now)) (F.reads files.old) (F.reads files.new) stop) }
+    ensures read { OnOk result ((F.view files.new).reads ≡ (F.view files.old).reads ++ paths_in (texts_of words.now)) }
+    ensures until { IfErr result (λ stop. ReadUntil (paths_in (texts_of words.now)) (F.view files.old).reads (F.view files.new).reads stop) }
 
     // None was read behind one that is bad, by what is told of the files. Where that settles what the
     // words come to, they are refused only once all were read up to that one.
-    ensures needed { ReadsNeeded (IsSettled (line_in (F.told files.old) (map (λ w. string_bytes w) words.now))) (needed_by (F.told files.old) (map (λ w. string_bytes w) words.now)) (F.reads files.old) (F.reads files.new) result }
+    ensures needed { ReadsNeeded (IsSettled (line_in (F.view files.old).told (texts_of words.now))) (needed_by (F.view files.old).told (texts_of words.now)) (F.view files.old).reads (F.view files.new).reads result }
 {
     match expand(alloc, files, words) {
         Ok(all) => match read_line(alloc, &all) {
@@ -70,15 +71,15 @@ fn expand<'a, F: Files>(
     files: &mut F,
     words: &'a [String],
 ) -> Result<Vec<String>, LineStop<'a>>
-    ensures words { IfOk result (λ all. Expands (F.told files.old) [] (map (λ w. string_bytes w) words.now) (map (λ w. string_bytes w) all.items) []) }
-    ensures stops { IfErr result (λ stop. StopsBy (F.told files.old) (map (λ w. string_bytes w) words.now) stop) }
-    ensures cause { IfErr result (λ stop. CausedBy (Rose (F.faults files.old) (F.faults files.new)) stop) }
-    ensures count { F.faults files.old ≤ F.faults files.new }
-    ensures kept { (p : List ℕ) → F.told files.new p ≡ F.told files.old p }
-    ensures read { OnOk result (F.reads files.new ≡ F.reads files.old ++ paths_in (map (λ w. string_bytes w) words.now)) }
-    ensures until { IfErr result (λ stop. ReadUntil (paths_in (map (λ w. string_bytes w) words.now)) (F.reads files.old) (F.reads files.new) stop) }
-    ensures needed { ReadsNeeded (IsSettled (line_in (F.told files.old) (map (λ w. string_bytes w) words.now))) (needed_by (F.told files.old) (map (λ w. string_bytes w) words.now)) (F.reads files.old) (F.reads files.new) result }
-    ensures sound { OnOk result (NoneIsBad (F.told files.old) (map (λ w. string_bytes w) words.now)) }
+    ensures words { IfOk result (λ all. Expands (F.view files.old).told [] (texts_of words.now) (texts_of all.items) []) }
+    ensures stops { IfErr result (λ stop. StopsBy (F.view files.old).told (texts_of words.now) stop) }
+    ensures cause { IfErr result (λ stop. CausedBy (FilesRose (F.view files.old) (F.view files.new)) stop) }
+    ensures count { (F.view files.old).faults ≤ (F.view files.new).faults }
+    ensures kept { (p : List ℕ) → (F.view files.new).told p ≡ (F.view files.old).told p }
+    ensures read { OnOk result ((F.view files.new).reads ≡ (F.view files.old).reads ++ paths_in (texts_of words.now)) }
+    ensures until { IfErr result (λ stop. ReadUntil (paths_in (texts_of words.now)) (F.view files.old).reads (F.view files.new).reads stop) }
+    ensures needed { ReadsNeeded (IsSettled (line_in (F.view files.old).told (texts_of words.now))) (needed_by (F.view files.old).told (texts_of words.now)) (F.view files.old).reads (F.view files.new).reads result }
+    ensures sound { OnOk result (NoneIsBad (F.view files.old).told (texts_of words.now)) }
 {
     let mut all = Vec::new(alloc);
     for word in words {
@@ -97,15 +98,15 @@ fn add_word<'a, F: Files>(
     word: &'a str,
     all: &mut Vec<String>,
 ) -> Result<(), LineStop<'a>>
-    ensures words { OnOk result ((rest : List (List ℕ)) → Expands (F.told files.old) (map (λ w. string_bytes w) all.old.items) (word.now ∷ rest) (map (λ w. string_bytes w) all.new.items) rest) }
-    ensures stops { IfErr result (λ stop. (rest : List (List ℕ)) → StopsFrom (F.told files.old) (map (λ w. string_bytes w) all.old.items) (word.now ∷ rest) stop) }
-    ensures cause { IfErr result (λ stop. CausedBy (Rose (F.faults files.old) (F.faults files.new)) stop) }
-    ensures count { F.faults files.old ≤ F.faults files.new }
-    ensures kept { (p : List ℕ) → F.told files.new p ≡ F.told files.old p }
-    ensures read { F.reads files.new ≡ F.reads files.old ++ paths_in (word.now ∷ []) }
+    ensures words { OnOk result ((rest : List (List ℕ)) → Expands (F.view files.old).told (texts_of all.old.items) (word.now ∷ rest) (texts_of all.new.items) rest) }
+    ensures stops { IfErr result (λ stop. (rest : List (List ℕ)) → StopsFrom (F.view files.old).told (texts_of all.old.items) (word.now ∷ rest) stop) }
+    ensures cause { IfErr result (λ stop. CausedBy (FilesRose (F.view files.old) (F.view files.new)) stop) }
+    ensures count { (F.view files.old).faults ≤ (F.view files.new).faults }
+    ensures kept { (p : List ℕ) → (F.view files.new).told p ≡ (F.view files.old).told p }
+    ensures read { (F.view files.new).reads ≡ (F.view files.old).reads ++ paths_in (word.now ∷ []) }
     ensures named { IfErr result (λ stop. IsNamedBy word.now stop) }
-    ensures sound { OnOk result (NoneIsBad (F.told files.old) (word.now ∷ [])) }
-    ensures ends { IfErr result (λ stop. EndsNeeded (F.told files.old) (map (λ w. string_bytes w) all.old.items) word.now stop) }
+    ensures sound { OnOk result (NoneIsBad (F.view files.old).told (word.now ∷ [])) }
+    ensures ends { IfErr result (λ stop. EndsNeeded (F.view files.old).told (texts_of all.old.items) word.now stop) }
 {
     match path_in(word) {
         Some(path) => match file_words(alloc, files, path) {
@@ -147,7 +148,7 @@ fn behind(count: usize, stop: LineStop<'_>) -> LineStop<'_>
 
 /// Puts a copy of a word behind these.
 fn add_copy(alloc: Global, word: &str, all: &mut Vec<String>) -> Result<(), AllocError>
-    ensures { OnOk result (map (λ w. string_bytes w) all.new.items ≡ map (λ w. string_bytes w) all.old.items ++ word.now ∷ []) }
+    ensures { OnOk result (texts_of all.new.items ≡ texts_of all.old.items ++ word.now ∷ []) }
 {
     all.push(String::from_str(alloc, word)?)?;
     Ok(())
@@ -159,12 +160,12 @@ fn file_words<'a, F: Files>(
     files: &mut F,
     path: &'a str,
 ) -> Result<Vec<String>, LineStop<'a>>
-    ensures words { IfOk result (λ words. IfSome (F.told files.old path.now) (λ bytes. (length bytes ≤ ARGS_LIMIT) × (words_in bytes ≡ Ok (map (λ w. string_bytes w) words.items)))) }
-    ensures stops { IfErr result (λ stop. FileStops (F.told files.old path.now) path.now stop) }
-    ensures cause { IfErr result (λ stop. CausedBy (Rose (F.faults files.old) (F.faults files.new)) stop) }
-    ensures count { F.faults files.old ≤ F.faults files.new }
-    ensures kept { (p : List ℕ) → F.told files.new p ≡ F.told files.old p }
-    ensures read { F.reads files.new ≡ F.reads files.old ++ path.now ∷ [] }
+    ensures words { IfOk result (λ words. IfSome ((F.view files.old).told path.now) (λ bytes. (length bytes ≤ ARGS_LIMIT) × (words_in bytes ≡ Ok (texts_of words.items)))) }
+    ensures stops { IfErr result (λ stop. FileStops ((F.view files.old).told path.now) path.now stop) }
+    ensures cause { IfErr result (λ stop. CausedBy (FilesRose (F.view files.old) (F.view files.new)) stop) }
+    ensures count { (F.view files.old).faults ≤ (F.view files.new).faults }
+    ensures kept { (p : List ℕ) → (F.view files.new).told p ≡ (F.view files.old).told p }
+    ensures read { (F.view files.new).reads ≡ (F.view files.old).reads ++ path.now ∷ [] }
 {
     match read_whole(alloc, files, path, ARGS_LIMIT) {
         Ok(bytes) => match words_of(alloc, &bytes) {

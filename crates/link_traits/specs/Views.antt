@@ -1,10 +1,42 @@
--- What contracts see of a net, and how that goes on from call to call.
-use Rattle.std.specs.Prelude.{ℕ, ◌≡◌, ◌≤◌, Bool, false, ◌++◌, Option, Some}
+-- What contracts see of files, of a sink and of a net, and how that goes on from call to call.
+use Rattle.std.specs.Prelude.{ℕ, ◌≡◌, ◌≤◌, Bool, false, List, ◌++◌, Option, Some}
+use Rattle.link_traits.specs.Told.{added}
 pub use Rattle.link_traits.specs.Told.{Rose}
 use Rattle.link_traits.specs.Journals.{Journal, same_link}
 use Rattle.link_traits.specs.declared.links.Count.{Count}
 use Rattle.link_traits.specs.declared.links.Link.{Link}
 use Rattle.link_traits.specs.declared.links.Wishes.{Wishes}
+
+-- ---- files
+
+-- The bytes that each path holds where that is told. How often a call has failed, up to the greatest number that the
+-- count has. The paths that were read, in order: each read is in it once, whatever it answered.
+pub record FilesView : Type 0 where
+  pub told : List ℕ → Option (List ℕ)
+  pub faults : ℕ
+  pub reads : List (List ℕ)
+
+-- a call of the files failed: their count of faults rose
+abbrev pub FilesRose : FilesView → FilesView → Type 0
+FilesRose old new = Rose old.faults new.faults
+
+-- ---- a sink
+
+-- All bytes that were taken, where they are told. How often a write has failed, up to the greatest number that the
+-- count has.
+pub record SinkView : Type 0 where
+  pub told : Option (List ℕ)
+  pub faults : ℕ
+
+-- a write of the sink failed: its count of faults rose
+abbrev pub SinkRose : SinkView → SinkView → Type 0
+SinkRose old new = Rose old.faults new.faults
+
+-- a sink got these bytes
+abbrev pub Appends : SinkView → SinkView → List ℕ → Type 0
+Appends old new bytes = new.told ≡ added bytes old.told
+
+-- ---- a net
 
 -- the journal where the net tells it, its counts, the wishes of each link that was made and isn't
 -- shut, and whether its script is done

@@ -183,11 +183,7 @@ fn add_file(files: &mut Vec<MemFile>, path: &str) -> Result<(), AllocError>
 }
 
 impl Files for MemFiles {
-    ghost told = { λ m path. told_of m.files.items path };
-
-    ghost faults = { λ m. m.faults };
-
-    ghost reads = { λ m. m.reads.paths };
+    ghost view = { λ m. record { told = told_of m.files.items; faults = m.faults; reads = m.reads.paths } };
 
     /// It fails where no file has the path, and where the first that has it fails; else it is refused as too long where
     /// the file has more bytes than the limit.
@@ -313,9 +309,7 @@ impl MemSink {
 }
 
 impl Sink for MemSink {
-    ghost told = { λ m. Some m.bytes.items };
-
-    ghost faults = { λ m. m.faults };
+    ghost view = { λ m. record { told = Some m.bytes.items; faults = m.faults } };
 
     /// It fails where the piece has bytes and no room is left, and else takes as many bytes as there is room for.
     fn write(&mut self, piece: &[u8]) -> Result<usize, SinkFault>

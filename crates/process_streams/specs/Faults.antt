@@ -7,9 +7,10 @@
 --     8    error: memory
 --
 -- INDEX counts the words after the program's name from 0. It is written in decimal, with no zero in front.
-use Rattle.std.specs.Prelude.{◌≡◌, ℕ, ◌||◌, Bool, false, List, [], ◌∷◌, ◌++◌, ◌⊎◌, Option, bytes_eq, codes, if◌then◌else◌, length, map, string_bytes}
+use Rattle.std.specs.Prelude.{◌≡◌, ℕ, ◌||◌, Bool, false, List, [], ◌∷◌, ◌++◌, ◌⊎◌, Option, bytes_eq, codes, if◌then◌else◌, length}
 use Rattle.std.specs.Fmt.{decimal}
 use Rattle.link_traits.specs.Told.{added, Part}
+use Rattle.link_traits.specs.Texts.{texts_of}
 use Rattle.process_streams.specs.declared.faults.ProcessFault.{ProcessFault}
 use Rattle.process_streams.specs.declared.faults.ProcessFault.TheVariants.{NotText, ClosedStream, NoNet, Memory}
 
@@ -53,7 +54,7 @@ NotTextEnds rose old new before code =
 
 -- how a process ends by a fault
 abbrev pub FaultEnds : Type 0 → Option (List ℕ) → Option (List ℕ) → ProcessFault → ℕ → Type 0
-FaultEnds rose old new (NotText before) code = NotTextEnds rose old new (map (λ w. string_bytes w) before.items) code
+FaultEnds rose old new (NotText before) code = NotTextEnds rose old new (texts_of before.items) code
 FaultEnds rose old new ClosedStream code = Ends rose old new 5 (codes "error: standard streams\n") code
 FaultEnds rose old new NoNet code = Ends rose old new 5 (codes "error: wait\n") code
 FaultEnds rose old new Memory code = Ends rose old new 8 memory_line code

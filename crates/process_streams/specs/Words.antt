@@ -1,6 +1,7 @@
 -- The words of a process that are text.
-use Rattle.std.specs.Prelude.{◌≡◌, ◌++◌, ◌∷◌, ℕ, List, ⊤, map, string_bytes}
+use Rattle.std.specs.Prelude.{◌≡◌, ◌++◌, ◌∷◌, ℕ, List, ⊤}
 use Rattle.std.specs.Str.{IsUtf8}
+use Rattle.link_traits.specs.Texts.{texts_of}
 use Rattle.process_streams.specs.declared.faults.ProcessFault.{ProcessFault}
 use Rattle.process_streams.specs.declared.faults.ProcessFault.TheVariants.{NotText, ClosedStream, NoNet, Memory}
 
@@ -13,7 +14,7 @@ pub record IsTextPrefix (words before : List (List ℕ)) : Type 0 where
 
 -- why some words aren't texts
 abbrev pub Explains : List (List ℕ) → ProcessFault → Type 0
-Explains words (NotText before) = IsTextPrefix words (map (λ w. string_bytes w) before.items)
+Explains words (NotText before) = IsTextPrefix words (texts_of before.items)
 Explains words ClosedStream = ⊥
 Explains words NoNet = ⊥
 Explains words Memory = ⊤

@@ -1,6 +1,7 @@
 //! How a process ends before its work.
-ghost use Rattle.std.specs.Prelude.{◌≡◌, ◌≤◌, map, string_bytes, IfOk};
-ghost use Rattle.link_traits.specs.Told.{Rose};
+ghost use Rattle.std.specs.Prelude.{◌≡◌, ◌≤◌, string_bytes, IfOk};
+ghost use Rattle.link_traits.specs.Views.{SinkRose};
+ghost use Rattle.link_traits.specs.Texts.{texts_of};
 ghost use Rattle.process_streams.specs.Faults.{Ends, FaultEnds, NotTextEnds, begins_tool as begins_with_tool, is_tool_name as is_name, word_line};
 
 use link_traits::{Sink, write_all};
@@ -29,7 +30,7 @@ pub enum ProcessFault {
 
 /// Writes the line of a fault, and gives the status of the process.
 pub fn tell_fault<E: Sink>(alloc: Global, fault: ProcessFault, err: &mut E) -> u8
-    ensures ends { FaultEnds (Rose (E.faults err.old) (E.faults err.new)) (E.told err.old) (E.told err.new) fault result }
+    ensures ends { FaultEnds (SinkRose (E.view err.old) (E.view err.new)) (E.view err.old).told (E.view err.new).told fault result }
     ensures small { result ≤ 9 }
 {
     match fault {
@@ -42,7 +43,7 @@ pub fn tell_fault<E: Sink>(alloc: Global, fault: ProcessFault, err: &mut E) -> u
 
 /// Writes the line of a word that isn't UTF-8.
 fn tell_not_text<E: Sink>(alloc: Global, before: &[String], err: &mut E) -> u8
-    ensures ends { NotTextEnds (Rose (E.faults err.old) (E.faults err.new)) (E.told err.old) (E.told err.new) (map (λ w. string_bytes w) before.now) result }
+    ensures ends { NotTextEnds (SinkRose (E.view err.old) (E.view err.new)) (E.view err.old).told (E.view err.new).told (texts_of before.now) result }
     ensures small { result ≤ 9 }
 {
     if begins_tool(before) {
@@ -56,7 +57,7 @@ fn tell_not_text<E: Sink>(alloc: Global, before: &[String], err: &mut E) -> u8
 
 /// Whether the first of these words names a tool.
 fn begins_tool(words: &[String]) -> bool
-    ensures { result ≡ begins_with_tool (map (λ w. string_bytes w) words.now) }
+    ensures { result ≡ begins_with_tool (texts_of words.now) }
 {
     match words {
         [word, ..] => is_tool_name(word),
@@ -93,7 +94,7 @@ fn word_text(alloc: Global, index: usize) -> Result<String, AllocError>
 
 /// Writes a line, and gives the status back.
 fn tell<E: Sink>(code: u8, line: &str, err: &mut E) -> u8
-    ensures ends { Ends (Rose (E.faults err.old) (E.faults err.new)) (E.told err.old) (E.told err.new) code line.now result }
+    ensures ends { Ends (SinkRose (E.view err.old) (E.view err.new)) (E.view err.old).told (E.view err.new).told code line.now result }
     ensures code { result ≡ code }
 {
     let _ = write_all(err, line.as_bytes());

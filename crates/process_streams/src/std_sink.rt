@@ -35,9 +35,7 @@ impl<W: Write + Drop, C: Clock + Drop> StdSink<W, C> {
 impl<W: Write + Drop, C: Clock + Drop> Sink for StdSink<W, C> {
     ghost use Rattle.std.specs.Prelude.{None};
 
-    ghost told = { λ _. None };
-
-    ghost faults = { λ m. m.faults };
+    ghost view = { λ m. record { told = None; faults = m.faults } };
 
     fn write(&mut self, piece: &[u8]) -> Result<usize, SinkFault>
         ensures within { IfOk result (λ n. n ≤ length piece.now) }

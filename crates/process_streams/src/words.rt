@@ -1,6 +1,7 @@
 //! The words that a process was started with.
-ghost use Rattle.std.specs.Prelude.{◌≡◌, ℕ, List, Option, None, map, option_map, string_bytes, slice_get, drop, IfOk, IfErr, IfSome};
+ghost use Rattle.std.specs.Prelude.{◌≡◌, ℕ, List, Option, None, option_map, string_bytes, slice_get, drop, IfOk, IfErr, IfSome};
 ghost use Rattle.std.specs.Str.{IsUtf8};
+ghost use Rattle.link_traits.specs.Texts.{texts_of};
 ghost use Rattle.process_streams.specs.Words.{Explains};
 
 use crate::faults::ProcessFault;
@@ -25,7 +26,7 @@ pub fn words_of_process<A: Arguments>(
     alloc: Global,
     arguments: &A,
 ) -> Result<Vec<String>, ProcessFault>
-    ensures ok { IfOk result (λ texts. IfSome (A.told arguments.now) (λ words. map (λ w. string_bytes w) texts.items ≡ drop 1 words)) }
+    ensures ok { IfOk result (λ texts. IfSome (A.told arguments.now) (λ words. texts_of texts.items ≡ drop 1 words)) }
     ensures err { IfErr result (λ fault. IfSome (A.told arguments.now) (λ words. Explains (drop 1 words) fault)) }
 {
     let mut texts = Vec::new(alloc);

@@ -2,7 +2,7 @@
 use Rattle.std.proofs.Common.{ℕ, nat_eq, ◌≡◌, ◌⊎◌, inl, inr, Bool, true, false, ◌&&◌, ◌||◌, not, is_some, List, [], ◌∷◌, ◌++◌, Option, Some, None, if◌then◌else◌, refl, ap, ap₂, ◌∙◌, sym, subst, append-nil, arith}
 use Rattle.link_traits.specs.Journals.{Journal, same_side, same_link, written, written_by}
 use Rattle.link_traits.specs.Told.{Rose}
-use Rattle.link_traits.specs.Views.{NetView}
+use Rattle.link_traits.specs.Views.{NetView, SinkView}
 use Rattle.link_traits.specs.Answers.{client_link, bus_link, read_entry}
 use Rattle.link_traits.specs.Entries.{Entry, not_ready as NotReady, shut as Shut}
 use Rattle.link_traits.specs.declared.links.Got.{Got}
@@ -16,7 +16,6 @@ use Rattle.policy_view.specs.declared.End.{End}
 use Rattle.policy_view.specs.declared.End.TheVariants.{LogFault}
 use Rattle.proxy_core.specs.Sessions.{SessionView, Taken, StandsFor, IsFront, is_memory}
 use Rattle.proxy_loop.specs.declared.serving.Running.{Running}
-use Rattle.proxy_loop.specs.Sinks.{SinkView}
 use Rattle.proxy_loop.specs.Kinds.{is_write, is_read, writes_of, gave_bytes, all_are, some_of, gone_by, last_write, first_of}
 use Rattle.proxy_loop.specs.Works.{Any, Only, Goes, OneRead, FedOnce, KeepsEnd, ShutWhere, ShutBoth, link_at, IsDrained, KeepsWaiting}
 use Rattle.proxy_loop.specs.Writing.{Written}

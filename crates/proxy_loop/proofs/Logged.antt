@@ -5,6 +5,7 @@ use Rattle.explain_log.specs.Buffers.{GoesOut}
 use Rattle.explain_log.specs.Lines.{log_line, log}
 use Rattle.link_traits.specs.Told.{Rose}
 use Rattle.link_traits.proofs.Parts.{added-none, then_all}
+use Rattle.link_traits.specs.Views.{Appends, SinkView}
 use Rattle.policy_args.specs.Policy.{Policy}
 use Rattle.policy_view.specs.Notes.{Note}
 use Rattle.policy_view.specs.History.{Event}
@@ -12,7 +13,6 @@ use Rattle.policy_view.specs.declared.End.{End}
 use Rattle.policy_view.specs.declared.End.TheVariants.{LogFault}
 use Rattle.proxy_core.specs.Sessions.{SessionView, Taken, StandsFor}
 use Rattle.proxy_core.specs.Messages.{ended_by}
-use Rattle.proxy_loop.specs.Sinks.{SinkView, Appends}
 use Rattle.proxy_loop.specs.Logging.{stopped_at, LogsSoFar, Logs}
 use Rattle.proxy_loop.proofs.Holding.{Stops, rose_sooner}
 

@@ -3,7 +3,7 @@ use Rattle.std.proofs.Common.{ℕ, ◌≡◌, ◌≤◌, ◌⊎◌, inl, inr, Bo
 use Rattle.std.proofs.Math.Logic.{∥∥₁_map}
 use Rattle.dbus_names.specs.Names.{is_empty}
 use Rattle.link_traits.specs.Journals.{Journal, written}
-use Rattle.link_traits.specs.Views.{NetView, Adds}
+use Rattle.link_traits.specs.Views.{NetView, Adds, SinkView}
 use Rattle.link_traits.specs.Answers.{client_link, bus_link, read_entry}
 use Rattle.link_traits.specs.Entries.{not_ready as NotReady, shut as Shut}
 use Rattle.link_traits.specs.declared.links.Count.{Count}
@@ -17,7 +17,6 @@ use Rattle.policy_args.specs.Policy.{Policy}
 use Rattle.policy_view.specs.declared.End.{End}
 use Rattle.proxy_core.specs.Sessions.{SessionView, IsFront, is_memory}
 use Rattle.proxy_loop.specs.declared.serving.Running.{Running}
-use Rattle.proxy_loop.specs.Sinks.{SinkView}
 use Rattle.proxy_loop.specs.Kinds.{some_of, gone_by, last_write}
 use Rattle.proxy_loop.specs.Works.{Any, Goes, Stood, StoodFor, Cause, ShutBoth, IsDrained, WritesInOrder, link_at, shuts_now, is_full, KeepsEnd}
 use Rattle.proxy_loop.specs.Logging.{stop_events}

@@ -2,7 +2,7 @@
 use Rattle.std.proofs.Common.{ℕ, ◌≡◌, ◌≤◌, ◌<◌, length, ◌⊎◌, inl, inr, Bool, true, false, ◌||◌, is_some, List, [], ◌∷◌, ◌++◌, Option, Some, None, if◌then◌else◌, refl, ap, ap₂, ◌∙◌, sym, subst, append-nil, append_assoc}
 use Rattle.explain_log.specs.Lines.{log}
 use Rattle.link_traits.specs.Journals.{Journal, written}
-use Rattle.link_traits.specs.Views.{NetView}
+use Rattle.link_traits.specs.Views.{NetView, SinkView}
 use Rattle.link_traits.specs.Answers.{client_link, bus_link}
 use Rattle.link_traits.specs.Told.{Rose}
 use Rattle.link_traits.specs.declared.links.Side.{Side}
@@ -20,7 +20,6 @@ use Rattle.proxy_core.proofs.Fronts.{notes_ended, notes_front}
 use Rattle.proxy_core.proofs.Standing.{holds_all}
 use Rattle.policy_view.proofs.Closings.{open_has_none, there_is_closing, closes_later}
 use Rattle.proxy_loop.specs.declared.serving.Running.{Running}
-use Rattle.proxy_loop.specs.Sinks.{SinkView}
 use Rattle.proxy_loop.specs.Sessions.{Holds, IsWithStop, events_of, taken_of}
 use Rattle.proxy_loop.specs.Works.{Moves, more_taken}
 use Rattle.proxy_loop.specs.Logging.{stop_events}

@@ -2,11 +2,10 @@
 use Rattle.std.proofs.Common.{ℕ, zero, suc, nat_eq, ◌≡◌, ◌<◌, Bool, true, false, cond, List, [], ◌∷◌, length, Option, Some, None, if◌then◌else◌, refl, ap, ◌∙◌, sym, subst, arith, slice_get, slice_index_or}
 use Rattle.std.specs.Global.{Box}
 use Rattle.std.specs.Option.{option_map}
-use Rattle.link_traits.specs.Views.{NetView}
+use Rattle.link_traits.specs.Views.{NetView, SinkView}
 use Rattle.link_traits.specs.declared.links.Link.{Link}
 use Rattle.policy_args.specs.declared.line.Block.{Block}
 use Rattle.proxy_loop.specs.declared.serving.Running.{Running}
-use Rattle.proxy_loop.specs.Sinks.{SinkView}
 use Rattle.proxy_loop.specs.Runs.{is_over}
 use Rattle.proxy_loop.specs.Tables.{At, Table, Sets, unless_over}
 use Rattle.proxy_loop.specs.Turns.{IsServed, LinkDid}

@@ -5,7 +5,7 @@ use Rattle.std.specs.Global.{Box}
 use Rattle.std.specs.Map.{lookup}
 use Rattle.std.specs.Option.{option_map}
 use Rattle.link_traits.specs.Journals.{Journal, written, accepts, accepts_by}
-use Rattle.link_traits.specs.Views.{NetView, Adds, RoseAt}
+use Rattle.link_traits.specs.Views.{NetView, Adds, RoseAt, SinkView}
 use Rattle.link_traits.specs.Answers.{client_link, bus_link, connect_entry, accept_entry}
 use Rattle.link_traits.specs.Entries.{Entry, ready as ReadyEntry, accepted as AcceptedEntry}
 use Rattle.link_traits.specs.declared.links.Count.TheVariants.{Own as OfNet}
@@ -24,7 +24,6 @@ use Rattle.proxy_loop.specs.declared.table.Sessions.{Sessions}
 use Rattle.proxy_loop.specs.declared.turns.Turn.{Turn}
 use Rattle.proxy_loop.specs.declared.turns.ServerEnd.{ServerEnd}
 use Rattle.proxy_loop.specs.declared.turns.ServerEnd.TheVariants.{Listen, Wait, Memory}
-use Rattle.proxy_loop.specs.Sinks.{SinkView}
 use Rattle.proxy_loop.specs.Sessions.{Holds, events_of}
 use Rattle.proxy_loop.specs.Kinds.{about, all_are, some_of, gone_by}
 use Rattle.proxy_loop.specs.Works.{Moves, Stood}

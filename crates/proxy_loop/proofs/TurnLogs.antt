@@ -2,7 +2,7 @@
 use Rattle.std.proofs.Common.{ℕ, nat_lt, ◌≡◌, ◌⊎◌, Bool, true, false, cond, List, [], ◌∷◌, ◌++◌, Option, Some, None, Result, Ok, Err, refl, ap, ◌∙◌, sym, subst, slice_get, inl, inr}
 use Rattle.std.specs.Prelude.{is_some}
 use Rattle.link_traits.specs.Journals.{Journal}
-use Rattle.link_traits.specs.Views.{NetView}
+use Rattle.link_traits.specs.Views.{NetView, SinkView}
 use Rattle.link_traits.specs.Entries.{ready as ReadyEntry}
 use Rattle.link_traits.specs.declared.links.Link.{Link}
 use Rattle.link_traits.specs.declared.links.Ready.{Ready}
@@ -15,7 +15,6 @@ use Rattle.proxy_loop.specs.declared.serving.Running.{Running}
 use Rattle.proxy_loop.specs.declared.turns.Turn.{Turn}
 use Rattle.proxy_loop.specs.declared.turns.ServerEnd.{ServerEnd}
 use Rattle.proxy_loop.specs.declared.turns.ServerEnd.TheVariants.{Listen, Wait, Memory}
-use Rattle.proxy_loop.specs.Sinks.{SinkView}
 use Rattle.proxy_loop.specs.Sessions.{Holds, events_of}
 use Rattle.proxy_loop.specs.Runs.{Logged, ServedStands, WhyCut, log_of}
 use Rattle.proxy_loop.specs.Tables.{Table, unless_over, session_mode, SoundTable}

@@ -1,7 +1,7 @@
 -- A turn makes no listener.
 use Rattle.std.proofs.Common.{ℕ, ◌≡◌, Bool, true, false, List, [], ◌∷◌, ◌++◌, Option, Some, None, Result, Ok, Err, refl, ap, ◌∙◌, sym, subst, append-nil, slice_get, string_bytes}
 use Rattle.link_traits.specs.Journals.{Journal}
-use Rattle.link_traits.specs.Views.{NetView, Adds}
+use Rattle.link_traits.specs.Views.{NetView, Adds, SinkView}
 use Rattle.link_traits.specs.Answers.{accept_entry}
 use Rattle.link_traits.specs.Entries.{Entry, listened as Listened, ready as ReadyEntry, accepted as AcceptedEntry, connected as Connected, read as Read, finished as Finished, wrote as Wrote, not_ready as NotReady, failed as Failed, refused as Refused, shut as Shut}
 use Rattle.link_traits.specs.declared.links.Accepted.{Accepted}
@@ -14,7 +14,6 @@ use Rattle.proxy_loop.specs.declared.serving.Running.{Running}
 use Rattle.proxy_loop.specs.declared.turns.Turn.{Turn}
 use Rattle.proxy_loop.specs.declared.turns.ServerEnd.{ServerEnd}
 use Rattle.proxy_loop.specs.declared.turns.ServerEnd.TheVariants.{Listen, Wait, Memory}
-use Rattle.proxy_loop.specs.Sinks.{SinkView}
 use Rattle.proxy_loop.specs.Kinds.{about, all_are}
 use Rattle.proxy_loop.specs.Listening.{listener_by, listeners_of, HearsNoMore}
 use Rattle.proxy_loop.specs.Tables.{Table}

@@ -3,7 +3,7 @@ use Rattle.std.proofs.Common.{ℕ, nat_eq, nat_lt, ◌≡◌, Bool, true, false,
 use Rattle.std.proofs.lemmas.Bool.Decides.{nat_tests}
 use Rattle.std.proofs.Common.{arith}
 use Rattle.std.specs.Option.{option_map}
-use Rattle.link_traits.specs.Views.{NetView, KeepsWishes, KeepsOthers}
+use Rattle.link_traits.specs.Views.{NetView, KeepsWishes, KeepsOthers, SinkView}
 use Rattle.link_traits.specs.Answers.{client_link, bus_link, AfterAccept}
 use Rattle.link_traits.specs.declared.links.Accepted.{Accepted}
 use Rattle.link_traits.specs.declared.links.Accepted.TheVariants.{New, NotReady as AcceptNotReady, Failed as AcceptFailed, Memory as AcceptMemory}
@@ -17,7 +17,6 @@ use Rattle.proxy_loop.specs.declared.serving.Running.{Running}
 use Rattle.proxy_loop.specs.declared.turns.Turn.{Turn}
 use Rattle.proxy_loop.specs.declared.turns.ServerEnd.{ServerEnd}
 use Rattle.proxy_loop.specs.declared.turns.ServerEnd.TheVariants.{Listen, Wait, Memory}
-use Rattle.proxy_loop.specs.Sinks.{SinkView}
 use Rattle.proxy_loop.specs.Works.{wishes_of}
 use Rattle.proxy_loop.specs.Runs.{KeepsSessions, is_over}
 use Rattle.proxy_loop.specs.Tables.{At, Table, Sets, unless_over, SoundTable, Wished, AllWished}

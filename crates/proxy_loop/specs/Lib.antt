@@ -1,4 +1,3 @@
-pub mod Sinks
 pub mod Sessions
 pub mod Kinds
 pub mod Works

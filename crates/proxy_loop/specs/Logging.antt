@@ -1,6 +1,7 @@
 -- What a session and a sink are after new notes were logged.
 use Rattle.std.specs.Prelude.{ℕ, ◌≡◌, ◌≤◌, Bool, true, false, List, [], ◌∷◌, ◌++◌, Option, Some, None}
 use Rattle.link_traits.specs.Told.{Rose}
+use Rattle.link_traits.specs.Views.{Appends, SinkView}
 use Rattle.explain_log.specs.Lines.{log}
 use Rattle.policy_args.specs.Policy.{Policy}
 use Rattle.policy_view.specs.Notes.{Note}
@@ -9,7 +10,6 @@ use Rattle.policy_view.specs.declared.End.{End}
 use Rattle.policy_view.specs.declared.End.TheVariants.{LogFault}
 use Rattle.proxy_core.specs.Sessions.{SessionView, Taken, StandsFor}
 use Rattle.proxy_core.specs.Messages.{ended_by}
-use Rattle.proxy_loop.specs.Sinks.{SinkView, Appends}
 
 -- a session that was told to stop: the first End stays
 abbrev pub stopped_at : Option End → End → SessionView → SessionView

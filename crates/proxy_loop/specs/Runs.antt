@@ -2,7 +2,7 @@
 use Rattle.std.specs.Prelude.{ℕ, ◌≡◌, ◌≤◌, ◌<◌, ◌⊎◌, Bool, true, false, not, length, List, [], ◌∷◌, ◌++◌, Option, Some, None, is_some, nat_eq, ◌&&◌, ◌||◌}
 use Rattle.explain_log.specs.Lines.{log}
 use Rattle.link_traits.specs.Journals.{Journal, written}
-use Rattle.link_traits.specs.Views.{NetView}
+use Rattle.link_traits.specs.Views.{NetView, Appends, SinkView}
 use Rattle.link_traits.specs.Answers.{client_link, bus_link}
 use Rattle.link_traits.specs.Entries.{not_ready}
 use Rattle.link_traits.specs.Told.{Rose}
@@ -21,7 +21,6 @@ use Rattle.policy_view.specs.Notes.{Note, notes}
 use Rattle.policy_view.specs.Outputs.{bus_bytes, client_bytes}
 use Rattle.proxy_core.specs.Sessions.{SessionView, Taken, StandsFor, IsFront, is_memory}
 use Rattle.proxy_loop.specs.declared.serving.Running.{Running}
-use Rattle.proxy_loop.specs.Sinks.{SinkView, Appends}
 use Rattle.proxy_loop.specs.Sessions.{Holds, IsWithStop, events_of}
 use Rattle.proxy_loop.specs.Kinds.{writes_of, gave_bytes, all_are, some_of, gone_by, last_write}
 use Rattle.proxy_loop.specs.Works.{Only, Goes, Stood, Cause, OneRead, FedOnce, KeepsWaiting, IsDrained, WritesInOrder, link_at, is_full, ShutBoth}

@@ -1,7 +1,7 @@
 -- When the sessions of a server serve a journal.
 use Rattle.std.specs.Prelude.{ℕ, nat_eq, ◌≡◌, ◌⊎◌, ◌≤◌, Bool, true, false, ◌||◌, List, [], ◌∷◌, ◌++◌, Option, Some, None, if◌then◌else◌, slice_get}
 use Rattle.link_traits.specs.Journals.{Journal, accepts, written}
-use Rattle.link_traits.specs.Views.{NetView}
+use Rattle.link_traits.specs.Views.{NetView, SinkView}
 use Rattle.link_traits.specs.Answers.{client_link, bus_link}
 use Rattle.link_traits.specs.Entries.{Entry, listened, ready, accepted, connected, read, finished, wrote, not_ready, failed, refused, shut}
 use Rattle.link_traits.specs.declared.links.Ready.{Ready}
@@ -13,7 +13,6 @@ use Rattle.policy_view.specs.Past.{History}
 use Rattle.policy_args.specs.Policy.{Policy}
 use Rattle.proxy_core.specs.Sessions.{SessionView, IsFront, is_memory}
 use Rattle.proxy_loop.specs.declared.serving.Running.{Running}
-use Rattle.proxy_loop.specs.Sinks.{SinkView}
 use Rattle.proxy_loop.specs.Sessions.{Holds, events_of}
 use Rattle.proxy_loop.specs.Kinds.{about, some_of, gone_by}
 use Rattle.proxy_loop.specs.Runs.{is_over, Logged}

@@ -2,7 +2,7 @@
 use Rattle.std.specs.Prelude.{ℕ, nat_eq, nat_lt, nat_le, ◌≡◌, ◌<◌, ◌+◌, ◌&&◌, [], ◌∷◌, ◌++◌, Result, Ok, Err, ◌||◌, Bool, true, false, List, Option, Some, None, if◌then◌else◌, slice_get, string_bytes, length}
 use Rattle.std.specs.Option.{option_map}
 use Rattle.link_traits.specs.Journals.{Journal, accepts}
-use Rattle.link_traits.specs.Views.{NetView, Adds, RoseAt, KeepsWishes}
+use Rattle.link_traits.specs.Views.{NetView, Adds, RoseAt, KeepsWishes, SinkView}
 use Rattle.link_traits.specs.Answers.{client_link, bus_link, accept_entry, connect_entry, AfterAccept}
 use Rattle.link_traits.specs.Entries.{ready as ready_entry}
 use Rattle.link_traits.specs.declared.links.Accepted.{Accepted}
@@ -26,7 +26,6 @@ use Rattle.proxy_loop.specs.declared.turns.Turn.{Turn}
 use Rattle.proxy_loop.specs.declared.turns.Turn.TheVariants.{Went, Stopped}
 use Rattle.proxy_loop.specs.declared.turns.ServerEnd.{ServerEnd}
 use Rattle.proxy_loop.specs.declared.turns.ServerEnd.TheVariants.{Listen as EndListen, Wait, Memory as EndMemory}
-use Rattle.proxy_loop.specs.Sinks.{SinkView}
 use Rattle.proxy_loop.specs.Kinds.{some_of, gone_by}
 use Rattle.proxy_loop.specs.Works.{Any, Cause, Goes, ShutBoth, shuts_now, wishes_of}
 use Rattle.proxy_loop.specs.Runs.{Sound, KeepsPlace, KeepsSessions, Serving}

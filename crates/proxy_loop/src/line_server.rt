@@ -37,7 +37,6 @@ impl Server {
     ghost use Rattle.link_traits.specs.Journals.{Journal};
     ghost use Rattle.link_traits.specs.Views.{NetView, RoseAt};
     ghost use Rattle.link_traits.specs.declared.links.Count.TheVariants.{Own as OfNet};
-    ghost use Rattle.proxy_loop.specs.Sinks.{sink_of};
     ghost use Rattle.proxy_loop.specs.Tables.{IsEmpty, AllWished};
     ghost use Rattle.proxy_loop.specs.Turns.{TurnDid};
     ghost use Rattle.proxy_loop.specs.Servers.{Serves, GoesOn, LogExact, LinksStand, QueuesStand, WithoutSessions};
@@ -85,12 +84,12 @@ impl Server {
     /// many sessions as are served were accepted before. For a session on one of whose links something is ready, what waits
     /// is written, that link is read once, the lines of the new notes are logged, and what waits then is written.
     pub fn turn<N: Net, S: Sink>(&mut self, net: &mut N, sink: &mut S) -> Result<Turn, ServerEnd>
-        ensures did { TurnDid (blocks_of self.old) (limit_of self.old) (sessions_of self.old) (sessions_of self.new) (N.view net.old) (N.view net.new) (sink_of (S.told sink.old) (S.faults sink.old)) (sink_of (S.told sink.new) (S.faults sink.new)) result }
+        ensures did { TurnDid (blocks_of self.old) (limit_of self.old) (sessions_of self.old) (sessions_of self.new) (N.view net.old) (N.view net.new) (S.view sink.old) (S.view sink.new) result }
         ensures blocks { blocks_of self.new ≡ blocks_of self.old }
         ensures limit { limit_of self.new ≡ limit_of self.old }
         ensures serves { GoesOn (blocks_of self.old) (sessions_of self.old) (sessions_of self.new) (N.view net.old) (N.view net.new) }
         ensures wished { AllWished (sessions_of self.old).at (N.view net.old) → AllWished (sessions_of self.new).at (N.view net.new) }
-        ensures log { LogExact (blocks_of self.old) (sessions_of self.old) (sessions_of self.new) (N.view net.old) (N.view net.new) (sink_of (S.told sink.old) (S.faults sink.old)) (sink_of (S.told sink.new) (S.faults sink.new)) }
+        ensures log { LogExact (blocks_of self.old) (sessions_of self.old) (sessions_of self.new) (N.view net.old) (N.view net.new) (S.view sink.old) (S.view sink.new) }
         ensures links { (journal : Journal) → Serves (blocks_of self.new) (sessions_of self.new) journal → LinksStand (blocks_of self.new) journal }
         ensures queues { (journal : Journal) → Serves (blocks_of self.new) (sessions_of self.new) journal → QueuesStand (blocks_of self.new) (sessions_of self.new) journal }
         ensures wait { IsErrOf result ServerEnd.Wait → RoseAt OfNet (N.view net.old) (N.view net.new) }

@@ -1,6 +1,5 @@
 //! The lines of a session's new notes, joined so that one write carries many.
 ghost use Rattle.std.specs.Prelude.{◌≡◌, true};
-ghost use Rattle.proxy_loop.specs.Sinks.{sink_of};
 ghost use Rattle.proxy_loop.specs.Logging.{Logs};
 
 use explain_log::LineBuffer;
@@ -12,7 +11,7 @@ use std::alloc::Global;
 /// Writes the lines of all notes of a session that weren't taken. If the sink fails, the session is told to stop. It needs no memory:
 /// lines for whose joining memory is refused are written at once.
 pub fn log_new<S: Sink>(sink: &mut S, alloc: Global, number: u32, session: &mut Session)
-    ensures logs { Logs number session.old session.new (sink_of (S.told sink.old) (S.faults sink.old)) (sink_of (S.told sink.new) (S.faults sink.new)) }
+    ensures logs { Logs number session.old session.new (S.view sink.old) (S.view sink.new) }
 {
     let mut lines = LineBuffer::new(alloc);
     while let Some(note) = session.next_note() {

@@ -3,7 +3,6 @@ ghost use Rattle.std.specs.Prelude.{◌≡◌, ◌||◌, ◌&&◌, not, false, i
 ghost use Rattle.link_traits.specs.Answers.{client_link as client_of, bus_link as bus_of};
 ghost use Rattle.link_traits.specs.Views.{Adds, KeepsWishes};
 ghost use Rattle.link_traits.specs.declared.links.Wishes.{Wishes};
-ghost use Rattle.proxy_loop.specs.Sinks.{sink_of};
 ghost use Rattle.proxy_loop.specs.Works.{Any, Goes, Stood, read_room, shuts_now, wishes_of, ShutBoth, is_full as is_full_side, KeepsEnd};
 ghost use Rattle.proxy_loop.specs.Runs.{Sound, KeepsPlace, KeepsShut, KeepsSessions, WroteBoth, Reads, LogsIf, ReadsAndLogs, Serving};
 
@@ -103,7 +102,7 @@ fn read_named<N: Net>(
 
 /// Logs a session's new notes, where there is a log.
 fn log_if<S: Sink>(sink: &mut S, alloc: Global, log: bool, number: u32, session: &mut Session)
-    ensures { LogsIf log number session.old session.new (sink_of (S.told sink.old) (S.faults sink.old)) (sink_of (S.told sink.new) (S.faults sink.new)) }
+    ensures { LogsIf log number session.old session.new (S.view sink.old) (S.view sink.new) }
 {
     if log {
         log_new(sink, alloc, number, session);
@@ -131,7 +130,7 @@ fn read_and_log<N: Net, S: Sink>(
     requires sound { Sound running.old }
     requires log { running.old.session.mode.notes ≡ log }
     requires room { length buffer.old ≡ read_room }
-    ensures reads { ReadsAndLogs policy.now log running.old.number side (is_some running.old.session.ended || is_full_side side running.old.session) running.old running.new (N.view net.old) (N.view net.new) (sink_of (S.told sink.old) (S.faults sink.old)) (sink_of (S.told sink.new) (S.faults sink.new)) }
+    ensures reads { ReadsAndLogs policy.now log running.old.number side (is_some running.old.session.ended || is_full_side side running.old.session) running.old running.new (N.view net.old) (N.view net.new) (S.view sink.old) (S.view sink.new) }
     ensures place { KeepsPlace running.old running.new }
     ensures shut { KeepsShut running.old running.new }
     ensures sound { Sound running.new }
@@ -197,7 +196,7 @@ pub fn serve<N: Net, S: Sink>(
     requires log { running.old.session.mode.notes ≡ log }
     requires stood { Stood policy.now running.old.session }
     requires room { length buffer.old ≡ read_room }
-    ensures serving { Serving policy.now log running.old.number side running.old running.new (N.view net.old) (N.view net.new) (sink_of (S.told sink.old) (S.faults sink.old)) (sink_of (S.told sink.new) (S.faults sink.new)) }
+    ensures serving { Serving policy.now log running.old.number side running.old running.new (N.view net.old) (N.view net.new) (S.view sink.old) (S.view sink.new) }
     ensures place { KeepsPlace running.old running.new }
     ensures sound { Sound running.new }
     ensures client_shut { running.new.client.shut ≡ (running.old.client.shut || shuts_now Side.Client running.new.session running.new.client.gone) }

@@ -1,7 +1,6 @@
 //! The sessions that aren't over, by their numbers, and the one whose link is named.
 ghost use Rattle.std.specs.Prelude.{◌≡◌, ◌<◌, nat_eq, length};
 ghost use Rattle.std.specs.HashMap.{spare};
-ghost use Rattle.proxy_loop.specs.Sinks.{sink_of};
 ghost use Rattle.proxy_loop.specs.Runs.{is_over};
 ghost use Rattle.proxy_loop.specs.Works.{read_room};
 ghost use Rattle.proxy_loop.specs.Tables.{at_in, table_of, Sets, unless_over, SoundUnder, SoundTable};
@@ -41,7 +40,7 @@ fn serve_at<N: Net, S: Sink>(
 )
     requires sound { SoundUnder blocks.now running.old }
     requires room { length buffer.old ≡ read_room }
-    ensures served { IsServed blocks.now side running.old running.new (N.view net.old) (N.view net.new) (sink_of (S.told sink.old) (S.faults sink.old)) (sink_of (S.told sink.new) (S.faults sink.new)) }
+    ensures served { IsServed blocks.now side running.old running.new (N.view net.old) (N.view net.new) (S.view sink.old) (S.view sink.new) }
 {
     let block = &blocks[running.block];
     serve(
@@ -77,7 +76,7 @@ fn serve_with<N: Net, S: Sink>(
 )
     requires sound { SoundUnder blocks.now running.old }
     requires room { length buffer.old ≡ read_room }
-    ensures served { IsServed blocks.now side running.old running.new (N.view net.old) (N.view net.new) (sink_of (S.told sink.old) (S.faults sink.old)) (sink_of (S.told sink.new) (S.faults sink.new)) }
+    ensures served { IsServed blocks.now side running.old running.new (N.view net.old) (N.view net.new) (S.view sink.old) (S.view sink.new) }
 {
     running.session.take_room(fed_side(side), spare);
     serve_at(net, sink, alloc, blocks, running, side, buffer);
@@ -97,7 +96,7 @@ pub fn serve_named<N: Net, S: Sink>(
 )
     requires sound { SoundTable blocks.now (table_of sessions.old).at }
     requires room { length buffer.old ≡ read_room }
-    ensures did { LinkDid blocks.now link ((table_of sessions.old).at link.session) (table_of sessions.old) (table_of sessions.new) (N.view net.old) (N.view net.new) (sink_of (S.told sink.old) (S.faults sink.old)) (sink_of (S.told sink.new) (S.faults sink.new)) }
+    ensures did { LinkDid blocks.now link ((table_of sessions.old).at link.session) (table_of sessions.old) (table_of sessions.new) (N.view net.old) (N.view net.new) (S.view sink.old) (S.view sink.new) }
 {
     let Some(held) = sessions.running.get_mut(&link.session) else {
         return;

@@ -2,7 +2,6 @@
 ghost use Rattle.std.specs.Prelude.{◌≡◌, ◌<◌, ℕ, length, OnOk, OnErr, IsErrOf};
 ghost use Rattle.link_traits.specs.Views.{RoseAt};
 ghost use Rattle.link_traits.specs.declared.links.Count.TheVariants.{Own as OfNet};
-ghost use Rattle.proxy_loop.specs.Sinks.{sink_of};
 ghost use Rattle.proxy_loop.specs.Works.{read_room};
 ghost use Rattle.proxy_loop.specs.Tables.{table_of, SoundTable, AllWished};
 ghost use Rattle.proxy_loop.specs.Turns.{Still, WouldAccept, ReadyDid, is_done, answer_at, TurnDid};
@@ -53,8 +52,8 @@ fn work_on<N: Net, S: Sink>(
 ) -> Result<(), AllocError>
     requires sound { SoundTable blocks.now (table_of sessions.old).at }
     requires room { length buffer.old ≡ read_room }
-    ensures did { OnOk result (ReadyDid blocks.now limit ready (table_of sessions.old) (table_of sessions.new) (N.view net.old) (N.view net.new) (sink_of (S.told sink.old) (S.faults sink.old)) (sink_of (S.told sink.new) (S.faults sink.new))) }
-    ensures err { OnErr result (Still (table_of sessions.old) (table_of sessions.new) (N.view net.old) (N.view net.new) (sink_of (S.told sink.old) (S.faults sink.old)) (sink_of (S.told sink.new) (S.faults sink.new)) × WouldAccept limit blocks.now ready (table_of sessions.old)) }
+    ensures did { OnOk result (ReadyDid blocks.now limit ready (table_of sessions.old) (table_of sessions.new) (N.view net.old) (N.view net.new) (S.view sink.old) (S.view sink.new)) }
+    ensures err { OnErr result (Still (table_of sessions.old) (table_of sessions.new) (N.view net.old) (N.view net.new) (S.view sink.old) (S.view sink.new) × WouldAccept limit blocks.now ready (table_of sessions.old)) }
 {
     match ready {
         Ready::Listener(listener) => {
@@ -119,11 +118,11 @@ pub fn take_turn<N: Net, S: Sink>(
 ) -> Result<Turn, ServerEnd>
     requires sound { SoundTable blocks.now (table_of sessions.old).at }
     requires room { length buffer.old ≡ read_room }
-    ensures did { TurnDid blocks.now limit (table_of sessions.old) (table_of sessions.new) (N.view net.old) (N.view net.new) (sink_of (S.told sink.old) (S.faults sink.old)) (sink_of (S.told sink.new) (S.faults sink.new)) result }
+    ensures did { TurnDid blocks.now limit (table_of sessions.old) (table_of sessions.new) (N.view net.old) (N.view net.new) (S.view sink.old) (S.view sink.new) result }
     ensures sound { SoundTable blocks.now (table_of sessions.new).at }
     ensures serves { GoesOn blocks.now (table_of sessions.old) (table_of sessions.new) (N.view net.old) (N.view net.new) }
     ensures wished { AllWished (table_of sessions.old).at (N.view net.old) → AllWished (table_of sessions.new).at (N.view net.new) }
-    ensures log { LogExact blocks.now (table_of sessions.old) (table_of sessions.new) (N.view net.old) (N.view net.new) (sink_of (S.told sink.old) (S.faults sink.old)) (sink_of (S.told sink.new) (S.faults sink.new)) }
+    ensures log { LogExact blocks.now (table_of sessions.old) (table_of sessions.new) (N.view net.old) (N.view net.new) (S.view sink.old) (S.view sink.new) }
     ensures wait { IsErrOf result ServerEnd.Wait → RoseAt OfNet (N.view net.old) (N.view net.new) }
 {
     let ready = net.wait();

@@ -1,6 +1,7 @@
 -- From why a run stopped to how it ended.
 use Rattle.std.proofs.Common.{◌≡◌, ◌≤◌, ◌<◌, ◌^◌, ◌-◌, inl, inr, ℕ, List, Option, None, Some, IfSome, refl, sym, ◌∙◌, subst, arith}
 use Rattle.link_traits.specs.Told.{added, Part, Rose}
+use Rattle.link_traits.specs.Views.{FilesView, SinkView, FilesRose, SinkRose}
 use Rattle.policy_args.specs.Words.{PolicyOptions}
 use Rattle.recording.specs.Sessions.{Sessions}
 use Rattle.replay.specs.SessionsOutput.{output_of_sessions}
@@ -68,26 +69,26 @@ said_first a b c old between new line le same said = subst (λ told. Said (Rose 
 
 -- ---- how a run that stopped ended
 
-no_memory : (told : List ℕ → Option (List ℕ)) (command : Option Command) (rf ro : Type 0) (out new_out err between new_err : Option (List ℕ)) (a b c code : ℕ) → a ≤ b → code ≡ 8 → new_out ≡ out →
-    IsLogInLines told command err between → Said (Rose b c) between new_err memory_line → Ends told command rf ro (Rose a c) out new_out err new_err code
-no_memory told command rf ro out new_out err between new_err a b c code le is kept log said =
-    NoMemory is kept (record { between = between; log = log; said = said_over a b c between new_err memory_line le said })
+no_memory : (command : Option Command) (files files' : FilesView) (out out' err between err' : SinkView) (code : ℕ) → err.faults ≤ between.faults → code ≡ 8 → out'.told ≡ out.told →
+    IsLogInLines files.told command err.told between.told → Said (SinkRose between err') between.told err'.told memory_line → Ends command files files' out out' err err' code
+no_memory command files files' out out' err between err' code le is kept log said =
+    NoMemory is kept (record { between = between.told; log = log; said = said_over err.faults between.faults err'.faults between.told err'.told memory_line le said })
 
--- the count of err's faults is a at the start, b behind the work and c behind the line
-pub ends_stop : (told : List ℕ → Option (List ℕ)) (command : Option Command) (rf ro : Type 0) (out new_out err between new_err : Option (List ℕ)) (a b c code : ℕ) (s : Stop) → a ≤ b → b ≤ c →
-    StopsBy told command s → CausedBy rf ro (Rose a b) s → Keeps (answer_to told command) out new_out s → KeepsLog told command err between s → StopTold (Rose b c) between new_err code s →
-    Ends told command rf ro (Rose a c) out new_out err new_err code
-ends_stop told command rf ro out new_out err between new_err a b c code (stop.Refused r) le more by cause keeps log (inl t) =
-    Refuses r t.0 by.0 by.1 keeps (said_first a b c err between new_err (refusal_line r) le log t.1)
-ends_stop told command rf ro out new_out err between new_err a b c code (stop.Refused r) le more by cause keeps log (inr t) =
-    no_memory told command rf ro out new_out err between new_err a b c code le t.0 keeps (lines_none told command err between log) t.1
-ends_stop told command rf ro out new_out err between new_err a b c code (stop.File path) le more by cause keeps log (inl t) =
-    NoFile path.now t.0 cause by keeps (said_first a b c err between new_err (file_line path.now) le log t.1)
-ends_stop told command rf ro out new_out err between new_err a b c code (stop.File path) le more by cause keeps log (inr t) =
-    no_memory told command rf ro out new_out err between new_err a b c code le t.0 keeps (lines_none told command err between log) t.1
-ends_stop told command rf ro out new_out err between new_err a b c code stop.Output le more by cause keeps log t =
+-- err is between after the work and before the line
+pub ends_stop : (command : Option Command) (files files' : FilesView) (out out' err between err' : SinkView) (code : ℕ) (s : Stop) → err.faults ≤ between.faults → between.faults ≤ err'.faults →
+    StopsBy files.told command s → CausedBy (FilesRose files files') (SinkRose out out') (SinkRose err between) s → Keeps (answer_to files.told command) out.told out'.told s →
+    KeepsLog files.told command err.told between.told s → StopTold (SinkRose between err') between.told err'.told code s → Ends command files files' out out' err err' code
+ends_stop command files files' out out' err between err' code (stop.Refused r) le more by cause keeps log (inl t) =
+    Refuses r t.0 by.0 by.1 keeps (said_first err.faults between.faults err'.faults err.told between.told err'.told (refusal_line r) le log t.1)
+ends_stop command files files' out out' err between err' code (stop.Refused r) le more by cause keeps log (inr t) =
+    no_memory command files files' out out' err between err' code le t.0 keeps (lines_none files.told command err.told between.told log) t.1
+ends_stop command files files' out out' err between err' code (stop.File path) le more by cause keeps log (inl t) =
+    NoFile path.now t.0 cause by keeps (said_first err.faults between.faults err'.faults err.told between.told err'.told (file_line path.now) le log t.1)
+ends_stop command files files' out out' err between err' code (stop.File path) le more by cause keeps log (inr t) =
+    no_memory command files files' out out' err between err' code le t.0 keeps (lines_none files.told command err.told between.told log) t.1
+ends_stop command files files' out out' err between err' code stop.Output le more by cause keeps log t =
     OutFails t.0 cause by keeps (log.0, log.1, t.1 ∙ log.2)
-ends_stop told command rf ro out new_out err between new_err a b c code stop.Log le more by cause keeps log t =
-    LogFails t.0 (rose_later a b c more cause) by.1 by.0 keeps (log.0, log.1, subst (λ told. Part err told log.0) (sym t.1) log.2)
-ends_stop told command rf ro out new_out err between new_err a b c code stop.Memory le more by cause keeps log t =
-    no_memory told command rf ro out new_out err between new_err a b c code le t.0 keeps log t.1
+ends_stop command files files' out out' err between err' code stop.Log le more by cause keeps log t =
+    LogFails t.0 (rose_later err.faults between.faults err'.faults more cause) by.1 by.0 keeps (log.0, log.1, subst (λ told. Part err.told told log.0) (sym t.1) log.2)
+ends_stop command files files' out out' err between err' code stop.Memory le more by cause keeps log t =
+    no_memory command files files' out out' err between err' code le t.0 keeps log t.1

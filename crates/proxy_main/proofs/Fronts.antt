@@ -1,6 +1,7 @@
 -- Whatever the ending, out got a front of the answer's output, and err a front of the log and then of the status's line.
 use Rattle.std.proofs.Common.{◌≡◌, ◌⊎◌, inl, inr, ℕ, List, [], Option, refl}
 use Rattle.link_traits.specs.Told.{Part}
+use Rattle.link_traits.specs.Views.{FilesView, SinkView, SinkRose}
 use Rattle.link_traits.proofs.Parts.{part_all, part_none}
 use Rattle.proxy_main.specs.Words.{Command}
 use Rattle.proxy_main.specs.Answers.{answer_to}
@@ -9,14 +10,14 @@ use Rattle.proxy_main.specs.Loads.{IsEnd, IsFront, IsLogFront, IsLogged}
 use Rattle.proxy_main.specs.Endings.{Ends, Done, Refuses, NoFile, OutFails, LogFails, NoMemory, Said, Whole, Cut, LineOf, NoLine, OfRefusal, OfFile, OfMemory, ErrFront}
 use Rattle.proxy_main.proofs.Logs.{front_none, lines_front}
 
-pub out_front : (told : List ℕ → Option (List ℕ)) (command : Option Command) (f o e : Type 0) (out new_out err new_err : Option (List ℕ)) (code : ℕ) →
-    Ends told command f o e out new_out err new_err code → (new_out ≡ out) ⊎ IsFront (answer_to told command) out new_out
-out_front told command f o e out new_out err new_err code (Done is done log) = inr (λ settled. let written = (done settled).1 in (written.0, written.1, part_all _ _ _ written.2))
-out_front told command f o e out new_out err new_err code (Refuses r is agrees words kept said) = inl kept
-out_front told command f o e out new_out err new_err code (NoFile path is rose needs kept said) = inl kept
-out_front told command f o e out new_out err new_err code (OutFails is rose work front log) = inr front
-out_front told command f o e out new_out err new_err code (LogFails is rose asked work kept log) = inl kept
-out_front told command f o e out new_out err new_err code (NoMemory is kept said) = inl kept
+pub out_front : (command : Option Command) (files files' : FilesView) (out out' err err' : SinkView) (code : ℕ) →
+    Ends command files files' out out' err err' code → (out'.told ≡ out.told) ⊎ IsFront (answer_to files.told command) out.told out'.told
+out_front command files files' out out' err err' code (Done is done log) = inr (λ settled. let written = (done settled).1 in (written.0, written.1, part_all _ _ _ written.2))
+out_front command files files' out out' err err' code (Refuses r is agrees words kept said) = inl kept
+out_front command files files' out out' err err' code (NoFile path is rose needs kept said) = inl kept
+out_front command files files' out out' err err' code (OutFails is rose work front log) = inr front
+out_front command files files' out out' err err' code (LogFails is rose asked work kept log) = inl kept
+out_front command files files' out out' err err' code (NoMemory is kept said) = inl kept
 
 said_front : (rose : Type 0) (old new : Option (List ℕ)) (line : List ℕ) → Said rose old new line → Part old new line
 said_front rose old new line (Whole is) = part_all _ _ _ is
@@ -37,12 +38,12 @@ end_line : (command : Option Command) (code : ℕ) → IsEnd command code → Li
 end_line command code (inl is) = NoLine (inl is) refl
 end_line command code (inr is) = NoLine (inr (inr is.0)) refl
 
-pub err_front : (told : List ℕ → Option (List ℕ)) (command : Option Command) (f o e : Type 0) (out new_out err new_err : Option (List ℕ)) (code : ℕ) →
-    Ends told command f o e out new_out err new_err code → ErrFront told command err new_err code
-err_front told command f o e out new_out err new_err code (Done is done log) = log_alone told command err new_err code (end_line command code is) (whole_front told command err new_err log)
-err_front told command f o e out new_out err new_err code (Refuses r is agrees words kept said) = line_alone told command e err new_err code (refusal_line r) (OfRefusal r is refl) said
-err_front told command f o e out new_out err new_err code (NoFile path is rose needs kept said) = line_alone told command e err new_err code (file_line path) (OfFile path is refl) said
-err_front told command f o e out new_out err new_err code (OutFails is rose work front log) = log_alone told command err new_err code (NoLine (inr (inl is)) refl) (whole_front told command err new_err log)
-err_front told command f o e out new_out err new_err code (LogFails is rose asked work kept log) = log_alone told command err new_err code (NoLine (inr (inl is)) refl) log
-err_front told command f o e out new_out err new_err code (NoMemory is kept said) =
-    record { between = said.between; log = lines_front told command err said.between said.log; line = memory_line; is_line = OfMemory is refl; front = said_front e said.between new_err memory_line said.said }
+pub err_front : (command : Option Command) (files files' : FilesView) (out out' err err' : SinkView) (code : ℕ) →
+    Ends command files files' out out' err err' code → ErrFront files.told command err.told err'.told code
+err_front command files files' out out' err err' code (Done is done log) = log_alone files.told command err.told err'.told code (end_line command code is) (whole_front files.told command err.told err'.told log)
+err_front command files files' out out' err err' code (Refuses r is agrees words kept said) = line_alone files.told command (SinkRose err err') err.told err'.told code (refusal_line r) (OfRefusal r is refl) said
+err_front command files files' out out' err err' code (NoFile path is rose needs kept said) = line_alone files.told command (SinkRose err err') err.told err'.told code (file_line path) (OfFile path is refl) said
+err_front command files files' out out' err err' code (OutFails is rose work front log) = log_alone files.told command err.told err'.told code (NoLine (inr (inl is)) refl) (whole_front files.told command err.told err'.told log)
+err_front command files files' out out' err err' code (LogFails is rose asked work kept log) = log_alone files.told command err.told err'.told code (NoLine (inr (inl is)) refl) log
+err_front command files files' out out' err err' code (NoMemory is kept said) =
+    record { between = said.between; log = lines_front files.told command err.told said.between said.log; line = memory_line; is_line = OfMemory is refl; front = said_front (SinkRose err err') said.between err'.told memory_line said.said }

@@ -1,5 +1,6 @@
 -- Whatever the ending, what its status says of the answer.
-use Rattle.std.proofs.Common.{◌≡◌, ◌⊎◌, inl, inr, ℕ, List, Option, Some, None, sym, ◌∙◌, subst, arith}
+use Rattle.std.proofs.Common.{◌≡◌, ◌⊎◌, inl, inr, ℕ, Option, Some, None, sym, ◌∙◌, subst, arith}
+use Rattle.link_traits.specs.Views.{FilesView, SinkView}
 use Rattle.proxy_main.specs.declared.Refusal.{Refusal}
 use Rattle.proxy_main.specs.declared.Refusal.TheVariants.{Usage, LineWord, ArgsTooLong, PolicyWord, PolicyTooLong, Recording as BadFile, NoSuchMessage, NoSuchSession, TooManyEntries, Message, Text}
 use Rattle.proxy_main.specs.Words.{Command, Replay, Explain, Twin, Sample, Audit, Within, Suggest, Show, Compose, Session, ListSessions, Help, Version}
@@ -77,8 +78,8 @@ one-no (Some (ListSessions recording)) suggest comparison = suggest
 one-no (Some Help) suggest comparison = suggest
 one-no (Some Version) suggest comparison = suggest
 
-module _ (told : List ℕ → Option (List ℕ)) (command : Option Command) (f o e : Type 0) (out new_out err new_err : Option (List ℕ)) (code : ℕ)
-    (ends : Ends told command f o e out new_out err new_err code) where
+module _ (command : Option Command) (files files' : FilesView) (out out' err err' : SinkView) (code : ℕ)
+    (ends : Ends command files files' out out' err err' code) where
   pub answers-no : code ≡ 7 → IsComparison command ⊎ IsSuggest command
   answers-no seven = elim ends [
     | Done is done log ↦ inl (compared is)
@@ -93,7 +94,7 @@ module _ (told : List ℕ → Option (List ℕ)) (command : Option Command) (f o
       compared (inl none) = absurd (omega (arith, none, seven))
       compared (inr is) = is.1
 
-  pub done-told : IsEnd command code → IsDone (answer_to told command) out new_out code × IsLogged told command err new_err
+  pub done-told : IsEnd command code → IsDone (answer_to files.told command) out.told out'.told code × IsLogged files.told command err.told err'.told
   done-told end = elim ends [
     | Done is done log ↦ (done, log)
     | Refuses r is agrees words kept said ↦ absurd (refused r is words end)
@@ -115,7 +116,7 @@ module _ (told : List ℕ → Option (List ℕ)) (command : Option Command) (f o
       given (inr seven) (inr (inl is)) = omega (arith, seven.0, is)
       given (inr seven) (inr (inr is)) = omega (arith, seven.0, is)
 
-  pub nothing-told : IsEnd command code ⊎ ((code ≡ 6) ⊎ (new_out ≡ out))
+  pub nothing-told : IsEnd command code ⊎ ((code ≡ 6) ⊎ (out'.told ≡ out.told))
   nothing-told = elim ends [
     | Done is done log ↦ inl is
     | Refuses r is agrees words kept said ↦ inr (inr kept)
@@ -125,9 +126,9 @@ module _ (told : List ℕ → Option (List ℕ)) (command : Option Command) (f o
     | NoMemory is kept said ↦ inr (inr kept)
   ]
 
-module _ (told : List ℕ → Option (List ℕ)) (command : Option Command) (f o e : Type 0) (out new_out err new_err : Option (List ℕ)) (code : ℕ)
-    (ends : Ends told command f o e out new_out err new_err code) (settled : IsSettled (answer_to told command)) where
-  pub complete : HasCode (answer_to told command) code ⊎ IsFree code
+module _ (command : Option Command) (files files' : FilesView) (out out' err err' : SinkView) (code : ℕ)
+    (ends : Ends command files files' out out' err err' code) (settled : IsSettled (answer_to files.told command)) where
+  pub complete : HasCode (answer_to files.told command) code ⊎ IsFree code
   complete = elim ends [
     | Done is done log ↦ inl (done settled).0
     | Refuses r is agrees words kept said ↦ inl (subst (λ a. HasCode a code) (sym (agrees settled)) (sym is))
@@ -138,31 +139,31 @@ module _ (told : List ℕ → Option (List ℕ)) (command : Option Command) (f o
   ]
 
   -- a status that no fault gives
-  comes_of : (this : ℕ) → (IsFree this → ⊥) → code ≡ this → HasCode (answer_to told command) this
+  comes_of : (this : ℕ) → (IsFree this → ⊥) → code ≡ this → HasCode (answer_to files.told command) this
   comes_of this given is = elim complete [
-    | inl has ↦ subst (HasCode (answer_to told command)) is has
+    | inl has ↦ subst (HasCode (answer_to files.told command)) is has
     | inr free ↦ absurd (given (subst IsFree is free))
   ]
 
-  pub exactly_of_work : (this : ℕ) → (IsFree this → ⊥) → ExactlyOfWork code this (HasCode (answer_to told command) this)
+  pub exactly_of_work : (this : ℕ) → (IsFree this → ⊥) → ExactlyOfWork code this (HasCode (answer_to files.told command) this)
   exactly_of_work this given = (
     comes_of this given,
     λ has. elim complete [
-      | inl now ↦ inl (code_unique (answer_to told command) code this now has)
+      | inl now ↦ inl (code_unique (answer_to files.told command) code this now has)
       | inr free ↦ inr free
     ],
   )
 
   -- one that no work gives
-  pub exactly_of_files : (this : ℕ) → (IsFree this → ⊥) → ((0 ≡ this) ⊎ (7 ≡ this) → ⊥) → ExactlyOfFiles code this (HasCode (answer_to told command) this)
+  pub exactly_of_files : (this : ℕ) → (IsFree this → ⊥) → ((0 ≡ this) ⊎ (7 ≡ this) → ⊥) → ExactlyOfFiles code this (HasCode (answer_to files.told command) this)
   exactly_of_files this given refused = (
     comes_of this given,
     λ has. elim ends [
-      | Done is done log ↦ inl (code_unique (answer_to told command) code this (done settled).0 has)
-      | Refuses r is agrees words kept said ↦ inl (code_unique (answer_to told command) code this (subst (λ a. HasCode a code) (sym (agrees settled)) (sym is)) has)
+      | Done is done log ↦ inl (code_unique (answer_to files.told command) code this (done settled).0 has)
+      | Refuses r is agrees words kept said ↦ inl (code_unique (answer_to files.told command) code this (subst (λ a. HasCode a code) (sym (agrees settled)) (sym is)) has)
       | NoFile path is rose needs kept said ↦ inr (inl is)
-      | OutFails is rose work front log ↦ absurd (refused (work_code (answer_to told command) this (work settled) has))
-      | LogFails is rose asked work kept log ↦ absurd (refused (work_code (answer_to told command) this (work settled) has))
+      | OutFails is rose work front log ↦ absurd (refused (work_code (answer_to files.told command) this (work settled) has))
+      | LogFails is rose asked work kept log ↦ absurd (refused (work_code (answer_to files.told command) this (work settled) has))
       | NoMemory is kept said ↦ inr (inr is)
     ],
   )

@@ -14,6 +14,7 @@
 -- of that line. Only what is told of the files settles what they hold.
 use Rattle.std.specs.Prelude.{◌≡◌, ◌⊎◌, ℕ, true, List, [], Option}
 use Rattle.link_traits.specs.Told.{added, Part}
+use Rattle.link_traits.specs.Views.{FilesView, SinkView, FilesRose, SinkRose}
 use Rattle.proxy_main.specs.declared.Refusal.{Refusal}
 use Rattle.proxy_main.specs.declared.Stop.{Stop}
 use Rattle.proxy_main.specs.declared.Stop.TheVariants as stop
@@ -33,40 +34,39 @@ pub record SaidAfterLog (told : List ℕ → Option (List ℕ)) (command : Optio
   pub log : IsLogInLines told command err between
   pub said : Said rose between new_err line
 
--- how a run of these words ended, by what is told of the files, the counts of faults that rose, and what out and err
--- tell
-pub data Ends (told : List ℕ → Option (List ℕ)) (command : Option Command) (files_rose out_rose err_rose : Type 0) (out new_out err new_err : Option (List ℕ)) (code : ℕ) : Type 0 where
+-- how the run of a command ended, by the files, out and err before it and, with a prime, after it
+pub data Ends (command : Option Command) (files files' : FilesView) (out out' err err' : SinkView) (code : ℕ) : Type 0 where
   -- the whole log and the whole output were written
   Done : IsEnd command code
-      → IsDone (answer_to told command) out new_out code
-      → IsLogged told command err new_err
-      → Ends told command files_rose out_rose err_rose out new_out err new_err code
+      → IsDone (answer_to files.told command) out.told out'.told code
+      → IsLogged files.told command err.told err'.told
+      → Ends command files files' out out' err err' code
   -- the words or a file were refused
   Refuses : (refusal : Refusal) → code ≡ refusal_code refusal
-      → Agrees (answer_to told command) (Refused refusal) → IsOfWords refusal command
-      → new_out ≡ out → Said err_rose err new_err (refusal_line refusal)
-      → Ends told command files_rose out_rose err_rose out new_out err new_err code
+      → Agrees (answer_to files.told command) (Refused refusal) → IsOfWords refusal command
+      → out'.told ≡ out.told → Said (SinkRose err err') err.told err'.told (refusal_line refusal)
+      → Ends command files files' out out' err err' code
   -- a file failed without which nothing is settled
-  NoFile : (path : List ℕ) → code ≡ 4 → files_rose
-      → answer_to (without path told) command ≡ Untold
-      → new_out ≡ out → Said err_rose err new_err (file_line path)
-      → Ends told command files_rose out_rose err_rose out new_out err new_err code
+  NoFile : (path : List ℕ) → code ≡ 4 → FilesRose files files'
+      → answer_to (without path files.told) command ≡ Untold
+      → out'.told ≡ out.told → Said (SinkRose err err') err.told err'.told (file_line path)
+      → Ends command files files' out out' err err' code
   -- out failed while the output was written, after the whole log
-  OutFails : code ≡ 6 → out_rose
-      → (IsSettled (answer_to told command) → IsWork (answer_to told command))
-      → IsFront (answer_to told command) out new_out
-      → IsLogged told command err new_err
-      → Ends told command files_rose out_rose err_rose out new_out err new_err code
+  OutFails : code ≡ 6 → SinkRose out out'
+      → (IsSettled (answer_to files.told command) → IsWork (answer_to files.told command))
+      → IsFront (answer_to files.told command) out.told out'.told
+      → IsLogged files.told command err.told err'.told
+      → Ends command files files' out out' err err' code
   -- err failed while a log was written, before any output
-  LogFails : code ≡ 6 → err_rose → may_log told command ≡ true
-      → (IsSettled (answer_to told command) → IsWork (answer_to told command))
-      → new_out ≡ out
-      → IsLogFront told command err new_err
-      → Ends told command files_rose out_rose err_rose out new_out err new_err code
+  LogFails : code ≡ 6 → SinkRose err err' → may_log files.told command ≡ true
+      → (IsSettled (answer_to files.told command) → IsWork (answer_to files.told command))
+      → out'.told ≡ out.told
+      → IsLogFront files.told command err.told err'.told
+      → Ends command files files' out out' err err' code
   -- memory ran out
   NoMemory : code ≡ 8
-      → new_out ≡ out → SaidAfterLog told command err_rose err new_err memory_line
-      → Ends told command files_rose out_rose err_rose out new_out err new_err code
+      → out'.told ≡ out.told → SaidAfterLog files.told command (SinkRose err err') err.told err'.told memory_line
+      → Ends command files files' out out' err err' code
 
 -- ---- what err got, whatever the ending
 

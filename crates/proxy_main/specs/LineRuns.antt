@@ -8,7 +8,7 @@
 --     8    memory ran out
 use Rattle.std.specs.Prelude.{◌≡◌, ◌≢◌, ◌⊎◌, ◌++◌, ℕ, List, Option, Some, None, Ok, Err}
 use Rattle.link_traits.specs.Told.{ReadFront}
-use Rattle.link_traits.specs.Views.{NetView, RoseAt}
+use Rattle.link_traits.specs.Views.{FilesView, FilesRose, SinkView, SinkRose, NetView, RoseAt}
 use Rattle.link_traits.specs.declared.links.Count.TheVariants.{Own as OfNet}
 use Rattle.link_traits.specs.declared.outside.FileFault.{FileFault}
 use Rattle.link_traits.specs.declared.outside.FileFault.TheVariants.{Failed, TooLong as NoRoom, Memory as NoFileMemory}
@@ -16,7 +16,6 @@ use Rattle.policy_args.specs.declared.line.Block.{Block}
 use Rattle.policy_args.specs.declared.line.ProxyLine.{ProxyLine}
 use Rattle.policy_args.specs.Reading.{line_seen}
 use Rattle.proxy_loop.specs.declared.turns.ServerEnd.TheVariants.{Listen, Wait, Memory}
-use Rattle.proxy_loop.specs.Sinks.{SinkView}
 use Rattle.proxy_run.specs.Runs.{RunEnd, RunDid, RunLinks}
 use Rattle.proxy_run.specs.Logs.{RunLogs}
 use Rattle.recorded_run.specs.Recordings.{FitsFormat, IsExact, IsReadBack, TellsHistories}
@@ -140,34 +139,34 @@ pub data LineRan (line : ProxyLine) (new_told : List ℕ → Option (List ℕ)) 
       → LineRan line new_told files_rose err_rose before after first last code
 
 -- the words gave this line, which was run
-pub record LineServed (told new_told : List ℕ → Option (List ℕ)) (words : List (List ℕ)) (files_rose err_rose : Type 0) (before after : NetView) (first last : SinkView) (code : ℕ) : Type 0 where
+pub record LineServed (texts : List (List ℕ)) (files files' : FilesView) (net net' : NetView) (err err' : SinkView) (code : ℕ) : Type 0 where
   pub line : ProxyLine
-  pub read : Agrees (line_in told words) (Reads (line_seen line))
-  pub ran : LineRan line new_told files_rose err_rose before after first last code
+  pub read : Agrees (line_in files.told texts) (Reads (line_seen line))
+  pub ran : LineRan line files'.told (FilesRose files files') (SinkRose err err') net net' err err' code
 
--- how the run of a proxy line ended, by what is told of the files, the counts that rose, the net, and what err tells
-pub data LineEnds (told new_told : List ℕ → Option (List ℕ)) (words : List (List ℕ)) (files_rose err_rose : Type 0) (before after : NetView) (first last : SinkView) (code : ℕ) : Type 0 where
+-- how the run of a proxy line ended, by the files, the net and err before it and, with a prime, after it
+pub data LineEnds (texts : List (List ℕ)) (files files' : FilesView) (net net' : NetView) (err err' : SinkView) (code : ℕ) : Type 0 where
   -- the words were refused, and nothing was done
-  Refuses : (refusal : Refusal) → code ≡ refusal_code refusal → RefusedBy (line_in told words) refusal
-      → after ≡ before → Said err_rose first.told last.told (refusal_line refusal)
-      → LineEnds told new_told words files_rose err_rose before after first last code
+  Refuses : (refusal : Refusal) → code ≡ refusal_code refusal → RefusedBy (line_in files.told texts) refusal
+      → net' ≡ net → Said (SinkRose err err') err.told err'.told (refusal_line refusal)
+      → LineEnds texts files files' net net' err err' code
   -- a file failed without which nothing is settled, and nothing was done
-  NoFile : (path : List ℕ) → code ≡ 4 → files_rose → line_in (without path told) words ≡ Untold
-      → after ≡ before → Said err_rose first.told last.told (file_line path)
-      → LineEnds told new_told words files_rose err_rose before after first last code
+  NoFile : (path : List ℕ) → code ≡ 4 → FilesRose files files' → line_in (without path files.told) texts ≡ Untold
+      → net' ≡ net → Said (SinkRose err err') err.told err'.told (file_line path)
+      → LineEnds texts files files' net net' err err' code
   -- memory ran out before anything was done
-  NoMemory : code ≡ 8 → after ≡ before → Said err_rose first.told last.told memory_line
-      → LineEnds told new_told words files_rose err_rose before after first last code
+  NoMemory : code ≡ 8 → net' ≡ net → Said (SinkRose err err') err.told err'.told memory_line
+      → LineEnds texts files files' net net' err err' code
   -- the line was run
-  Serves : LineServed told new_told words files_rose err_rose before after first last code
-      → LineEnds told new_told words files_rose err_rose before after first last code
+  Serves : LineServed texts files files' net net' err err' code
+      → LineEnds texts files files' net net' err err' code
 
 -- the words gave a line that was served to its end and, if it is to be recorded, recorded whole
-pub record LineDone (told new_told : List ℕ → Option (List ℕ)) (words : List (List ℕ)) (before after : NetView) (first last : SinkView) : Type 0 where
+pub record LineDone (texts : List (List ℕ)) (files files' : FilesView) (net net' : NetView) (err err' : SinkView) : Type 0 where
   pub line : ProxyLine
-  pub read : Agrees (line_in told words) (Reads (line_seen line))
-  pub served : Served line before after first last (Ok tt)
-  pub recorded : (path : List ℕ) → record_path line ≡ Some path → FileRecorded line.blocks.items before after (new_told path) None
+  pub read : Agrees (line_in files.told texts) (Reads (line_seen line))
+  pub served : Served line net net' err err' (Ok tt)
+  pub recorded : (path : List ℕ) → record_path line ≡ Some path → FileRecorded line.blocks.items net net' (files'.told path) None
 
 -- the words give no line that is recorded in the file of this path
 abbrev pub NotRecordedIn : Line → List ℕ → Type 0
@@ -177,29 +176,31 @@ NotRecordedIn words path = (line : ProxyLine) → Agrees words (Reads (line_seen
 abbrev pub IsLineFree : ℕ → Type 0
 IsLineFree code = (code ≡ 4) ⊎ ((code ≡ 5) ⊎ (code ≡ 8))
 
-pub record LineRun (told new_told : List ℕ → Option (List ℕ)) (words reads new_reads : List (List ℕ)) (files_rose err_rose : Type 0) (before after : NetView) (first last : SinkView) (code : ℕ) : Type 0 where
+-- Of a run of the words of these texts: by the files, the net and err before the run and, with a prime, after it, and by
+-- the status.
+pub record LineRun (texts : List (List ℕ)) (files files' : FilesView) (net net' : NetView) (err err' : SinkView) (code : ℕ) : Type 0 where
   -- It ends in one of four ways, each with its cause and with what the net did and err got.
-  pub ends : LineEnds told new_told words files_rose err_rose before after first last code
+  pub ends : LineEnds texts files files' net net' err err' code
   -- 1 and 2 come exactly where the words are refused so.
-  pub words_refused : IsSettled (line_in told words) → ExactlyOfFiles code 1 (words_code (line_in told words) ≡ 1)
-  pub policy_refused : IsSettled (line_in told words) → ExactlyOfFiles code 2 (words_code (line_in told words) ≡ 2)
+  pub words_refused : IsSettled (line_in files.told texts) → ExactlyOfFiles code 1 (words_code (line_in files.told texts) ≡ 1)
+  pub policy_refused : IsSettled (line_in files.told texts) → ExactlyOfFiles code 2 (words_code (line_in files.told texts) ≡ 2)
   -- 4 comes only where the files failed, and 5 only where the net's own count of faults rose.
-  pub file : code ≡ 4 → files_rose
-  pub net : code ≡ 5 → RoseAt OfNet before after
+  pub file : code ≡ 4 → FilesRose files files'
+  pub net_failed : code ≡ 5 → RoseAt OfNet net net'
   -- Unless a file, the net or memory fails, words that give a line end with 0.
-  pub complete : IsSettled (line_in told words) → words_code (line_in told words) ≡ 0 → (code ≡ 0) ⊎ IsLineFree code
+  pub complete : IsSettled (line_in files.told texts) → words_code (line_in files.told texts) ≡ 0 → (code ≡ 0) ⊎ IsLineFree code
   -- With 0 the line was served until nothing was left to be done, or as many turns were taken as may be; err got the log
   -- alone; and the file of a recording is that of the whole run.
-  pub done : code ≡ 0 → LineDone told new_told words before after first last
+  pub done : code ≡ 0 → LineDone texts files files' net net' err err'
   -- Unless a line was served, nothing was done over the net.
-  pub unserved : (after ≡ before) ⊎ LineServed told new_told words files_rose err_rose before after first last code
+  pub unserved : (net' ≡ net) ⊎ LineServed texts files files' net net' err err' code
   -- No file was read beside those that the words name by --args-file: a front of these, each once and in their order; and nothing was done
   -- over the net unless all were.
-  pub reads_named : LineReads (paths_in words) reads new_reads err_rose first.told last.told code
-  pub reads_first : (after ≡ before) ⊎ (new_reads ≡ reads ++ paths_in words)
+  pub reads_named : LineReads (paths_in texts) files.reads files'.reads (SinkRose err err') err.told err'.told code
+  pub reads_first : (net' ≡ net) ⊎ (files'.reads ≡ files.reads ++ paths_in texts)
   -- No file was read behind one that is bad, by what is told of the files. Where that settles what the words come to, exactly those were
   -- read that they need, unless a file failed or memory ran out.
-  pub reads_needed : ReadFront (needed_by told words) reads new_reads
-  pub reads_exactly : IsSettled (line_in told words) → (new_reads ≡ reads ++ needed_by told words) ⊎ ((code ≡ 4) ⊎ (code ≡ 8))
+  pub reads_needed : ReadFront (needed_by files.told texts) files.reads files'.reads
+  pub reads_exactly : IsSettled (line_in files.told texts) → (files'.reads ≡ files.reads ++ needed_by files.told texts) ⊎ ((code ≡ 4) ⊎ (code ≡ 8))
   -- No file changed but that of a recording.
-  pub others : (path : List ℕ) → NotRecordedIn (line_in told words) path → new_told path ≡ told path
+  pub others : (path : List ℕ) → NotRecordedIn (line_in files.told texts) path → files'.told path ≡ files.told path

@@ -1,5 +1,7 @@
 -- What the words of a process come to before a net is needed.
-use Rattle.std.specs.Prelude.{◌≡◌, ℕ, true, false, List, Option, IfSome, map, string_bytes, drop}
+use Rattle.std.specs.Prelude.{◌≡◌, ℕ, true, false, List, Option, IfSome, drop}
+use Rattle.link_traits.specs.Views.{FilesView, SinkView, SinkRose}
+use Rattle.link_traits.specs.Texts.{texts_of}
 use Rattle.process_streams.specs.Faults.{FaultEnds}
 use Rattle.process_streams.specs.Words.{Explains}
 use Rattle.process_streams.specs.declared.faults.ProcessFault.{ProcessFault}
@@ -13,12 +15,12 @@ abbrev pub AreAfterName : Option (List (List ℕ)) → List (List ℕ) → Type 
 AreAfterName told words = IfSome told (λ all. words ≡ drop 1 all)
 
 -- The process ends: a tool ran by all words, or the words aren't texts.
-pub data Ends (arguments : Option (List (List ℕ))) (told : List ℕ → Option (List ℕ)) (reads new_reads : List (List ℕ)) (files_rose out_rose err_rose : Type 0) (out new_out err new_err : Option (List ℕ)) (code : ℕ) : Type 0 where
-  OfTool : (words : List (List ℕ)) → AreAfterName arguments words → names_tool words ≡ true
-      → ToolRun told words reads new_reads files_rose out_rose err_rose out new_out err new_err code
-      → Ends arguments told reads new_reads files_rose out_rose err_rose out new_out err new_err code
-  OfFault : (fault : ProcessFault) → IfSome arguments (λ all. Explains (drop 1 all) fault) → FaultEnds err_rose err new_err fault code → new_reads ≡ reads → new_out ≡ out
-      → Ends arguments told reads new_reads files_rose out_rose err_rose out new_out err new_err code
+pub data Ends (arguments : Option (List (List ℕ))) (files files' : FilesView) (out out' err err' : SinkView) (code : ℕ) : Type 0 where
+  OfTool : (texts : List (List ℕ)) → AreAfterName arguments texts → names_tool texts ≡ true → ToolRun texts files files' out out' err err' code
+      → Ends arguments files files' out out' err err' code
+  OfFault : (fault : ProcessFault) → IfSome arguments (λ all. Explains (drop 1 all) fault) → FaultEnds (SinkRose err err') err.told err'.told fault code
+      → files'.reads ≡ files.reads → out'.told ≡ out.told
+      → Ends arguments files files' out out' err err' code
 
 -- A proxy line is to be served: these are all words, and they name no tool.
 pub record IsLine (arguments : Option (List (List ℕ))) (words : List (List ℕ)) : Type 0 where
@@ -27,4 +29,4 @@ pub record IsLine (arguments : Option (List (List ℕ))) (words : List (List ℕ
 
 abbrev pub Starts : Start → (ℕ → Type 0) → (List (List ℕ) → Type 0) → Type 0
 Starts (Ended status) ends line = ends status.code
-Starts (Line words) ends line = line (map (λ w. string_bytes w) words.items)
+Starts (Line words) ends line = line (texts_of words.items)

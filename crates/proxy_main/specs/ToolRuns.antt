@@ -1,50 +1,51 @@
--- What holds of a tool's run.
-use Rattle.std.specs.Prelude.{◌≡◌, ◌⊎◌, ◌++◌, ℕ, true, List, Option, None}
+-- What holds of a tool's run: each part is a promise.
+use Rattle.std.specs.Prelude.{◌≡◌, ◌⊎◌, ◌++◌, ℕ, true, List, None}
 use Rattle.link_traits.specs.Told.{ReadFront}
+use Rattle.link_traits.specs.Views.{FilesView, SinkView, FilesRose, SinkRose}
 use Rattle.proxy_main.specs.Words.{reading}
 use Rattle.proxy_main.specs.Answers.{answer_of, IsSettled, HasCode, may_log}
 use Rattle.proxy_main.specs.Loads.{IsDone, IsFront, IsLogged, IsComparison, IsEnd, IsSuggest}
 use Rattle.proxy_main.specs.FilesRead.{paths_of, policies_of, needed, ToolReads}
 use Rattle.proxy_main.specs.Endings.{Ends, ErrFront, Exactly, ExactlyOfFiles, ExactlyOfWork, IsFree}
 
--- of a run of these words, by what is told of the files, the paths that were read, the counts of faults that rose, what
--- out and err tell, and the status
-pub record ToolRun (told : List ℕ → Option (List ℕ)) (words reads new_reads : List (List ℕ)) (files_rose out_rose err_rose : Type 0) (out new_out err new_err : Option (List ℕ)) (code : ℕ) : Type 0 where
+-- Of a run of the words of these texts: by the files, out and err before the run and, with a prime, after it, and by the
+-- status.
+pub record ToolRun (texts : List (List ℕ)) (files files' : FilesView) (out out' err err' : SinkView) (code : ℕ) : Type 0 where
   -- It ends in one of six ways, each with its cause and with what out and err got.
-  pub ends : Ends told (reading words) files_rose out_rose err_rose out new_out err new_err code
+  pub ends : Ends (reading texts) files files' out out' err err' code
   -- 1 comes exactly where the words aren't the tool's.
-  pub usage : Exactly code 1 (reading words ≡ None)
+  pub usage : Exactly code 1 (reading texts ≡ None)
   -- 2 comes exactly where a policy file is refused, and 3 exactly where a recording, or the file of a message or of a
   -- text, is.
-  pub policy : IsSettled (answer_of words told) → ExactlyOfFiles code 2 (HasCode (answer_of words told) 2)
-  pub recording : IsSettled (answer_of words told) → ExactlyOfFiles code 3 (HasCode (answer_of words told) 3)
+  pub policy : IsSettled (answer_of texts files.told) → ExactlyOfFiles code 2 (HasCode (answer_of texts files.told) 2)
+  pub recording : IsSettled (answer_of texts files.told) → ExactlyOfFiles code 3 (HasCode (answer_of texts files.told) 3)
   -- 9 comes exactly where the recording has no message, or no session, of the number.
-  pub missing : IsSettled (answer_of words told) → ExactlyOfFiles code 9 (HasCode (answer_of words told) 9)
+  pub missing : IsSettled (answer_of texts files.told) → ExactlyOfFiles code 9 (HasCode (answer_of texts files.told) 9)
   -- 0 comes exactly where the answer is a whole output, two recordings are the same to the policy, or a policy is
   -- within another. 7 comes exactly where the recordings differ, the policy is not within the other, or a policy that
   -- is asked for would have too many entries.
-  pub whole : IsSettled (answer_of words told) → ExactlyOfWork code 0 (HasCode (answer_of words told) 0)
-  pub differ : IsSettled (answer_of words told) → ExactlyOfWork code 7 (HasCode (answer_of words told) 7)
-  pub answers_no : code ≡ 7 → IsComparison (reading words) ⊎ IsSuggest (reading words)
+  pub whole : IsSettled (answer_of texts files.told) → ExactlyOfWork code 0 (HasCode (answer_of texts files.told) 0)
+  pub differ : IsSettled (answer_of texts files.told) → ExactlyOfWork code 7 (HasCode (answer_of texts files.told) 7)
+  pub answers_no : code ≡ 7 → IsComparison (reading texts) ⊎ IsSuggest (reading texts)
   -- 4 comes only where the files failed, and 6 only where out did, or where err did and there may be a log.
-  pub file : code ≡ 4 → files_rose
-  pub sink : code ≡ 6 → out_rose ⊎ ((may_log told (reading words) ≡ true) × err_rose)
+  pub file : code ≡ 4 → FilesRose files files'
+  pub sink : code ≡ 6 → SinkRose out out' ⊎ ((may_log files.told (reading texts) ≡ true) × SinkRose err err')
   -- Unless a file, out, err or memory fails, the status is the answer's.
-  pub complete : IsSettled (answer_of words told) → HasCode (answer_of words told) code ⊎ IsFree code
+  pub complete : IsSettled (answer_of texts files.told) → HasCode (answer_of texts files.told) code ⊎ IsFree code
   -- With 0, and with 7 of a comparison, out got the whole output, and err got the whole log and nothing else. With 0,
   -- two recordings that were compared give out the same bytes.
-  pub done : IsEnd (reading words) code → IsDone (answer_of words told) out new_out code × IsLogged told (reading words) err new_err
+  pub done : IsEnd (reading texts) code → IsDone (answer_of texts files.told) out.told out'.told code × IsLogged files.told (reading texts) err.told err'.told
   -- In any case out got nothing or a front of the output, and nothing with another status than 0, 6 and a comparison's
   -- 7.
-  pub front : (new_out ≡ out) ⊎ IsFront (answer_of words told) out new_out
-  pub nothing : IsEnd (reading words) code ⊎ ((code ≡ 6) ⊎ (new_out ≡ out))
+  pub front : (out'.told ≡ out.told) ⊎ IsFront (answer_of texts files.told) out.told out'.told
+  pub nothing : IsEnd (reading texts) code ⊎ ((code ≡ 6) ⊎ (out'.told ≡ out.told))
   -- The log is first: out got nothing unless err has the whole log and nothing else.
-  pub first : (new_out ≡ out) ⊎ IsLogged told (reading words) err new_err
+  pub first : (out'.told ≡ out.told) ⊎ IsLogged files.told (reading texts) err.told err'.told
   -- In any case err got a front of the log, and then a front of the status's line.
-  pub said : ErrFront told (reading words) err new_err code
+  pub said : ErrFront files.told (reading texts) err.told err'.told code
   -- No file was read beside those that the words name: a front of these, each once and in their order.
-  pub reads_named : ToolReads (policies_of (reading words)) (paths_of (reading words)) reads new_reads err_rose err new_err code
+  pub reads_named : ToolReads (policies_of (reading texts)) (paths_of (reading texts)) files.reads files'.reads (SinkRose err err') err.told err'.told code
   -- No file was read behind one that is bad, by what is told of the files. Where that settles the answer, exactly those
   -- were read that it needs, unless a file failed or memory ran out.
-  pub reads_needed : ReadFront (needed told (reading words)) reads new_reads
-  pub reads_exactly : IsSettled (answer_of words told) → (new_reads ≡ reads ++ needed told (reading words)) ⊎ ((code ≡ 4) ⊎ (code ≡ 8))
+  pub reads_needed : ReadFront (needed files.told (reading texts)) files.reads files'.reads
+  pub reads_exactly : IsSettled (answer_of texts files.told) → (files'.reads ≡ files.reads ++ needed files.told (reading texts)) ⊎ ((code ≡ 4) ⊎ (code ≡ 8))

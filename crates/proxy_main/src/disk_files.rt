@@ -40,11 +40,7 @@ impl<D: Disk + Drop> DiskFiles<D> {
 }
 
 impl<D: Disk + Drop> Files for DiskFiles<D> {
-    ghost told = { λ files. D.held files.disk };
-
-    ghost faults = { λ files. files.faults };
-
-    ghost reads = { λ files. D.opened files.disk };
+    ghost view = { λ files. record { told = D.held files.disk; faults = files.faults; reads = D.opened files.disk } };
 
     fn read(&mut self, path: &str, limit: usize, into: &mut Vec<u8>) -> Result<(), FileFault>
         ensures given { OnOk result (Given limit (D.held self.old.disk path.now) into.old.items into.new.items) }

@@ -1,6 +1,6 @@
 //! The files that the words name.
 ghost use Rattle.std.specs.Prelude.{◌≡◌, ◌≤◌, ◌<◌, ◌++◌, ◌∷◌, ℕ, List, [], Option, Some, Ok, Err, IfOk, IfErr, IfSome, OnOk, length, map};
-ghost use Rattle.link_traits.specs.Told.{Rose};
+ghost use Rattle.link_traits.specs.Views.{FilesRose};
 ghost use Rattle.policy_args.specs.Gives.{Gives};
 ghost use Rattle.policy_args.specs.Seen.{options_seen};
 ghost use Rattle.policy_args.specs.Words.{PolicyOptions};
@@ -38,18 +38,18 @@ pub fn load<'a, F: Files>(
     policy: &'a str,
     recording: &'a str,
 ) -> Result<Loaded, Stop<'a>>
-    ensures loaded { IfOk result (λ x. (work : PolicyOptions → RecordingValue → Answer) → Agrees (then_load (F.told files.old) policy.now recording.now work) (work (options_seen x.options) (recording_seen x.recording))) }
-    ensures options { IfOk result (λ x. IfSome (F.told files.old policy.now) (λ bytes. checked_policy bytes ≡ Ok (options_seen x.options))) }
-    ensures recording { IfOk result (λ x. IfSome (F.told files.old recording.now) (λ bytes. checked_recording bytes ≡ Ok (recording_seen x.recording))) }
+    ensures loaded { IfOk result (λ x. (work : PolicyOptions → RecordingValue → Answer) → Agrees (then_load (F.view files.old).told policy.now recording.now work) (work (options_seen x.options) (recording_seen x.recording))) }
+    ensures options { IfOk result (λ x. IfSome ((F.view files.old).told policy.now) (λ bytes. checked_policy bytes ≡ Ok (options_seen x.options))) }
+    ensures recording { IfOk result (λ x. IfSome ((F.view files.old).told recording.now) (λ bytes. checked_recording bytes ≡ Ok (recording_seen x.recording))) }
     ensures size { IfOk result (λ x. size (recording_seen x.recording).events ≤ RECORDING_LIMIT) }
-    ensures stops { IfErr result (λ stop. FilesStop (F.told files.old) policy.now recording.now stop) }
-    ensures cause { IfErr result (λ stop. CausedBy (Rose (F.faults files.old) (F.faults files.new)) ⊥ ⊥ stop) }
-    ensures count { F.faults files.old ≤ F.faults files.new }
-    ensures kept { (p : List ℕ) → F.told files.new p ≡ F.told files.old p }
-    ensures read { OnOk result (F.reads files.new ≡ F.reads files.old ++ policy.now ∷ recording.now ∷ []) }
-    ensures until { IfErr result (λ stop. (after : List (List ℕ)) → ReadUntil 1 (policy.now ∷ recording.now ∷ after) (F.reads files.old) (F.reads files.new) stop) }
-    ensures needed { OnOk result (F.reads files.new ≡ F.reads files.old ++ up_to_bad 1 (F.told files.old) (policy.now ∷ recording.now ∷ [])) }
-    ensures needed_until { IfErr result (λ stop. (after : List (List ℕ)) (work : PolicyOptions → RecordingValue → Answer) → NeededUntil (IsSettled (then_load (F.told files.old) policy.now recording.now work)) (up_to_bad 1 (F.told files.old) (policy.now ∷ recording.now ∷ after)) (F.reads files.old) (F.reads files.new) stop) }
+    ensures stops { IfErr result (λ stop. FilesStop (F.view files.old).told policy.now recording.now stop) }
+    ensures cause { IfErr result (λ stop. CausedBy (FilesRose (F.view files.old) (F.view files.new)) ⊥ ⊥ stop) }
+    ensures count { (F.view files.old).faults ≤ (F.view files.new).faults }
+    ensures kept { (p : List ℕ) → (F.view files.new).told p ≡ (F.view files.old).told p }
+    ensures read { OnOk result ((F.view files.new).reads ≡ (F.view files.old).reads ++ policy.now ∷ recording.now ∷ []) }
+    ensures until { IfErr result (λ stop. (after : List (List ℕ)) → ReadUntil 1 (policy.now ∷ recording.now ∷ after) (F.view files.old).reads (F.view files.new).reads stop) }
+    ensures needed { OnOk result ((F.view files.new).reads ≡ (F.view files.old).reads ++ up_to_bad 1 (F.view files.old).told (policy.now ∷ recording.now ∷ [])) }
+    ensures needed_until { IfErr result (λ stop. (after : List (List ℕ)) (work : PolicyOptions → RecordingValue → Answer) → NeededUntil (IsSettled (then_load (F.view files.old).told policy.now recording.now work)) (up_to_bad 1 (F.view files.old).told (policy.now ∷ recording.now ∷ after)) (F.view files.old).reads (F.view files.new).reads stop) }
 {
     match load_policy(alloc, files, policy) {
         Ok(options) => match load_recording(alloc, files, recording) {
@@ -74,14 +74,14 @@ pub fn load_replay<'a, F: Files>(
     policy: &'a str,
     recording: &'a str,
 ) -> Result<LoadedSessions, Stop<'a>>
-    ensures loaded { IfOk result (λ x. Agrees (answer_to (F.told files.old) (Some (Replay policy.now recording.now))) (replayed (options_seen x.options) (sessions_seen x.sessions))) }
-    ensures options { IfOk result (λ x. IfSome (F.told files.old policy.now) (λ bytes. checked_policy bytes ≡ Ok (options_seen x.options))) }
+    ensures loaded { IfOk result (λ x. Agrees (answer_to (F.view files.old).told (Some (Replay policy.now recording.now))) (replayed (options_seen x.options) (sessions_seen x.sessions))) }
+    ensures options { IfOk result (λ x. IfSome ((F.view files.old).told policy.now) (λ bytes. checked_policy bytes ≡ Ok (options_seen x.options))) }
     ensures readable { IfOk result (λ x. IsReadable (sessions_seen x.sessions)) }
-    ensures stops { IfErr result (λ stop. StopsBy (F.told files.old) (Some (Replay policy.now recording.now)) stop) }
-    ensures cause { IfErr result (λ stop. CausedBy (Rose (F.faults files.old) (F.faults files.new)) ⊥ ⊥ stop) }
-    ensures read { OnOk result (F.reads files.new ≡ F.reads files.old ++ policy.now ∷ recording.now ∷ []) }
-    ensures until { IfErr result (ReadUntil 1 (policy.now ∷ recording.now ∷ []) (F.reads files.old) (F.reads files.new)) }
-    ensures needed { ReadsNeeded (IsSettled (answer_to (F.told files.old) (Some (Replay policy.now recording.now)))) (needed (F.told files.old) (Some (Replay policy.now recording.now))) (F.reads files.old) (F.reads files.new) result }
+    ensures stops { IfErr result (λ stop. StopsBy (F.view files.old).told (Some (Replay policy.now recording.now)) stop) }
+    ensures cause { IfErr result (λ stop. CausedBy (FilesRose (F.view files.old) (F.view files.new)) ⊥ ⊥ stop) }
+    ensures read { OnOk result ((F.view files.new).reads ≡ (F.view files.old).reads ++ policy.now ∷ recording.now ∷ []) }
+    ensures until { IfErr result (ReadUntil 1 (policy.now ∷ recording.now ∷ []) (F.view files.old).reads (F.view files.new).reads) }
+    ensures needed { ReadsNeeded (IsSettled (answer_to (F.view files.old).told (Some (Replay policy.now recording.now)))) (needed (F.view files.old).told (Some (Replay policy.now recording.now))) (F.view files.old).reads (F.view files.new).reads result }
 {
     match load_policy(alloc, files, policy) {
         Ok(options) => match load_sessions(alloc, files, recording) {
@@ -108,12 +108,12 @@ pub fn load_twins<'a, F: Files>(
     one: &'a str,
     other: &'a str,
 ) -> Result<LoadedTwins, Stop<'a>>
-    ensures loaded { IfOk result (λ x. Agrees (answer_to (F.told files.old) (Some (Twin policy.now one.now other.now))) (Compared x.options.policy (recording_seen x.one) (recording_seen x.other))) }
-    ensures stops { IfErr result (λ stop. StopsBy (F.told files.old) (Some (Twin policy.now one.now other.now)) stop) }
-    ensures cause { IfErr result (λ stop. CausedBy (Rose (F.faults files.old) (F.faults files.new)) ⊥ ⊥ stop) }
-    ensures read { OnOk result (F.reads files.new ≡ F.reads files.old ++ policy.now ∷ one.now ∷ other.now ∷ []) }
-    ensures until { IfErr result (ReadUntil 1 (policy.now ∷ one.now ∷ other.now ∷ []) (F.reads files.old) (F.reads files.new)) }
-    ensures needed { ReadsNeeded (IsSettled (answer_to (F.told files.old) (Some (Twin policy.now one.now other.now)))) (needed (F.told files.old) (Some (Twin policy.now one.now other.now))) (F.reads files.old) (F.reads files.new) result }
+    ensures loaded { IfOk result (λ x. Agrees (answer_to (F.view files.old).told (Some (Twin policy.now one.now other.now))) (Compared x.options.policy (recording_seen x.one) (recording_seen x.other))) }
+    ensures stops { IfErr result (λ stop. StopsBy (F.view files.old).told (Some (Twin policy.now one.now other.now)) stop) }
+    ensures cause { IfErr result (λ stop. CausedBy (FilesRose (F.view files.old) (F.view files.new)) ⊥ ⊥ stop) }
+    ensures read { OnOk result ((F.view files.new).reads ≡ (F.view files.old).reads ++ policy.now ∷ one.now ∷ other.now ∷ []) }
+    ensures until { IfErr result (ReadUntil 1 (policy.now ∷ one.now ∷ other.now ∷ []) (F.view files.old).reads (F.view files.new).reads) }
+    ensures needed { ReadsNeeded (IsSettled (answer_to (F.view files.old).told (Some (Twin policy.now one.now other.now)))) (needed (F.view files.old).told (Some (Twin policy.now one.now other.now))) (F.view files.old).reads (F.view files.new).reads result }
 {
     match load(alloc, files, policy, one) {
         Ok(loaded) => match load_recording(alloc, files, other) {
@@ -142,12 +142,12 @@ pub fn load_audit<'a, F: Files>(
     policy: &'a str,
     paths: &[&'a str],
 ) -> Result<LoadedRecordings, Stop<'a>>
-    ensures loaded { IfOk result (λ x. Agrees (answer_to (F.told files.old) (Some (Audit policy.now (map (λ path. path.now) paths.now)))) (audited (options_seen x.options) (map recording_seen x.recordings.items))) }
-    ensures stops { IfErr result (λ stop. StopsBy (F.told files.old) (Some (Audit policy.now (map (λ path. path.now) paths.now))) stop) }
-    ensures cause { IfErr result (λ stop. CausedBy (Rose (F.faults files.old) (F.faults files.new)) ⊥ ⊥ stop) }
-    ensures read { OnOk result (F.reads files.new ≡ F.reads files.old ++ policy.now ∷ map (λ path. path.now) paths.now) }
-    ensures until { IfErr result (ReadUntil 1 (policy.now ∷ map (λ path. path.now) paths.now) (F.reads files.old) (F.reads files.new)) }
-    ensures needed { ReadsNeeded (IsSettled (answer_to (F.told files.old) (Some (Audit policy.now (map (λ path. path.now) paths.now))))) (needed (F.told files.old) (Some (Audit policy.now (map (λ path. path.now) paths.now)))) (F.reads files.old) (F.reads files.new) result }
+    ensures loaded { IfOk result (λ x. Agrees (answer_to (F.view files.old).told (Some (Audit policy.now (map (λ path. path.now) paths.now)))) (audited (options_seen x.options) (map recording_seen x.recordings.items))) }
+    ensures stops { IfErr result (λ stop. StopsBy (F.view files.old).told (Some (Audit policy.now (map (λ path. path.now) paths.now))) stop) }
+    ensures cause { IfErr result (λ stop. CausedBy (FilesRose (F.view files.old) (F.view files.new)) ⊥ ⊥ stop) }
+    ensures read { OnOk result ((F.view files.new).reads ≡ (F.view files.old).reads ++ policy.now ∷ map (λ path. path.now) paths.now) }
+    ensures until { IfErr result (ReadUntil 1 (policy.now ∷ map (λ path. path.now) paths.now) (F.view files.old).reads (F.view files.new).reads) }
+    ensures needed { ReadsNeeded (IsSettled (answer_to (F.view files.old).told (Some (Audit policy.now (map (λ path. path.now) paths.now))))) (needed (F.view files.old).told (Some (Audit policy.now (map (λ path. path.now) paths.now)))) (F.view files.old).reads (F.view files.new).reads result }
 {
     match load_policy(alloc, files, policy) {
         Ok(options) => {
@@ -170,12 +170,12 @@ pub fn load_suggested<'a, F: Files>(
     files: &mut F,
     paths: &[&'a str],
 ) -> Result<Vec<Recording>, Stop<'a>>
-    ensures loaded { IfOk result (λ x. Agrees (answer_to (F.told files.old) (Some (Suggest (map (λ path. path.now) paths.now)))) (suggesting (map recording_seen x.items))) }
-    ensures stops { IfErr result (λ stop. StopsBy (F.told files.old) (Some (Suggest (map (λ path. path.now) paths.now))) stop) }
-    ensures cause { IfErr result (λ stop. CausedBy (Rose (F.faults files.old) (F.faults files.new)) ⊥ ⊥ stop) }
-    ensures read { OnOk result (F.reads files.new ≡ F.reads files.old ++ map (λ path. path.now) paths.now) }
-    ensures until { IfErr result (ReadUntil 0 (map (λ path. path.now) paths.now) (F.reads files.old) (F.reads files.new)) }
-    ensures needed { ReadsNeeded (IsSettled (answer_to (F.told files.old) (Some (Suggest (map (λ path. path.now) paths.now))))) (needed (F.told files.old) (Some (Suggest (map (λ path. path.now) paths.now)))) (F.reads files.old) (F.reads files.new) result }
+    ensures loaded { IfOk result (λ x. Agrees (answer_to (F.view files.old).told (Some (Suggest (map (λ path. path.now) paths.now)))) (suggesting (map recording_seen x.items))) }
+    ensures stops { IfErr result (λ stop. StopsBy (F.view files.old).told (Some (Suggest (map (λ path. path.now) paths.now))) stop) }
+    ensures cause { IfErr result (λ stop. CausedBy (FilesRose (F.view files.old) (F.view files.new)) ⊥ ⊥ stop) }
+    ensures read { OnOk result ((F.view files.new).reads ≡ (F.view files.old).reads ++ map (λ path. path.now) paths.now) }
+    ensures until { IfErr result (ReadUntil 0 (map (λ path. path.now) paths.now) (F.view files.old).reads (F.view files.new).reads) }
+    ensures needed { ReadsNeeded (IsSettled (answer_to (F.view files.old).told (Some (Suggest (map (λ path. path.now) paths.now))))) (needed (F.view files.old).told (Some (Suggest (map (λ path. path.now) paths.now)))) (F.view files.old).reads (F.view files.new).reads result }
 {
     let mut recordings = Vec::new(alloc);
     match load_recordings(alloc, files, paths, &mut recordings) {
@@ -191,11 +191,11 @@ fn load_recordings<'a, F: Files>(
     paths: &[&'a str],
     loaded: &mut Vec<Recording>,
 ) -> Result<(), Stop<'a>>
-    ensures loaded { OnOk result ((told : List ℕ → Option (List ℕ)) → IsTold told (F.told files.old) → (more : List RecordingValue) × (map recording_seen loaded.new.items ≡ map recording_seen loaded.old.items ++ more) × AreGood told (map (λ path. path.now) paths.now) more) }
-    ensures stops { IfErr result (λ stop. (told : List ℕ → Option (List ℕ)) → IsTold told (F.told files.old) → StopsIn told (map (λ path. path.now) paths.now) (F.reads files.old) (F.reads files.new) stop) }
-    ensures cause { IfErr result (λ stop. CausedBy (Rose (F.faults files.old) (F.faults files.new)) ⊥ ⊥ stop) }
-    ensures count { F.faults files.old ≤ F.faults files.new }
-    ensures read { OnOk result (F.reads files.new ≡ F.reads files.old ++ map (λ path. path.now) paths.now) }
+    ensures loaded { OnOk result ((told : List ℕ → Option (List ℕ)) → IsTold told (F.view files.old).told → (more : List RecordingValue) × (map recording_seen loaded.new.items ≡ map recording_seen loaded.old.items ++ more) × AreGood told (map (λ path. path.now) paths.now) more) }
+    ensures stops { IfErr result (λ stop. (told : List ℕ → Option (List ℕ)) → IsTold told (F.view files.old).told → StopsIn told (map (λ path. path.now) paths.now) (F.view files.old).reads (F.view files.new).reads stop) }
+    ensures cause { IfErr result (λ stop. CausedBy (FilesRose (F.view files.old) (F.view files.new)) ⊥ ⊥ stop) }
+    ensures count { (F.view files.old).faults ≤ (F.view files.new).faults }
+    ensures read { OnOk result ((F.view files.new).reads ≡ (F.view files.old).reads ++ map (λ path. path.now) paths.now) }
 {
     let [path, others @ ..] = paths else {
         return Ok(());
@@ -226,12 +226,12 @@ pub fn load_policies<'a, F: Files>(
     one: &'a str,
     other: &'a str,
 ) -> Result<LoadedPolicies, Stop<'a>>
-    ensures loaded { IfOk result (λ x. Agrees (answer_to (F.told files.old) (Some (Within one.now other.now))) (Contained x.one.policy x.other.policy)) }
-    ensures stops { IfErr result (λ stop. StopsBy (F.told files.old) (Some (Within one.now other.now)) stop) }
-    ensures cause { IfErr result (λ stop. CausedBy (Rose (F.faults files.old) (F.faults files.new)) ⊥ ⊥ stop) }
-    ensures read { OnOk result (F.reads files.new ≡ F.reads files.old ++ one.now ∷ other.now ∷ []) }
-    ensures until { IfErr result (ReadUntil 2 (one.now ∷ other.now ∷ []) (F.reads files.old) (F.reads files.new)) }
-    ensures needed { ReadsNeeded (IsSettled (answer_to (F.told files.old) (Some (Within one.now other.now)))) (needed (F.told files.old) (Some (Within one.now other.now))) (F.reads files.old) (F.reads files.new) result }
+    ensures loaded { IfOk result (λ x. Agrees (answer_to (F.view files.old).told (Some (Within one.now other.now))) (Contained x.one.policy x.other.policy)) }
+    ensures stops { IfErr result (λ stop. StopsBy (F.view files.old).told (Some (Within one.now other.now)) stop) }
+    ensures cause { IfErr result (λ stop. CausedBy (FilesRose (F.view files.old) (F.view files.new)) ⊥ ⊥ stop) }
+    ensures read { OnOk result ((F.view files.new).reads ≡ (F.view files.old).reads ++ one.now ∷ other.now ∷ []) }
+    ensures until { IfErr result (ReadUntil 2 (one.now ∷ other.now ∷ []) (F.view files.old).reads (F.view files.new).reads) }
+    ensures needed { ReadsNeeded (IsSettled (answer_to (F.view files.old).told (Some (Within one.now other.now)))) (needed (F.view files.old).told (Some (Within one.now other.now))) (F.view files.old).reads (F.view files.new).reads result }
 {
     match load_policy(alloc, files, one) {
         Ok(one) => match load_policy(alloc, files, other) {
@@ -248,11 +248,11 @@ fn load_policy<'a, F: Files>(
     files: &mut F,
     path: &'a str,
 ) -> Result<Options, Stop<'a>>
-    ensures loads { Loads options_seen checked_policy (F.told files.old path.now) path.now result }
-    ensures cause { IfErr result (λ stop. CausedBy (Rose (F.faults files.old) (F.faults files.new)) ⊥ ⊥ stop) }
-    ensures count { F.faults files.old ≤ F.faults files.new }
-    ensures kept { (p : List ℕ) → F.told files.new p ≡ F.told files.old p }
-    ensures read { F.reads files.new ≡ F.reads files.old ++ path.now ∷ [] }
+    ensures loads { Loads options_seen checked_policy ((F.view files.old).told path.now) path.now result }
+    ensures cause { IfErr result (λ stop. CausedBy (FilesRose (F.view files.old) (F.view files.new)) ⊥ ⊥ stop) }
+    ensures count { (F.view files.old).faults ≤ (F.view files.new).faults }
+    ensures kept { (p : List ℕ) → (F.view files.new).told p ≡ (F.view files.old).told p }
+    ensures read { (F.view files.new).reads ≡ (F.view files.old).reads ++ path.now ∷ [] }
     ensures at { IfErr result (StopsAt IsOfPolicy path.now) }
 {
     match read_whole(alloc, files, path, POLICY_LIMIT) {
@@ -281,12 +281,12 @@ fn load_recording<'a, F: Files>(
     files: &mut F,
     path: &'a str,
 ) -> Result<Recording, Stop<'a>>
-    ensures loads { Loads recording_seen checked_recording (F.told files.old path.now) path.now result }
+    ensures loads { Loads recording_seen checked_recording ((F.view files.old).told path.now) path.now result }
     ensures size { IfOk result (λ r. size (recording_seen r).events ≤ RECORDING_LIMIT) }
-    ensures cause { IfErr result (λ stop. CausedBy (Rose (F.faults files.old) (F.faults files.new)) ⊥ ⊥ stop) }
-    ensures count { F.faults files.old ≤ F.faults files.new }
-    ensures kept { (p : List ℕ) → F.told files.new p ≡ F.told files.old p }
-    ensures read { F.reads files.new ≡ F.reads files.old ++ path.now ∷ [] }
+    ensures cause { IfErr result (λ stop. CausedBy (FilesRose (F.view files.old) (F.view files.new)) ⊥ ⊥ stop) }
+    ensures count { (F.view files.old).faults ≤ (F.view files.new).faults }
+    ensures kept { (p : List ℕ) → (F.view files.new).told p ≡ (F.view files.old).told p }
+    ensures read { (F.view files.new).reads ≡ (F.view files.old).reads ++ path.now ∷ [] }
     ensures at { IfErr result (StopsAt IsOfInput path.now) }
 {
     match read_whole(alloc, files, path, RECORDING_LIMIT) {
@@ -307,12 +307,12 @@ pub fn load_sessions<'a, F: Files>(
     files: &mut F,
     path: &'a str,
 ) -> Result<Sessions, Stop<'a>>
-    ensures loads { Loads sessions_seen checked_sessions (F.told files.old path.now) path.now result }
+    ensures loads { Loads sessions_seen checked_sessions ((F.view files.old).told path.now) path.now result }
     ensures readable { IfOk result (λ s. IsReadable (sessions_seen s)) }
     ensures of_file { IfOk result (λ s. IsOfFile (sessions_seen s)) }
-    ensures cause { IfErr result (λ stop. CausedBy (Rose (F.faults files.old) (F.faults files.new)) ⊥ ⊥ stop) }
-    ensures count { F.faults files.old ≤ F.faults files.new }
-    ensures read { F.reads files.new ≡ F.reads files.old ++ path.now ∷ [] }
+    ensures cause { IfErr result (λ stop. CausedBy (FilesRose (F.view files.old) (F.view files.new)) ⊥ ⊥ stop) }
+    ensures count { (F.view files.old).faults ≤ (F.view files.new).faults }
+    ensures read { (F.view files.new).reads ≡ (F.view files.old).reads ++ path.now ∷ [] }
     ensures at { IfErr result (StopsAt IsOfInput path.now) }
 {
     match read_whole(alloc, files, path, RECORDING_LIMIT) {

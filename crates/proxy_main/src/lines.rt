@@ -1,6 +1,6 @@
 //! The line on err of each status that has one.
 ghost use Rattle.std.specs.Prelude.{◌≡◌, ◌≤◌, IfOk, string_bytes};
-ghost use Rattle.link_traits.specs.Told.{Rose};
+ghost use Rattle.link_traits.specs.Views.{SinkRose};
 ghost use Rattle.proxy_main.specs.Lines.{refusal_line, word_line, plain_word_line, line_word_line, is_policy_kind, kind_name, recording_line, fault_name as name_of_fault, file_line, malformed_name as name_of_malformed, message_fault_name as name_of_message_fault, message_line, bad_text_name as name_of_bad_text, text_fault_name as name_of_text_fault, text_line};
 ghost use Rattle.proxy_main.specs.Endings.{Said};
 
@@ -42,8 +42,8 @@ pub fn file_text(alloc: Global, path: &str) -> Result<String, AllocError>
 
 /// Says a line. Where the sink fails it got a front of it.
 pub fn say<E: Sink>(err: &mut E, line: &str)
-    ensures said { Said (Rose (E.faults err.old) (E.faults err.new)) (E.told err.old) (E.told err.new) line.now }
-    ensures count { E.faults err.old ≤ E.faults err.new }
+    ensures said { Said (SinkRose (E.view err.old) (E.view err.new)) (E.view err.old).told (E.view err.new).told line.now }
+    ensures count { (E.view err.old).faults ≤ (E.view err.new).faults }
 {
     let _ = write_all(err, line.as_bytes());
 }

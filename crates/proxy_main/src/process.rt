@@ -1,6 +1,6 @@
 //! The words of a process, and what they name.
 ghost use Rattle.std.specs.Prelude.{◌≡◌, Some, pos};
-ghost use Rattle.link_traits.specs.Told.{Rose};
+ghost use Rattle.link_traits.specs.Views.{SinkRose};
 ghost use Rattle.process_streams.specs.Faults.{FaultEnds};
 ghost use Rattle.proxy_main.specs.Starts.{Starts, Ends, IsLine};
 ghost use Rattle.proxy_main.specs.declared.process.Start.TheVariants.{Line};
@@ -33,7 +33,7 @@ pub fn start_process<
 >(rt: &R, alloc: Global, arguments: &A, files: &mut F, out: &mut O, err: &mut E) -> Start
     requires out { O.raw_fd out.old ≡ Some (pos 1) }
     requires err { E.raw_fd err.old ≡ Some (pos 2) }
-    ensures starts { Starts result (Ends (A.told arguments.now) (F.told files.old) (F.reads files.old) (F.reads files.new) (Rose (F.faults files.old) (F.faults files.new)) (Rose (O.faults out.old) (O.faults out.new)) (Rose (E.faults err.old) (E.faults err.new)) (O.told out.old) (O.told out.new) (E.told err.old) (E.told err.new)) (IsLine (A.told arguments.now)) }
+    ensures starts { Starts result (Ends (A.told arguments.now) (F.view files.old) (F.view files.new) (O.view out.old) (O.view out.new) (E.view err.old) (E.view err.new)) (IsLine (A.told arguments.now)) }
     ensures files { (words : _) → result ≡ Line words → files.new ≡ files.old }
     ensures out { (words : _) → result ≡ Line words → out.new ≡ out.old }
     ensures err { (words : _) → result ≡ Line words → err.new ≡ err.old }
@@ -50,7 +50,7 @@ pub fn start_process<
 
 /// Writes the line of a fault, and gives its status.
 pub fn fault_status<E: Sink>(alloc: Global, fault: ProcessFault, err: &mut E) -> Status
-    ensures { FaultEnds (Rose (E.faults err.old) (E.faults err.new)) (E.told err.old) (E.told err.new) fault result.code }
+    ensures { FaultEnds (SinkRose (E.view err.old) (E.view err.new)) (E.view err.old).told (E.view err.new).told fault result.code }
 {
     Status {
         code: tell_fault(alloc, fault, err),

@@ -1,7 +1,6 @@
 //! A whole run.
-ghost use Rattle.std.specs.Prelude.{◌≡◌, true, false, map, string_bytes};
-ghost use Rattle.link_traits.specs.Told.{Rose};
-ghost use Rattle.proxy_loop.specs.Sinks.{sink_of};
+ghost use Rattle.std.specs.Prelude.{◌≡◌, true, false};
+ghost use Rattle.link_traits.specs.Texts.{texts_of};
 ghost use Rattle.proxy_main.specs.Words.{names_tool};
 ghost use Rattle.proxy_main.specs.ToolRuns.{ToolRun};
 ghost use Rattle.proxy_main.specs.LineRuns.{LineRun};
@@ -25,13 +24,13 @@ pub fn run<R: Threads + Sync, F: Files, N: Net, O: Sink, E: Sink>(
     out: &mut O,
     err: &mut E,
 ) -> Status
-    // A tool.
-    ensures tool { names_tool (map (λ w. string_bytes w) words.now) ≡ true → ToolRun (F.told files.old) (map (λ w. string_bytes w) words.now) (F.reads files.old) (F.reads files.new) (Rose (F.faults files.old) (F.faults files.new)) (Rose (O.faults out.old) (O.faults out.new)) (Rose (E.faults err.old) (E.faults err.new)) (O.told out.old) (O.told out.new) (E.told err.old) (E.told err.new) result.code }
-    ensures net { names_tool (map (λ w. string_bytes w) words.now) ≡ true → net.new ≡ net.old }
+    // A tool: each part of `ToolRun` is a promise. The net is as before.
+    ensures tool { names_tool (texts_of words.now) ≡ true → ToolRun (texts_of words.now) (F.view files.old) (F.view files.new) (O.view out.old) (O.view out.new) (E.view err.old) (E.view err.new) result.code }
+    ensures net { names_tool (texts_of words.now) ≡ true → net.new ≡ net.old }
 
-    // A proxy line.
-    ensures line { names_tool (map (λ w. string_bytes w) words.now) ≡ false → LineRun (F.told files.old) (F.told files.new) (map (λ w. string_bytes w) words.now) (F.reads files.old) (F.reads files.new) (Rose (F.faults files.old) (F.faults files.new)) (Rose (E.faults err.old) (E.faults err.new)) (N.view net.old) (N.view net.new) (sink_of (E.told err.old) (E.faults err.old)) (sink_of (E.told err.new) (E.faults err.new)) result.code }
-    ensures out { names_tool (map (λ w. string_bytes w) words.now) ≡ false → out.new ≡ out.old }
+    // A proxy line: each part of `LineRun` is a promise. What `out` has is as before.
+    ensures line { names_tool (texts_of words.now) ≡ false → LineRun (texts_of words.now) (F.view files.old) (F.view files.new) (N.view net.old) (N.view net.new) (E.view err.old) (E.view err.new) result.code }
+    ensures out { names_tool (texts_of words.now) ≡ false → out.new ≡ out.old }
 {
     match tool(rt, &OpenGate, alloc, words, files, out, err) {
         Some(status) => status,

@@ -1,7 +1,6 @@
 //! The run of a proxy line whose net is recorded.
 ghost use Rattle.std.specs.Prelude.{◌≡◌, ◌≢◌, ◌≤◌, ℕ, List, Some, string_bytes};
-ghost use Rattle.link_traits.specs.Told.{Rose};
-ghost use Rattle.proxy_loop.specs.Sinks.{sink_of};
+ghost use Rattle.link_traits.specs.Views.{FilesRose, SinkRose};
 ghost use Rattle.proxy_main.specs.LineRuns.{RecordRan, RecordSaid, TapeSaid};
 
 use crate::serving::tell_end;
@@ -22,10 +21,10 @@ pub fn record_line<F: Files, N: Net, E: Sink>(
     net: &mut N,
     err: &mut E,
 ) -> Status
-    ensures ran { RecordRan line.blocks.items line.sessions (string_bytes path) (F.told files.new) (Rose (F.faults files.old) (F.faults files.new)) (Rose (E.faults err.old) (E.faults err.new)) (N.view net.old) (N.view net.new) (sink_of (E.told err.old) (E.faults err.old)) (sink_of (E.told err.new) (E.faults err.new)) result.code }
-    ensures others { (p : List ℕ) → p ≢ string_bytes path → F.told files.new p ≡ F.told files.old p }
-    ensures unread { F.reads files.new ≡ F.reads files.old }
-    ensures count { F.faults files.old ≤ F.faults files.new }
+    ensures ran { RecordRan line.blocks.items line.sessions (string_bytes path) (F.view files.new).told (FilesRose (F.view files.old) (F.view files.new)) (SinkRose (E.view err.old) (E.view err.new)) (N.view net.old) (N.view net.new) (E.view err.old) (E.view err.new) result.code }
+    ensures others { (p : List ℕ) → p ≢ string_bytes path → (F.view files.new).told p ≡ (F.view files.old).told p }
+    ensures unread { (F.view files.new).reads ≡ (F.view files.old).reads }
+    ensures count { (F.view files.old).faults ≤ (F.view files.new).faults }
 {
     let shown = path.as_str();
     match String::from_str(alloc, shown) {
@@ -45,10 +44,10 @@ fn record_in<F: Files, N: Net, E: Sink>(
     err: &mut E,
 ) -> Status
     requires same { shown.now ≡ string_bytes path }
-    ensures ran { RecordRan line.blocks.items line.sessions shown.now (F.told files.new) (Rose (F.faults files.old) (F.faults files.new)) (Rose (E.faults err.old) (E.faults err.new)) (N.view net.old) (N.view net.new) (sink_of (E.told err.old) (E.faults err.old)) (sink_of (E.told err.new) (E.faults err.new)) result.code }
-    ensures others { (p : List ℕ) → p ≢ shown.now → F.told files.new p ≡ F.told files.old p }
-    ensures unread { F.reads files.new ≡ F.reads files.old }
-    ensures count { F.faults files.old ≤ F.faults files.new }
+    ensures ran { RecordRan line.blocks.items line.sessions shown.now (F.view files.new).told (FilesRose (F.view files.old) (F.view files.new)) (SinkRose (E.view err.old) (E.view err.new)) (N.view net.old) (N.view net.new) (E.view err.old) (E.view err.new) result.code }
+    ensures others { (p : List ℕ) → p ≢ shown.now → (F.view files.new).told p ≡ (F.view files.old).told p }
+    ensures unread { (F.view files.new).reads ≡ (F.view files.old).reads }
+    ensures count { (F.view files.old).faults ≤ (F.view files.new).faults }
 {
     match serve_recorded(alloc, line, path, files, net, err) {
         Ok(recorded) => tell_recorded(alloc, shown, recorded, err),
@@ -58,8 +57,8 @@ fn record_in<F: Files, N: Net, E: Sink>(
 
 /// Says how a server ended, or if it is done that its recording failed, and gives the status.
 fn tell_recorded<E: Sink>(alloc: Global, path: &str, recorded: Recorded, err: &mut E) -> Status
-    ensures said { RecordSaid (Rose (E.faults err.old) (E.faults err.new)) (sink_of (E.told err.old) (E.faults err.old)) (sink_of (E.told err.new) (E.faults err.new)) result.code path.now recorded.end recorded.failed }
-    ensures count { E.faults err.old ≤ E.faults err.new }
+    ensures said { RecordSaid (SinkRose (E.view err.old) (E.view err.new)) (E.view err.old) (E.view err.new) result.code path.now recorded.end recorded.failed }
+    ensures count { (E.view err.old).faults ≤ (E.view err.new).faults }
 {
     match recorded.end {
         Ok(()) => tell_tape(alloc, path, recorded.failed, err),
@@ -69,8 +68,8 @@ fn tell_recorded<E: Sink>(alloc: Global, path: &str, recorded: Recorded, err: &m
 
 /// Says that the file of a recording failed, if it did, and gives the status.
 fn tell_tape<E: Sink>(alloc: Global, path: &str, failed: Option<FileFault>, err: &mut E) -> Status
-    ensures said { TapeSaid (Rose (E.faults err.old) (E.faults err.new)) (sink_of (E.told err.old) (E.faults err.old)) (sink_of (E.told err.new) (E.faults err.new)) result.code path.now failed }
-    ensures count { E.faults err.old ≤ E.faults err.new }
+    ensures said { TapeSaid (SinkRose (E.view err.old) (E.view err.new)) (E.view err.old) (E.view err.new) result.code path.now failed }
+    ensures count { (E.view err.old).faults ≤ (E.view err.new).faults }
 {
     match failed {
         None => Status { code: 0 },

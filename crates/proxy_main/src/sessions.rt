@@ -1,6 +1,6 @@
 //! The tools on the sessions of a recording: one of them as a recording of its own, and a list of all.
 ghost use Rattle.std.specs.Prelude.{◌≡◌, ◌++◌, ℕ, List, Option, Some, IfErr, IfOk, OnOk};
-ghost use Rattle.link_traits.specs.Told.{Rose};
+ghost use Rattle.link_traits.specs.Views.{FilesRose, SinkRose};
 ghost use Rattle.recording.specs.SessionsSeen.{IsReadable, sessions_seen};
 ghost use Rattle.session_files.specs.OneSession.{IsOfFile};
 ghost use Rattle.proxy_main.specs.Words.{Command, ListSessions, Session};
@@ -24,14 +24,14 @@ pub fn work_session<'a, F: Files, O: Sink>(
     files: &mut F,
     out: &mut O,
 ) -> Result<Status, Stop<'a>>
-    ensures done { IfOk result (λ status. IsDone (answer_to (F.told files.old) (Some (Session recording.now number))) (O.told out.old) (O.told out.new) status.code) }
+    ensures done { IfOk result (λ status. IsDone (answer_to (F.view files.old).told (Some (Session recording.now number))) (O.view out.old).told (O.view out.new).told status.code) }
     ensures end { IfOk result (λ status. status.code ≡ 0) }
-    ensures stops { IfErr result (λ stop. StopsBy (F.told files.old) (Some (Session recording.now number)) stop) }
-    ensures cause { IfErr result (λ stop. CausedBy (Rose (F.faults files.old) (F.faults files.new)) (Rose (O.faults out.old) (O.faults out.new)) ⊥ stop) }
-    ensures keeps { IfErr result (λ stop. Keeps (answer_to (F.told files.old) (Some (Session recording.now number))) (O.told out.old) (O.told out.new) stop) }
-    ensures read { OnOk result (F.reads files.new ≡ F.reads files.old ++ paths_of (Some (Session recording.now number))) }
-    ensures until { IfErr result (ReadUntil (policies_of (Some (Session recording.now number))) (paths_of (Some (Session recording.now number))) (F.reads files.old) (F.reads files.new)) }
-    ensures needed { ReadsNeeded (IsSettled (answer_to (F.told files.old) (Some (Session recording.now number)))) (needed (F.told files.old) (Some (Session recording.now number))) (F.reads files.old) (F.reads files.new) result }
+    ensures stops { IfErr result (λ stop. StopsBy (F.view files.old).told (Some (Session recording.now number)) stop) }
+    ensures cause { IfErr result (λ stop. CausedBy (FilesRose (F.view files.old) (F.view files.new)) (SinkRose (O.view out.old) (O.view out.new)) ⊥ stop) }
+    ensures keeps { IfErr result (λ stop. Keeps (answer_to (F.view files.old).told (Some (Session recording.now number))) (O.view out.old).told (O.view out.new).told stop) }
+    ensures read { OnOk result ((F.view files.new).reads ≡ (F.view files.old).reads ++ paths_of (Some (Session recording.now number))) }
+    ensures until { IfErr result (ReadUntil (policies_of (Some (Session recording.now number))) (paths_of (Some (Session recording.now number))) (F.view files.old).reads (F.view files.new).reads) }
+    ensures needed { ReadsNeeded (IsSettled (answer_to (F.view files.old).told (Some (Session recording.now number)))) (needed (F.view files.old).told (Some (Session recording.now number))) (F.view files.old).reads (F.view files.new).reads result }
 {
     match load_sessions(alloc, files, recording) {
         Ok(sessions) => write_session(alloc, &sessions, number, out),
@@ -47,11 +47,11 @@ fn write_session<'a, O: Sink>(
     out: &mut O,
 ) -> Result<Status, Stop<'a>>
     requires { IsOfFile (sessions_seen sessions.now) }
-    ensures done { IfOk result (λ status. IsDone (extracting number (sessions_seen sessions.now)) (O.told out.old) (O.told out.new) status.code) }
+    ensures done { IfOk result (λ status. IsDone (extracting number (sessions_seen sessions.now)) (O.view out.old).told (O.view out.new).told status.code) }
     ensures end { IfOk result (λ status. status.code ≡ 0) }
     ensures stops { IfErr result (λ stop. (told : List ℕ → Option (List ℕ)) (command : Option Command) → Agrees (answer_to told command) (extracting number (sessions_seen sessions.now)) → IsSession command → StopsBy told command stop) }
-    ensures cause { IfErr result (λ stop. CausedBy ⊥ (Rose (O.faults out.old) (O.faults out.new)) ⊥ stop) }
-    ensures keeps { IfErr result (λ stop. Keeps (extracting number (sessions_seen sessions.now)) (O.told out.old) (O.told out.new) stop) }
+    ensures cause { IfErr result (λ stop. CausedBy ⊥ (SinkRose (O.view out.old) (O.view out.new)) ⊥ stop) }
+    ensures keeps { IfErr result (λ stop. Keeps (extracting number (sessions_seen sessions.now)) (O.view out.old).told (O.view out.new).told stop) }
     ensures work { IfErr result StopsWork }
 {
     match session_file(alloc, sessions, number) {
@@ -68,14 +68,14 @@ pub fn work_sessions<'a, F: Files, O: Sink>(
     files: &mut F,
     out: &mut O,
 ) -> Result<Status, Stop<'a>>
-    ensures done { IfOk result (λ status. IsDone (answer_to (F.told files.old) (Some (ListSessions recording.now))) (O.told out.old) (O.told out.new) status.code) }
+    ensures done { IfOk result (λ status. IsDone (answer_to (F.view files.old).told (Some (ListSessions recording.now))) (O.view out.old).told (O.view out.new).told status.code) }
     ensures end { IfOk result (λ status. status.code ≡ 0) }
-    ensures stops { IfErr result (λ stop. StopsBy (F.told files.old) (Some (ListSessions recording.now)) stop) }
-    ensures cause { IfErr result (λ stop. CausedBy (Rose (F.faults files.old) (F.faults files.new)) (Rose (O.faults out.old) (O.faults out.new)) ⊥ stop) }
-    ensures keeps { IfErr result (λ stop. Keeps (answer_to (F.told files.old) (Some (ListSessions recording.now))) (O.told out.old) (O.told out.new) stop) }
-    ensures read { OnOk result (F.reads files.new ≡ F.reads files.old ++ paths_of (Some (ListSessions recording.now))) }
-    ensures until { IfErr result (ReadUntil (policies_of (Some (ListSessions recording.now))) (paths_of (Some (ListSessions recording.now))) (F.reads files.old) (F.reads files.new)) }
-    ensures needed { ReadsNeeded (IsSettled (answer_to (F.told files.old) (Some (ListSessions recording.now)))) (needed (F.told files.old) (Some (ListSessions recording.now))) (F.reads files.old) (F.reads files.new) result }
+    ensures stops { IfErr result (λ stop. StopsBy (F.view files.old).told (Some (ListSessions recording.now)) stop) }
+    ensures cause { IfErr result (λ stop. CausedBy (FilesRose (F.view files.old) (F.view files.new)) (SinkRose (O.view out.old) (O.view out.new)) ⊥ stop) }
+    ensures keeps { IfErr result (λ stop. Keeps (answer_to (F.view files.old).told (Some (ListSessions recording.now))) (O.view out.old).told (O.view out.new).told stop) }
+    ensures read { OnOk result ((F.view files.new).reads ≡ (F.view files.old).reads ++ paths_of (Some (ListSessions recording.now))) }
+    ensures until { IfErr result (ReadUntil (policies_of (Some (ListSessions recording.now))) (paths_of (Some (ListSessions recording.now))) (F.view files.old).reads (F.view files.new).reads) }
+    ensures needed { ReadsNeeded (IsSettled (answer_to (F.view files.old).told (Some (ListSessions recording.now)))) (needed (F.view files.old).told (Some (ListSessions recording.now))) (F.view files.old).reads (F.view files.new).reads result }
 {
     match load_sessions(alloc, files, recording) {
         Ok(sessions) => write_listing(alloc, &sessions, out),
@@ -90,11 +90,11 @@ fn write_listing<'a, O: Sink>(
     out: &mut O,
 ) -> Result<Status, Stop<'a>>
     requires { IsReadable (sessions_seen sessions.now) }
-    ensures done { IfOk result (λ status. IsDone (listed (sessions_seen sessions.now)) (O.told out.old) (O.told out.new) status.code) }
+    ensures done { IfOk result (λ status. IsDone (listed (sessions_seen sessions.now)) (O.view out.old).told (O.view out.new).told status.code) }
     ensures end { IfOk result (λ status. status.code ≡ 0) }
     ensures stops { IfErr result (λ stop. (told : List ℕ → Option (List ℕ)) (command : Option Command) → Agrees (answer_to told command) (listed (sessions_seen sessions.now)) → StopsBy told command stop) }
-    ensures cause { IfErr result (λ stop. CausedBy ⊥ (Rose (O.faults out.old) (O.faults out.new)) ⊥ stop) }
-    ensures keeps { IfErr result (λ stop. Keeps (listed (sessions_seen sessions.now)) (O.told out.old) (O.told out.new) stop) }
+    ensures cause { IfErr result (λ stop. CausedBy ⊥ (SinkRose (O.view out.old) (O.view out.new)) ⊥ stop) }
+    ensures keeps { IfErr result (λ stop. Keeps (listed (sessions_seen sessions.now)) (O.view out.old).told (O.view out.new).told stop) }
     ensures work { IfErr result StopsWork }
 {
     match listing(alloc, sessions) {

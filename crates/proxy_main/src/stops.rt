@@ -1,6 +1,6 @@
 //! What is said of a run that stopped, and its status.
 ghost use Rattle.std.specs.Prelude.{◌≡◌, ◌≤◌, if◌then◌else◌};
-ghost use Rattle.link_traits.specs.Told.{Rose};
+ghost use Rattle.link_traits.specs.Views.{SinkRose};
 ghost use Rattle.proxy_main.specs.Answers.{refusal_code};
 ghost use Rattle.proxy_main.specs.Lines.{refusal_line, file_line, memory_line, is_policy_kind};
 ghost use Rattle.proxy_main.specs.Endings.{Said, IsTold, StopTold};
@@ -13,8 +13,8 @@ use std::alloc::Global;
 
 /// Says why a run stopped, and gives its status.
 pub fn tell<E: Sink>(alloc: Global, stop: Stop<'_>, err: &mut E) -> Status
-    ensures told { StopTold (Rose (E.faults err.old) (E.faults err.new)) (E.told err.old) (E.told err.new) result.code stop.entry }
-    ensures count { E.faults err.old ≤ E.faults err.new }
+    ensures told { StopTold (SinkRose (E.view err.old) (E.view err.new)) (E.view err.old).told (E.view err.new).told result.code stop.entry }
+    ensures count { (E.view err.old).faults ≤ (E.view err.new).faults }
 {
     match stop {
         Stop::Refused(refusal) => tell_refusal(alloc, refusal, err),
@@ -27,8 +27,8 @@ pub fn tell<E: Sink>(alloc: Global, stop: Stop<'_>, err: &mut E) -> Status
 
 /// Says the line of a refusal.
 fn tell_refusal<E: Sink>(alloc: Global, refusal: Refusal, err: &mut E) -> Status
-    ensures told { IsTold (refusal_code refusal) (refusal_line refusal) (Rose (E.faults err.old) (E.faults err.new)) (E.told err.old) (E.told err.new) result.code }
-    ensures count { E.faults err.old ≤ E.faults err.new }
+    ensures told { IsTold (refusal_code refusal) (refusal_line refusal) (SinkRose (E.view err.old) (E.view err.new)) (E.view err.old).told (E.view err.new).told result.code }
+    ensures count { (E.view err.old).faults ≤ (E.view err.new).faults }
 {
     if let Ok(text) = refusal_text(alloc, refusal) {
         say(err, text.as_str());
@@ -41,8 +41,8 @@ fn tell_refusal<E: Sink>(alloc: Global, refusal: Refusal, err: &mut E) -> Status
 
 /// Says the line of a file that was not read.
 fn tell_file<E: Sink>(alloc: Global, path: &str, err: &mut E) -> Status
-    ensures told { IsTold 4 (file_line path.now) (Rose (E.faults err.old) (E.faults err.new)) (E.told err.old) (E.told err.new) result.code }
-    ensures count { E.faults err.old ≤ E.faults err.new }
+    ensures told { IsTold 4 (file_line path.now) (SinkRose (E.view err.old) (E.view err.new)) (E.view err.old).told (E.view err.new).told result.code }
+    ensures count { (E.view err.old).faults ≤ (E.view err.new).faults }
 {
     if let Ok(text) = file_text(alloc, path) {
         say(err, text.as_str());
@@ -54,8 +54,8 @@ fn tell_file<E: Sink>(alloc: Global, path: &str, err: &mut E) -> Status
 /// Says that memory ran out.
 pub fn tell_memory<E: Sink>(err: &mut E) -> Status
     ensures code { result.code ≡ 8 }
-    ensures said { Said (Rose (E.faults err.old) (E.faults err.new)) (E.told err.old) (E.told err.new) memory_line }
-    ensures count { E.faults err.old ≤ E.faults err.new }
+    ensures said { Said (SinkRose (E.view err.old) (E.view err.new)) (E.view err.old).told (E.view err.new).told memory_line }
+    ensures count { (E.view err.old).faults ≤ (E.view err.new).faults }
 {
     say(err, "error: memory\n");
     Status { code: 8 }

@@ -1,5 +1,6 @@
 //! The words of the command line.
-ghost use Rattle.std.specs.Prelude.{◌≡◌, ◌≤◌, [], ◌∷◌, map, option_map, string_bytes, codes, IfOk, IfSome};
+ghost use Rattle.std.specs.Prelude.{◌≡◌, ◌≤◌, [], ◌∷◌, map, option_map, codes, string_bytes, IfOk, IfSome};
+ghost use Rattle.link_traits.specs.Texts.{texts_of};
 ghost use Rattle.policy_args.specs.ProxyLine.{has_leading_zero as begins_with_zero};
 ghost use Rattle.tool_words.specs.Tools.{taken, taken_with, replay_places, explain_places, twin_places, sample_places, within_places, audit_places, suggest_places, show_places, compose_places, session_places, sessions_places, more_recordings};
 ghost use Rattle.proxy_main.specs.Words.{asks_alone as asks_for_text, names_tool, reading, named_by, alone_of, text_of, replay_of, explain_of, twin_of, sample_of, audit_of, within_of, suggest_of, show_of, compose_of, session_of, list_sessions_of, number_within};
@@ -79,7 +80,7 @@ pub enum CommandWords<'a> {
 
 /// Whether the words name a tool: the first of them does, or one asks for a text alone.
 pub fn is_tool(words: &[String]) -> bool
-    ensures { result ≡ names_tool (map (λ w. string_bytes w) words.now) }
+    ensures { result ≡ names_tool (texts_of words.now) }
 {
     match words {
         [word, ..] => is_tool_name(word) || asks_alone(words),
@@ -89,7 +90,7 @@ pub fn is_tool(words: &[String]) -> bool
 
 /// Whether the only word asks for a text.
 fn asks_alone(words: &[String]) -> bool
-    ensures { result ≡ asks_for_text (map (λ w. string_bytes w) words.now) }
+    ensures { result ≡ asks_for_text (texts_of words.now) }
 {
     match words {
         [word] => word.as_str() == "--help" || word.as_str() == "--version",
@@ -99,7 +100,7 @@ fn asks_alone(words: &[String]) -> bool
 
 /// The words' reading, where they name a command.
 pub fn read_words(alloc: Global, words: &[String]) -> Result<Option<CommandWords<'_>>, AllocError>
-    ensures words { IfOk result (λ r. option_map command_of r ≡ reading (map (λ w. string_bytes w) words.now)) }
+    ensures words { IfOk result (λ r. option_map command_of r ≡ reading (texts_of words.now)) }
     ensures few { IfOk result (λ r. IfSome r HasFewDraws) }
 {
     match words {

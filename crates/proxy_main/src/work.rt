@@ -1,6 +1,8 @@
 //! The work that the words ask for.
 ghost use Rattle.std.specs.Prelude.{◌≡◌, ◌≤◌, ◌⊎◌, ◌++◌, ℕ, [], List, Option, Some, map, string_bytes, IfErr, IfOk, OnOk};
-ghost use Rattle.link_traits.specs.Told.{Rose, added};
+ghost use Rattle.link_traits.specs.Told.{added};
+ghost use Rattle.link_traits.specs.Views.{FilesRose, SinkRose};
+ghost use Rattle.link_traits.specs.Texts.{texts_of};
 ghost use Rattle.policy_args.specs.Seen.{options_seen};
 ghost use Rattle.recording.specs.Seen.{recording_seen};
 ghost use Rattle.proxy_main.specs.Words.{Command, reading, Replay, Explain, Twin, Sample, Audit, Within, Suggest, Show, Compose};
@@ -39,17 +41,17 @@ pub fn work<'a, R: Threads + Sync, G: Gate + Sync, F: Files, O: Sink, E: Sink>(
     out: &mut O,
     err: &mut E,
 ) -> Result<Status, Stop<'a>>
-    ensures done { IfOk result (λ status. IsDone (answer_of (map (λ w. string_bytes w) words.now) (F.told files.old)) (O.told out.old) (O.told out.new) status.code) }
-    ensures end { IfOk result (λ status. IsEnd (reading (map (λ w. string_bytes w) words.now)) status.code) }
-    ensures logged { OnOk result (IsLogged (F.told files.old) (reading (map (λ w. string_bytes w) words.now)) (E.told err.old) (E.told err.new)) }
-    ensures stops { IfErr result (λ stop. StopsBy (F.told files.old) (reading (map (λ w. string_bytes w) words.now)) stop) }
-    ensures cause { IfErr result (λ stop. CausedBy (Rose (F.faults files.old) (F.faults files.new)) (Rose (O.faults out.old) (O.faults out.new)) (Rose (E.faults err.old) (E.faults err.new)) stop) }
-    ensures keeps { IfErr result (λ stop. Keeps (answer_of (map (λ w. string_bytes w) words.now) (F.told files.old)) (O.told out.old) (O.told out.new) stop) }
-    ensures log { IfErr result (λ stop. KeepsLog (F.told files.old) (reading (map (λ w. string_bytes w) words.now)) (E.told err.old) (E.told err.new) stop) }
-    ensures count { E.faults err.old ≤ E.faults err.new }
-    ensures read { OnOk result (F.reads files.new ≡ F.reads files.old ++ paths_of (reading (map (λ w. string_bytes w) words.now))) }
-    ensures until { IfErr result (ReadUntil (policies_of (reading (map (λ w. string_bytes w) words.now))) (paths_of (reading (map (λ w. string_bytes w) words.now))) (F.reads files.old) (F.reads files.new)) }
-    ensures needed { ReadsNeeded (IsSettled (answer_of (map (λ w. string_bytes w) words.now) (F.told files.old))) (needed (F.told files.old) (reading (map (λ w. string_bytes w) words.now))) (F.reads files.old) (F.reads files.new) result }
+    ensures done { IfOk result (λ status. IsDone (answer_of (texts_of words.now) (F.view files.old).told) (O.view out.old).told (O.view out.new).told status.code) }
+    ensures end { IfOk result (λ status. IsEnd (reading (texts_of words.now)) status.code) }
+    ensures logged { OnOk result (IsLogged (F.view files.old).told (reading (texts_of words.now)) (E.view err.old).told (E.view err.new).told) }
+    ensures stops { IfErr result (λ stop. StopsBy (F.view files.old).told (reading (texts_of words.now)) stop) }
+    ensures cause { IfErr result (λ stop. CausedBy (FilesRose (F.view files.old) (F.view files.new)) (SinkRose (O.view out.old) (O.view out.new)) (SinkRose (E.view err.old) (E.view err.new)) stop) }
+    ensures keeps { IfErr result (λ stop. Keeps (answer_of (texts_of words.now) (F.view files.old).told) (O.view out.old).told (O.view out.new).told stop) }
+    ensures log { IfErr result (λ stop. KeepsLog (F.view files.old).told (reading (texts_of words.now)) (E.view err.old).told (E.view err.new).told stop) }
+    ensures count { (E.view err.old).faults ≤ (E.view err.new).faults }
+    ensures read { OnOk result ((F.view files.new).reads ≡ (F.view files.old).reads ++ paths_of (reading (texts_of words.now))) }
+    ensures until { IfErr result (ReadUntil (policies_of (reading (texts_of words.now))) (paths_of (reading (texts_of words.now))) (F.view files.old).reads (F.view files.new).reads) }
+    ensures needed { ReadsNeeded (IsSettled (answer_of (texts_of words.now) (F.view files.old).told)) (needed (F.view files.old).told (reading (texts_of words.now))) (F.view files.old).reads (F.view files.new).reads result }
 {
     match read_words(alloc, words) {
         Ok(Some(command)) => work_command(rt, gate, alloc, command, files, out, err),
@@ -69,17 +71,17 @@ fn work_command<'a, R: Threads + Sync, G: Gate + Sync, F: Files, O: Sink, E: Sin
     err: &mut E,
 ) -> Result<Status, Stop<'a>>
     requires { HasFewDraws command }
-    ensures done { IfOk result (λ status. IsDone (answer_to (F.told files.old) (Some (command_of command.entry))) (O.told out.old) (O.told out.new) status.code) }
+    ensures done { IfOk result (λ status. IsDone (answer_to (F.view files.old).told (Some (command_of command.entry))) (O.view out.old).told (O.view out.new).told status.code) }
     ensures end { IfOk result (λ status. IsEnd (Some (command_of command.entry)) status.code) }
-    ensures logged { OnOk result (IsLogged (F.told files.old) (Some (command_of command.entry)) (E.told err.old) (E.told err.new)) }
-    ensures stops { IfErr result (λ stop. StopsBy (F.told files.old) (Some (command_of command.entry)) stop) }
-    ensures cause { IfErr result (λ stop. CausedBy (Rose (F.faults files.old) (F.faults files.new)) (Rose (O.faults out.old) (O.faults out.new)) (Rose (E.faults err.old) (E.faults err.new)) stop) }
-    ensures keeps { IfErr result (λ stop. Keeps (answer_to (F.told files.old) (Some (command_of command.entry))) (O.told out.old) (O.told out.new) stop) }
-    ensures log { IfErr result (λ stop. KeepsLog (F.told files.old) (Some (command_of command.entry)) (E.told err.old) (E.told err.new) stop) }
-    ensures count { E.faults err.old ≤ E.faults err.new }
-    ensures read { OnOk result (F.reads files.new ≡ F.reads files.old ++ paths_of (Some (command_of command.entry))) }
-    ensures until { IfErr result (ReadUntil (policies_of (Some (command_of command.entry))) (paths_of (Some (command_of command.entry))) (F.reads files.old) (F.reads files.new)) }
-    ensures needed { ReadsNeeded (IsSettled (answer_to (F.told files.old) (Some (command_of command.entry)))) (needed (F.told files.old) (Some (command_of command.entry))) (F.reads files.old) (F.reads files.new) result }
+    ensures logged { OnOk result (IsLogged (F.view files.old).told (Some (command_of command.entry)) (E.view err.old).told (E.view err.new).told) }
+    ensures stops { IfErr result (λ stop. StopsBy (F.view files.old).told (Some (command_of command.entry)) stop) }
+    ensures cause { IfErr result (λ stop. CausedBy (FilesRose (F.view files.old) (F.view files.new)) (SinkRose (O.view out.old) (O.view out.new)) (SinkRose (E.view err.old) (E.view err.new)) stop) }
+    ensures keeps { IfErr result (λ stop. Keeps (answer_to (F.view files.old).told (Some (command_of command.entry))) (O.view out.old).told (O.view out.new).told stop) }
+    ensures log { IfErr result (λ stop. KeepsLog (F.view files.old).told (Some (command_of command.entry)) (E.view err.old).told (E.view err.new).told stop) }
+    ensures count { (E.view err.old).faults ≤ (E.view err.new).faults }
+    ensures read { OnOk result ((F.view files.new).reads ≡ (F.view files.old).reads ++ paths_of (Some (command_of command.entry))) }
+    ensures until { IfErr result (ReadUntil (policies_of (Some (command_of command.entry))) (paths_of (Some (command_of command.entry))) (F.view files.old).reads (F.view files.new).reads) }
+    ensures needed { ReadsNeeded (IsSettled (answer_to (F.view files.old).told (Some (command_of command.entry)))) (needed (F.view files.old).told (Some (command_of command.entry))) (F.view files.old).reads (F.view files.new).reads result }
 {
     match command {
         CommandWords::Replay { policy, recording } => {
@@ -121,17 +123,17 @@ fn work_replay<'a, F: Files, O: Sink, E: Sink>(
     out: &mut O,
     err: &mut E,
 ) -> Result<Status, Stop<'a>>
-    ensures done { IfOk result (λ status. IsDone (answer_to (F.told files.old) (Some (Replay policy.now recording.now))) (O.told out.old) (O.told out.new) status.code) }
+    ensures done { IfOk result (λ status. IsDone (answer_to (F.view files.old).told (Some (Replay policy.now recording.now))) (O.view out.old).told (O.view out.new).told status.code) }
     ensures end { IfOk result (λ status. status.code ≡ 0) }
-    ensures logged { OnOk result (IsLogged (F.told files.old) (Some (Replay policy.now recording.now)) (E.told err.old) (E.told err.new)) }
-    ensures stops { IfErr result (λ stop. StopsBy (F.told files.old) (Some (Replay policy.now recording.now)) stop) }
-    ensures cause { IfErr result (λ stop. CausedBy (Rose (F.faults files.old) (F.faults files.new)) (Rose (O.faults out.old) (O.faults out.new)) (Rose (E.faults err.old) (E.faults err.new)) stop) }
-    ensures keeps { IfErr result (λ stop. Keeps (answer_to (F.told files.old) (Some (Replay policy.now recording.now))) (O.told out.old) (O.told out.new) stop) }
-    ensures log { IfErr result (λ stop. KeepsLog (F.told files.old) (Some (Replay policy.now recording.now)) (E.told err.old) (E.told err.new) stop) }
-    ensures count { E.faults err.old ≤ E.faults err.new }
-    ensures read { OnOk result (F.reads files.new ≡ F.reads files.old ++ paths_of (Some (Replay policy.now recording.now))) }
-    ensures until { IfErr result (ReadUntil (policies_of (Some (Replay policy.now recording.now))) (paths_of (Some (Replay policy.now recording.now))) (F.reads files.old) (F.reads files.new)) }
-    ensures needed { ReadsNeeded (IsSettled (answer_to (F.told files.old) (Some (Replay policy.now recording.now)))) (needed (F.told files.old) (Some (Replay policy.now recording.now))) (F.reads files.old) (F.reads files.new) result }
+    ensures logged { OnOk result (IsLogged (F.view files.old).told (Some (Replay policy.now recording.now)) (E.view err.old).told (E.view err.new).told) }
+    ensures stops { IfErr result (λ stop. StopsBy (F.view files.old).told (Some (Replay policy.now recording.now)) stop) }
+    ensures cause { IfErr result (λ stop. CausedBy (FilesRose (F.view files.old) (F.view files.new)) (SinkRose (O.view out.old) (O.view out.new)) (SinkRose (E.view err.old) (E.view err.new)) stop) }
+    ensures keeps { IfErr result (λ stop. Keeps (answer_to (F.view files.old).told (Some (Replay policy.now recording.now))) (O.view out.old).told (O.view out.new).told stop) }
+    ensures log { IfErr result (λ stop. KeepsLog (F.view files.old).told (Some (Replay policy.now recording.now)) (E.view err.old).told (E.view err.new).told stop) }
+    ensures count { (E.view err.old).faults ≤ (E.view err.new).faults }
+    ensures read { OnOk result ((F.view files.new).reads ≡ (F.view files.old).reads ++ paths_of (Some (Replay policy.now recording.now))) }
+    ensures until { IfErr result (ReadUntil (policies_of (Some (Replay policy.now recording.now))) (paths_of (Some (Replay policy.now recording.now))) (F.view files.old).reads (F.view files.new).reads) }
+    ensures needed { ReadsNeeded (IsSettled (answer_to (F.view files.old).told (Some (Replay policy.now recording.now)))) (needed (F.view files.old).told (Some (Replay policy.now recording.now))) (F.view files.old).reads (F.view files.new).reads result }
 {
     match load_replay(alloc, files, policy, recording) {
         Ok(loaded) => match replay_sessions(alloc, &loaded.options, &loaded.sessions, out, err) {
@@ -153,14 +155,14 @@ fn work_explain<'a, F: Files, O: Sink>(
     files: &mut F,
     out: &mut O,
 ) -> Result<Status, Stop<'a>>
-    ensures done { IfOk result (λ status. IsDone (answer_to (F.told files.old) (Some (Explain policy.now recording.now number))) (O.told out.old) (O.told out.new) status.code) }
+    ensures done { IfOk result (λ status. IsDone (answer_to (F.view files.old).told (Some (Explain policy.now recording.now number))) (O.view out.old).told (O.view out.new).told status.code) }
     ensures end { IfOk result (λ status. status.code ≡ 0) }
-    ensures stops { IfErr result (λ stop. StopsBy (F.told files.old) (Some (Explain policy.now recording.now number)) stop) }
-    ensures cause { IfErr result (λ stop. CausedBy (Rose (F.faults files.old) (F.faults files.new)) (Rose (O.faults out.old) (O.faults out.new)) ⊥ stop) }
-    ensures keeps { IfErr result (λ stop. Keeps (answer_to (F.told files.old) (Some (Explain policy.now recording.now number))) (O.told out.old) (O.told out.new) stop) }
-    ensures read { OnOk result (F.reads files.new ≡ F.reads files.old ++ paths_of (Some (Explain policy.now recording.now number))) }
-    ensures until { IfErr result (ReadUntil (policies_of (Some (Explain policy.now recording.now number))) (paths_of (Some (Explain policy.now recording.now number))) (F.reads files.old) (F.reads files.new)) }
-    ensures needed { ReadsNeeded (IsSettled (answer_to (F.told files.old) (Some (Explain policy.now recording.now number)))) (needed (F.told files.old) (Some (Explain policy.now recording.now number))) (F.reads files.old) (F.reads files.new) result }
+    ensures stops { IfErr result (λ stop. StopsBy (F.view files.old).told (Some (Explain policy.now recording.now number)) stop) }
+    ensures cause { IfErr result (λ stop. CausedBy (FilesRose (F.view files.old) (F.view files.new)) (SinkRose (O.view out.old) (O.view out.new)) ⊥ stop) }
+    ensures keeps { IfErr result (λ stop. Keeps (answer_to (F.view files.old).told (Some (Explain policy.now recording.now number))) (O.view out.old).told (O.view out.new).told stop) }
+    ensures read { OnOk result ((F.view files.new).reads ≡ (F.view files.old).reads ++ paths_of (Some (Explain policy.now recording.now number))) }
+    ensures until { IfErr result (ReadUntil (policies_of (Some (Explain policy.now recording.now number))) (paths_of (Some (Explain policy.now recording.now number))) (F.view files.old).reads (F.view files.new).reads) }
+    ensures needed { ReadsNeeded (IsSettled (answer_to (F.view files.old).told (Some (Explain policy.now recording.now number)))) (needed (F.view files.old).told (Some (Explain policy.now recording.now number))) (F.view files.old).reads (F.view files.new).reads result }
 {
     match load(alloc, files, policy, recording) {
         Ok(loaded) => match explain(alloc, &loaded.options, &loaded.recording, number, out) {
@@ -182,14 +184,14 @@ fn work_twin<'a, F: Files, O: Sink>(
     files: &mut F,
     out: &mut O,
 ) -> Result<Status, Stop<'a>>
-    ensures done { IfOk result (λ status. IsDone (answer_to (F.told files.old) (Some (Twin policy.now one.now other.now))) (O.told out.old) (O.told out.new) status.code) }
+    ensures done { IfOk result (λ status. IsDone (answer_to (F.view files.old).told (Some (Twin policy.now one.now other.now))) (O.view out.old).told (O.view out.new).told status.code) }
     ensures end { IfOk result (λ status. (status.code ≡ 0) ⊎ (status.code ≡ 7)) }
-    ensures stops { IfErr result (λ stop. StopsBy (F.told files.old) (Some (Twin policy.now one.now other.now)) stop) }
-    ensures cause { IfErr result (λ stop. CausedBy (Rose (F.faults files.old) (F.faults files.new)) (Rose (O.faults out.old) (O.faults out.new)) ⊥ stop) }
-    ensures keeps { IfErr result (λ stop. Keeps (answer_to (F.told files.old) (Some (Twin policy.now one.now other.now))) (O.told out.old) (O.told out.new) stop) }
-    ensures read { OnOk result (F.reads files.new ≡ F.reads files.old ++ paths_of (Some (Twin policy.now one.now other.now))) }
-    ensures until { IfErr result (ReadUntil (policies_of (Some (Twin policy.now one.now other.now))) (paths_of (Some (Twin policy.now one.now other.now))) (F.reads files.old) (F.reads files.new)) }
-    ensures needed { ReadsNeeded (IsSettled (answer_to (F.told files.old) (Some (Twin policy.now one.now other.now)))) (needed (F.told files.old) (Some (Twin policy.now one.now other.now))) (F.reads files.old) (F.reads files.new) result }
+    ensures stops { IfErr result (λ stop. StopsBy (F.view files.old).told (Some (Twin policy.now one.now other.now)) stop) }
+    ensures cause { IfErr result (λ stop. CausedBy (FilesRose (F.view files.old) (F.view files.new)) (SinkRose (O.view out.old) (O.view out.new)) ⊥ stop) }
+    ensures keeps { IfErr result (λ stop. Keeps (answer_to (F.view files.old).told (Some (Twin policy.now one.now other.now))) (O.view out.old).told (O.view out.new).told stop) }
+    ensures read { OnOk result ((F.view files.new).reads ≡ (F.view files.old).reads ++ paths_of (Some (Twin policy.now one.now other.now))) }
+    ensures until { IfErr result (ReadUntil (policies_of (Some (Twin policy.now one.now other.now))) (paths_of (Some (Twin policy.now one.now other.now))) (F.view files.old).reads (F.view files.new).reads) }
+    ensures needed { ReadsNeeded (IsSettled (answer_to (F.view files.old).told (Some (Twin policy.now one.now other.now)))) (needed (F.view files.old).told (Some (Twin policy.now one.now other.now))) (F.view files.old).reads (F.view files.new).reads result }
 {
     match load_twins(alloc, files, policy, one, other) {
         Ok(twins) => compare(alloc, &twins.options.policy, &twins.one, &twins.other, out),
@@ -205,11 +207,11 @@ fn compare<'a, O: Sink>(
     other: &Recording,
     out: &mut O,
 ) -> Result<Status, Stop<'a>>
-    ensures done { IfOk result (λ status. IsDone (Compared policy.now (recording_seen one.now) (recording_seen other.now)) (O.told out.old) (O.told out.new) status.code) }
+    ensures done { IfOk result (λ status. IsDone (Compared policy.now (recording_seen one.now) (recording_seen other.now)) (O.view out.old).told (O.view out.new).told status.code) }
     ensures end { IfOk result (λ status. (status.code ≡ 0) ⊎ (status.code ≡ 7)) }
     ensures stops { IfErr result (λ stop. (told : List ℕ → Option (List ℕ)) (command : Option Command) → (IsSettled (answer_to told command) → IsWork (answer_to told command)) → StopsBy told command stop) }
-    ensures cause { IfErr result (λ stop. CausedBy ⊥ (Rose (O.faults out.old) (O.faults out.new)) ⊥ stop) }
-    ensures keeps { IfErr result (λ stop. Keeps (Compared policy.now (recording_seen one.now) (recording_seen other.now)) (O.told out.old) (O.told out.new) stop) }
+    ensures cause { IfErr result (λ stop. CausedBy ⊥ (SinkRose (O.view out.old) (O.view out.new)) ⊥ stop) }
+    ensures keeps { IfErr result (λ stop. Keeps (Compared policy.now (recording_seen one.now) (recording_seen other.now)) (O.view out.old).told (O.view out.new).told stop) }
     ensures work { IfErr result StopsWork }
 {
     match twin(alloc, policy, one, other) {
@@ -225,10 +227,10 @@ fn write_answer<'a, O: Sink>(
     out: &mut O,
 ) -> Result<Status, Stop<'a>>
     ensures code { IfOk result (λ status. status.code ≡ twin_code answer) }
-    ensures line { OnOk result (O.told out.new ≡ added (twin_line answer) (O.told out.old)) }
+    ensures line { OnOk result ((O.view out.new).told ≡ added (twin_line answer) (O.view out.old).told) }
     ensures stops { IfErr result (λ stop. (told : List ℕ → Option (List ℕ)) (command : Option Command) → (IsSettled (answer_to told command) → IsWork (answer_to told command)) → StopsBy told command stop) }
-    ensures cause { IfErr result (λ stop. CausedBy ⊥ (Rose (O.faults out.old) (O.faults out.new)) ⊥ stop) }
-    ensures keeps { IfErr result (λ stop. Keeps (Wrote (twin_line answer) []) (O.told out.old) (O.told out.new) stop) }
+    ensures cause { IfErr result (λ stop. CausedBy ⊥ (SinkRose (O.view out.old) (O.view out.new)) ⊥ stop) }
+    ensures keeps { IfErr result (λ stop. Keeps (Wrote (twin_line answer) []) (O.view out.old).told (O.view out.new).told stop) }
     ensures work { IfErr result StopsWork }
 {
     match twin_text(alloc, answer) {
@@ -270,14 +272,14 @@ fn work_audit<'a, R: Threads + Sync, G: Gate + Sync, F: Files, O: Sink>(
     files: &mut F,
     out: &mut O,
 ) -> Result<Status, Stop<'a>>
-    ensures done { IfOk result (λ status. IsDone (answer_to (F.told files.old) (Some (Audit policy.now (map (λ path. path.now) recordings.now)))) (O.told out.old) (O.told out.new) status.code) }
+    ensures done { IfOk result (λ status. IsDone (answer_to (F.view files.old).told (Some (Audit policy.now (map (λ path. path.now) recordings.now)))) (O.view out.old).told (O.view out.new).told status.code) }
     ensures end { IfOk result (λ status. status.code ≡ 0) }
-    ensures stops { IfErr result (λ stop. StopsBy (F.told files.old) (Some (Audit policy.now (map (λ path. path.now) recordings.now))) stop) }
-    ensures cause { IfErr result (λ stop. CausedBy (Rose (F.faults files.old) (F.faults files.new)) (Rose (O.faults out.old) (O.faults out.new)) ⊥ stop) }
-    ensures keeps { IfErr result (λ stop. Keeps (answer_to (F.told files.old) (Some (Audit policy.now (map (λ path. path.now) recordings.now)))) (O.told out.old) (O.told out.new) stop) }
-    ensures read { OnOk result (F.reads files.new ≡ F.reads files.old ++ paths_of (Some (Audit policy.now (map (λ path. path.now) recordings.now)))) }
-    ensures until { IfErr result (ReadUntil (policies_of (Some (Audit policy.now (map (λ path. path.now) recordings.now)))) (paths_of (Some (Audit policy.now (map (λ path. path.now) recordings.now)))) (F.reads files.old) (F.reads files.new)) }
-    ensures needed { ReadsNeeded (IsSettled (answer_to (F.told files.old) (Some (Audit policy.now (map (λ path. path.now) recordings.now))))) (needed (F.told files.old) (Some (Audit policy.now (map (λ path. path.now) recordings.now)))) (F.reads files.old) (F.reads files.new) result }
+    ensures stops { IfErr result (λ stop. StopsBy (F.view files.old).told (Some (Audit policy.now (map (λ path. path.now) recordings.now))) stop) }
+    ensures cause { IfErr result (λ stop. CausedBy (FilesRose (F.view files.old) (F.view files.new)) (SinkRose (O.view out.old) (O.view out.new)) ⊥ stop) }
+    ensures keeps { IfErr result (λ stop. Keeps (answer_to (F.view files.old).told (Some (Audit policy.now (map (λ path. path.now) recordings.now)))) (O.view out.old).told (O.view out.new).told stop) }
+    ensures read { OnOk result ((F.view files.new).reads ≡ (F.view files.old).reads ++ paths_of (Some (Audit policy.now (map (λ path. path.now) recordings.now)))) }
+    ensures until { IfErr result (ReadUntil (policies_of (Some (Audit policy.now (map (λ path. path.now) recordings.now)))) (paths_of (Some (Audit policy.now (map (λ path. path.now) recordings.now)))) (F.view files.old).reads (F.view files.new).reads) }
+    ensures needed { ReadsNeeded (IsSettled (answer_to (F.view files.old).told (Some (Audit policy.now (map (λ path. path.now) recordings.now))))) (needed (F.view files.old).told (Some (Audit policy.now (map (λ path. path.now) recordings.now)))) (F.view files.old).reads (F.view files.new).reads result }
 {
     match load_audit(alloc, files, policy, recordings) {
         Ok(loaded) => write_audit(rt, gate, alloc, &loaded.options, &loaded.recordings, out),
@@ -294,11 +296,11 @@ fn write_audit<'a, R: Threads + Sync, G: Gate + Sync, O: Sink>(
     recordings: &[Recording],
     out: &mut O,
 ) -> Result<Status, Stop<'a>>
-    ensures done { IfOk result (λ status. IsDone (audited (options_seen options.now) (map recording_seen recordings.now)) (O.told out.old) (O.told out.new) status.code) }
+    ensures done { IfOk result (λ status. IsDone (audited (options_seen options.now) (map recording_seen recordings.now)) (O.view out.old).told (O.view out.new).told status.code) }
     ensures end { IfOk result (λ status. status.code ≡ 0) }
     ensures stops { IfErr result (λ stop. (told : List ℕ → Option (List ℕ)) (command : Option Command) → (IsSettled (answer_to told command) → IsWork (answer_to told command)) → StopsBy told command stop) }
-    ensures cause { IfErr result (λ stop. CausedBy ⊥ (Rose (O.faults out.old) (O.faults out.new)) ⊥ stop) }
-    ensures keeps { IfErr result (λ stop. Keeps (audited (options_seen options.now) (map recording_seen recordings.now)) (O.told out.old) (O.told out.new) stop) }
+    ensures cause { IfErr result (λ stop. CausedBy ⊥ (SinkRose (O.view out.old) (O.view out.new)) ⊥ stop) }
+    ensures keeps { IfErr result (λ stop. Keeps (audited (options_seen options.now) (map recording_seen recordings.now)) (O.view out.old).told (O.view out.new).told stop) }
     ensures work { IfErr result StopsWork }
 {
     match audit(rt, gate, alloc, options, recordings) {
@@ -318,14 +320,14 @@ fn work_within<'a, F: Files, O: Sink>(
     files: &mut F,
     out: &mut O,
 ) -> Result<Status, Stop<'a>>
-    ensures done { IfOk result (λ status. IsDone (answer_to (F.told files.old) (Some (Within one.now other.now))) (O.told out.old) (O.told out.new) status.code) }
+    ensures done { IfOk result (λ status. IsDone (answer_to (F.view files.old).told (Some (Within one.now other.now))) (O.view out.old).told (O.view out.new).told status.code) }
     ensures end { IfOk result (λ status. (status.code ≡ 0) ⊎ (status.code ≡ 7)) }
-    ensures stops { IfErr result (λ stop. StopsBy (F.told files.old) (Some (Within one.now other.now)) stop) }
-    ensures cause { IfErr result (λ stop. CausedBy (Rose (F.faults files.old) (F.faults files.new)) (Rose (O.faults out.old) (O.faults out.new)) ⊥ stop) }
-    ensures keeps { IfErr result (λ stop. Keeps (answer_to (F.told files.old) (Some (Within one.now other.now))) (O.told out.old) (O.told out.new) stop) }
-    ensures read { OnOk result (F.reads files.new ≡ F.reads files.old ++ paths_of (Some (Within one.now other.now))) }
-    ensures until { IfErr result (ReadUntil (policies_of (Some (Within one.now other.now))) (paths_of (Some (Within one.now other.now))) (F.reads files.old) (F.reads files.new)) }
-    ensures needed { ReadsNeeded (IsSettled (answer_to (F.told files.old) (Some (Within one.now other.now)))) (needed (F.told files.old) (Some (Within one.now other.now))) (F.reads files.old) (F.reads files.new) result }
+    ensures stops { IfErr result (λ stop. StopsBy (F.view files.old).told (Some (Within one.now other.now)) stop) }
+    ensures cause { IfErr result (λ stop. CausedBy (FilesRose (F.view files.old) (F.view files.new)) (SinkRose (O.view out.old) (O.view out.new)) ⊥ stop) }
+    ensures keeps { IfErr result (λ stop. Keeps (answer_to (F.view files.old).told (Some (Within one.now other.now))) (O.view out.old).told (O.view out.new).told stop) }
+    ensures read { OnOk result ((F.view files.new).reads ≡ (F.view files.old).reads ++ paths_of (Some (Within one.now other.now))) }
+    ensures until { IfErr result (ReadUntil (policies_of (Some (Within one.now other.now))) (paths_of (Some (Within one.now other.now))) (F.view files.old).reads (F.view files.new).reads) }
+    ensures needed { ReadsNeeded (IsSettled (answer_to (F.view files.old).told (Some (Within one.now other.now)))) (needed (F.view files.old).told (Some (Within one.now other.now))) (F.view files.old).reads (F.view files.new).reads result }
 {
     match load_policies(alloc, files, one, other) {
         Ok(loaded) => write_within(alloc, &loaded.one.policy, &loaded.other.policy, out),
@@ -340,11 +342,11 @@ fn write_within<'a, O: Sink>(
     other: &Policy,
     out: &mut O,
 ) -> Result<Status, Stop<'a>>
-    ensures done { IfOk result (λ status. IsDone (Contained one.now other.now) (O.told out.old) (O.told out.new) status.code) }
+    ensures done { IfOk result (λ status. IsDone (Contained one.now other.now) (O.view out.old).told (O.view out.new).told status.code) }
     ensures end { IfOk result (λ status. (status.code ≡ 0) ⊎ (status.code ≡ 7)) }
     ensures stops { IfErr result (λ stop. (told : List ℕ → Option (List ℕ)) (command : Option Command) → (IsSettled (answer_to told command) → IsWork (answer_to told command)) → StopsBy told command stop) }
-    ensures cause { IfErr result (λ stop. CausedBy ⊥ (Rose (O.faults out.old) (O.faults out.new)) ⊥ stop) }
-    ensures keeps { IfErr result (λ stop. Keeps (Contained one.now other.now) (O.told out.old) (O.told out.new) stop) }
+    ensures cause { IfErr result (λ stop. CausedBy ⊥ (SinkRose (O.view out.old) (O.view out.new)) ⊥ stop) }
+    ensures keeps { IfErr result (λ stop. Keeps (Contained one.now other.now) (O.view out.old).told (O.view out.new).told stop) }
     ensures work { IfErr result StopsWork }
 {
     match within(alloc, one, other) {
@@ -360,10 +362,10 @@ fn write_containment<'a, O: Sink>(
     out: &mut O,
 ) -> Result<Status, Stop<'a>>
     ensures code { IfOk result (λ status. status.code ≡ within_code answer.now) }
-    ensures lines { OnOk result (O.told out.new ≡ added (within_text answer.now) (O.told out.old)) }
+    ensures lines { OnOk result ((O.view out.new).told ≡ added (within_text answer.now) (O.view out.old).told) }
     ensures stops { IfErr result (λ stop. (told : List ℕ → Option (List ℕ)) (command : Option Command) → (IsSettled (answer_to told command) → IsWork (answer_to told command)) → StopsBy told command stop) }
-    ensures cause { IfErr result (λ stop. CausedBy ⊥ (Rose (O.faults out.old) (O.faults out.new)) ⊥ stop) }
-    ensures keeps { IfErr result (λ stop. Keeps (Wrote (within_text answer.now) []) (O.told out.old) (O.told out.new) stop) }
+    ensures cause { IfErr result (λ stop. CausedBy ⊥ (SinkRose (O.view out.old) (O.view out.new)) ⊥ stop) }
+    ensures keeps { IfErr result (λ stop. Keeps (Wrote (within_text answer.now) []) (O.view out.old).told (O.view out.new).told stop) }
     ensures work { IfErr result StopsWork }
 {
     match containment_text(alloc, answer) {
@@ -394,14 +396,14 @@ fn work_suggest<'a, R: Threads + Sync, G: Gate + Sync, F: Files, O: Sink>(
     files: &mut F,
     out: &mut O,
 ) -> Result<Status, Stop<'a>>
-    ensures done { IfOk result (λ status. IsDone (answer_to (F.told files.old) (Some (Suggest (map (λ path. path.now) recordings.now)))) (O.told out.old) (O.told out.new) status.code) }
+    ensures done { IfOk result (λ status. IsDone (answer_to (F.view files.old).told (Some (Suggest (map (λ path. path.now) recordings.now)))) (O.view out.old).told (O.view out.new).told status.code) }
     ensures end { IfOk result (λ status. status.code ≡ 0) }
-    ensures stops { IfErr result (λ stop. StopsBy (F.told files.old) (Some (Suggest (map (λ path. path.now) recordings.now))) stop) }
-    ensures cause { IfErr result (λ stop. CausedBy (Rose (F.faults files.old) (F.faults files.new)) (Rose (O.faults out.old) (O.faults out.new)) ⊥ stop) }
-    ensures keeps { IfErr result (λ stop. Keeps (answer_to (F.told files.old) (Some (Suggest (map (λ path. path.now) recordings.now)))) (O.told out.old) (O.told out.new) stop) }
-    ensures read { OnOk result (F.reads files.new ≡ F.reads files.old ++ paths_of (Some (Suggest (map (λ path. path.now) recordings.now)))) }
-    ensures until { IfErr result (ReadUntil (policies_of (Some (Suggest (map (λ path. path.now) recordings.now)))) (paths_of (Some (Suggest (map (λ path. path.now) recordings.now)))) (F.reads files.old) (F.reads files.new)) }
-    ensures needed { ReadsNeeded (IsSettled (answer_to (F.told files.old) (Some (Suggest (map (λ path. path.now) recordings.now))))) (needed (F.told files.old) (Some (Suggest (map (λ path. path.now) recordings.now)))) (F.reads files.old) (F.reads files.new) result }
+    ensures stops { IfErr result (λ stop. StopsBy (F.view files.old).told (Some (Suggest (map (λ path. path.now) recordings.now))) stop) }
+    ensures cause { IfErr result (λ stop. CausedBy (FilesRose (F.view files.old) (F.view files.new)) (SinkRose (O.view out.old) (O.view out.new)) ⊥ stop) }
+    ensures keeps { IfErr result (λ stop. Keeps (answer_to (F.view files.old).told (Some (Suggest (map (λ path. path.now) recordings.now)))) (O.view out.old).told (O.view out.new).told stop) }
+    ensures read { OnOk result ((F.view files.new).reads ≡ (F.view files.old).reads ++ paths_of (Some (Suggest (map (λ path. path.now) recordings.now)))) }
+    ensures until { IfErr result (ReadUntil (policies_of (Some (Suggest (map (λ path. path.now) recordings.now)))) (paths_of (Some (Suggest (map (λ path. path.now) recordings.now)))) (F.view files.old).reads (F.view files.new).reads) }
+    ensures needed { ReadsNeeded (IsSettled (answer_to (F.view files.old).told (Some (Suggest (map (λ path. path.now) recordings.now))))) (needed (F.view files.old).told (Some (Suggest (map (λ path. path.now) recordings.now)))) (F.view files.old).reads (F.view files.new).reads result }
 {
     match load_suggested(alloc, files, recordings) {
         Ok(loaded) => write_suggestion(rt, gate, alloc, &loaded, out),
@@ -417,11 +419,11 @@ fn write_suggestion<'a, R: Threads + Sync, G: Gate + Sync, O: Sink>(
     recordings: &[Recording],
     out: &mut O,
 ) -> Result<Status, Stop<'a>>
-    ensures done { IfOk result (λ status. IsDone (suggesting (map recording_seen recordings.now)) (O.told out.old) (O.told out.new) status.code) }
+    ensures done { IfOk result (λ status. IsDone (suggesting (map recording_seen recordings.now)) (O.view out.old).told (O.view out.new).told status.code) }
     ensures end { IfOk result (λ status. status.code ≡ 0) }
     ensures stops { IfErr result (λ stop. (told : List ℕ → Option (List ℕ)) (command : Option Command) → Agrees (answer_to told command) (suggesting (map recording_seen recordings.now)) → IsSuggest command → StopsBy told command stop) }
-    ensures cause { IfErr result (λ stop. CausedBy ⊥ (Rose (O.faults out.old) (O.faults out.new)) ⊥ stop) }
-    ensures keeps { IfErr result (λ stop. Keeps (suggesting (map recording_seen recordings.now)) (O.told out.old) (O.told out.new) stop) }
+    ensures cause { IfErr result (λ stop. CausedBy ⊥ (SinkRose (O.view out.old) (O.view out.new)) ⊥ stop) }
+    ensures keeps { IfErr result (λ stop. Keeps (suggesting (map recording_seen recordings.now)) (O.view out.old).told (O.view out.new).told stop) }
     ensures work { IfErr result StopsWork }
 {
     match suggestion(rt, gate, alloc, recordings) {
@@ -442,11 +444,11 @@ fn work_sample<'a, O: Sink>(
     out: &mut O,
 ) -> Result<Status, Stop<'a>>
     requires { draws ≤ MOST_DRAWS }
-    ensures done { IfOk result (λ status. IsDone (sampled draws seed) (O.told out.old) (O.told out.new) status.code) }
+    ensures done { IfOk result (λ status. IsDone (sampled draws seed) (O.view out.old).told (O.view out.new).told status.code) }
     ensures end { IfOk result (λ status. status.code ≡ 0) }
     ensures stops { IfErr result (λ stop. (told : List ℕ → Option (List ℕ)) → StopsBy told (Some (Sample draws seed)) stop) }
-    ensures cause { IfErr result (λ stop. CausedBy ⊥ (Rose (O.faults out.old) (O.faults out.new)) ⊥ stop) }
-    ensures keeps { IfErr result (λ stop. Keeps (sampled draws seed) (O.told out.old) (O.told out.new) stop) }
+    ensures cause { IfErr result (λ stop. CausedBy ⊥ (SinkRose (O.view out.old) (O.view out.new)) ⊥ stop) }
+    ensures keeps { IfErr result (λ stop. Keeps (sampled draws seed) (O.view out.old).told (O.view out.new).told stop) }
     ensures work { IfErr result StopsWork }
 {
     match summary(alloc, draws, seed, out) {
@@ -458,11 +460,11 @@ fn work_sample<'a, O: Sink>(
 
 /// Writes the version.
 fn work_version<'a, O: Sink>(alloc: Global, out: &mut O) -> Result<Status, Stop<'a>>
-    ensures done { IfOk result (λ status. IsDone (Wrote version_line []) (O.told out.old) (O.told out.new) status.code) }
+    ensures done { IfOk result (λ status. IsDone (Wrote version_line []) (O.view out.old).told (O.view out.new).told status.code) }
     ensures end { IfOk result (λ status. status.code ≡ 0) }
     ensures stops { IfErr result (λ stop. (told : List ℕ → Option (List ℕ)) (command : Option Command) → IsWork (answer_to told command) → StopsBy told command stop) }
-    ensures cause { IfErr result (λ stop. CausedBy ⊥ (Rose (O.faults out.old) (O.faults out.new)) ⊥ stop) }
-    ensures keeps { IfErr result (λ stop. Keeps (Wrote version_line []) (O.told out.old) (O.told out.new) stop) }
+    ensures cause { IfErr result (λ stop. CausedBy ⊥ (SinkRose (O.view out.old) (O.view out.new)) ⊥ stop) }
+    ensures keeps { IfErr result (λ stop. Keeps (Wrote version_line []) (O.view out.old).told (O.view out.new).told stop) }
     ensures work { IfErr result StopsWork }
 {
     if let Ok(text) = version_text(alloc) {
@@ -480,11 +482,11 @@ fn version_text(alloc: Global) -> Result<String, AllocError>
 
 /// Writes a text. There is no log.
 fn work_text<'a, O: Sink>(text: &str, out: &mut O) -> Result<Status, Stop<'a>>
-    ensures done { IfOk result (λ status. IsDone (Wrote text.now []) (O.told out.old) (O.told out.new) status.code) }
+    ensures done { IfOk result (λ status. IsDone (Wrote text.now []) (O.view out.old).told (O.view out.new).told status.code) }
     ensures end { IfOk result (λ status. status.code ≡ 0) }
     ensures stops { IfErr result (λ stop. (told : List ℕ → Option (List ℕ)) (command : Option Command) → IsWork (answer_to told command) → StopsBy told command stop) }
-    ensures cause { IfErr result (λ stop. CausedBy ⊥ (Rose (O.faults out.old) (O.faults out.new)) ⊥ stop) }
-    ensures keeps { IfErr result (λ stop. Keeps (Wrote text.now []) (O.told out.old) (O.told out.new) stop) }
+    ensures cause { IfErr result (λ stop. CausedBy ⊥ (SinkRose (O.view out.old) (O.view out.new)) ⊥ stop) }
+    ensures keeps { IfErr result (λ stop. Keeps (Wrote text.now []) (O.view out.old).told (O.view out.new).told stop) }
     ensures work { IfErr result StopsWork }
 {
     write_bytes(text.as_bytes(), out)

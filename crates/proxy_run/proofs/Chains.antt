@@ -1,12 +1,11 @@
 -- Turns, one after the other.
 use Rattle.std.proofs.Common.{ℕ, zero, suc, ◌≡◌, ◌+◌, inl, inr, List, [], Some, None, Result, Ok, Err, refl, ◌∙◌, arith, subst}
-use Rattle.link_traits.specs.Views.{NetView}
+use Rattle.link_traits.specs.Views.{NetView, SinkView}
 use Rattle.policy_args.specs.declared.line.Block.{Block}
 use Rattle.proxy_loop.specs.declared.line_server.Server.{Server}
 use Rattle.proxy_loop.specs.declared.turns.Turn.{Turn}
 use Rattle.proxy_loop.specs.declared.turns.Turn.TheVariants.{Went, Stopped}
 use Rattle.proxy_loop.specs.declared.turns.ServerEnd.{ServerEnd}
-use Rattle.proxy_loop.specs.Sinks.{SinkView}
 use Rattle.proxy_loop.specs.Tables.{Table, IsEmpty}
 use Rattle.proxy_loop.specs.Servers.{GoesOn}
 use Rattle.proxy_loop.specs.LineServers.{blocks_of, limit_of, sessions_of}

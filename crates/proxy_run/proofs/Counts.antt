@@ -1,6 +1,6 @@
 -- No count falls in a turn, nor in turns one after the other.
 use Rattle.std.proofs.Common.{ℕ, zero, suc, nat_lt, ◌≡◌, ◌≤◌, Bool, true, false, List, Option, Some, None, Result, Ok, Err, arith, slice_get, string_bytes}
-use Rattle.link_traits.specs.Views.{NetView}
+use Rattle.link_traits.specs.Views.{NetView, SinkView}
 use Rattle.link_traits.specs.declared.links.Count.{Count}
 use Rattle.link_traits.specs.declared.links.Link.{Link}
 use Rattle.link_traits.specs.declared.links.Ready.{Ready}
@@ -13,7 +13,6 @@ use Rattle.proxy_loop.specs.declared.turns.Turn.{Turn}
 use Rattle.proxy_loop.specs.declared.turns.Turn.TheVariants.{Went}
 use Rattle.proxy_loop.specs.declared.turns.ServerEnd.{ServerEnd}
 use Rattle.proxy_loop.specs.declared.turns.ServerEnd.TheVariants.{Listen, Wait, Memory}
-use Rattle.proxy_loop.specs.Sinks.{SinkView}
 use Rattle.proxy_loop.specs.Tables.{Table}
 use Rattle.proxy_loop.specs.Turns.{Still, LinkDid, Brought, ListenerDid, ReadyDid, AfterWait, TurnDid}
 use Rattle.proxy_run.specs.Runs.{Turns}

@@ -1,12 +1,11 @@
 -- The listeners of a run are those of its blocks.
 use Rattle.std.proofs.Common.{ℕ, zero, suc, ◌≡◌, ◌+◌, inl, inr, map, take, length, List, [], ◌∷◌, ◌++◌, Some, Result, Ok, Err, refl, ap, ◌∙◌, sym, subst, append-nil, append_assoc, arith}
 use Rattle.link_traits.specs.Journals.{Journal, listens}
-use Rattle.link_traits.specs.Views.{NetView, Adds}
+use Rattle.link_traits.specs.Views.{NetView, Adds, SinkView}
 use Rattle.link_traits.specs.Entries.{Entry, listened as Listened, ready as Ready, accepted as Accepted, connected as Connected, read as Read, finished as Finished, wrote as Wrote, not_ready as NotReady, failed as Failed, refused as Refused, shut as Shut}
 use Rattle.policy_args.specs.declared.line.Block.{Block}
 use Rattle.proxy_core.specs.Sessions.{IsFront}
 use Rattle.proxy_loop.specs.declared.turns.ServerEnd.TheVariants.{Listen, Wait, Memory}
-use Rattle.proxy_loop.specs.Sinks.{SinkView}
 use Rattle.proxy_loop.specs.Listening.{listener_by, listeners_of, numbered_from, path_at, Heard, HearsNoMore, ListenDid, ListensForBlocks}
 use Rattle.proxy_loop.specs.Tables.{Table}
 use Rattle.proxy_loop.proofs.Unheard.{turn_unheard, unheard_one, unheard_same, unheard_then}

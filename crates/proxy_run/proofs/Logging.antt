@@ -8,6 +8,7 @@ use Rattle.link_traits.specs.Entries.{Entry, ready as Ready, read as Read, finis
 use Rattle.link_traits.specs.declared.links.Link.{Link}
 use Rattle.link_traits.specs.declared.links.Ready.{Ready as ReadyAnswer}
 use Rattle.link_traits.specs.declared.links.Side.{Side}
+use Rattle.link_traits.specs.Views.{Appends, SinkView}
 use Rattle.policy_args.specs.Policy.{Policy}
 use Rattle.policy_args.specs.declared.line.Block.{Block}
 use Rattle.policy_view.specs.declared.Mode.{Mode}
@@ -17,7 +18,6 @@ use Rattle.policy_view.specs.Past.{History}
 use Rattle.policy_view.proofs.CutLaws.{new_last}
 use Rattle.explain_log.specs.Lines.{log}
 use Rattle.proxy_core.proofs.Fronts.{notes_ended}
-use Rattle.proxy_loop.specs.Sinks.{SinkView, Appends}
 use Rattle.proxy_loop.specs.Sessions.{events_of, side_of}
 use Rattle.proxy_loop.specs.Kinds.{writes_of, all_are}
 use Rattle.proxy_loop.specs.Works.{ShutBoth}

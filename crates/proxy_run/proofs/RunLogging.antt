@@ -3,7 +3,7 @@ use Rattle.std.proofs.Common.{ℕ, zero, suc, nat_eq, nat_lt, ◌≡◌, ◌+◌
 use Rattle.std.proofs.lemmas.Bool.Decides.{nat_tests}
 use Rattle.link_traits.specs.Journals.{Journal, accepts}
 use Rattle.link_traits.specs.Told.{Rose}
-use Rattle.link_traits.specs.Views.{NetView, Adds}
+use Rattle.link_traits.specs.Views.{NetView, Adds, Appends, SinkView}
 use Rattle.link_traits.specs.Answers.{accept_entry, connect_entry}
 use Rattle.link_traits.specs.Entries.{Entry, ready as Ready, accepted as Accept, connected as Connected, read as Read, finished as Ended, wrote as Wrote, not_ready as NotReady, failed as Failed, refused as Refused, shut as Shut, listened as Listened}
 use Rattle.link_traits.specs.declared.links.Link.{Link}
@@ -21,7 +21,6 @@ use Rattle.proxy_loop.specs.declared.turns.Turn.{Turn}
 use Rattle.proxy_loop.specs.declared.turns.Turn.TheVariants.{Went, Stopped}
 use Rattle.proxy_loop.specs.declared.turns.ServerEnd.{ServerEnd}
 use Rattle.proxy_loop.specs.declared.turns.ServerEnd.TheVariants.{Listen, Wait, Memory}
-use Rattle.proxy_loop.specs.Sinks.{SinkView, Appends}
 use Rattle.proxy_loop.specs.Kinds.{all_are, some_of}
 use Rattle.proxy_loop.specs.Runs.{Served, is_over}
 use Rattle.proxy_loop.specs.Listening.{ListenDid, Heard, is_listened}

@@ -10,10 +10,10 @@ use Rattle.link_traits.specs.declared.links.Ready.{Ready as ReadyAnswer}
 use Rattle.link_traits.specs.declared.links.Side.{Side}
 use Rattle.link_traits.specs.declared.links.Got.{Got}
 use Rattle.link_traits.specs.declared.links.Got.TheVariants.{Bytes as GotBytes, Finished as GotFinished, NotReady as GotNotReady, Failed as GotFailed}
+use Rattle.link_traits.specs.Views.{SinkView}
 use Rattle.policy_args.specs.declared.line.Block.{Block}
 use Rattle.policy_view.specs.History.{Event, Stopped, history}
 use Rattle.proxy_loop.specs.declared.serving.Running.{Running}
-use Rattle.proxy_loop.specs.Sinks.{SinkView}
 use Rattle.proxy_loop.specs.Sessions.{events_of, read_end}
 use Rattle.proxy_loop.specs.Kinds.{about, gone_by, all_are, some_of}
 use Rattle.proxy_loop.specs.Works.{link_at, is_full}

@@ -1,11 +1,10 @@
 -- What holds of a whole run.
 use Rattle.std.proofs.Common.{ℕ, ◌≡◌, ◌≤◌, inl, inr, List, Some, None, Ok, Err, refl, ap, sym, ◌∙◌, arith, subst}
 use Rattle.link_traits.specs.Journals.{Journal}
-use Rattle.link_traits.specs.Views.{NetView, RoseAt}
+use Rattle.link_traits.specs.Views.{NetView, RoseAt, SinkView}
 use Rattle.link_traits.specs.declared.links.Count.TheVariants.{Own as OfNet}
 use Rattle.policy_args.specs.declared.line.Block.{Block}
 use Rattle.proxy_loop.specs.declared.turns.ServerEnd.TheVariants.{Listen, Wait, Memory}
-use Rattle.proxy_loop.specs.Sinks.{SinkView}
 use Rattle.proxy_loop.specs.Listening.{ListenDid, listeners_of}
 use Rattle.proxy_loop.specs.Tables.{Table, IsEmpty}
 use Rattle.proxy_loop.specs.Servers.{GoesOn, Serves, WithoutSessions}

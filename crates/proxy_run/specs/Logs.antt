@@ -2,7 +2,7 @@
 use Rattle.std.specs.Prelude.{ℕ, nat_eq, ◌≡◌, ◌⊎◌, Bool, false, ◌||◌, List, [], ◌∷◌, ◌++◌, Option, Some, None, if◌then◌else◌, slice_get}
 use Rattle.link_traits.specs.Journals.{Journal}
 use Rattle.link_traits.specs.Told.{Rose}
-use Rattle.link_traits.specs.Views.{NetView}
+use Rattle.link_traits.specs.Views.{NetView, Appends, SinkView}
 use Rattle.link_traits.specs.Entries.{Entry, listened, ready, accepted, connected, read, finished, wrote, not_ready, failed, refused, shut}
 use Rattle.policy_args.specs.declared.line.Block.{Block}
 use Rattle.policy_view.specs.History.{first_items, history, new_in}
@@ -11,7 +11,6 @@ use Rattle.policy_view.specs.Past.{History}
 use Rattle.explain_log.specs.Lines.{log}
 use Rattle.proxy_core.specs.Sessions.{IsFront}
 use Rattle.proxy_loop.specs.Sessions.{events_of}
-use Rattle.proxy_loop.specs.Sinks.{SinkView, Appends}
 use Rattle.proxy_loop.specs.Runs.{log_of}
 use Rattle.proxy_loop.specs.Tables.{session_mode}
 use Rattle.proxy_loop.specs.Servers.{listener_of, WithoutSessions}

@@ -2,7 +2,6 @@
 ghost use Rattle.std.specs.Prelude.{◌≡◌, ◌≤◌, ℕ, IsErrOf};
 ghost use Rattle.link_traits.specs.Views.{RoseAt};
 ghost use Rattle.link_traits.specs.declared.links.Count.TheVariants.{Own as OfNet};
-ghost use Rattle.proxy_loop.specs.Sinks.{sink_of};
 ghost use Rattle.proxy_loop.specs.Tables.{IsEmpty};
 ghost use Rattle.proxy_loop.specs.LineServers.{blocks_of, limit_of, sessions_of};
 ghost use Rattle.proxy_run.specs.Runs.{RunDid, TookTurns, RunLinks, end_at};
@@ -22,16 +21,16 @@ pub fn serve<N: Net, S: Sink>(
     log: &mut S,
 ) -> Result<(), ServerEnd>
     // Each turn did what a turn does, and the run ended by the answer of the last one.
-    ensures did { RunDid line.blocks.items line.sessions (N.view net.old) (N.view net.new) (sink_of (S.told log.old) (S.faults log.old)) (sink_of (S.told log.new) (S.faults log.new)) result }
+    ensures did { RunDid line.blocks.items line.sessions (N.view net.old) (N.view net.new) (S.view log.old) (S.view log.new) result }
 
     // What was written to the links, and to the log, over the whole run.
     ensures links { RunLinks line.blocks.items (N.view net.old) (N.view net.new) }
-    ensures log { RunLogs line.blocks.items (N.view net.old) (N.view net.new) (sink_of (S.told log.old) (S.faults log.old)) (sink_of (S.told log.new) (S.faults log.new)) }
+    ensures log { RunLogs line.blocks.items (N.view net.old) (N.view net.new) (S.view log.old) (S.view log.new) }
 
     // Listening or waiting fails only where the net's own count of faults rose.
     ensures listen { (k : ℕ) → IsErrOf result (ServerEnd.Listen k) → RoseAt OfNet (N.view net.old) (N.view net.new) }
     ensures wait { IsErrOf result ServerEnd.Wait → RoseAt OfNet (N.view net.old) (N.view net.new) }
-    ensures count { S.faults log.old ≤ S.faults log.new }
+    ensures count { (S.view log.old).faults ≤ (S.view log.new).faults }
 {
     listen_and_serve(alloc, line, net, log)
 }
@@ -43,7 +42,7 @@ fn listen_and_serve<N: Net, S: Sink>(
     net: &mut N,
     log: &mut S,
 ) -> Result<(), ServerEnd>
-    ensures { RunDid line.blocks.items line.sessions (N.view net.old) (N.view net.new) (sink_of (S.told log.old) (S.faults log.old)) (sink_of (S.told log.new) (S.faults log.new)) result }
+    ensures { RunDid line.blocks.items line.sessions (N.view net.old) (N.view net.new) (S.view log.old) (S.view log.new) result }
 {
     match Server::new(alloc, line) {
         Ok(mut server) => {
@@ -61,7 +60,7 @@ fn take_turns<N: Net, S: Sink>(
     log: &mut S,
 ) -> Result<(), ServerEnd>
     requires { IsEmpty (sessions_of server.old) }
-    ensures { TookTurns (blocks_of server.old) (limit_of server.old) (N.view net.old) (N.view net.new) (sink_of (S.told log.old) (S.faults log.old)) (sink_of (S.told log.new) (S.faults log.new)) result }
+    ensures { TookTurns (blocks_of server.old) (limit_of server.old) (N.view net.old) (N.view net.new) (S.view log.old) (S.view log.new) result }
 {
     for count in 0..u64::MAX {
         if let Some(end) = end_of(server.turn(net, log)) {

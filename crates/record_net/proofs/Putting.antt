@@ -5,8 +5,9 @@ use Rattle.std.proofs.lemmas.Bool.{cases_lt}
 use Rattle.link_traits.specs.Told.{added}
 use Rattle.link_traits.specs.declared.outside.FileFault.{FileFault}
 use Rattle.link_traits.proofs.Parts.{added-none}
+use Rattle.link_traits.specs.Views.{FilesView}
 use Rattle.record_net.specs.Records.{head}
-use Rattle.record_net.specs.Tapes.{FilesView, Cut, Appended, Puts}
+use Rattle.record_net.specs.Tapes.{Cut, Appended, Puts}
 
 -- an append has failed, and nothing more is put
 pub put_none : (path bytes : List ℕ) (files : FilesView) (failed : Option FileFault) → is_some failed ≡ true →

@@ -4,7 +4,7 @@ use Rattle.std.specs.List.{list_all}
 use Rattle.std.proofs.lemmas.List.{take-append-le}
 use Rattle.link_traits.specs.Journals.{Journal}
 use Rattle.link_traits.specs.Entries.{Entry}
-use Rattle.link_traits.specs.Views.{NetView, Adds}
+use Rattle.link_traits.specs.Views.{NetView, Adds, FilesView}
 use Rattle.link_traits.specs.Told.{added, Rose}
 use Rattle.link_traits.specs.Answers.{listen_entry, accept_entry}
 use Rattle.link_traits.specs.declared.links.Accepted.{Accepted}
@@ -15,7 +15,7 @@ use Rattle.link_traits.specs.declared.outside.FileFault.{FileFault}
 use Rattle.link_traits.specs.declared.outside.FileFault.TheVariants.{Failed, TooLong}
 use Rattle.record_net.specs.Fitting.{entry_fits}
 use Rattle.record_net.specs.Records.{record_by, records_of, recorded, head}
-use Rattle.record_net.specs.Tapes.{FilesView, Tape, Puts}
+use Rattle.record_net.specs.Tapes.{Tape, Puts}
 use Rattle.record_net.specs.Starts.{Start, start_of, IsRecording}
 use Rattle.record_net.proofs.Putting.{put_nothing}
 

@@ -5,9 +5,10 @@ use Rattle.link_traits.specs.Journals.{Journal}
 use Rattle.link_traits.specs.Told.{Rose}
 use Rattle.link_traits.specs.declared.outside.FileFault.{FileFault}
 use Rattle.link_traits.specs.declared.outside.FileFault.TheVariants.{Failed, TooLong}
+use Rattle.link_traits.specs.Views.{FilesView}
 use Rattle.record_net.specs.Fitting.{entry_fits}
 use Rattle.record_net.specs.Records.{recorded}
-use Rattle.record_net.specs.Tapes.{FilesView, Tape}
+use Rattle.record_net.specs.Tapes.{Tape}
 
 -- the journal of the net where it tells that, the files, and the path of the recording
 pub record Start : Type 0 where

@@ -1,25 +1,17 @@
--- What contracts see of files and of a recorder's failure, and what a record puts there.
+-- What contracts see of a recorder: its files and its failure, and what a record puts there.
 use Rattle.std.specs.Prelude.{ℕ, ◌≡◌, ◌≢◌, ◌≤◌, ◌<◌, List, length, take, Option, None, Some, Result, Err, OnOk, OnErr, IsErrOf}
 use Rattle.link_traits.specs.Told.{added, Rose}
 use Rattle.link_traits.specs.declared.outside.FileFault.{FileFault}
 use Rattle.link_traits.specs.declared.outside.FileFault.TheVariants.{Failed, TooLong}
-
--- what each path holds where that is told, the count of faults, and the paths that were read
-pub record FilesView : Type 0 where
-  pub told : List ℕ → Option (List ℕ)
-  pub faults : ℕ
-  pub reads : List (List ℕ)
-
-abbrev pub files_of : (List ℕ → Option (List ℕ)) → ℕ → List (List ℕ) → FilesView
-files_of told faults reads = record { told = told; faults = faults; reads = reads }
+use Rattle.link_traits.specs.Views.{FilesView}
 
 -- the files, and the first error that an append answered
 pub record Tape : Type 0 where
   pub files : FilesView
   pub failed : Option FileFault
 
-abbrev pub tape_of : (List ℕ → Option (List ℕ)) → ℕ → List (List ℕ) → Option FileFault → Tape
-tape_of told faults reads failed = record { files = files_of told faults reads; failed = failed }
+abbrev pub tape_of : FilesView → Option FileFault → Tape
+tape_of files failed = record { files = files; failed = failed }
 
 -- a prefix of some bytes that lacks at least one was put at the end of what is told
 pub record Cut (bytes : List ℕ) (old new : Option (List ℕ)) : Type 0 where

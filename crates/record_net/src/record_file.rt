@@ -1,10 +1,10 @@
 //! The file of a recording, and how records get into it.
 ghost use Rattle.std.specs.Prelude.{◌≡◌, ◌≢◌, ◌≤◌, ◌<◌, ◌+◌, ℕ, List, Option, None, Some, Err, OnOk, IfOk, IfSome, IsErrOf, length, string_bytes, vec_capacity};
-ghost use Rattle.link_traits.specs.Told.{Rose};
 ghost use Rattle.record_net.specs.Records.{spelled_record, bytes_kind, head};
 ghost use Rattle.link_traits.specs.Journals.{Journal};
+ghost use Rattle.link_traits.specs.Views.{FilesRose};
 ghost use Rattle.record_net.specs.Starts.{IsRecording, start_of};
-ghost use Rattle.record_net.specs.Tapes.{Appended, Puts, files_of, tape_of};
+ghost use Rattle.record_net.specs.Tapes.{Appended, Puts, tape_of};
 
 use crate::spelling::spell;
 use crate::{READ_LIMIT, RECORD_HEAD_LEN};
@@ -32,17 +32,17 @@ impl RecordFile {
     ) -> Result<RecordFile, FileFault>
         ensures path { IfOk result (λ file. string_bytes file.path ≡ string_bytes path) }
         ensures failed { IfOk result (λ file. file.failed ≡ None) }
-        ensures head { OnOk result (IfSome (F.told files.new (string_bytes path)) (λ bytes. bytes ≡ head)) }
+        ensures head { OnOk result (IfSome ((F.view files.new).told (string_bytes path)) (λ bytes. bytes ≡ head)) }
 
         // Whatever the journal of a net is now, a recording of what the net does from now on starts here.
-        ensures starts { IfOk result (λ file. (journal : Option Journal) → IsRecording (start_of journal (files_of (F.told files.new) (F.faults files.new) (F.reads files.new)) (string_bytes path)) journal (tape_of (F.told files.new) (F.faults files.new) (F.reads files.new) file.failed)) }
+        ensures starts { IfOk result (λ file. (journal : Option Journal) → IsRecording (start_of journal (F.view files.new) (string_bytes path)) journal (tape_of (F.view files.new) file.failed)) }
 
         // The other files, and errors.
-        ensures others { (p : List ℕ) → p ≢ string_bytes path → F.told files.new p ≡ F.told files.old p }
-        ensures cause { IsErrOf result FileFault.Failed → Rose (F.faults files.old) (F.faults files.new) }
+        ensures others { (p : List ℕ) → p ≢ string_bytes path → (F.view files.new).told p ≡ (F.view files.old).told p }
+        ensures cause { IsErrOf result FileFault.Failed → FilesRose (F.view files.old) (F.view files.new) }
         ensures short { IsErrOf result FileFault.TooLong → ⊥ }
-        ensures count { F.faults files.old ≤ F.faults files.new }
-        ensures unread { F.reads files.new ≡ F.reads files.old }
+        ensures count { (F.view files.old).faults ≤ (F.view files.new).faults }
+        ensures unread { (F.view files.new).reads ≡ (F.view files.old).reads }
     {
         let Ok(buffer) = Vec::with_capacity(alloc, RECORD_HEAD_LEN + READ_LIMIT) else {
             return Err(FileFault::Memory);
@@ -64,7 +64,7 @@ impl RecordFile {
 
     /// Appends a record, unless an append failed before.
     pub(crate) fn put<F: Files>(&mut self, files: &mut F, bytes: &[u8])
-        ensures puts { Puts (string_bytes self.old.path) bytes.now (tape_of (F.told files.old) (F.faults files.old) (F.reads files.old) self.old.failed) (tape_of (F.told files.new) (F.faults files.new) (F.reads files.new) self.new.failed) }
+        ensures puts { Puts (string_bytes self.old.path) bytes.now (tape_of (F.view files.old) self.old.failed) (tape_of (F.view files.new) self.new.failed) }
         ensures path { string_bytes self.new.path ≡ string_bytes self.old.path }
     {
         append_unless_failed(files, &self.path, &mut self.failed, bytes);
@@ -79,7 +79,7 @@ impl RecordFile {
         bytes: &[u8],
     )
         requires { length bytes.now ≤ READ_LIMIT }
-        ensures puts { Puts (string_bytes self.old.path) (spelled_record (bytes_kind side) session bytes.now) (tape_of (F.told files.old) (F.faults files.old) (F.reads files.old) self.old.failed) (tape_of (F.told files.new) (F.faults files.new) (F.reads files.new) self.new.failed) }
+        ensures puts { Puts (string_bytes self.old.path) (spelled_record (bytes_kind side) session bytes.now) (tape_of (F.view files.old) self.old.failed) (tape_of (F.view files.new) self.new.failed) }
         ensures path { string_bytes self.new.path ≡ string_bytes self.old.path }
     {
         spell(&mut self.buffer, side, session, bytes);
@@ -89,25 +89,25 @@ impl RecordFile {
 
 /// Makes the file of a path with the first bytes of a recording, where a recording can start.
 fn begin<F: Files>(files: &mut F, path: &str) -> Result<(), FileFault>
-    ensures starts { OnOk result ((journal : Option Journal) → IsRecording (start_of journal (files_of (F.told files.new) (F.faults files.new) (F.reads files.new)) path.now) journal (tape_of (F.told files.new) (F.faults files.new) (F.reads files.new) None)) }
-    ensures head { OnOk result (IfSome (F.told files.new path.now) (λ bytes. bytes ≡ head)) }
-    ensures others { (p : List ℕ) → p ≢ path.now → F.told files.new p ≡ F.told files.old p }
-    ensures cause { IsErrOf result FileFault.Failed → Rose (F.faults files.old) (F.faults files.new) }
+    ensures starts { OnOk result ((journal : Option Journal) → IsRecording (start_of journal (F.view files.new) path.now) journal (tape_of (F.view files.new) None)) }
+    ensures head { OnOk result (IfSome ((F.view files.new).told path.now) (λ bytes. bytes ≡ head)) }
+    ensures others { (p : List ℕ) → p ≢ path.now → (F.view files.new).told p ≡ (F.view files.old).told p }
+    ensures cause { IsErrOf result FileFault.Failed → FilesRose (F.view files.old) (F.view files.new) }
     ensures short { result ≢ Err FileFault.TooLong }
-    ensures count { F.faults files.old ≤ F.faults files.new }
-    ensures unread { F.reads files.new ≡ F.reads files.old }
+    ensures count { (F.view files.old).faults ≤ (F.view files.new).faults }
+    ensures unread { (F.view files.new).reads ≡ (F.view files.old).reads }
 {
     create_with_head(files, path)
 }
 
 /// Makes the file of a path with the first bytes of a recording.
 fn create_with_head<F: Files>(files: &mut F, path: &str) -> Result<(), FileFault>
-    ensures head { OnOk result (IfSome (F.told files.new path.now) (λ bytes. bytes ≡ head)) }
-    ensures others { (p : List ℕ) → p ≢ path.now → F.told files.new p ≡ F.told files.old p }
-    ensures cause { IsErrOf result FileFault.Failed → Rose (F.faults files.old) (F.faults files.new) }
+    ensures head { OnOk result (IfSome ((F.view files.new).told path.now) (λ bytes. bytes ≡ head)) }
+    ensures others { (p : List ℕ) → p ≢ path.now → (F.view files.new).told p ≡ (F.view files.old).told p }
+    ensures cause { IsErrOf result FileFault.Failed → FilesRose (F.view files.old) (F.view files.new) }
     ensures short { result ≢ Err FileFault.TooLong }
-    ensures count { F.faults files.old ≤ F.faults files.new }
-    ensures unread { F.reads files.new ≡ F.reads files.old }
+    ensures count { (F.view files.old).faults ≤ (F.view files.new).faults }
+    ensures unread { (F.view files.new).reads ≡ (F.view files.old).reads }
 {
     match files.create(path) {
         Ok(()) => append_all(files, path, &session_file_head(true)),
@@ -122,7 +122,7 @@ fn append_unless_failed<F: Files>(
     failed: &mut Option<FileFault>,
     bytes: &[u8],
 )
-    ensures { Puts path.now bytes.now (tape_of (F.told files.old) (F.faults files.old) (F.reads files.old) failed.old) (tape_of (F.told files.new) (F.faults files.new) (F.reads files.new) failed.new) }
+    ensures { Puts path.now bytes.now (tape_of (F.view files.old) failed.old) (tape_of (F.view files.new) failed.new) }
 {
     if failed.is_some() {
         return;
@@ -135,7 +135,7 @@ fn append_unless_failed<F: Files>(
 /// Appends all bytes, in as many pieces as the files take. Where it fails, the file got a prefix that lacks at least
 /// one byte.
 fn append_all<F: Files>(files: &mut F, path: &str, bytes: &[u8]) -> Result<(), FileFault>
-    ensures { Appended path.now bytes.now result (files_of (F.told files.old) (F.faults files.old) (F.reads files.old)) (files_of (F.told files.new) (F.faults files.new) (F.reads files.new)) }
+    ensures { Appended path.now bytes.now result (F.view files.old) (F.view files.new) }
 {
     let mut done = 0;
     while done < bytes.len() {

@@ -8,7 +8,7 @@ ghost use Rattle.link_traits.specs.Answers.{listen_entry, accept_entry, connect_
 ghost use Rattle.link_traits.specs.declared.links.Count.{Count};
 ghost use Rattle.link_traits.specs.declared.links.Wishes.{Wishes};
 ghost use Rattle.record_net.specs.Records.{record_by, head};
-ghost use Rattle.record_net.specs.Tapes.{Puts, files_of, tape_of};
+ghost use Rattle.record_net.specs.Tapes.{Puts, tape_of};
 ghost use Rattle.record_net.specs.Starts.{IsRecording, start_of};
 
 use crate::READ_LIMIT;
@@ -99,7 +99,7 @@ impl<N: Net, F: Files> Net for Recorder<'_, N, F> {
 
     fn connect(&mut self, session: u32, path: &str) -> Result<(), NetFault>
         // What is recorded: what the entry of the answer gives.
-        ensures puts { Puts (string_bytes self.old.file.now.path) (record_by (connect_entry session path.now result)) (tape_of (F.told self.old.files.now) (F.faults self.old.files.now) (F.reads self.old.files.now) self.old.file.now.failed) (tape_of (F.told self.new.files.now) (F.faults self.new.files.now) (F.reads self.new.files.now) self.new.file.now.failed) }
+        ensures puts { Puts (string_bytes self.old.file.now.path) (record_by (connect_entry session path.now result)) (tape_of (F.view self.old.files.now) self.old.file.now.failed) (tape_of (F.view self.new.files.now) self.new.file.now.failed) }
         ensures path { string_bytes self.new.file.now.path ≡ string_bytes self.old.file.now.path }
         ensures net_name { self.new.net.ghost_name ≡ self.old.net.ghost_name }
         ensures files_name { self.new.files.ghost_name ≡ self.old.files.ghost_name }
@@ -136,7 +136,7 @@ impl<N: Net, F: Files> Net for Recorder<'_, N, F> {
     /// It is passed on with at most the first 65,536 bytes of the buffer.
     fn read(&mut self, link: Link, into: &mut [u8]) -> Got
         // What is recorded: what the entry of the answer gives.
-        ensures puts { Puts (string_bytes self.old.file.now.path) (record_by (read_entry link into.new result)) (tape_of (F.told self.old.files.now) (F.faults self.old.files.now) (F.reads self.old.files.now) self.old.file.now.failed) (tape_of (F.told self.new.files.now) (F.faults self.new.files.now) (F.reads self.new.files.now) self.new.file.now.failed) }
+        ensures puts { Puts (string_bytes self.old.file.now.path) (record_by (read_entry link into.new result)) (tape_of (F.view self.old.files.now) self.old.file.now.failed) (tape_of (F.view self.new.files.now) self.new.file.now.failed) }
         ensures path { string_bytes self.new.file.now.path ≡ string_bytes self.old.file.now.path }
         ensures net_name { self.new.net.ghost_name ≡ self.old.net.ghost_name }
         ensures files_name { self.new.files.ghost_name ≡ self.old.files.ghost_name }
@@ -179,7 +179,7 @@ impl<N: Net, F: Files> Net for Recorder<'_, N, F> {
 
     fn write(&mut self, link: Link, piece: &[u8]) -> Took
         // What is recorded: what the entry of the answer gives.
-        ensures puts { Puts (string_bytes self.old.file.now.path) (record_by (write_entry link piece.now result)) (tape_of (F.told self.old.files.now) (F.faults self.old.files.now) (F.reads self.old.files.now) self.old.file.now.failed) (tape_of (F.told self.new.files.now) (F.faults self.new.files.now) (F.reads self.new.files.now) self.new.file.now.failed) }
+        ensures puts { Puts (string_bytes self.old.file.now.path) (record_by (write_entry link piece.now result)) (tape_of (F.view self.old.files.now) self.old.file.now.failed) (tape_of (F.view self.new.files.now) self.new.file.now.failed) }
         ensures path { string_bytes self.new.file.now.path ≡ string_bytes self.old.file.now.path }
         ensures net_name { self.new.net.ghost_name ≡ self.old.net.ghost_name }
         ensures files_name { self.new.files.ghost_name ≡ self.old.files.ghost_name }

@@ -40,7 +40,7 @@ pub struct TrackedRecorder<'a, N: Net, F: Files, K: RecordingStart> {
     ghost path: { string_bytes recorder.file.now.path ≡ K.start.path },
     ghost net: { recorder.net.ghost_name ≡ K.net_name },
     ghost files: { recorder.files.ghost_name ≡ K.files_name },
-    ghost recording: { IsRecording K.start (N.view recorder.net.now).journal (tape_of (F.told recorder.files.now) (F.faults recorder.files.now) (F.reads recorder.files.now) recorder.file.now.failed) } by { Prim.hlevel props },
+    ghost recording: { IsRecording K.start (N.view recorder.net.now).journal (tape_of (F.view recorder.files.now) recorder.file.now.failed) } by { Prim.hlevel props },
 }
 
 impl<N: Net, F: Files, K: RecordingStart> Net for TrackedRecorder<'_, N, F, K> {

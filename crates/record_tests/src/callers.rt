@@ -26,10 +26,10 @@ fn wait_tracked<'a, N: Net, F: Files, K: RecordingStart>(
     requires path { string_bytes recorder.file.now.path ≡ K.start.path }
     requires net { recorder.net.ghost_name ≡ K.net_name }
     requires files { recorder.files.ghost_name ≡ K.files_name }
-    requires recording { IsRecording K.start (N.view recorder.net.now).journal (tape_of (F.told recorder.files.now) (F.faults recorder.files.now) (F.reads recorder.files.now) recorder.file.now.failed) }
+    requires recording { IsRecording K.start (N.view recorder.net.now).journal (tape_of (F.view recorder.files.now) recorder.file.now.failed) }
     ensures net { result.net.ghost_name ≡ K.net_name }
     ensures files { result.files.ghost_name ≡ K.files_name }
-    ensures recording { IsRecording K.start (N.view result.net.now).journal (tape_of (F.told result.files.now) (F.faults result.files.now) (F.reads result.files.now) result.file.now.failed) }
+    ensures recording { IsRecording K.start (N.view result.net.now).journal (tape_of (F.view result.files.now) result.file.now.failed) }
 {
     let mut tracked = TrackedRecorder::<'a, N, F, K> {
         recorder,
@@ -47,7 +47,7 @@ pub fn record_wait<N: Net, F: Files>(
     files: &mut F,
     path: String,
 ) -> Result<Option<FileFault>, FileFault>
-    ensures { IfOk result (λ failed. (before since : Journal) (bytes : List ℕ) → (N.view net.old).journal ≡ Some before → (N.view net.new).journal ≡ Some (since ++ before) → F.told files.new (string_bytes path) ≡ Some bytes → failed ≡ None → bytes ≡ recorded since) }
+    ensures { IfOk result (λ failed. (before since : Journal) (bytes : List ℕ) → (N.view net.old).journal ≡ Some before → (N.view net.new).journal ≡ Some (since ++ before) → (F.view files.new).told (string_bytes path) ≡ Some bytes → failed ≡ None → bytes ≡ recorded since) }
 {
     let mut file = RecordFile::create(alloc, files, path)?;
     let recorder = Recorder::new(net, files, &mut file);

@@ -1,10 +1,9 @@
 -- A run adds entries to a journal.
 use Rattle.std.proofs.Common.{ℕ, zero, suc, ◌≡◌, inl, inr, List, [], ◌++◌, Some, Ok, Err, refl, ap, ◌∙◌, sym, append_assoc, length}
 use Rattle.link_traits.specs.Journals.{Journal}
-use Rattle.link_traits.specs.Views.{NetView, Adds}
+use Rattle.link_traits.specs.Views.{NetView, Adds, SinkView}
 use Rattle.policy_args.specs.declared.line.Block.{Block}
 use Rattle.proxy_loop.specs.declared.turns.ServerEnd.TheVariants.{Listen, Wait, Memory}
-use Rattle.proxy_loop.specs.Sinks.{SinkView}
 use Rattle.proxy_loop.specs.Listening.{Heard, ListenDid}
 use Rattle.proxy_loop.specs.Tables.{Table}
 use Rattle.proxy_run.specs.Runs.{RunEnd, OneTurn, Turns, LastTurn, TurnsEnd, AfterListen, RunDid, most_turns}

@@ -1,15 +1,14 @@
 -- What holds of a run that was recorded.
 use Rattle.std.proofs.Common.{ℕ, ◌≡◌, ◌≢◌, ◌≤◌, List, ◌++◌, Option, Some, Result, Ok, Err, IfOk, OnOk, ap, ◌∙◌, sym, subst, arith}
 use Rattle.link_traits.specs.Journals.{Journal}
-use Rattle.link_traits.specs.Views.{NetView}
+use Rattle.link_traits.specs.Views.{NetView, FilesView, SinkView}
 use Rattle.policy_args.specs.declared.line.Block.{Block}
-use Rattle.proxy_loop.specs.Sinks.{SinkView}
 use Rattle.proxy_loop.specs.Servers.{LinksStand, WithoutSessions}
 use Rattle.proxy_run.specs.Runs.{RunEnd}
 use Rattle.recording.specs.Sessions.{sessions_of, spelled_sessions}
 use Rattle.record_net.specs.Records.{recorded}
 use Rattle.record_net.specs.Starts.{IsRecording, start_of}
-use Rattle.record_net.specs.Tapes.{FilesView, Tape}
+use Rattle.record_net.specs.Tapes.{Tape}
 use Rattle.recorded_run.specs.Recordings.{IsExact, IsReadBack, IsWithinLimits, recording_of}
 use Rattle.recorded_run.specs.Runs.{RunServed, RunAdded}
 use Rattle.recorded_run.proofs.Growing.{run_grows}

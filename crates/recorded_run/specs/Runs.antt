@@ -1,13 +1,12 @@
 -- A run of a proxy line over a net that is recorded.
 use Rattle.std.specs.Prelude.{ℕ, ◌≡◌, ◌≤◌, ◌⊎◌, false, All, List, ◌++◌, Some, Err}
 use Rattle.link_traits.specs.Journals.{Journal}
-use Rattle.link_traits.specs.Views.{NetView, RoseAt}
+use Rattle.link_traits.specs.Views.{NetView, RoseAt, SinkView}
 use Rattle.link_traits.specs.declared.links.Count.TheVariants.{Own as OfNet}
 use Rattle.policy_args.specs.declared.line.Block.{Block}
 use Rattle.policy_args.specs.declared.options.Options.{Options}
 use Rattle.proxy_loop.specs.declared.turns.ServerEnd.TheVariants.{Listen, Wait}
 use Rattle.proxy_loop.specs.Servers.{Fresh, WithoutSessions}
-use Rattle.proxy_loop.specs.Sinks.{SinkView}
 use Rattle.proxy_run.specs.Runs.{RunEnd, RunDid, RunLinks}
 use Rattle.proxy_run.specs.Logs.{RunLogs}
 use Rattle.record_net.specs.Sessions.{items_of}

@@ -1,13 +1,11 @@
 //! Serving a line over a net that is recorded.
 ghost use Rattle.std.specs.Prelude.{◌≡◌, ◌≢◌, ◌≤◌, ℕ, List, IfOk, OnOk, OnErr, IsErrOf, string_bytes};
-ghost use Rattle.link_traits.specs.Told.{Rose};
-ghost use Rattle.link_traits.specs.Views.{RoseAt};
+ghost use Rattle.link_traits.specs.Views.{RoseAt, FilesRose};
 ghost use Rattle.link_traits.specs.declared.links.Count.TheVariants.{Own as OfNet};
-ghost use Rattle.proxy_loop.specs.Sinks.{sink_of};
 ghost use Rattle.proxy_run.specs.Runs.{RunDid, RunLinks};
 ghost use Rattle.proxy_run.specs.Logs.{RunLogs};
 ghost use Rattle.record_net.specs.Starts.{IsRecording, start_of};
-ghost use Rattle.record_net.specs.Tapes.{files_of, tape_of};
+ghost use Rattle.record_net.specs.Tapes.{tape_of};
 ghost use Rattle.recorded_run.specs.Recordings.{FitsFormat, IsExact, IsReadBack, TellsHistories};
 ghost use Rattle.recorded_run.specs.Runs.{RunServed, RunAdded, FromNoSessions, LinksRecorded, LinksReplayed};
 
@@ -47,20 +45,20 @@ pub fn serve_recorded<F: Files, N: Net, E: Sink>(
     err: &mut E,
 ) -> Result<Recorded, FileFault>
     // Once the file is made, the line is served as it is over any net.
-    ensures did { IfOk result (λ r. RunDid line.blocks.items line.sessions (N.view net.old) (N.view net.new) (sink_of (E.told err.old) (E.faults err.old)) (sink_of (E.told err.new) (E.faults err.new)) r.end) }
+    ensures did { IfOk result (λ r. RunDid line.blocks.items line.sessions (N.view net.old) (N.view net.new) (E.view err.old) (E.view err.new) r.end) }
     ensures links { OnOk result (RunLinks line.blocks.items (N.view net.old) (N.view net.new)) }
-    ensures log { OnOk result (RunLogs line.blocks.items (N.view net.old) (N.view net.new) (sink_of (E.told err.old) (E.faults err.old)) (sink_of (E.told err.new) (E.faults err.new))) }
+    ensures log { OnOk result (RunLogs line.blocks.items (N.view net.old) (N.view net.new) (E.view err.old) (E.view err.new)) }
     ensures listen { IfOk result (λ r. (k : ℕ) → IsErrOf r.end (ServerEnd.Listen k) → RoseAt OfNet (N.view net.old) (N.view net.new)) }
     ensures wait { IfOk result (λ r. IsErrOf r.end ServerEnd.Wait → RoseAt OfNet (N.view net.old) (N.view net.new)) }
-    ensures count { E.faults err.old ≤ E.faults err.new }
+    ensures count { (E.view err.old).faults ≤ (E.view err.new).faults }
 
     // The file is the recording of what the net added, or a prefix of it once an append failed.
-    ensures recording { IfOk result (λ r. IsRecording (start_of (N.view net.old).journal (files_of (F.told files.old) (F.faults files.old) (F.reads files.old)) (string_bytes path)) (N.view net.new).journal (tape_of (F.told files.new) (F.faults files.new) (F.reads files.new) r.failed)) }
-    ensures exact { IfOk result (λ r. RunAdded (N.view net.old) (N.view net.new) (λ was since. IsExact (F.told files.new (string_bytes path)) r.failed since)) }
+    ensures recording { IfOk result (λ r. IsRecording (start_of (N.view net.old).journal (F.view files.old) (string_bytes path)) (N.view net.new).journal (tape_of (F.view files.new) r.failed)) }
+    ensures exact { IfOk result (λ r. RunAdded (N.view net.old) (N.view net.new) (λ was since. IsExact ((F.view files.new).told (string_bytes path)) r.failed since)) }
 
     // A file can have each record, and a reader finds in it what was recorded.
     ensures fits { OnOk result (RunAdded (N.view net.old) (N.view net.new) (FromNoSessions FitsFormat)) }
-    ensures read { IfOk result (λ r. RunAdded (N.view net.old) (N.view net.new) (FromNoSessions (IsReadBack (F.told files.new (string_bytes path)) r.failed))) }
+    ensures read { IfOk result (λ r. RunAdded (N.view net.old) (N.view net.new) (FromNoSessions (IsReadBack ((F.view files.new).told (string_bytes path)) r.failed))) }
 
     // The recording tells the history of each session, and so what was written to its links.
     ensures histories { OnOk result (RunAdded (N.view net.old) (N.view net.new) (λ was since. FromNoSessions (TellsHistories was) was since)) }
@@ -70,13 +68,13 @@ pub fn serve_recorded<F: Files, N: Net, E: Sink>(
     // If the file can't be made, nothing is done over the net, and nothing is logged.
     ensures unserved { OnErr result (net.new ≡ net.old) }
     ensures unlogged { OnErr result (err.new ≡ err.old) }
-    ensures cause { IsErrOf result FileFault.Failed → Rose (F.faults files.old) (F.faults files.new) }
+    ensures cause { IsErrOf result FileFault.Failed → FilesRose (F.view files.old) (F.view files.new) }
     ensures short { IsErrOf result FileFault.TooLong → ⊥ }
 
     // In either case the other paths hold what they held, and no file is read.
-    ensures others { (p : List ℕ) → p ≢ string_bytes path → F.told files.new p ≡ F.told files.old p }
-    ensures unread { F.reads files.new ≡ F.reads files.old }
-    ensures faults { F.faults files.old ≤ F.faults files.new }
+    ensures others { (p : List ℕ) → p ≢ string_bytes path → (F.view files.new).told p ≡ (F.view files.old).told p }
+    ensures unread { (F.view files.new).reads ≡ (F.view files.old).reads }
+    ensures faults { (F.view files.old).faults ≤ (F.view files.new).faults }
 {
     recorded_is_read();
     what_a_server_records_fits();
@@ -94,15 +92,15 @@ fn serve_from_start<F: Files, N: Net, E: Sink>(
     net: &mut N,
     err: &mut E,
 ) -> Result<Recorded, FileFault>
-    ensures served { IfOk result (λ r. RunServed line.blocks.items line.sessions (N.view net.old) (N.view net.new) (sink_of (E.told err.old) (E.faults err.old)) (sink_of (E.told err.new) (E.faults err.new)) r.end) }
-    ensures recording { IfOk result (λ r. IsRecording (start_of (N.view net.old).journal (files_of (F.told files.old) (F.faults files.old) (F.reads files.old)) (string_bytes path)) (N.view net.new).journal (tape_of (F.told files.new) (F.faults files.new) (F.reads files.new) r.failed)) }
+    ensures served { IfOk result (λ r. RunServed line.blocks.items line.sessions (N.view net.old) (N.view net.new) (E.view err.old) (E.view err.new) r.end) }
+    ensures recording { IfOk result (λ r. IsRecording (start_of (N.view net.old).journal (F.view files.old) (string_bytes path)) (N.view net.new).journal (tape_of (F.view files.new) r.failed)) }
     ensures unserved { OnErr result (net.new ≡ net.old) }
     ensures unlogged { OnErr result (err.new ≡ err.old) }
-    ensures cause { IsErrOf result FileFault.Failed → Rose (F.faults files.old) (F.faults files.new) }
+    ensures cause { IsErrOf result FileFault.Failed → FilesRose (F.view files.old) (F.view files.new) }
     ensures short { IsErrOf result FileFault.TooLong → ⊥ }
-    ensures others { (p : List ℕ) → p ≢ string_bytes path → F.told files.new p ≡ F.told files.old p }
-    ensures unread { F.reads files.new ≡ F.reads files.old }
-    ensures faults { F.faults files.old ≤ F.faults files.new }
+    ensures others { (p : List ℕ) → p ≢ string_bytes path → (F.view files.new).told p ≡ (F.view files.old).told p }
+    ensures unread { (F.view files.new).reads ≡ (F.view files.old).reads }
+    ensures faults { (F.view files.old).faults ≤ (F.view files.new).faults }
 {
     let mut file = RecordFile::create(alloc, files, path)?;
     let recorder = Recorder::new(net, files, &mut file);
@@ -125,11 +123,11 @@ fn serve_over<'a, N: Net, F: Files, E: Sink, K: RecordingStart>(
     requires path { string_bytes recorder.file.now.path ≡ K.start.path }
     requires net { recorder.net.ghost_name ≡ K.net_name }
     requires files { recorder.files.ghost_name ≡ K.files_name }
-    requires recording { IsRecording K.start (N.view recorder.net.now).journal (tape_of (F.told recorder.files.now) (F.faults recorder.files.now) (F.reads recorder.files.now) recorder.file.now.failed) }
-    ensures served { RunServed line.blocks.items line.sessions (N.view recorder.entry.net.now) (N.view result.net.now) (sink_of (E.told err.old) (E.faults err.old)) (sink_of (E.told err.new) (E.faults err.new)) end.new }
+    requires recording { IsRecording K.start (N.view recorder.net.now).journal (tape_of (F.view recorder.files.now) recorder.file.now.failed) }
+    ensures served { RunServed line.blocks.items line.sessions (N.view recorder.entry.net.now) (N.view result.net.now) (E.view err.old) (E.view err.new) end.new }
     ensures net { result.net.ghost_name ≡ K.net_name }
     ensures files { result.files.ghost_name ≡ K.files_name }
-    ensures recording { IsRecording K.start (N.view result.net.now).journal (tape_of (F.told result.files.now) (F.faults result.files.now) (F.reads result.files.now) result.file.now.failed) }
+    ensures recording { IsRecording K.start (N.view result.net.now).journal (tape_of (F.view result.files.now) result.file.now.failed) }
 {
     let mut tracked = TrackedRecorder::<'a, N, F, K> {
         recorder,

@@ -1,6 +1,7 @@
 //! Explaining a message of a recording: the line of its note, and that of the entry on which its decision rests.
 ghost use Rattle.std.specs.Prelude.{◌≡◌, ◌≤◌, ◌⊎◌, ◌++◌, [], None, IsSome, OnOk, OnErr, IsErrOf, IfSome, List, ℕ, option_map, string_bytes, unwrap_or};
-ghost use Rattle.link_traits.specs.Told.{added, Rose, Part};
+ghost use Rattle.link_traits.specs.Told.{added, Part};
+ghost use Rattle.link_traits.specs.Views.{SinkRose};
 ghost use Rattle.replay_output.specs.Explained.{note_at, explanation};
 
 use crate::ExplainFault;
@@ -37,12 +38,12 @@ pub fn write_explanation<O: Sink>(
     note: &Note,
     out: &mut O,
 ) -> Result<(), ExplainFault>
-    ensures ok { OnOk result (O.told out.new ≡ added (explanation policy.now note.now) (O.told out.old)) }
-    ensures part { Part (O.told out.old) (O.told out.new) (explanation policy.now note.now) }
-    ensures memory { IsErrOf result ExplainFault.Memory → O.told out.new ≡ O.told out.old }
+    ensures ok { OnOk result ((O.view out.new).told ≡ added (explanation policy.now note.now) (O.view out.old).told) }
+    ensures part { Part (O.view out.old).told (O.view out.new).told (explanation policy.now note.now) }
+    ensures memory { IsErrOf result ExplainFault.Memory → (O.view out.new).told ≡ (O.view out.old).told }
     ensures found { IsErrOf result ExplainFault.NoSuchMessage → ⊥ }
-    ensures cause { IsErrOf result ExplainFault.Out → Rose (O.faults out.old) (O.faults out.new) }
-    ensures count { O.faults out.old ≤ O.faults out.new }
+    ensures cause { IsErrOf result ExplainFault.Out → SinkRose (O.view out.old) (O.view out.new) }
+    ensures count { (O.view out.old).faults ≤ (O.view out.new).faults }
 {
     let text = line(alloc, SESSION, note)?;
     let entry = entry_line(alloc, policy, note)?;
@@ -55,10 +56,10 @@ pub fn write_explanation<O: Sink>(
 /// Writes a line, and another behind it where there is one.
 #[tactic(auto, using(link_traits::proofs::Parts::part_first, link_traits::proofs::Parts::part_second, link_traits::proofs::Parts::then_all))]
 fn write_lines<O: Sink>(first: String, second: Option<String>, out: &mut O) -> Result<(), SinkFault>
-    ensures ok { OnOk result (O.told out.new ≡ added (string_bytes first ++ unwrap_or (option_map (λ text. string_bytes text) second) []) (O.told out.old)) }
-    ensures part { Part (O.told out.old) (O.told out.new) (string_bytes first ++ unwrap_or (option_map (λ text. string_bytes text) second) []) }
-    ensures cause { OnErr result (Rose (O.faults out.old) (O.faults out.new)) }
-    ensures count { O.faults out.old ≤ O.faults out.new }
+    ensures ok { OnOk result ((O.view out.new).told ≡ added (string_bytes first ++ unwrap_or (option_map (λ text. string_bytes text) second) []) (O.view out.old).told) }
+    ensures part { Part (O.view out.old).told (O.view out.new).told (string_bytes first ++ unwrap_or (option_map (λ text. string_bytes text) second) []) }
+    ensures cause { OnErr result (SinkRose (O.view out.old) (O.view out.new)) }
+    ensures count { (O.view out.old).faults ≤ (O.view out.new).faults }
 {
     write_all(out, first.as_bytes())?;
     write_second(second, out)
@@ -67,10 +68,10 @@ fn write_lines<O: Sink>(first: String, second: Option<String>, out: &mut O) -> R
 /// Writes a line where there is one.
 #[tactic(auto, using(link_traits::proofs::Parts::part_none))]
 fn write_second<O: Sink>(second: Option<String>, out: &mut O) -> Result<(), SinkFault>
-    ensures ok { OnOk result (O.told out.new ≡ added (unwrap_or (option_map (λ text. string_bytes text) second) []) (O.told out.old)) }
-    ensures part { Part (O.told out.old) (O.told out.new) (unwrap_or (option_map (λ text. string_bytes text) second) []) }
-    ensures cause { OnErr result (Rose (O.faults out.old) (O.faults out.new)) }
-    ensures count { O.faults out.old ≤ O.faults out.new }
+    ensures ok { OnOk result ((O.view out.new).told ≡ added (unwrap_or (option_map (λ text. string_bytes text) second) []) (O.view out.old).told) }
+    ensures part { Part (O.view out.old).told (O.view out.new).told (unwrap_or (option_map (λ text. string_bytes text) second) []) }
+    ensures cause { OnErr result (SinkRose (O.view out.old) (O.view out.new)) }
+    ensures count { (O.view out.old).faults ≤ (O.view out.new).faults }
 {
     match second {
         None => Ok(()),

@@ -32,7 +32,8 @@ mod watching;
 mod writing;
 
 ghost use Rattle.std.specs.Prelude.{◌≡◌, ◌≤◌, ◌⊎◌, ◌↔◌, ℕ, true, List, Some, None, IfOk, IsOk, OnOk, OnErr, IsErrOf, IfSome};
-ghost use Rattle.link_traits.specs.Told.{added, Rose, Part};
+ghost use Rattle.link_traits.specs.Told.{added, Part};
+ghost use Rattle.link_traits.specs.Views.{SinkRose};
 ghost use Rattle.policy_args.specs.Seen.{options_seen};
 ghost use Rattle.recording.specs.Seen.{recording_seen, size};
 ghost use Rattle.recording.specs.SessionsSeen.{IsReadable, sessions_seen};
@@ -100,23 +101,23 @@ pub fn replay<O: Sink, E: Sink>(
     requires size { size (recording_seen recording.now).events ≤ RECORDING_LIMIT }
 
     // out gets the output and err the log: all of it, or a front where the replay stops.
-    ensures out { OnOk result (O.told out.new ≡ added (output_of_recording (options_seen options.now) (recording_seen recording.now)) (O.told out.old)) }
-    ensures log { OnOk result (E.told err.new ≡ added (log_of_recording (options_seen options.now) (recording_seen recording.now)) (E.told err.old)) }
-    ensures part { Part (O.told out.old) (O.told out.new) (output_of_recording (options_seen options.now) (recording_seen recording.now)) }
-    ensures log_part { Part (E.told err.old) (E.told err.new) (log_of_recording (options_seen options.now) (recording_seen recording.now)) }
+    ensures out { OnOk result ((O.view out.new).told ≡ added (output_of_recording (options_seen options.now) (recording_seen recording.now)) (O.view out.old).told) }
+    ensures log { OnOk result ((E.view err.new).told ≡ added (log_of_recording (options_seen options.now) (recording_seen recording.now)) (E.view err.old).told) }
+    ensures part { Part (O.view out.old).told (O.view out.new).told (output_of_recording (options_seen options.now) (recording_seen recording.now)) }
+    ensures log_part { Part (E.view err.old).told (E.view err.new).told (log_of_recording (options_seen options.now) (recording_seen recording.now)) }
 
     // The log is first: out gets nothing before err has all of it.
-    ensures first { IsErrOf result ReplayFault.Out → E.told err.new ≡ added (log_of_recording (options_seen options.now) (recording_seen recording.now)) (E.told err.old) }
-    ensures unwritten { IsErrOf result ReplayFault.Err → O.told out.new ≡ O.told out.old }
-    ensures memory { IsErrOf result ReplayFault.Memory → O.told out.new ≡ O.told out.old }
-    ensures whole { IsErrOf result ReplayFault.Memory → WholeLines (E.told err.old) (E.told err.new) (log_of_recording (options_seen options.now) (recording_seen recording.now)) }
+    ensures first { IsErrOf result ReplayFault.Out → (E.view err.new).told ≡ added (log_of_recording (options_seen options.now) (recording_seen recording.now)) (E.view err.old).told }
+    ensures unwritten { IsErrOf result ReplayFault.Err → (O.view out.new).told ≡ (O.view out.old).told }
+    ensures memory { IsErrOf result ReplayFault.Memory → (O.view out.new).told ≡ (O.view out.old).told }
+    ensures whole { IsErrOf result ReplayFault.Memory → WholeLines (E.view err.old).told (E.view err.new).told (log_of_recording (options_seen options.now) (recording_seen recording.now)) }
 
     // A sink is named only where it failed, and err only where a log is asked for.
-    ensures cause { IsErrOf result ReplayFault.Out → Rose (O.faults out.old) (O.faults out.new) }
-    ensures log_cause { IsErrOf result ReplayFault.Err → Rose (E.faults err.old) (E.faults err.new) }
+    ensures cause { IsErrOf result ReplayFault.Out → SinkRose (O.view out.old) (O.view out.new) }
+    ensures log_cause { IsErrOf result ReplayFault.Err → SinkRose (E.view err.old) (E.view err.new) }
     ensures asked { IsErrOf result ReplayFault.Err → options.now.log ≡ true }
-    ensures count { O.faults out.old ≤ O.faults out.new }
-    ensures log_count { E.faults err.old ≤ E.faults err.new }
+    ensures count { (O.view out.old).faults ≤ (O.view out.new).faults }
+    ensures log_count { (E.view err.old).faults ≤ (E.view err.new).faults }
 {
     let mut session = play(alloc, options, recording, options.log)?;
     write_log(alloc, &mut session, err)?;
@@ -147,23 +148,23 @@ pub fn replay_sessions<O: Sink, E: Sink>(
     requires readable { IsReadable (sessions_seen sessions.now) }
 
     // out gets the output and err the log: all of it, or a prefix if the replay stops.
-    ensures out { OnOk result (O.told out.new ≡ added (output_of_sessions (options_seen options.now) (sessions_seen sessions.now)) (O.told out.old)) }
-    ensures log { OnOk result (E.told err.new ≡ added (log_of_sessions (options_seen options.now) (sessions_seen sessions.now)) (E.told err.old)) }
-    ensures part { Part (O.told out.old) (O.told out.new) (output_of_sessions (options_seen options.now) (sessions_seen sessions.now)) }
-    ensures log_part { Part (E.told err.old) (E.told err.new) (log_of_sessions (options_seen options.now) (sessions_seen sessions.now)) }
+    ensures out { OnOk result ((O.view out.new).told ≡ added (output_of_sessions (options_seen options.now) (sessions_seen sessions.now)) (O.view out.old).told) }
+    ensures log { OnOk result ((E.view err.new).told ≡ added (log_of_sessions (options_seen options.now) (sessions_seen sessions.now)) (E.view err.old).told) }
+    ensures part { Part (O.view out.old).told (O.view out.new).told (output_of_sessions (options_seen options.now) (sessions_seen sessions.now)) }
+    ensures log_part { Part (E.view err.old).told (E.view err.new).told (log_of_sessions (options_seen options.now) (sessions_seen sessions.now)) }
 
     // The log is first: out gets nothing before err has all of it.
-    ensures first { IsErrOf result ReplayFault.Out → E.told err.new ≡ added (log_of_sessions (options_seen options.now) (sessions_seen sessions.now)) (E.told err.old) }
-    ensures unwritten { IsErrOf result ReplayFault.Err → O.told out.new ≡ O.told out.old }
-    ensures memory { IsErrOf result ReplayFault.Memory → O.told out.new ≡ O.told out.old }
-    ensures whole { IsErrOf result ReplayFault.Memory → WholeSessionLines (E.told err.old) (E.told err.new) (noted_in (options_seen options.now) (sessions_seen sessions.now)) }
+    ensures first { IsErrOf result ReplayFault.Out → (E.view err.new).told ≡ added (log_of_sessions (options_seen options.now) (sessions_seen sessions.now)) (E.view err.old).told }
+    ensures unwritten { IsErrOf result ReplayFault.Err → (O.view out.new).told ≡ (O.view out.old).told }
+    ensures memory { IsErrOf result ReplayFault.Memory → (O.view out.new).told ≡ (O.view out.old).told }
+    ensures whole { IsErrOf result ReplayFault.Memory → WholeSessionLines (E.view err.old).told (E.view err.new).told (noted_in (options_seen options.now) (sessions_seen sessions.now)) }
 
     // A sink is named only where it failed, and err only where a log is asked for.
-    ensures cause { IsErrOf result ReplayFault.Out → Rose (O.faults out.old) (O.faults out.new) }
-    ensures log_cause { IsErrOf result ReplayFault.Err → Rose (E.faults err.old) (E.faults err.new) }
+    ensures cause { IsErrOf result ReplayFault.Out → SinkRose (O.view out.old) (O.view out.new) }
+    ensures log_cause { IsErrOf result ReplayFault.Err → SinkRose (E.view err.old) (E.view err.new) }
     ensures asked { IsErrOf result ReplayFault.Err → options.now.log ≡ true }
-    ensures count { O.faults out.old ≤ O.faults out.new }
-    ensures log_count { E.faults err.old ≤ E.faults err.new }
+    ensures count { (O.view out.old).faults ≤ (O.view out.new).faults }
+    ensures log_count { (E.view err.old).faults ≤ (E.view err.new).faults }
 {
     if sessions.version == ONE_SESSION {
         let mut session = play_only(alloc, options, sessions)?;
@@ -244,20 +245,20 @@ pub fn explain<O: Sink>(
     requires size { size (recording_seen recording.now).events ≤ RECORDING_LIMIT }
 
     // out gets the explanation: all of it, or a front where out fails.
-    ensures ok { OnOk result ((bytes : List ℕ) × (explained (options_seen options.now) (recording_seen recording.now) number ≡ Some bytes) × (O.told out.new ≡ added bytes (O.told out.old))) }
-    ensures part { IfSome (explained (options_seen options.now) (recording_seen recording.now) number) (λ bytes. Part (O.told out.old) (O.told out.new) bytes) }
+    ensures ok { OnOk result ((bytes : List ℕ) × (explained (options_seen options.now) (recording_seen recording.now) number ≡ Some bytes) × ((O.view out.new).told ≡ added bytes (O.view out.old).told)) }
+    ensures part { IfSome (explained (options_seen options.now) (recording_seen recording.now) number) (λ bytes. Part (O.view out.old).told (O.view out.new).told bytes) }
 
     // There is no such message exactly where nothing is explained of the number, unless memory is refused.
     ensures missing { IsErrOf result ExplainFault.NoSuchMessage → explained (options_seen options.now) (recording_seen recording.now) number ≡ None }
     ensures none { explained (options_seen options.now) (recording_seen recording.now) number ≡ None → IsErrOf result ExplainFault.NoSuchMessage ⊎ IsErrOf result ExplainFault.Memory }
 
     // Nothing is written unless there is such a message and both of its lines are made.
-    ensures unwritten { IsErrOf result ExplainFault.NoSuchMessage → O.told out.new ≡ O.told out.old }
-    ensures memory { IsErrOf result ExplainFault.Memory → O.told out.new ≡ O.told out.old }
+    ensures unwritten { IsErrOf result ExplainFault.NoSuchMessage → (O.view out.new).told ≡ (O.view out.old).told }
+    ensures memory { IsErrOf result ExplainFault.Memory → (O.view out.new).told ≡ (O.view out.old).told }
 
     // out is named only where it failed.
-    ensures cause { IsErrOf result ExplainFault.Out → Rose (O.faults out.old) (O.faults out.new) }
-    ensures count { O.faults out.old ≤ O.faults out.new }
+    ensures cause { IsErrOf result ExplainFault.Out → SinkRose (O.view out.old) (O.view out.new) }
+    ensures count { (O.view out.old).faults ≤ (O.view out.new).faults }
 {
     let mut session = play(alloc, options, recording, true)?;
     match note_of(&mut session, number) {

@@ -1,6 +1,7 @@
 //! Writing the log of a session: a line for each of its notes, joined so that one write carries many.
 ghost use Rattle.std.specs.Prelude.{◌≡◌, ◌≤◌, ◌<◌, ◌++◌, [], length, string_bytes, string_len, OnOk, IsErrOf};
-ghost use Rattle.link_traits.specs.Told.{added, Rose, Part};
+ghost use Rattle.link_traits.specs.Told.{added, Part};
+ghost use Rattle.link_traits.specs.Views.{SinkRose};
 ghost use Rattle.explain_log.specs.Lines.{log_line, log};
 ghost use Rattle.replay.specs.Logging.{Joins, LineRefused};
 
@@ -19,14 +20,14 @@ const LONG: usize = 65_536;
 
 /// Writes the lines that are joined.
 pub fn write_lines<E: Sink>(lines: &mut String, err: &mut E) -> Result<(), ReplayFault>
-    ensures ok { OnOk result (E.told err.new ≡ added (string_bytes lines.old) (E.told err.old)) }
+    ensures ok { OnOk result ((E.view err.new).told ≡ added (string_bytes lines.old) (E.view err.old).told) }
     ensures none { OnOk result (string_bytes lines.new ≡ []) }
     ensures len { OnOk result (string_len lines.new ≡ 0) }
-    ensures part { Part (E.told err.old) (E.told err.new) (string_bytes lines.old) }
+    ensures part { Part (E.view err.old).told (E.view err.new).told (string_bytes lines.old) }
     ensures out { IsErrOf result ReplayFault.Out → ⊥ }
     ensures memory { IsErrOf result ReplayFault.Memory → ⊥ }
-    ensures cause { IsErrOf result ReplayFault.Err → Rose (E.faults err.old) (E.faults err.new) }
-    ensures count { E.faults err.old ≤ E.faults err.new }
+    ensures cause { IsErrOf result ReplayFault.Err → SinkRose (E.view err.old) (E.view err.new) }
+    ensures count { (E.view err.old).faults ≤ (E.view err.new).faults }
 {
     if write_all(err, lines.as_bytes()).is_err() {
         return Err(ReplayFault::Err);
@@ -45,13 +46,13 @@ pub fn put_line<E: Sink>(
     lines: &mut String,
     err: &mut E,
 ) -> Result<(), ReplayFault>
-    ensures ok { OnOk result (Joins (E.told err.old) (E.told err.new) (string_bytes lines.old ++ log_line session note.now) (string_bytes lines.new)) }
+    ensures ok { OnOk result (Joins (E.view err.old).told (E.view err.new).told (string_bytes lines.old ++ log_line session note.now) (string_bytes lines.new)) }
     ensures short { OnOk result (string_len lines.new < LONG) }
-    ensures part { Part (E.told err.old) (E.told err.new) (string_bytes lines.old ++ log_line session note.now) }
+    ensures part { Part (E.view err.old).told (E.view err.new).told (string_bytes lines.old ++ log_line session note.now) }
     ensures out { IsErrOf result ReplayFault.Out → ⊥ }
-    ensures memory { IsErrOf result ReplayFault.Memory → E.told err.new ≡ added (string_bytes lines.old) (E.told err.old) }
-    ensures cause { IsErrOf result ReplayFault.Err → Rose (E.faults err.old) (E.faults err.new) }
-    ensures count { E.faults err.old ≤ E.faults err.new }
+    ensures memory { IsErrOf result ReplayFault.Memory → (E.view err.new).told ≡ added (string_bytes lines.old) (E.view err.old).told }
+    ensures cause { IsErrOf result ReplayFault.Err → SinkRose (E.view err.old) (E.view err.new) }
+    ensures count { (E.view err.old).faults ≤ (E.view err.new).faults }
 {
     if push_line(alloc, lines, session, note).is_err() {
         write_lines(lines, err)?;
@@ -69,14 +70,14 @@ pub fn write_log<E: Sink>(
     session: &mut Session,
     err: &mut E,
 ) -> Result<(), ReplayFault>
-    ensures ok { OnOk result (E.told err.new ≡ added (log 1 session.old.notes) (E.told err.old)) }
+    ensures ok { OnOk result ((E.view err.new).told ≡ added (log 1 session.old.notes) (E.view err.old).told) }
     ensures some { IsErrOf result ReplayFault.Err → 0 < length session.old.notes }
-    ensures part { Part (E.told err.old) (E.told err.new) (log 1 session.old.notes) }
+    ensures part { Part (E.view err.old).told (E.view err.new).told (log 1 session.old.notes) }
     ensures session { session.new ≡ record session.old { notes = session.new.notes } }
     ensures out { IsErrOf result ReplayFault.Out → ⊥ }
-    ensures refused { IsErrOf result ReplayFault.Memory → LineRefused (E.told err.old) (E.told err.new) session.old.notes session.new.notes }
-    ensures cause { IsErrOf result ReplayFault.Err → Rose (E.faults err.old) (E.faults err.new) }
-    ensures count { E.faults err.old ≤ E.faults err.new }
+    ensures refused { IsErrOf result ReplayFault.Memory → LineRefused (E.view err.old).told (E.view err.new).told session.old.notes session.new.notes }
+    ensures cause { IsErrOf result ReplayFault.Err → SinkRose (E.view err.old) (E.view err.new) }
+    ensures count { (E.view err.old).faults ≤ (E.view err.new).faults }
 {
     let mut lines = String::new(alloc);
     while let Some(note) = session.next_note() {

@@ -1,6 +1,7 @@
 //! Writing the log of many sessions: a line for each note, in the order of the notes.
 ghost use Rattle.std.specs.Prelude.{◌≡◌, ◌≤◌, ◌<◌, length, OnOk, IsErrOf};
-ghost use Rattle.link_traits.specs.Told.{added, Rose, Part};
+ghost use Rattle.link_traits.specs.Told.{added, Part};
+ghost use Rattle.link_traits.specs.Views.{SinkRose};
 ghost use Rattle.replay.specs.Logging.{WholeSessionLines};
 ghost use Rattle.replay.specs.SessionsOutput.{session_log};
 
@@ -17,13 +18,13 @@ pub fn write_session_log<E: Sink>(
     notes: &[SessionNote],
     err: &mut E,
 ) -> Result<(), ReplayFault>
-    ensures ok { OnOk result (E.told err.new ≡ added (session_log notes.now) (E.told err.old)) }
+    ensures ok { OnOk result ((E.view err.new).told ≡ added (session_log notes.now) (E.view err.old).told) }
     ensures some { IsErrOf result ReplayFault.Err → 0 < length notes.now }
-    ensures part { Part (E.told err.old) (E.told err.new) (session_log notes.now) }
+    ensures part { Part (E.view err.old).told (E.view err.new).told (session_log notes.now) }
     ensures out { IsErrOf result ReplayFault.Out → ⊥ }
-    ensures refused { IsErrOf result ReplayFault.Memory → WholeSessionLines (E.told err.old) (E.told err.new) notes.now }
-    ensures cause { IsErrOf result ReplayFault.Err → Rose (E.faults err.old) (E.faults err.new) }
-    ensures count { E.faults err.old ≤ E.faults err.new }
+    ensures refused { IsErrOf result ReplayFault.Memory → WholeSessionLines (E.view err.old).told (E.view err.new).told notes.now }
+    ensures cause { IsErrOf result ReplayFault.Err → SinkRose (E.view err.old) (E.view err.new) }
+    ensures count { (E.view err.old).faults ≤ (E.view err.new).faults }
 {
     let mut lines = String::new(alloc);
     for noted in notes {

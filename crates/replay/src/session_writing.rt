@@ -1,7 +1,8 @@
 //! Writing what many sessions give out, one session after the other.
 ghost use Rattle.std.specs.Prelude.{◌≡◌, ◌≤◌, Some, OnOk, OnErr, flat_map};
 ghost use Rattle.std.specs.List.{AllByRecursion};
-ghost use Rattle.link_traits.specs.Told.{added, Rose, Part};
+ghost use Rattle.link_traits.specs.Told.{added, Part};
+ghost use Rattle.link_traits.specs.Views.{SinkRose};
 ghost use Rattle.replay.specs.SessionsPlayed.{IsShort};
 ghost use Rattle.replay.specs.Waiting.{named_output};
 
@@ -16,10 +17,10 @@ pub fn write_sessions<O: Sink>(
     out: &mut O,
 ) -> Result<(), SinkFault>
     requires few { AllByRecursion IsShort running.old.entries }
-    ensures ok { OnOk result (O.told out.new ≡ added (flat_map (λ entry. named_output (Some entry.0) entry.1) running.old.entries) (O.told out.old)) }
-    ensures part { Part (O.told out.old) (O.told out.new) (flat_map (λ entry. named_output (Some entry.0) entry.1) running.old.entries) }
-    ensures cause { OnErr result (Rose (O.faults out.old) (O.faults out.new)) }
-    ensures count { O.faults out.old ≤ O.faults out.new }
+    ensures ok { OnOk result ((O.view out.new).told ≡ added (flat_map (λ entry. named_output (Some entry.0) entry.1) running.old.entries) (O.view out.old).told) }
+    ensures part { Part (O.view out.old).told (O.view out.new).told (flat_map (λ entry. named_output (Some entry.0) entry.1) running.old.entries) }
+    ensures cause { OnErr result (SinkRose (O.view out.old) (O.view out.new)) }
+    ensures count { (O.view out.old).faults ≤ (O.view out.new).faults }
 {
     while let Some((number, mut session)) = running.pop_first() {
         write_output(Some(number), &mut session, out)?;

@@ -2,7 +2,8 @@
 //! between its kind and its length.
 ghost use Rattle.std.specs.Prelude.{◌≡◌, ◌≤◌, ◌<◌, ◌^◌, ◌∷◌, ◌++◌, [], length, drop, OnOk, OnErr};
 ghost use Rattle.std.specs.Int.{w64, to_le_bytes};
-ghost use Rattle.link_traits.specs.Told.{added, Rose, Part};
+ghost use Rattle.link_traits.specs.Told.{added, Part};
+ghost use Rattle.link_traits.specs.Views.{SinkRose};
 ghost use Rattle.dbus_header.specs.Malformed.{kind_number};
 ghost use Rattle.sasl_watch.specs.Lines.{line_number};
 ghost use Rattle.proxy_core.specs.Sessions.{IsFront, waits_for};
@@ -63,11 +64,11 @@ fn kind(side: Side) -> u8
 
 /// Writes what waits for a side, piece by piece.
 fn write_waiting<O: Sink>(session: &mut Session, side: Side, out: &mut O) -> Result<(), SinkFault>
-    ensures ok { OnOk result (O.told out.new ≡ added (waits_for side session.old) (O.told out.old)) }
-    ensures part { Part (O.told out.old) (O.told out.new) (waits_for side session.old) }
+    ensures ok { OnOk result ((O.view out.new).told ≡ added (waits_for side session.old) (O.view out.old).told) }
+    ensures part { Part (O.view out.old).told (O.view out.new).told (waits_for side session.old) }
     ensures session { session.new ≡ with_waiting side (waits_for side session.new) session.old }
-    ensures cause { OnErr result (Rose (O.faults out.old) (O.faults out.new)) }
-    ensures count { O.faults out.old ≤ O.faults out.new }
+    ensures cause { OnErr result (SinkRose (O.view out.old) (O.view out.new)) }
+    ensures count { (O.view out.old).faults ≤ (O.view out.new).faults }
 {
     while waiting(session, side) > 0 {
         let n = {
@@ -89,10 +90,10 @@ fn write_header<O: Sink>(
     out: &mut O,
 ) -> Result<(), SinkFault>
     requires { len < 2 ^ 32 }
-    ensures ok { OnOk result (O.told out.new ≡ added (named_header named kind len) (O.told out.old)) }
-    ensures part { Part (O.told out.old) (O.told out.new) (named_header named kind len) }
-    ensures cause { OnErr result (Rose (O.faults out.old) (O.faults out.new)) }
-    ensures count { O.faults out.old ≤ O.faults out.new }
+    ensures ok { OnOk result ((O.view out.new).told ≡ added (named_header named kind len) (O.view out.old).told) }
+    ensures part { Part (O.view out.old).told (O.view out.new).told (named_header named kind len) }
+    ensures cause { OnErr result (SinkRose (O.view out.old) (O.view out.new)) }
+    ensures count { (O.view out.old).faults ≤ (O.view out.new).faults }
 {
     let [a, b, c, d] = (len as u32).to_le_bytes();
     match named {
@@ -113,11 +114,11 @@ fn write_record<O: Sink>(
     out: &mut O,
 ) -> Result<(), SinkFault>
     requires { length (waits_for side session.old) < 2 ^ 32 }
-    ensures ok { OnOk result (O.told out.new ≡ added (named_record named (kind_of side) (waits_for side session.old)) (O.told out.old)) }
-    ensures part { Part (O.told out.old) (O.told out.new) (named_record named (kind_of side) (waits_for side session.old)) }
+    ensures ok { OnOk result ((O.view out.new).told ≡ added (named_record named (kind_of side) (waits_for side session.old)) (O.view out.old).told) }
+    ensures part { Part (O.view out.old).told (O.view out.new).told (named_record named (kind_of side) (waits_for side session.old)) }
     ensures session { session.new ≡ with_waiting side (waits_for side session.new) session.old }
-    ensures cause { OnErr result (Rose (O.faults out.old) (O.faults out.new)) }
-    ensures count { O.faults out.old ≤ O.faults out.new }
+    ensures cause { OnErr result (SinkRose (O.view out.old) (O.view out.new)) }
+    ensures count { (O.view out.old).faults ≤ (O.view out.new).faults }
 {
     write_header(named, kind(side), waiting(session, side), out)?;
     write_waiting(session, side, out)
@@ -132,11 +133,11 @@ fn write_side<O: Sink>(
     out: &mut O,
 ) -> Result<(), SinkFault>
     requires { length (waits_for side session.old) < 2 ^ 32 }
-    ensures ok { OnOk result (O.told out.new ≡ added (named_where_any named (kind_of side) (waits_for side session.old)) (O.told out.old)) }
-    ensures part { Part (O.told out.old) (O.told out.new) (named_where_any named (kind_of side) (waits_for side session.old)) }
+    ensures ok { OnOk result ((O.view out.new).told ≡ added (named_where_any named (kind_of side) (waits_for side session.old)) (O.view out.old).told) }
+    ensures part { Part (O.view out.old).told (O.view out.new).told (named_where_any named (kind_of side) (waits_for side session.old)) }
     ensures session { session.new ≡ with_waiting side (waits_for side session.new) session.old }
-    ensures cause { OnErr result (Rose (O.faults out.old) (O.faults out.new)) }
-    ensures count { O.faults out.old ≤ O.faults out.new }
+    ensures cause { OnErr result (SinkRose (O.view out.old) (O.view out.new)) }
+    ensures count { (O.view out.old).faults ≤ (O.view out.new).faults }
 {
     if waiting(session, side) == 0 {
         return Ok(());
@@ -164,10 +165,10 @@ fn malformed_kind(kind: MalformedKind) -> u8
 /// Writes the record of an End that is a number alone.
 #[tactic(auto, unfolding(replay_output::specs::Output::header))]
 fn write_number<O: Sink>(named: Option<u32>, number: u8, out: &mut O) -> Result<(), SinkFault>
-    ensures ok { OnOk result (O.told out.new ≡ added (named_record named END_KIND (number ∷ [])) (O.told out.old)) }
-    ensures part { Part (O.told out.old) (O.told out.new) (named_record named END_KIND (number ∷ [])) }
-    ensures cause { OnErr result (Rose (O.faults out.old) (O.faults out.new)) }
-    ensures count { O.faults out.old ≤ O.faults out.new }
+    ensures ok { OnOk result ((O.view out.new).told ≡ added (named_record named END_KIND (number ∷ [])) (O.view out.old).told) }
+    ensures part { Part (O.view out.old).told (O.view out.new).told (named_record named END_KIND (number ∷ [])) }
+    ensures cause { OnErr result (SinkRose (O.view out.old) (O.view out.new)) }
+    ensures count { (O.view out.old).faults ≤ (O.view out.new).faults }
 {
     match named {
         None => write_all(out, &[END_KIND, 1, 0, 0, 0, number]),
@@ -233,10 +234,10 @@ fn write_malformed<O: Sink>(
     fault: Fault,
     out: &mut O,
 ) -> Result<(), SinkFault>
-    ensures ok { OnOk result (O.told out.new ≡ added (named_record named END_KIND (number ∷ fault_bytes fault)) (O.told out.old)) }
-    ensures part { Part (O.told out.old) (O.told out.new) (named_record named END_KIND (number ∷ fault_bytes fault)) }
-    ensures cause { OnErr result (Rose (O.faults out.old) (O.faults out.new)) }
-    ensures count { O.faults out.old ≤ O.faults out.new }
+    ensures ok { OnOk result ((O.view out.new).told ≡ added (named_record named END_KIND (number ∷ fault_bytes fault)) (O.view out.old).told) }
+    ensures part { Part (O.view out.old).told (O.view out.new).told (named_record named END_KIND (number ∷ fault_bytes fault)) }
+    ensures cause { OnErr result (SinkRose (O.view out.old) (O.view out.new)) }
+    ensures count { (O.view out.old).faults ≤ (O.view out.new).faults }
 {
     write_header(named, END_KIND, 11, out)?;
     write_all(out, &malformed_bytes(number, fault))
@@ -245,10 +246,10 @@ fn write_malformed<O: Sink>(
 /// Writes the record of the End, where the session ended.
 #[tactic(auto, using(link_traits::proofs::Parts::part_none))]
 fn write_end<O: Sink>(named: Option<u32>, ended: Option<End>, out: &mut O) -> Result<(), SinkFault>
-    ensures ok { OnOk result (O.told out.new ≡ added (named_end named ended) (O.told out.old)) }
-    ensures part { Part (O.told out.old) (O.told out.new) (named_end named ended) }
-    ensures cause { OnErr result (Rose (O.faults out.old) (O.faults out.new)) }
-    ensures count { O.faults out.old ≤ O.faults out.new }
+    ensures ok { OnOk result ((O.view out.new).told ≡ added (named_end named ended) (O.view out.old).told) }
+    ensures part { Part (O.view out.old).told (O.view out.new).told (named_end named ended) }
+    ensures cause { OnErr result (SinkRose (O.view out.old) (O.view out.new)) }
+    ensures count { (O.view out.old).faults ≤ (O.view out.new).faults }
 {
     match ended {
         None => Ok(()),
@@ -276,10 +277,10 @@ pub fn write_output<O: Sink>(
 ) -> Result<(), SinkFault>
     requires bus { length session.old.bus_side < 2 ^ 32 }
     requires client { length session.old.client_side < 2 ^ 32 }
-    ensures ok { OnOk result (O.told out.new ≡ added (named_output named session.old) (O.told out.old)) }
-    ensures part { Part (O.told out.old) (O.told out.new) (named_output named session.old) }
-    ensures cause { OnErr result (Rose (O.faults out.old) (O.faults out.new)) }
-    ensures count { O.faults out.old ≤ O.faults out.new }
+    ensures ok { OnOk result ((O.view out.new).told ≡ added (named_output named session.old) (O.view out.old).told) }
+    ensures part { Part (O.view out.old).told (O.view out.new).told (named_output named session.old) }
+    ensures cause { OnErr result (SinkRose (O.view out.old) (O.view out.new)) }
+    ensures count { (O.view out.old).faults ≤ (O.view out.new).faults }
 {
     write_side(named, session, Side::Bus, out)?;
     write_side(named, session, Side::Client, out)?;

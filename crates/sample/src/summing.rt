@@ -1,6 +1,7 @@
 //! The summary of a sample.
 ghost use Rattle.std.specs.Prelude.{◌≡◌, ◌≤◌, IfOk, OnOk, IsErrOf, string_bytes};
-ghost use Rattle.link_traits.specs.Told.{added, Part, Rose};
+ghost use Rattle.link_traits.specs.Told.{added, Part};
+ghost use Rattle.link_traits.specs.Views.{SinkRose};
 ghost use Rattle.sample.specs.Summary.{sample_history, sample_options, summary_of};
 
 use crate::generator::MOST_DRAWS;
@@ -27,13 +28,13 @@ pub fn summary<O: Sink>(alloc: Global, n: u32, seed: u64, out: &mut O) -> Result
     requires { n ≤ MOST_DRAWS }
 
     // out gets the line: all of it, or a front where out fails, or nothing where memory is refused.
-    ensures ok { OnOk result (O.told out.new ≡ added (summary_of sample_options.policy (sample_history n seed)) (O.told out.old)) }
-    ensures part { Part (O.told out.old) (O.told out.new) (summary_of sample_options.policy (sample_history n seed)) }
-    ensures memory { IsErrOf result SampleFault.Memory → O.told out.new ≡ O.told out.old }
+    ensures ok { OnOk result ((O.view out.new).told ≡ added (summary_of sample_options.policy (sample_history n seed)) (O.view out.old).told) }
+    ensures part { Part (O.view out.old).told (O.view out.new).told (summary_of sample_options.policy (sample_history n seed)) }
+    ensures memory { IsErrOf result SampleFault.Memory → (O.view out.new).told ≡ (O.view out.old).told }
 
     // out is named only where it failed.
-    ensures cause { IsErrOf result SampleFault.Out → Rose (O.faults out.old) (O.faults out.new) }
-    ensures count { O.faults out.old ≤ O.faults out.new }
+    ensures cause { IsErrOf result SampleFault.Out → SinkRose (O.view out.old) (O.view out.new) }
+    ensures count { (O.view out.old).faults ≤ (O.view out.new).faults }
 {
     let line = summary_line(alloc, n, seed)?;
     write_all(out, line.as_bytes())?;

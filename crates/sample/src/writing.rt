@@ -1,6 +1,7 @@
 //! Writing a sample as a recording (version 1, without the authentication lines).
 ghost use Rattle.std.specs.Prelude.{◌≡◌, ◌≤◌, ◌<◌, ◌^◌, ◌∷◌, ◌++◌, flat_map, length, OnErr, OnOk, IsErrOf};
-ghost use Rattle.link_traits.specs.Told.{added, Part, Rose};
+ghost use Rattle.link_traits.specs.Told.{added, Part};
+ghost use Rattle.link_traits.specs.Views.{SinkRose};
 ghost use Rattle.recording.specs.Recording.{magic, spelled_event, spelled_record, spelled_recording};
 ghost use Rattle.sample.specs.Made.{made_events};
 ghost use Rattle.sample.specs.Sample.{opening, sample as sample_of};
@@ -92,11 +93,11 @@ fn put_opening(out: &mut BytesMut) -> Result<(), AllocError>
 
 /// Writes what was made so far, where that is much. Less than a piece is left.
 fn write_much<S: Sink>(out: &mut BytesMut, sink: &mut S) -> Result<(), SinkFault>
-    ensures ok { OnOk result (Moved (S.told sink.old) (S.told sink.new) out.old.items out.new.items) }
+    ensures ok { OnOk result (Moved (S.view sink.old).told (S.view sink.new).told out.old.items out.new.items) }
     ensures short { OnOk result (length out.new.items < PIECE_LEN) }
-    ensures part { OnErr result (Part (S.told sink.old) (S.told sink.new) out.old.items) }
-    ensures cause { OnErr result (Rose (S.faults sink.old) (S.faults sink.new)) }
-    ensures count { S.faults sink.old ≤ S.faults sink.new }
+    ensures part { OnErr result (Part (S.view sink.old).told (S.view sink.new).told out.old.items) }
+    ensures cause { OnErr result (SinkRose (S.view sink.old) (S.view sink.new)) }
+    ensures count { (S.view sink.old).faults ≤ (S.view sink.new).faults }
 {
     if out.len() < PIECE_LEN {
         return Ok(());
@@ -110,10 +111,10 @@ fn write_much<S: Sink>(out: &mut BytesMut, sink: &mut S) -> Result<(), SinkFault
 /// grow with it.
 pub fn sample<S: Sink>(alloc: Global, n: u32, seed: u64, sink: &mut S) -> Result<(), SampleFault>
     requires { n ≤ MOST_DRAWS }
-    ensures ok { OnOk result (S.told sink.new ≡ added (spelled_recording (sample_of n seed)) (S.told sink.old)) }
-    ensures part { Part (S.told sink.old) (S.told sink.new) (spelled_recording (sample_of n seed)) }
-    ensures cause { IsErrOf result SampleFault.Out → Rose (S.faults sink.old) (S.faults sink.new) }
-    ensures count { S.faults sink.old ≤ S.faults sink.new }
+    ensures ok { OnOk result ((S.view sink.new).told ≡ added (spelled_recording (sample_of n seed)) (S.view sink.old).told) }
+    ensures part { Part (S.view sink.old).told (S.view sink.new).told (spelled_recording (sample_of n seed)) }
+    ensures cause { IsErrOf result SampleFault.Out → SinkRose (S.view sink.old) (S.view sink.new) }
+    ensures count { (S.view sink.old).faults ≤ (S.view sink.new).faults }
 {
     let mut out = BytesMut::new(alloc);
     put_opening(&mut out)?;

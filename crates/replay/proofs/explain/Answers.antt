@@ -16,7 +16,7 @@ pub returns-in-Some-clause-part : goal.returns-in-Some-clause-part
 returns-in-Some-clause-part g c =
     let is = explained_of (options_seen c.args.options.now) (recording_seen c.args.recording.now) c.in_ok-session.session.notes c.args.number c.note_of.result c.in_ok-session.ensures.noted c.note_of.ensures
     ∙ ap (option_map (explanation c.args.options.now.policy)) c.in-Some.is in
-    subst (λ o. IfSome o (λ bytes. Part (g.O.Sink.told c.args.out.now) (g.O.Sink.told c.write_explanation.new.out) bytes)) (sym is) c.write_explanation.ensures.part
+    subst (λ o. IfSome o (λ bytes. Part (g.O.Sink.view c.args.out.now).told (g.O.Sink.view c.write_explanation.new.out).told bytes)) (sym is) c.write_explanation.ensures.part
 
 pub returns-in-Some-clause-none : goal.returns-in-Some-clause-none
 returns-in-Some-clause-none g c =

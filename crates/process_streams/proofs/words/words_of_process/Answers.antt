@@ -2,6 +2,7 @@ use Rattle.std.proofs.Common.{rules, ap, ◌∙◌, map, arith, ◌≡◌, IfSom
 use Rattle.std.proofs.lemmas.List.{map_push}
 use Rattle.std.specs.List.{slice_get}
 use Rattle.std.specs.Option.{option_map}
+use Rattle.link_traits.specs.Texts.{texts_of}
 use Rattle.process_streams.proofs.Reading.{more_texts, bad_word}
 use Rattle.process_streams.proofs.words.words_of_process.Goals as goal
 
@@ -19,7 +20,7 @@ returns-in_default-clause-err g c =
     let n = length c.loop-index.texts.items in
     let is_next : IfSome told (λ words. Some c.in-Ok-Some.bytes.items ≡ slice_get words (suc n)) =
     next_is told c.loop-index.index n _ c.in-Ok-Some.bytes.items c.loop-index.invariant.count (ap (λ o. option_map (λ w. w.items) o) c.in-Ok-Some.field-0-is) c.in-Ok-Some.ensures in
-    bad_word told (map (λ w. string_bytes w) c.loop-index.texts.items) n c.in-Ok-Some.bytes.items c.loop-index.invariant.texts is_next (c.text_of.ensures.none c.in_default.is)
+    bad_word told (texts_of c.loop-index.texts.items) n c.in-Ok-Some.bytes.items c.loop-index.invariant.texts is_next (c.text_of.ensures.none c.in_default.is)
 
 pub loop-index-preserved : goal.loop-index-preserved
 loop-index-preserved g c =
@@ -29,10 +30,10 @@ loop-index-preserved g c =
     let is_next : IfSome told (λ words. Some c.in-Ok-Some.bytes.items ≡ slice_get words (suc n)) =
     next_is told c.loop-index.index n _ c.in-Ok-Some.bytes.items c.loop-index.invariant.count (ap (λ o. option_map (λ w. w.items) o) c.in-Ok-Some.field-0-is) c.in-Ok-Some.ensures in
     let items : c.push.new.self.items ≡ before ++ (c.in-Some.text ∷ []) = search rules in
-    let texts : map (λ w. string_bytes w) c.push.new.self.items ≡ map (λ w. string_bytes w) before ++ (c.in-Ok-Some.bytes.items ∷ []) =
-    ap (map (λ w. string_bytes w)) items ∙ map_push (λ w. string_bytes w) before c.in-Some.text ∙ ap (λ w. map (λ w. string_bytes w) before ++ (w ∷ [])) c.in-Some.ensures.some in
+    let texts : texts_of c.push.new.self.items ≡ texts_of before ++ (c.in-Ok-Some.bytes.items ∷ []) =
+    ap (map (λ w. string_bytes w)) items ∙ map_push (λ w. string_bytes w) before c.in-Some.text ∙ ap (λ w. texts_of before ++ (w ∷ [])) c.in-Some.ensures.some in
     let longer : length c.push.new.self.items ≡ suc n = omega (arith, ap length items, length-append before (c.in-Some.text ∷ [])) in
     record {
       count = omega (arith, longer, c.loop-index.invariant.count);
-      texts = carried told _ _ _ _ texts longer (more_texts told (map (λ w. string_bytes w) before) n c.in-Ok-Some.bytes.items c.loop-index.invariant.texts is_next);
+      texts = carried told _ _ _ _ texts longer (more_texts told (texts_of before) n c.in-Ok-Some.bytes.items c.loop-index.invariant.texts is_next);
     }

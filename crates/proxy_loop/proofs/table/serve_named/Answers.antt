@@ -3,7 +3,6 @@ use Rattle.std.specs.Global.{Box}
 use Rattle.std.specs.HashMap.{get}
 use Rattle.std.specs.Option.{option_map}
 use Rattle.proxy_loop.specs.declared.serving.Running.{Running}
-use Rattle.proxy_loop.specs.Sinks.{sink_of}
 use Rattle.proxy_loop.specs.Tables.{at_in, table_of}
 use Rattle.proxy_loop.proofs.Tabled.{link_did, sets_held, sets_over, seen_set, seen_none}
 use Rattle.proxy_loop.proofs.table.serve_named.Goals as goal
@@ -22,7 +21,7 @@ returns g c =
     record {
       did = link_did c.args.blocks.now c.args.link (table_of c.args.sessions.now) (table_of (record { accepted = c.args.sessions.now.accepted; running = c.remove.new.self }))
           c.deref_mut-running.result.now c.serve_with.new.running (g.N.Net.view c.args.net.now) (g.N.Net.view c.serve_with.new.net)
-          (sink_of (g.S.Sink.told c.args.sink.now) (g.S.Sink.faults c.args.sink.now)) (sink_of (g.S.Sink.told c.serve_with.new.sink) (g.S.Sink.faults c.serve_with.new.sink)) at c.serve_with.ensures.served
+          (g.S.Sink.view c.args.sink.now) (g.S.Sink.view c.serve_with.new.sink) at c.serve_with.ensures.served
           (sets_over c.args.link.session c.serve_with.new.running (table_of c.args.sessions.now).at (at_in (c.get_mut.follows.lender held))
           (table_of (record { accepted = c.args.sessions.now.accepted; running = c.remove.new.self })).at
           (sym c.is_session_over.ensures ∙ c.if-not-is_session_over.false)
@@ -42,7 +41,7 @@ returns-then-not-is_session_over g c =
       did = link_did c.args.blocks.now c.args.link (table_of c.args.sessions.now)
           (table_of (record { accepted = c.args.sessions.now.accepted; running = c.get_mut.follows.lender held }))
           c.deref_mut-running.result.now c.serve_with.new.running (g.N.Net.view c.args.net.now) (g.N.Net.view c.serve_with.new.net)
-          (sink_of (g.S.Sink.told c.args.sink.now) (g.S.Sink.faults c.args.sink.now)) (sink_of (g.S.Sink.told c.serve_with.new.sink) (g.S.Sink.faults c.serve_with.new.sink)) at c.serve_with.ensures.served
+          (g.S.Sink.view c.args.sink.now) (g.S.Sink.view c.serve_with.new.sink) at c.serve_with.ensures.served
           (sets_held c.args.link.session c.serve_with.new.running (table_of c.args.sessions.now).at
           (table_of (record { accepted = c.args.sessions.now.accepted; running = c.get_mut.follows.lender held })).at
           (sym c.is_session_over.ensures ∙ c.if-not-is_session_over.true)

@@ -1,6 +1,5 @@
 use Rattle.std.proofs.Common.{◌≡◌, ap, sym, subst}
 use Rattle.proxy_core.specs.Sessions.{SessionView}
-use Rattle.proxy_loop.specs.Sinks.{sink_of}
 use Rattle.proxy_loop.specs.Turns.{IsServed}
 use Rattle.proxy_loop.specs.declared.serving.Running.{Running}
 use Rattle.proxy_loop.proofs.table.serve_with.Goals as goal
@@ -11,8 +10,8 @@ returns g c =
     let new = c.serve_at.new.running in
     let before = g.N.Net.view c.args.net.now in
     let after = g.N.Net.view c.serve_at.new.net in
-    let first = sink_of (g.S.Sink.told c.args.sink.now) (g.S.Sink.faults c.args.sink.now) in
-    let last = sink_of (g.S.Sink.told c.serve_at.new.sink) (g.S.Sink.faults c.serve_at.new.sink) in
+    let first = g.S.Sink.view c.args.sink.now in
+    let last = g.S.Sink.view c.serve_at.new.sink in
     record {
       served =
           subst (λ (s : SessionView). IsServed c.args.blocks.now c.args.side old (record new { session = s }) before after first last) (sym c.give_room.ensures)

@@ -1,5 +1,4 @@
 use Rattle.std.proofs.Common.{sym, ◌∙◌, Err}
-use Rattle.proxy_loop.specs.Sinks.{sink_of}
 use Rattle.proxy_loop.specs.declared.turns.ServerEnd.TheVariants.{Memory}
 use Rattle.proxy_loop.specs.Tables.{table_of}
 use Rattle.proxy_loop.proofs.TurnLaws.{on_ok, on_err, counted_is, after_wait, turn_worked, wait_rose}
@@ -22,12 +21,12 @@ returns-then-is_err-clause-did g c = record {
 pub returns-then-is_err-clause-sound : goal.returns-then-is_err-clause-sound
 returns-then-is_err-clause-sound g c =
     (turn_worked c.args.blocks.now c.args.limit (table_of c.args.sessions.now) (table_of c.work_on-worked.new.sessions) (g.N.Net.view c.args.net.now) (g.N.Net.view c.work_on-worked.new.net)
-    (sink_of (g.S.Sink.told c.args.sink.now) (g.S.Sink.faults c.args.sink.now)) (sink_of (g.S.Sink.told c.work_on-worked.new.sink) (g.S.Sink.faults c.work_on-worked.new.sink)) (Err Memory) c.requires.sound (returns-then-is_err-clause-did g c)).sound
+    (g.S.Sink.view c.args.sink.now) (g.S.Sink.view c.work_on-worked.new.sink) (Err Memory) c.requires.sound (returns-then-is_err-clause-did g c)).sound
 
 pub returns-then-is_err-clause-serves : goal.returns-then-is_err-clause-serves
 returns-then-is_err-clause-serves g c =
     (turn_worked c.args.blocks.now c.args.limit (table_of c.args.sessions.now) (table_of c.work_on-worked.new.sessions) (g.N.Net.view c.args.net.now) (g.N.Net.view c.work_on-worked.new.net)
-    (sink_of (g.S.Sink.told c.args.sink.now) (g.S.Sink.faults c.args.sink.now)) (sink_of (g.S.Sink.told c.work_on-worked.new.sink) (g.S.Sink.faults c.work_on-worked.new.sink)) (Err Memory) c.requires.sound (returns-then-is_err-clause-did g c)).on
+    (g.S.Sink.view c.args.sink.now) (g.S.Sink.view c.work_on-worked.new.sink) (Err Memory) c.requires.sound (returns-then-is_err-clause-did g c)).on
 
 pub returns-clause-did : goal.returns-clause-did
 returns-clause-did g c = record {
@@ -38,7 +37,7 @@ returns-clause-did g c = record {
   quiet = c.wait-ready.ensures.quiet;
   wishes = c.wait-ready.ensures.wishes;
   does = after_wait c.args.blocks.now c.args.limit c.wait-ready.result (table_of c.args.sessions.now) (table_of c.work_on-worked.new.sessions)
-      (g.N.Net.view c.wait-ready.new.self) (g.N.Net.view c.work_on-worked.new.net) (sink_of (g.S.Sink.told c.args.sink.now) (g.S.Sink.faults c.args.sink.now)) (sink_of (g.S.Sink.told c.work_on-worked.new.sink) (g.S.Sink.faults c.work_on-worked.new.sink))
+      (g.N.Net.view c.wait-ready.new.self) (g.N.Net.view c.work_on-worked.new.net) (g.S.Sink.view c.args.sink.now) (g.S.Sink.view c.work_on-worked.new.sink)
       c.answer.result c.answer.ensures (on_ok c.work_on-worked.result _ (sym c.is_err.ensures.value ∙ c.if-is_err.false) c.work_on-worked.ensures.did);
   counted = counted_is c.work_on-worked.new.sessions;
 }
@@ -46,34 +45,34 @@ returns-clause-did g c = record {
 pub returns-clause-sound : goal.returns-clause-sound
 returns-clause-sound g c =
     (turn_worked c.args.blocks.now c.args.limit (table_of c.args.sessions.now) (table_of c.work_on-worked.new.sessions) (g.N.Net.view c.args.net.now) (g.N.Net.view c.work_on-worked.new.net)
-    (sink_of (g.S.Sink.told c.args.sink.now) (g.S.Sink.faults c.args.sink.now)) (sink_of (g.S.Sink.told c.work_on-worked.new.sink) (g.S.Sink.faults c.work_on-worked.new.sink)) c.answer.result c.requires.sound (returns-clause-did g c)).sound
+    (g.S.Sink.view c.args.sink.now) (g.S.Sink.view c.work_on-worked.new.sink) c.answer.result c.requires.sound (returns-clause-did g c)).sound
 
 pub returns-clause-serves : goal.returns-clause-serves
 returns-clause-serves g c =
     (turn_worked c.args.blocks.now c.args.limit (table_of c.args.sessions.now) (table_of c.work_on-worked.new.sessions) (g.N.Net.view c.args.net.now) (g.N.Net.view c.work_on-worked.new.net)
-    (sink_of (g.S.Sink.told c.args.sink.now) (g.S.Sink.faults c.args.sink.now)) (sink_of (g.S.Sink.told c.work_on-worked.new.sink) (g.S.Sink.faults c.work_on-worked.new.sink)) c.answer.result c.requires.sound (returns-clause-did g c)).on
+    (g.S.Sink.view c.args.sink.now) (g.S.Sink.view c.work_on-worked.new.sink) c.answer.result c.requires.sound (returns-clause-did g c)).on
 
 pub returns-clause-wait : goal.returns-clause-wait
 returns-clause-wait g c = λ e.
     wait_rose c.args.blocks.now c.args.limit (table_of c.args.sessions.now) (table_of c.work_on-worked.new.sessions) (g.N.Net.view c.args.net.now) (g.N.Net.view c.work_on-worked.new.net)
-    (sink_of (g.S.Sink.told c.args.sink.now) (g.S.Sink.faults c.args.sink.now)) (sink_of (g.S.Sink.told c.work_on-worked.new.sink) (g.S.Sink.faults c.work_on-worked.new.sink)) c.answer.result e (returns-clause-did g c)
+    (g.S.Sink.view c.args.sink.now) (g.S.Sink.view c.work_on-worked.new.sink) c.answer.result e (returns-clause-did g c)
 
 pub returns-then-is_err-clause-log : goal.returns-then-is_err-clause-log
 returns-then-is_err-clause-log g c =
     turn_logs c.args.blocks.now c.args.limit (table_of c.args.sessions.now) (table_of c.work_on-worked.new.sessions) (g.N.Net.view c.args.net.now) (g.N.Net.view c.work_on-worked.new.net)
-    (sink_of (g.S.Sink.told c.args.sink.now) (g.S.Sink.faults c.args.sink.now)) (sink_of (g.S.Sink.told c.work_on-worked.new.sink) (g.S.Sink.faults c.work_on-worked.new.sink)) (Err Memory) c.requires.sound (returns-then-is_err-clause-did g c)
+    (g.S.Sink.view c.args.sink.now) (g.S.Sink.view c.work_on-worked.new.sink) (Err Memory) c.requires.sound (returns-then-is_err-clause-did g c)
 
 pub returns-clause-log : goal.returns-clause-log
 returns-clause-log g c =
     turn_logs c.args.blocks.now c.args.limit (table_of c.args.sessions.now) (table_of c.work_on-worked.new.sessions) (g.N.Net.view c.args.net.now) (g.N.Net.view c.work_on-worked.new.net)
-    (sink_of (g.S.Sink.told c.args.sink.now) (g.S.Sink.faults c.args.sink.now)) (sink_of (g.S.Sink.told c.work_on-worked.new.sink) (g.S.Sink.faults c.work_on-worked.new.sink)) c.answer.result c.requires.sound (returns-clause-did g c)
+    (g.S.Sink.view c.args.sink.now) (g.S.Sink.view c.work_on-worked.new.sink) c.answer.result c.requires.sound (returns-clause-did g c)
 
 pub returns-then-is_err-clause-wished : goal.returns-then-is_err-clause-wished
 returns-then-is_err-clause-wished g c =
     turn_wished c.args.blocks.now c.args.limit (table_of c.args.sessions.now) (table_of c.work_on-worked.new.sessions) (g.N.Net.view c.args.net.now) (g.N.Net.view c.work_on-worked.new.net)
-    (sink_of (g.S.Sink.told c.args.sink.now) (g.S.Sink.faults c.args.sink.now)) (sink_of (g.S.Sink.told c.work_on-worked.new.sink) (g.S.Sink.faults c.work_on-worked.new.sink)) (Err Memory) c.requires.sound (returns-then-is_err-clause-did g c)
+    (g.S.Sink.view c.args.sink.now) (g.S.Sink.view c.work_on-worked.new.sink) (Err Memory) c.requires.sound (returns-then-is_err-clause-did g c)
 
 pub returns-clause-wished : goal.returns-clause-wished
 returns-clause-wished g c =
     turn_wished c.args.blocks.now c.args.limit (table_of c.args.sessions.now) (table_of c.work_on-worked.new.sessions) (g.N.Net.view c.args.net.now) (g.N.Net.view c.work_on-worked.new.net)
-    (sink_of (g.S.Sink.told c.args.sink.now) (g.S.Sink.faults c.args.sink.now)) (sink_of (g.S.Sink.told c.work_on-worked.new.sink) (g.S.Sink.faults c.work_on-worked.new.sink)) c.answer.result c.requires.sound (returns-clause-did g c)
+    (g.S.Sink.view c.args.sink.now) (g.S.Sink.view c.work_on-worked.new.sink) c.answer.result c.requires.sound (returns-clause-did g c)

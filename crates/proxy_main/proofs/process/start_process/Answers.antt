@@ -1,4 +1,5 @@
-use Rattle.std.proofs.Common.{◌≡◌, Bool, true, false, List, Option, Some, None, IfSome, String, Global, refl, sym, subst, map, drop, string_bytes}
+use Rattle.std.proofs.Common.{◌≡◌, Bool, true, false, List, Option, Some, None, IfSome, String, Global, refl, sym, subst, drop}
+use Rattle.link_traits.specs.Texts.{texts_of}
 use Rattle.proxy_main.specs.Starts.{OfTool, OfFault}
 use Rattle.proxy_main.proofs.process.start_process.Goals as goal
 
@@ -12,7 +13,7 @@ returns-in-Err-clause-starts g c = OfFault c.in-Err.fault c.in-Err.ensures.err c
 pub returns-in-Some-clause-starts : goal.returns-in-Some-clause-starts
 returns-in-Some-clause-starts g c =
     let told = g.A.Arguments.told c.args.arguments.now in
-    let words = map (λ w. string_bytes w) c.deref.result.now in
+    let words = texts_of c.deref.result.now in
     let are : IfSome told (λ all. words ≡ drop 1 all) =
-    subst (λ (l : List (String Global)). IfSome told (λ all. map (λ w. string_bytes w) l ≡ drop 1 all)) (sym c.deref.ensures.value) c.in-Ok.ensures.ok in
+    subst (λ (l : List (String Global)). IfSome told (λ all. texts_of l ≡ drop 1 all)) (sym c.deref.ensures.value) c.in-Ok.ensures.ok in
     OfTool words are (named _ _ c.in-Some.status refl c.in-Some.ensures.none.0) c.in-Some.ensures.runs

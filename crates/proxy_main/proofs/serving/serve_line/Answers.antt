@@ -1,5 +1,4 @@
 use Rattle.std.proofs.Common.{◌≡◌, ◌∙◌, ℕ, List, ap, sym, Option, Some, option_map, string_bytes}
-use Rattle.proxy_loop.specs.Sinks.{sink_of}
 use Rattle.proxy_main.specs.LineRuns.{Plain, Records}
 use Rattle.proxy_main.proofs.LineEndings.{said_all}
 use Rattle.proxy_main.proofs.serving.serve_line.Goals as goal
@@ -17,7 +16,7 @@ returns-in-Some-clause-others g c = λ p apart.
 pub returns-in-None-clause-ran : goal.returns-in-None-clause-ran
 returns-in-None-clause-ran g c =
     Plain (ap (option_map (λ p. string_bytes p)) (sym c.take.ensures.value ∙ c.in-None.is)) c.serve-end.result
-    (sink_of (g.E.Sink.told c.serve-end.new.log) (g.E.Sink.faults c.serve-end.new.log))
+    (g.E.Sink.view c.serve-end.new.log)
     (record { did = c.serve-end.ensures.did; links = c.serve-end.ensures.links; log = c.serve-end.ensures.log; listen = c.serve-end.ensures.listen; wait = c.serve-end.ensures.wait })
-    (said_all (sink_of (g.E.Sink.told c.args.err.now) (g.E.Sink.faults c.args.err.now)) (sink_of (g.E.Sink.told c.serve-end.new.log) (g.E.Sink.faults c.serve-end.new.log))
-    (sink_of (g.E.Sink.told c.tell_end.new.err) (g.E.Sink.faults c.tell_end.new.err)) c.tell_end.result.code c.serve-end.result c.serve-end.ensures.count c.tell_end.ensures.told)
+    (said_all (g.E.Sink.view c.args.err.now) (g.E.Sink.view c.serve-end.new.log)
+    (g.E.Sink.view c.tell_end.new.err) c.tell_end.result.code c.serve-end.result c.serve-end.ensures.count c.tell_end.ensures.told)

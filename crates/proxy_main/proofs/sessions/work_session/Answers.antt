@@ -14,42 +14,42 @@ use Rattle.proxy_main.proofs.sessions.work_session.Goals as goal
 
 pub returns-in-Ok-clause-done : goal.returns-in-Ok-clause-done
 returns-in-Ok-clause-done g c =
-    IfOk-weaker c.write_session.result _ _ (λ status h. done_as _ _ _ _ status.code (session_loaded (g.F.Files.told c.args.files.now) c.args.recording.now c.args.number (sessions_seen c.in-Ok.sessions) c.in-Ok.ensures.loads) h) c.write_session.ensures.done
+    IfOk-weaker c.write_session.result _ _ (λ status h. done_as _ _ _ _ status.code (session_loaded (g.F.Files.view c.args.files.now).told c.args.recording.now c.args.number (sessions_seen c.in-Ok.sessions) c.in-Ok.ensures.loads) h) c.write_session.ensures.done
 
 pub returns-in-Ok-clause-stops : goal.returns-in-Ok-clause-stops
 returns-in-Ok-clause-stops g c =
     IfErr-weaker c.write_session.result _ _
-    (λ stop h. h (g.F.Files.told c.args.files.now) (Some (Session c.args.recording.now c.args.number)) (session_loaded (g.F.Files.told c.args.files.now) c.args.recording.now c.args.number (sessions_seen c.in-Ok.sessions) c.in-Ok.ensures.loads) tt) c.write_session.ensures.stops
+    (λ stop h. h (g.F.Files.view c.args.files.now).told (Some (Session c.args.recording.now c.args.number)) (session_loaded (g.F.Files.view c.args.files.now).told c.args.recording.now c.args.number (sessions_seen c.in-Ok.sessions) c.in-Ok.ensures.loads) tt) c.write_session.ensures.stops
 
 pub returns-in-Ok-clause-cause : goal.returns-in-Ok-clause-cause
 returns-in-Ok-clause-cause g c = IfErr-weaker c.write_session.result _ _ (λ stop h. caused_more _ _ stop h) c.write_session.ensures.cause
 
 pub returns-in-Ok-clause-keeps : goal.returns-in-Ok-clause-keeps
 returns-in-Ok-clause-keeps g c =
-    IfErr-weaker c.write_session.result _ _ (λ stop h. keeps_as _ _ _ _ (session_loaded (g.F.Files.told c.args.files.now) c.args.recording.now c.args.number (sessions_seen c.in-Ok.sessions) c.in-Ok.ensures.loads) stop h) c.write_session.ensures.keeps
+    IfErr-weaker c.write_session.result _ _ (λ stop h. keeps_as _ _ _ _ (session_loaded (g.F.Files.view c.args.files.now).told c.args.recording.now c.args.number (sessions_seen c.in-Ok.sessions) c.in-Ok.ensures.loads) stop h) c.write_session.ensures.keeps
 
 pub returns-in-Ok-clause-until : goal.returns-in-Ok-clause-until
 returns-in-Ok-clause-until g c =
-    work_ends 0 (c.args.recording.now ∷ []) (g.F.Files.reads c.args.files.now) (g.F.Files.reads c.load_sessions.new.files) c.load_sessions.ensures.read c.write_session.result c.write_session.ensures.work
+    work_ends 0 (c.args.recording.now ∷ []) (g.F.Files.view c.args.files.now).reads (g.F.Files.view c.load_sessions.new.files).reads c.load_sessions.ensures.read c.write_session.result c.write_session.ensures.work
 
 pub returns-in-Ok-clause-needed : goal.returns-in-Ok-clause-needed
 returns-in-Ok-clause-needed g c =
-    let told = g.F.Files.told c.args.files.now in
+    let told = (g.F.Files.view c.args.files.now).told in
     let command = Some (Session c.args.recording.now c.args.number) in
-    reads_needed (IsSettled (answer_to told command)) (needed told command) (g.F.Files.reads c.args.files.now) (g.F.Files.reads c.load_sessions.new.files)
-    (c.load_sessions.ensures.read ∙ ap (λ (paths : List (List ℕ)). g.F.Files.reads c.args.files.now ++ paths) (sym (one_needed told c.args.recording.now))) c.write_session.result
+    reads_needed (IsSettled (answer_to told command)) (needed told command) (g.F.Files.view c.args.files.now).reads (g.F.Files.view c.load_sessions.new.files).reads
+    (c.load_sessions.ensures.read ∙ ap (λ (paths : List (List ℕ)). (g.F.Files.view c.args.files.now).reads ++ paths) (sym (one_needed told c.args.recording.now))) c.write_session.result
 
 pub returns-in-Err-clause-stops : goal.returns-in-Err-clause-stops
-returns-in-Err-clause-stops g c = session_stops (g.F.Files.told c.args.files.now) c.args.recording.now c.args.number c.in-Err.stop c.in-Err.ensures.loads
+returns-in-Err-clause-stops g c = session_stops (g.F.Files.view c.args.files.now).told c.args.recording.now c.args.number c.in-Err.stop c.in-Err.ensures.loads
 
 pub returns-in-Err-clause-until : goal.returns-in-Err-clause-until
 returns-in-Err-clause-until g c =
-    recording_stops 0 [] [] (g.F.Files.reads c.args.files.now) (g.F.Files.reads c.args.files.now) (g.F.Files.reads c.load_sessions.new.files) c.args.recording.now
-    (none_named (g.F.Files.reads c.args.files.now)) c.load_sessions.ensures.read c.in-Err.stop c.in-Err.ensures.at
+    recording_stops 0 [] [] (g.F.Files.view c.args.files.now).reads (g.F.Files.view c.args.files.now).reads (g.F.Files.view c.load_sessions.new.files).reads c.args.recording.now
+    (none_named (g.F.Files.view c.args.files.now).reads) c.load_sessions.ensures.read c.in-Err.stop c.in-Err.ensures.at
 
 pub returns-in-Err-clause-needed : goal.returns-in-Err-clause-needed
 returns-in-Err-clause-needed g c =
-    let told = g.F.Files.told c.args.files.now in
+    let told = (g.F.Files.view c.args.files.now).told in
     let command = Some (Session c.args.recording.now c.args.number) in
-    needed_until (IsSettled (answer_to told command)) (needed told command) (g.F.Files.reads c.args.files.now) (g.F.Files.reads c.load_sessions.new.files)
-    (c.load_sessions.ensures.read ∙ ap (λ (paths : List (List ℕ)). g.F.Files.reads c.args.files.now ++ paths) (sym (one_needed told c.args.recording.now))) c.in-Err.stop
+    needed_until (IsSettled (answer_to told command)) (needed told command) (g.F.Files.view c.args.files.now).reads (g.F.Files.view c.load_sessions.new.files).reads
+    (c.load_sessions.ensures.read ∙ ap (λ (paths : List (List ℕ)). (g.F.Files.view c.args.files.now).reads ++ paths) (sym (one_needed told c.args.recording.now))) c.in-Err.stop

@@ -9,7 +9,7 @@ use Rattle.proxy_main.proofs.sessions.write_listing.Goals as goal
 pub returns-in-Ok-clause-done : goal.returns-in-Ok-clause-done
 returns-in-Ok-clause-done g c =
     let is : listed (sessions_seen c.args.sessions.now) ≡ Wrote c.as_bytes.result.now [] = list_written (sessions_seen c.args.sessions.now) c.as_bytes.result.now (c.as_bytes.ensures.value ∙ c.in-Ok.ensures) in
-    IfOk-weaker c.write_bytes.result _ _ (λ status h. subst (λ (a : Answer). IsDone a (g.O.Sink.told c.args.out.now) (g.O.Sink.told c.write_bytes.new.out) status.code) (sym is) h) c.write_bytes.ensures.done
+    IfOk-weaker c.write_bytes.result _ _ (λ status h. subst (λ (a : Answer). IsDone a (g.O.Sink.view c.args.out.now).told (g.O.Sink.view c.write_bytes.new.out).told status.code) (sym is) h) c.write_bytes.ensures.done
 
 pub returns-in-Ok-clause-stops : goal.returns-in-Ok-clause-stops
 returns-in-Ok-clause-stops g c =
@@ -19,4 +19,4 @@ returns-in-Ok-clause-stops g c =
 pub returns-in-Ok-clause-keeps : goal.returns-in-Ok-clause-keeps
 returns-in-Ok-clause-keeps g c =
     let is : listed (sessions_seen c.args.sessions.now) ≡ Wrote c.as_bytes.result.now [] = list_written (sessions_seen c.args.sessions.now) c.as_bytes.result.now (c.as_bytes.ensures.value ∙ c.in-Ok.ensures) in
-    IfErr-weaker c.write_bytes.result _ _ (λ stop h. subst (λ (a : Answer). Keeps a (g.O.Sink.told c.args.out.now) (g.O.Sink.told c.write_bytes.new.out) stop) (sym is) h) c.write_bytes.ensures.keeps
+    IfErr-weaker c.write_bytes.result _ _ (λ stop h. subst (λ (a : Answer). Keeps a (g.O.Sink.view c.args.out.now).told (g.O.Sink.view c.write_bytes.new.out).told stop) (sym is) h) c.write_bytes.ensures.keeps

@@ -11,7 +11,7 @@ pub returns-in-Ok-Some-clause-done : goal.returns-in-Ok-Some-clause-done
 returns-in-Ok-Some-clause-done g c =
     let found : session_file_of (sessions_seen c.args.sessions.now) c.args.number ≡ Some c.as_slice.result.now = grind (arith, c.in-Ok-Some.ensures, c.in-Ok-Some.field-0-is, c.as_slice.ensures) in
     let is : extracting c.args.number (sessions_seen c.args.sessions.now) ≡ Wrote c.as_slice.result.now [] = session_found c.args.number (sessions_seen c.args.sessions.now) c.as_slice.result.now found in
-    IfOk-weaker c.write_bytes.result _ _ (λ status h. subst (λ (a : Answer). IsDone a (g.O.Sink.told c.args.out.now) (g.O.Sink.told c.write_bytes.new.out) status.code) (sym is) h) c.write_bytes.ensures.done
+    IfOk-weaker c.write_bytes.result _ _ (λ status h. subst (λ (a : Answer). IsDone a (g.O.Sink.view c.args.out.now).told (g.O.Sink.view c.write_bytes.new.out).told status.code) (sym is) h) c.write_bytes.ensures.done
 
 pub returns-in-Ok-Some-clause-stops : goal.returns-in-Ok-Some-clause-stops
 returns-in-Ok-Some-clause-stops g c =
@@ -23,7 +23,7 @@ pub returns-in-Ok-Some-clause-keeps : goal.returns-in-Ok-Some-clause-keeps
 returns-in-Ok-Some-clause-keeps g c =
     let found : session_file_of (sessions_seen c.args.sessions.now) c.args.number ≡ Some c.as_slice.result.now = grind (arith, c.in-Ok-Some.ensures, c.in-Ok-Some.field-0-is, c.as_slice.ensures) in
     let is : extracting c.args.number (sessions_seen c.args.sessions.now) ≡ Wrote c.as_slice.result.now [] = session_found c.args.number (sessions_seen c.args.sessions.now) c.as_slice.result.now found in
-    IfErr-weaker c.write_bytes.result _ _ (λ stop h. subst (λ (a : Answer). Keeps a (g.O.Sink.told c.args.out.now) (g.O.Sink.told c.write_bytes.new.out) stop) (sym is) h) c.write_bytes.ensures.keeps
+    IfErr-weaker c.write_bytes.result _ _ (λ stop h. subst (λ (a : Answer). Keeps a (g.O.Sink.view c.args.out.now).told (g.O.Sink.view c.write_bytes.new.out).told stop) (sym is) h) c.write_bytes.ensures.keeps
 
 pub returns-in-Ok-None-clause-stops : goal.returns-in-Ok-None-clause-stops
 returns-in-Ok-None-clause-stops g c = λ told command agrees is.

@@ -31,122 +31,122 @@ none_until words these reads result is none work =
 
 pub returns-in-Explain-clause-log : goal.returns-in-Explain-clause-log
 returns-in-Explain-clause-log g c =
-    let unasked = ap (λ (w : CommandWords). may_log (g.F.Files.told c.args.files.now) (Some (command_of w))) c.in-Explain.is in
-    quiet_stop c.work_explain.result (g.F.Files.told c.args.files.now) _ _ _ _ _ unasked c.work_explain.ensures.cause refl
+    let unasked = ap (λ (w : CommandWords). may_log (g.F.Files.view c.args.files.now).told (Some (command_of w))) c.in-Explain.is in
+    quiet_stop c.work_explain.result (g.F.Files.view c.args.files.now).told _ _ _ _ _ unasked c.work_explain.ensures.cause refl
 
 pub returns-in-Twin-clause-logged : goal.returns-in-Twin-clause-logged
 returns-in-Twin-clause-logged g c =
-    let unasked = ap (λ (w : CommandWords). may_log (g.F.Files.told c.args.files.now) (Some (command_of w))) c.in-Twin.is in
-    quiet_done c.work_twin.result (g.F.Files.told c.args.files.now) _ _ unasked
+    let unasked = ap (λ (w : CommandWords). may_log (g.F.Files.view c.args.files.now).told (Some (command_of w))) c.in-Twin.is in
+    quiet_done c.work_twin.result (g.F.Files.view c.args.files.now).told _ _ unasked
 
 pub returns-in-Twin-clause-log : goal.returns-in-Twin-clause-log
 returns-in-Twin-clause-log g c =
-    let unasked = ap (λ (w : CommandWords). may_log (g.F.Files.told c.args.files.now) (Some (command_of w))) c.in-Twin.is in
-    quiet_stop c.work_twin.result (g.F.Files.told c.args.files.now) _ _ _ _ _ unasked c.work_twin.ensures.cause refl
+    let unasked = ap (λ (w : CommandWords). may_log (g.F.Files.view c.args.files.now).told (Some (command_of w))) c.in-Twin.is in
+    quiet_stop c.work_twin.result (g.F.Files.view c.args.files.now).told _ _ _ _ _ unasked c.work_twin.ensures.cause refl
 
 pub returns-in-Audit-clause-logged : goal.returns-in-Audit-clause-logged
 returns-in-Audit-clause-logged g c =
-    let unasked = ap (λ (w : CommandWords). may_log (g.F.Files.told c.args.files.now) (Some (command_of w))) c.in-Audit.is in
-    quiet_done c.work_audit.result (g.F.Files.told c.args.files.now) _ _ unasked
+    let unasked = ap (λ (w : CommandWords). may_log (g.F.Files.view c.args.files.now).told (Some (command_of w))) c.in-Audit.is in
+    quiet_done c.work_audit.result (g.F.Files.view c.args.files.now).told _ _ unasked
 
 pub returns-in-Audit-clause-log : goal.returns-in-Audit-clause-log
 returns-in-Audit-clause-log g c =
-    let unasked = ap (λ (w : CommandWords). may_log (g.F.Files.told c.args.files.now) (Some (command_of w))) c.in-Audit.is in
-    quiet_stop c.work_audit.result (g.F.Files.told c.args.files.now) _ _ _ _ _ unasked c.work_audit.ensures.cause refl
+    let unasked = ap (λ (w : CommandWords). may_log (g.F.Files.view c.args.files.now).told (Some (command_of w))) c.in-Audit.is in
+    quiet_stop c.work_audit.result (g.F.Files.view c.args.files.now).told _ _ _ _ _ unasked c.work_audit.ensures.cause refl
 
 pub returns-in-Within-clause-logged : goal.returns-in-Within-clause-logged
 returns-in-Within-clause-logged g c =
-    let unasked = ap (λ (w : CommandWords). may_log (g.F.Files.told c.args.files.now) (Some (command_of w))) c.in-Within.is in
-    quiet_done c.work_within.result (g.F.Files.told c.args.files.now) _ _ unasked
+    let unasked = ap (λ (w : CommandWords). may_log (g.F.Files.view c.args.files.now).told (Some (command_of w))) c.in-Within.is in
+    quiet_done c.work_within.result (g.F.Files.view c.args.files.now).told _ _ unasked
 
 pub returns-in-Within-clause-log : goal.returns-in-Within-clause-log
 returns-in-Within-clause-log g c =
-    let unasked = ap (λ (w : CommandWords). may_log (g.F.Files.told c.args.files.now) (Some (command_of w))) c.in-Within.is in
-    quiet_stop c.work_within.result (g.F.Files.told c.args.files.now) _ _ _ _ _ unasked c.work_within.ensures.cause refl
+    let unasked = ap (λ (w : CommandWords). may_log (g.F.Files.view c.args.files.now).told (Some (command_of w))) c.in-Within.is in
+    quiet_stop c.work_within.result (g.F.Files.view c.args.files.now).told _ _ _ _ _ unasked c.work_within.ensures.cause refl
 
 pub returns-in-Suggest-clause-logged : goal.returns-in-Suggest-clause-logged
 returns-in-Suggest-clause-logged g c =
-    let unasked = ap (λ (w : CommandWords). may_log (g.F.Files.told c.args.files.now) (Some (command_of w))) c.in-Suggest.is in
-    quiet_done c.work_suggest.result (g.F.Files.told c.args.files.now) _ _ unasked
+    let unasked = ap (λ (w : CommandWords). may_log (g.F.Files.view c.args.files.now).told (Some (command_of w))) c.in-Suggest.is in
+    quiet_done c.work_suggest.result (g.F.Files.view c.args.files.now).told _ _ unasked
 
 pub returns-in-Suggest-clause-log : goal.returns-in-Suggest-clause-log
 returns-in-Suggest-clause-log g c =
-    let unasked = ap (λ (w : CommandWords). may_log (g.F.Files.told c.args.files.now) (Some (command_of w))) c.in-Suggest.is in
-    quiet_stop c.work_suggest.result (g.F.Files.told c.args.files.now) _ _ _ _ _ unasked c.work_suggest.ensures.cause refl
+    let unasked = ap (λ (w : CommandWords). may_log (g.F.Files.view c.args.files.now).told (Some (command_of w))) c.in-Suggest.is in
+    quiet_stop c.work_suggest.result (g.F.Files.view c.args.files.now).told _ _ _ _ _ unasked c.work_suggest.ensures.cause refl
 
 pub returns-in-Sample-clause-log : goal.returns-in-Sample-clause-log
 returns-in-Sample-clause-log g c =
-    let unasked = ap (λ (w : CommandWords). may_log (g.F.Files.told c.args.files.now) (Some (command_of w))) c.in-Sample.is in
-    quiet_stop c.work_sample.result (g.F.Files.told c.args.files.now) _ _ _ _ _ unasked c.work_sample.ensures.cause refl
+    let unasked = ap (λ (w : CommandWords). may_log (g.F.Files.view c.args.files.now).told (Some (command_of w))) c.in-Sample.is in
+    quiet_stop c.work_sample.result (g.F.Files.view c.args.files.now).told _ _ _ _ _ unasked c.work_sample.ensures.cause refl
 
 pub returns-in-Help-clause-done : goal.returns-in-Help-clause-done
 returns-in-Help-clause-done g c =
-    let answer = ap (λ (w : CommandWords). answer_to (g.F.Files.told c.args.files.now) (Some (command_of w))) c.in-Help.is in
-    subst (λ (a : Answer). IfOk c.work_text.result (λ status. IsDone a (g.O.Sink.told c.args.out.now) (g.O.Sink.told c.work_text.new.out) status.code)) (sym answer) c.work_text.ensures.done
+    let answer = ap (λ (w : CommandWords). answer_to (g.F.Files.view c.args.files.now).told (Some (command_of w))) c.in-Help.is in
+    subst (λ (a : Answer). IfOk c.work_text.result (λ status. IsDone a (g.O.Sink.view c.args.out.now).told (g.O.Sink.view c.work_text.new.out).told status.code)) (sym answer) c.work_text.ensures.done
 
 pub returns-in-Help-clause-log : goal.returns-in-Help-clause-log
 returns-in-Help-clause-log g c =
-    let unasked = ap (λ (w : CommandWords). may_log (g.F.Files.told c.args.files.now) (Some (command_of w))) c.in-Help.is in
-    quiet_stop c.work_text.result (g.F.Files.told c.args.files.now) _ _ _ _ _ unasked c.work_text.ensures.cause refl
+    let unasked = ap (λ (w : CommandWords). may_log (g.F.Files.view c.args.files.now).told (Some (command_of w))) c.in-Help.is in
+    quiet_stop c.work_text.result (g.F.Files.view c.args.files.now).told _ _ _ _ _ unasked c.work_text.ensures.cause refl
 
 pub returns-in-Sample-clause-read : goal.returns-in-Sample-clause-read
-returns-in-Sample-clause-read g c = none_read _ _ (g.F.Files.reads c.args.files.now) c.work_sample.result c.in-Sample.is refl
+returns-in-Sample-clause-read g c = none_read _ _ (g.F.Files.view c.args.files.now).reads c.work_sample.result c.in-Sample.is refl
 
 pub returns-in-Sample-clause-until : goal.returns-in-Sample-clause-until
-returns-in-Sample-clause-until g c = none_until _ _ (g.F.Files.reads c.args.files.now) c.work_sample.result c.in-Sample.is refl c.work_sample.ensures.work
+returns-in-Sample-clause-until g c = none_until _ _ (g.F.Files.view c.args.files.now).reads c.work_sample.result c.in-Sample.is refl c.work_sample.ensures.work
 
 pub returns-in-Help-clause-read : goal.returns-in-Help-clause-read
-returns-in-Help-clause-read g c = none_read _ _ (g.F.Files.reads c.args.files.now) c.work_text.result c.in-Help.is refl
+returns-in-Help-clause-read g c = none_read _ _ (g.F.Files.view c.args.files.now).reads c.work_text.result c.in-Help.is refl
 
 pub returns-in-Help-clause-until : goal.returns-in-Help-clause-until
-returns-in-Help-clause-until g c = none_until _ _ (g.F.Files.reads c.args.files.now) c.work_text.result c.in-Help.is refl c.work_text.ensures.work
+returns-in-Help-clause-until g c = none_until _ _ (g.F.Files.view c.args.files.now).reads c.work_text.result c.in-Help.is refl c.work_text.ensures.work
 
 pub returns-in-Version-clause-read : goal.returns-in-Version-clause-read
-returns-in-Version-clause-read g c = none_read _ _ (g.F.Files.reads c.args.files.now) c.work_version.result c.in-Version.is refl
+returns-in-Version-clause-read g c = none_read _ _ (g.F.Files.view c.args.files.now).reads c.work_version.result c.in-Version.is refl
 
 pub returns-in-Version-clause-until : goal.returns-in-Version-clause-until
-returns-in-Version-clause-until g c = none_until _ _ (g.F.Files.reads c.args.files.now) c.work_version.result c.in-Version.is refl c.work_version.ensures.work
+returns-in-Version-clause-until g c = none_until _ _ (g.F.Files.view c.args.files.now).reads c.work_version.result c.in-Version.is refl c.work_version.ensures.work
 
 pub returns-in-Sample-clause-needed : goal.returns-in-Sample-clause-needed
-returns-in-Sample-clause-needed g c = none_named _ _ (g.F.Files.told c.args.files.now) (g.F.Files.reads c.args.files.now) c.work_sample.result c.in-Sample.is refl
+returns-in-Sample-clause-needed g c = none_named _ _ (g.F.Files.view c.args.files.now).told (g.F.Files.view c.args.files.now).reads c.work_sample.result c.in-Sample.is refl
 
 pub returns-in-Help-clause-needed : goal.returns-in-Help-clause-needed
-returns-in-Help-clause-needed g c = none_named _ _ (g.F.Files.told c.args.files.now) (g.F.Files.reads c.args.files.now) c.work_text.result c.in-Help.is refl
+returns-in-Help-clause-needed g c = none_named _ _ (g.F.Files.view c.args.files.now).told (g.F.Files.view c.args.files.now).reads c.work_text.result c.in-Help.is refl
 
 pub returns-in-Version-clause-needed : goal.returns-in-Version-clause-needed
-returns-in-Version-clause-needed g c = none_named _ _ (g.F.Files.told c.args.files.now) (g.F.Files.reads c.args.files.now) c.work_version.result c.in-Version.is refl
+returns-in-Version-clause-needed g c = none_named _ _ (g.F.Files.view c.args.files.now).told (g.F.Files.view c.args.files.now).reads c.work_version.result c.in-Version.is refl
 
 pub returns-in-Show-clause-log : goal.returns-in-Show-clause-log
 returns-in-Show-clause-log g c =
-    let unasked = ap (λ (w : CommandWords). may_log (g.F.Files.told c.args.files.now) (Some (command_of w))) c.in-Show.is in
-    quiet_stop c.work_show.result (g.F.Files.told c.args.files.now) _ _ _ _ _ unasked c.work_show.ensures.cause refl
+    let unasked = ap (λ (w : CommandWords). may_log (g.F.Files.view c.args.files.now).told (Some (command_of w))) c.in-Show.is in
+    quiet_stop c.work_show.result (g.F.Files.view c.args.files.now).told _ _ _ _ _ unasked c.work_show.ensures.cause refl
 
 pub returns-in-Compose-clause-log : goal.returns-in-Compose-clause-log
 returns-in-Compose-clause-log g c =
-    let unasked = ap (λ (w : CommandWords). may_log (g.F.Files.told c.args.files.now) (Some (command_of w))) c.in-Compose.is in
-    quiet_stop c.work_compose.result (g.F.Files.told c.args.files.now) _ _ _ _ _ unasked c.work_compose.ensures.cause refl
+    let unasked = ap (λ (w : CommandWords). may_log (g.F.Files.view c.args.files.now).told (Some (command_of w))) c.in-Compose.is in
+    quiet_stop c.work_compose.result (g.F.Files.view c.args.files.now).told _ _ _ _ _ unasked c.work_compose.ensures.cause refl
 
 pub returns-in-Session-clause-log : goal.returns-in-Session-clause-log
 returns-in-Session-clause-log g c =
-    let unasked = ap (λ (w : CommandWords). may_log (g.F.Files.told c.args.files.now) (Some (command_of w))) c.in-Session.is in
-    quiet_stop c.work_session.result (g.F.Files.told c.args.files.now) _ _ _ _ _ unasked c.work_session.ensures.cause refl
+    let unasked = ap (λ (w : CommandWords). may_log (g.F.Files.view c.args.files.now).told (Some (command_of w))) c.in-Session.is in
+    quiet_stop c.work_session.result (g.F.Files.view c.args.files.now).told _ _ _ _ _ unasked c.work_session.ensures.cause refl
 
 pub returns-in-ListSessions-clause-log : goal.returns-in-ListSessions-clause-log
 returns-in-ListSessions-clause-log g c =
-    let unasked = ap (λ (w : CommandWords). may_log (g.F.Files.told c.args.files.now) (Some (command_of w))) c.in-ListSessions.is in
-    quiet_stop c.work_sessions.result (g.F.Files.told c.args.files.now) _ _ _ _ _ unasked c.work_sessions.ensures.cause refl
+    let unasked = ap (λ (w : CommandWords). may_log (g.F.Files.view c.args.files.now).told (Some (command_of w))) c.in-ListSessions.is in
+    quiet_stop c.work_sessions.result (g.F.Files.view c.args.files.now).told _ _ _ _ _ unasked c.work_sessions.ensures.cause refl
 
 pub returns-in-Help-clause-logged : goal.returns-in-Help-clause-logged
 returns-in-Help-clause-logged g c =
-    let unasked = ap (λ (w : CommandWords). may_log (g.F.Files.told c.args.files.now) (Some (command_of w))) c.in-Help.is in
-    quiet_done c.work_text.result (g.F.Files.told c.args.files.now) _ _ unasked
+    let unasked = ap (λ (w : CommandWords). may_log (g.F.Files.view c.args.files.now).told (Some (command_of w))) c.in-Help.is in
+    quiet_done c.work_text.result (g.F.Files.view c.args.files.now).told _ _ unasked
 
 pub returns-in-Session-clause-logged : goal.returns-in-Session-clause-logged
 returns-in-Session-clause-logged g c =
-    let unasked = ap (λ (w : CommandWords). may_log (g.F.Files.told c.args.files.now) (Some (command_of w))) c.in-Session.is in
-    quiet_done c.work_session.result (g.F.Files.told c.args.files.now) _ _ unasked
+    let unasked = ap (λ (w : CommandWords). may_log (g.F.Files.view c.args.files.now).told (Some (command_of w))) c.in-Session.is in
+    quiet_done c.work_session.result (g.F.Files.view c.args.files.now).told _ _ unasked
 
 pub returns-in-ListSessions-clause-logged : goal.returns-in-ListSessions-clause-logged
 returns-in-ListSessions-clause-logged g c =
-    let unasked = ap (λ (w : CommandWords). may_log (g.F.Files.told c.args.files.now) (Some (command_of w))) c.in-ListSessions.is in
-    quiet_done c.work_sessions.result (g.F.Files.told c.args.files.now) _ _ unasked
+    let unasked = ap (λ (w : CommandWords). may_log (g.F.Files.view c.args.files.now).told (Some (command_of w))) c.in-ListSessions.is in
+    quiet_done c.work_sessions.result (g.F.Files.view c.args.files.now).told _ _ unasked

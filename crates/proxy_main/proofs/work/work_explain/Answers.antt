@@ -23,20 +23,20 @@ returns-in-Err-Out-clause-keeps g c =
     (λ none. no_other c.in-Err-Out.field-0 c.explain.result c.in-Err-Out.is c.in-Err-Out.field-0-is (c.explain.ensures.none none)))
 
 pub returns-in-Ok-clause-until : goal.returns-in-Ok-clause-until
-returns-in-Ok-clause-until g c = read_all (c.args.policy.now ∷ c.args.recording.now ∷ []) (g.F.Files.reads c.args.files.now) (g.F.Files.reads c.load.new.files) c.in-Ok.ensures.read
+returns-in-Ok-clause-until g c = read_all (c.args.policy.now ∷ c.args.recording.now ∷ []) (g.F.Files.view c.args.files.now).reads (g.F.Files.view c.load.new.files).reads c.in-Ok.ensures.read
 
 pub returns-clause-until : goal.returns-clause-until
 returns-clause-until g c = c.in-Err.ensures.until []
 
 pub returns-in-Ok-clause-needed : goal.returns-in-Ok-clause-needed
 returns-in-Ok-clause-needed g c =
-    read_all (needed (g.F.Files.told c.args.files.now) (Some (Explain c.args.policy.now c.args.recording.now c.args.number))) (g.F.Files.reads c.args.files.now) (g.F.Files.reads c.load.new.files) c.in-Ok.ensures.needed
+    read_all (needed (g.F.Files.view c.args.files.now).told (Some (Explain c.args.policy.now c.args.recording.now c.args.number))) (g.F.Files.view c.args.files.now).reads (g.F.Files.view c.load.new.files).reads c.in-Ok.ensures.needed
 
 pub returns-clause-needed : goal.returns-clause-needed
 returns-clause-needed g c = c.in-Err.ensures.needed_until [] (explained_at c.args.number)
 
 pub returns-in-Err-NoSuchMessage-clause-needed : goal.returns-in-Err-NoSuchMessage-clause-needed
 returns-in-Err-NoSuchMessage-clause-needed g c = (
-  read_all (needed (g.F.Files.told c.args.files.now) (Some (Explain c.args.policy.now c.args.recording.now c.args.number))) (g.F.Files.reads c.args.files.now) (g.F.Files.reads c.load.new.files) c.in-Ok.ensures.needed,
+  read_all (needed (g.F.Files.view c.args.files.now).told (Some (Explain c.args.policy.now c.args.recording.now c.args.number))) (g.F.Files.view c.args.files.now).reads (g.F.Files.view c.load.new.files).reads c.in-Ok.ensures.needed,
   λ settled. c.in-Ok.ensures.needed,
 )

@@ -8,10 +8,10 @@ use Rattle.proxy_main.proofs.work.work_twin.Goals as goal
 
 pub returns-in-Ok-clause-until : goal.returns-in-Ok-clause-until
 returns-in-Ok-clause-until g c =
-    work_ends 1 (c.args.policy.now ∷ c.args.one.now ∷ c.args.other.now ∷ []) (g.F.Files.reads c.args.files.now) (g.F.Files.reads c.load_twins.new.files) c.in-Ok.ensures.read c.compare.result c.compare.ensures.work
+    work_ends 1 (c.args.policy.now ∷ c.args.one.now ∷ c.args.other.now ∷ []) (g.F.Files.view c.args.files.now).reads (g.F.Files.view c.load_twins.new.files).reads c.in-Ok.ensures.read c.compare.result c.compare.ensures.work
 
 pub returns-in-Ok-clause-needed : goal.returns-in-Ok-clause-needed
 returns-in-Ok-clause-needed g c =
-    let told = g.F.Files.told c.args.files.now in
+    let told = (g.F.Files.view c.args.files.now).told in
     let command = Some (Twin c.args.policy.now c.args.one.now c.args.other.now) in
-    reads_needed (IsSettled (answer_to told command)) (needed told command) (g.F.Files.reads c.args.files.now) (g.F.Files.reads c.load_twins.new.files) c.in-Ok.ensures.needed c.compare.result
+    reads_needed (IsSettled (answer_to told command)) (needed told command) (g.F.Files.view c.args.files.now).reads (g.F.Files.view c.load_twins.new.files).reads c.in-Ok.ensures.needed c.compare.result

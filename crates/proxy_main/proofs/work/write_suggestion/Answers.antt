@@ -8,9 +8,9 @@ use Rattle.proxy_main.proofs.work.write_suggestion.Goals as goal
 pub returns-in-Ok-write_all-clause-done : goal.returns-in-Ok-write_all-clause-done
 returns-in-Ok-write_all-clause-done g c =
     let recordings = map recording_seen c.args.recordings.now in
-    let out = g.O.Sink.told c.args.out.now in
+    let out = (g.O.Sink.view c.args.out.now).told in
     let bytes : c.as_bytes.result.now ≡ suggestion_of recordings = c.as_bytes.ensures.value ∙ c.in-Ok.ensures.text in
-    few-done recordings out (g.O.Sink.told c.write_all.new.sink) c.in-Ok.ensures.few (c.in-Ok-write_all.ensures.ok ∙ ap (λ (b : List ℕ). added b out) bytes)
+    few-done recordings out (g.O.Sink.view c.write_all.new.sink).told c.in-Ok.ensures.few (c.in-Ok-write_all.ensures.ok ∙ ap (λ (b : List ℕ). added b out) bytes)
 
 pub returns-in-Ok-clause-stops : goal.returns-in-Ok-clause-stops
 returns-in-Ok-clause-stops g c = λ told command agrees is. few-work (map recording_seen c.args.recordings.now) told command agrees c.in-Ok.ensures.few
@@ -18,8 +18,8 @@ returns-in-Ok-clause-stops g c = λ told command agrees is. few-work (map record
 pub returns-in-Ok-clause-keeps : goal.returns-in-Ok-clause-keeps
 returns-in-Ok-clause-keeps g c =
     let recordings = map recording_seen c.args.recordings.now in
-    let out = g.O.Sink.told c.args.out.now in
-    let new_out = g.O.Sink.told c.write_all.new.sink in
+    let out = (g.O.Sink.view c.args.out.now).told in
+    let new_out = (g.O.Sink.view c.write_all.new.sink).told in
     let bytes : c.as_bytes.result.now ≡ suggestion_of recordings = c.as_bytes.ensures.value ∙ c.in-Ok.ensures.text in
     few-front recordings out new_out c.in-Ok.ensures.few (subst (λ (b : List ℕ). Part out new_out b) bytes c.write_all.ensures.part)
 

@@ -8,11 +8,11 @@ pub loop-done-preserved : goal.loop-done-preserved
 loop-done-preserved g c =
     let bytes = c.args.bytes.now in
     let done = c.loop-done.done in
-    let before = g.F.Files.told c.args.files.now c.args.path.now in
+    let before = (g.F.Files.view c.args.files.now).told c.args.path.now in
     record {
       within = search rules;
       told = c.in-Ok.ensures.added
-          ∙ ap (λ t. added (take c.in-Ok.n t) (g.F.Files.told c.loop-done.files c.args.path.now)) (range-rest done bytes)
+          ∙ ap (λ t. added (take c.in-Ok.n t) ((g.F.Files.view c.loop-done.files).told c.args.path.now)) (range-rest done bytes)
           ∙ ap (added (take c.in-Ok.n (drop done bytes))) c.loop-done.invariant.told
           ∙ added-twice (take done bytes) (take c.in-Ok.n (drop done bytes)) before
           ∙ ap (λ t. added t before) (take-then done c.in-Ok.n bytes c.loop-done.invariant.within);
@@ -34,7 +34,7 @@ returns-in-Err g c = record {
 
 pub returns : goal.returns
 returns g c = record {
-  whole = c.loop-done.invariant.told ∙ ap (λ (l : List ℕ). added l (g.F.Files.told c.args.files.now c.args.path.now)) (take_all c.loop-done.done c.args.bytes.now c.loop-done-test.false);
+  whole = c.loop-done.invariant.told ∙ ap (λ (l : List ℕ). added l ((g.F.Files.view c.args.files.now).told c.args.path.now)) (take_all c.loop-done.done c.args.bytes.now c.loop-done-test.false);
   part = tt;
   others = c.loop-done.invariant.others;
   cause = λ failed. absurd (cc);

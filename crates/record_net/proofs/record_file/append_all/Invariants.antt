@@ -5,10 +5,10 @@ use Rattle.record_net.proofs.record_file.append_all.Given as goal
 abbrev pub invariant-loop-done : goal.invariant-loop-done
 invariant-loop-done g l = record {
   within : l.done ≤ length l.bytes;
-  told : g.F.Files.told l.files l.path ≡ added (take l.done l.bytes) (g.F.Files.told l.fn.files l.path);
-  others : (p : List ℕ) → p ≢ l.path → g.F.Files.told l.files p ≡ g.F.Files.told l.fn.files p;
-  count : g.F.Files.faults l.fn.files ≤ g.F.Files.faults l.files;
-  unread : g.F.Files.reads l.files ≡ g.F.Files.reads l.fn.files;
+  told : (g.F.Files.view l.files).told l.path ≡ added (take l.done l.bytes) ((g.F.Files.view l.fn.files).told l.path);
+  others : (p : List ℕ) → p ≢ l.path → (g.F.Files.view l.files).told p ≡ (g.F.Files.view l.fn.files).told p;
+  count : (g.F.Files.view l.fn.files).faults ≤ (g.F.Files.view l.files).faults;
+  unread : (g.F.Files.view l.files).reads ≡ (g.F.Files.view l.fn.files).reads;
 }
 
 abbrev pub decreases-loop-done : goal.decreases-loop-done

@@ -9,6 +9,6 @@ pub returns : goal.returns
 returns g c before since bytes b n told none =
     let start_is : (g.N.Net.view c.new-recorder.result.net.now).journal ≡ Some before = ap (λ m. (g.N.Net.view m).journal) c.new-recorder.ensures.net ∙ b in
     let journal_is : (g.N.Net.view c.wait_tracked-recorder.result.net.now).journal ≡ Some (since ++ before) = search rules in
-    let told_is : g.F.Files.told c.wait_tracked-recorder.result.files.now (string_bytes c.new-recorder.result.file.now.path) ≡ Some bytes = search rules in
+    let told_is : (g.F.Files.view c.wait_tracked-recorder.result.files.now).told (string_bytes c.new-recorder.result.file.now.path) ≡ Some bytes = search rules in
     let none_is : c.wait_tracked-recorder.result.file.now.failed ≡ None = search rules in
     c.wait_tracked-recorder.ensures.recording.whole before since bytes start_is journal_is told_is none_is

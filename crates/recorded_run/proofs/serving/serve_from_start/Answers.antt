@@ -1,5 +1,5 @@
 use Rattle.std.proofs.Common.{rules, ap, ap₂, sym, ◌∙◌, subst, ◌≤◌, string_bytes}
-use Rattle.record_net.specs.Tapes.{files_of, tape_of}
+use Rattle.record_net.specs.Tapes.{tape_of}
 use Rattle.recorded_run.proofs.Whole.{began_before, recording_at, served_at}
 use Rattle.recorded_run.proofs.serving.serve_from_start.Goals as goal
 
@@ -14,15 +14,15 @@ returns-clause-served g c =
 pub returns-clause-recording : goal.returns-clause-recording
 returns-clause-recording g c =
     began_before _ _ _
-    (files_of (g.F.Files.told c.new-recorder.result.files.now) (g.F.Files.faults c.new-recorder.result.files.now) (g.F.Files.reads c.new-recorder.result.files.now)) _ _
-    (λ p n. ap (λ files. g.F.Files.told files p) c.new-recorder.ensures.files ∙ c.create.ensures.others p n)
-    (subst (λ files. g.F.Files.faults c.args.files.now ≤ g.F.Files.faults files) (sym c.new-recorder.ensures.files) c.create.ensures.count)
-    (ap g.F.Files.reads c.new-recorder.ensures.files ∙ c.create.ensures.unread)
+    (g.F.Files.view c.new-recorder.result.files.now) _ _
+    (λ p n. ap (λ files. (g.F.Files.view files).told p) c.new-recorder.ensures.files ∙ c.create.ensures.others p n)
+    (subst (λ files. (g.F.Files.view c.args.files.now).faults ≤ (g.F.Files.view files).faults) (sym c.new-recorder.ensures.files) c.create.ensures.count)
+    (ap (λ files. (g.F.Files.view files).reads) c.new-recorder.ensures.files ∙ c.create.ensures.unread)
     (recording_at _ _ _ _ _ _ _ _ _
     (ap (λ net. (g.N.Net.view net).journal) c.new-recorder.ensures.net)
     (ap (λ file. string_bytes file.path) c.new-recorder.ensures.file ∙ c.in_ok-file.ensures.path)
     (ap (λ net. (g.N.Net.view net).journal) (search rules))
-    (ap₂ (λ files failed. tape_of (g.F.Files.told files) (g.F.Files.faults files) (g.F.Files.reads files) failed) (search rules) (sym c.failed.ensures))
+    (ap₂ (λ files failed. tape_of (g.F.Files.view files) failed) (search rules) (sym c.failed.ensures))
     c.serve_over-recorder.ensures.recording)
 
 pub returns-clause-others : goal.returns-clause-others

@@ -6,8 +6,8 @@ use Rattle.replay.proofs.logging.write_log.Given as goal
 abbrev pub invariant-loop-note : goal.invariant-loop-note
 invariant-loop-note g l = record {
   taken : List Note;
-  logged : Logged l.fn.session l.session (g.E.Sink.told l.fn.err) (g.E.Sink.told l.err) (string_bytes l.lines) taken;
-  count : g.E.Sink.faults l.fn.err ≤ g.E.Sink.faults l.err;
+  logged : Logged l.fn.session l.session (g.E.Sink.view l.fn.err).told (g.E.Sink.view l.err).told (string_bytes l.lines) taken;
+  count : (g.E.Sink.view l.fn.err).faults ≤ (g.E.Sink.view l.err).faults;
 }
 
 abbrev pub decreases-loop-note : goal.decreases-loop-note

@@ -23,7 +23,7 @@ loop-noted-preserved g c =
     let ns = c.args.notes.now in
     let i = c.loop-noted.noted-index in
     record {
-      logged = subst (λ taken. SessionsLogged (g.E.Sink.told c.args.err.now) (g.E.Sink.told c.put_line.new.err) (string_bytes c.put_line.new.lines) taken) (sym (notes-more ns i c.noted-item.result c.loop-noted-test.true c.noted-item.is))
+      logged = subst (λ taken. SessionsLogged (g.E.Sink.view c.args.err.now).told (g.E.Sink.view c.put_line.new.err).told (string_bytes c.put_line.new.lines) taken) (sym (notes-more ns i c.noted-item.result c.loop-noted-test.true c.noted-item.is))
           (logged-step _ _ _ _ _ (take i ns) c.noted-item.result c.loop-noted.invariant.logged c.in_ok-put_line.ensures.ok);
       count = omega arith;
     }

@@ -4,6 +4,6 @@ use Rattle.replay.proofs.session_logging.write_session_log.Given as goal
 
 abbrev pub invariant-loop-noted : goal.invariant-loop-noted
 invariant-loop-noted g l = record {
-  logged : SessionsLogged (g.E.Sink.told l.fn.err) (g.E.Sink.told l.err) (string_bytes l.lines) (take l.noted-index l.notes);
-  count : g.E.Sink.faults l.fn.err ≤ g.E.Sink.faults l.err;
+  logged : SessionsLogged (g.E.Sink.view l.fn.err).told (g.E.Sink.view l.err).told (string_bytes l.lines) (take l.noted-index l.notes);
+  count : (g.E.Sink.view l.fn.err).faults ≤ (g.E.Sink.view l.err).faults;
 }

@@ -9,9 +9,9 @@ abbrev pub invariant-loop-number : goal.invariant-loop-number
 invariant-loop-number g l = record {
   written : List ℕ;
   split : all_outputs l.fn.running.entries ≡ written ++ all_outputs l.running.entries;
-  got : g.O.Sink.told l.out ≡ added written (g.O.Sink.told l.fn.out);
+  got : (g.O.Sink.view l.out).told ≡ added written (g.O.Sink.view l.fn.out).told;
   few : AllByRecursion IsShort l.running.entries;
-  count : g.O.Sink.faults l.fn.out ≤ g.O.Sink.faults l.out;
+  count : (g.O.Sink.view l.fn.out).faults ≤ (g.O.Sink.view l.out).faults;
 }
 
 abbrev pub decreases-loop-number : goal.decreases-loop-number

@@ -9,5 +9,5 @@ use Rattle.replay.proofs.writing.write_malformed.Goals as goal
 pub returns-in_err-write_header-clause-part : goal.returns-in_err-write_header-clause-part
 returns-in_err-write_header-clause-part g c =
     let bytes = c.args.number ∷ fault_bytes c.args.fault in
-    subst (λ (n : ℕ). Part (g.O.Sink.told c.args.out.now) (g.O.Sink.told c.write_header.new.out) (named_header c.args.named 18 n ++ bytes)) (sym (malformed-length c.args.number c.args.fault))
+    subst (λ (n : ℕ). Part (g.O.Sink.view c.args.out.now).told (g.O.Sink.view c.write_header.new.out).told (named_header c.args.named 18 n ++ bytes)) (sym (malformed-length c.args.number c.args.fault))
     (part_first _ _ (named_header c.args.named 18 11) bytes c.write_header.ensures.part)

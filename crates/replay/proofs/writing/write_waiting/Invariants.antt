@@ -8,9 +8,9 @@ abbrev pub invariant-loop-side : goal.invariant-loop-side
 invariant-loop-side g l = record {
   written : List ℕ;
   split : waits_for l.side l.fn.session ≡ written ++ waits_for l.side l.session;
-  got : g.O.Sink.told l.out ≡ added written (g.O.Sink.told l.fn.out);
+  got : (g.O.Sink.view l.out).told ≡ added written (g.O.Sink.view l.fn.out).told;
   same : l.session ≡ with_waiting l.side (waits_for l.side l.session) l.fn.session;
-  count : g.O.Sink.faults l.fn.out ≤ g.O.Sink.faults l.out;
+  count : (g.O.Sink.view l.fn.out).faults ≤ (g.O.Sink.view l.out).faults;
 }
 
 abbrev pub decreases-loop-side : goal.decreases-loop-side

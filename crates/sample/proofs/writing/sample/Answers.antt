@@ -10,7 +10,7 @@ use Rattle.sample.proofs.writing.sample.Goals as goal
 pub loop-draws-init : goal.loop-draws-init
 loop-draws-init g c = record {
   written = [];
-  got = sym (added-none (g.S.Sink.told c.args.sink.now));
+  got = sym (added-none (g.S.Sink.view c.args.sink.now).told);
   split = at_first c.args.n c.args.seed c.put_opening.new.out.items (to_come c.new-draws.result) (c.in_ok-put_opening.ensures ∙ ap (λ t. t ++ (magic ++ 1 ∷ 0 ∷ flat_map spelled_event opening)) c.new-out.ensures.items) c.new-draws.ensures.all;
   count = omega arith;
 }
@@ -46,15 +46,15 @@ returns-in_err-write_much-clause-part g c =
 pub returns-in_err-write_all-clause-part : goal.returns-in_err-write_all-clause-part
 returns-in_err-write_all-clause-part g c =
     let inv = c.loop-draws.invariant in
-    part_middle _ _ _ (spelled_recording (sample_of c.args.n c.args.seed)) inv.written c.loop-draws.out.items (flat_map spelled_event (to_come c.loop-draws.draws)) inv.got (subst (λ t. Part (g.S.Sink.told c.loop-draws.sink) (g.S.Sink.told c.write_all.new.sink) t) c.as_slice.ensures c.write_all.ensures.part) (sym inv.split)
+    part_middle _ _ _ (spelled_recording (sample_of c.args.n c.args.seed)) inv.written c.loop-draws.out.items (flat_map spelled_event (to_come c.loop-draws.draws)) inv.got (subst (λ t. Part (g.S.Sink.view c.loop-draws.sink).told (g.S.Sink.view c.write_all.new.sink).told t) c.as_slice.ensures c.write_all.ensures.part) (sym inv.split)
 
 pub returns-clause-ok : goal.returns-clause-ok
 returns-clause-ok g c =
     let inv = c.loop-draws.invariant in
-    then_all _ _ _ inv.written c.loop-draws.out.items inv.got (c.in_ok-write_all.ensures.ok ∙ ap (λ t. added t (g.S.Sink.told c.loop-draws.sink)) c.as_slice.ensures)
-    ∙ ap (λ t. added t (g.S.Sink.told c.args.sink.now)) (at_last inv.written c.loop-draws.out.items c.loop-draws.draws.left _ _ _ _ _ (omega arith) inv.split)
+    then_all _ _ _ inv.written c.loop-draws.out.items inv.got (c.in_ok-write_all.ensures.ok ∙ ap (λ t. added t (g.S.Sink.view c.loop-draws.sink).told) c.as_slice.ensures)
+    ∙ ap (λ t. added t (g.S.Sink.view c.args.sink.now).told) (at_last inv.written c.loop-draws.out.items c.loop-draws.draws.left _ _ _ _ _ (omega arith) inv.split)
 
 pub returns-clause-part : goal.returns-clause-part
 returns-clause-part g c =
     let inv = c.loop-draws.invariant in
-    part_middle _ _ _ (spelled_recording (sample_of c.args.n c.args.seed)) inv.written c.loop-draws.out.items (flat_map spelled_event (to_come c.loop-draws.draws)) inv.got (subst (λ t. Part (g.S.Sink.told c.loop-draws.sink) (g.S.Sink.told c.write_all.new.sink) t) c.as_slice.ensures c.write_all.ensures.part) (sym inv.split)
+    part_middle _ _ _ (spelled_recording (sample_of c.args.n c.args.seed)) inv.written c.loop-draws.out.items (flat_map spelled_event (to_come c.loop-draws.draws)) inv.got (subst (λ t. Part (g.S.Sink.view c.loop-draws.sink).told (g.S.Sink.view c.write_all.new.sink).told t) c.as_slice.ensures c.write_all.ensures.part) (sym inv.split)

@@ -9,9 +9,9 @@ use Rattle.sample.proofs.writing.sample.Given as goal
 abbrev pub invariant-loop-draws : goal.invariant-loop-draws
 invariant-loop-draws g l = record {
   written : List ℕ;
-  got : g.S.Sink.told l.sink ≡ added written (g.S.Sink.told l.fn.sink);
+  got : (g.S.Sink.view l.sink).told ≡ added written (g.S.Sink.view l.fn.sink).told;
   split : written ++ (l.out.items ++ flat_map spelled_event (to_come l.draws)) ≡ spelled_recording (sample_of l.fn.n l.fn.seed);
-  count : g.S.Sink.faults l.fn.sink ≤ g.S.Sink.faults l.sink;
+  count : (g.S.Sink.view l.fn.sink).faults ≤ (g.S.Sink.view l.sink).faults;
 }
 
 abbrev pub decreases-loop-draws : goal.decreases-loop-draws

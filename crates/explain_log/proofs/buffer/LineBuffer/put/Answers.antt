@@ -13,7 +13,7 @@ returns-in_err-write_out-clause-err g c =
 pub returns-clause-ok : goal.returns-clause-ok
 returns-clause-ok g c =
     let left : c.keep.new.self ≡ c.args.self.now = c.keep.ensures.left c.if-keep.false in
-    let first : g.S.Sink.told c.write_out.new.sink ≡ added c.args.self.now (g.S.Sink.told c.args.sink.now) = rw left at c.in_ok-write_out.ensures.ok.1 in
+    let first : (g.S.Sink.view c.write_out.new.sink).told ≡ added c.args.self.now (g.S.Sink.view c.args.sink.now).told = rw left at c.in_ok-write_out.ensures.ok.1 in
     on_ok_weaker c.write_all.result
     (λ second. both_go c.args.self.now c.args.bytes.now c.keep-2.new.self _ _ _ (c.keep-2.ensures.left c.if-keep-2.false ∙ c.in_ok-write_out.ensures.ok.0) first second)
     c.write_all.ensures.ok
@@ -21,5 +21,5 @@ returns-clause-ok g c =
 pub returns-clause-err : goal.returns-clause-err
 returns-clause-err g c =
     let left : c.keep.new.self ≡ c.args.self.now = c.keep.ensures.left c.if-keep.false in
-    let first : g.S.Sink.told c.write_out.new.sink ≡ added c.args.self.now (g.S.Sink.told c.args.sink.now) = rw left at c.in_ok-write_out.ensures.ok.1 in
+    let first : (g.S.Sink.view c.write_out.new.sink).told ≡ added c.args.self.now (g.S.Sink.view c.args.sink.now).told = rw left at c.in_ok-write_out.ensures.ok.1 in
     on_err_weaker c.write_all.result (λ cause. then_part c.args.self.now c.args.bytes.now _ _ _ first c.write_all.ensures.part) c.write_all.ensures.cause

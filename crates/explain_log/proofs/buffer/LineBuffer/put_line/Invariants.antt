@@ -6,7 +6,7 @@ use Rattle.explain_log.proofs.buffer.LineBuffer.put_line.Given as goal
 
 abbrev pub invariant-loop-piece : goal.invariant-loop-piece
 invariant-loop-piece g l = record {
-  out : GoesOut (l.fn.self ++ flat_map (λ piece. piece.now) (take l.piece-index l.piece-items)) l.self (g.S.Sink.told l.fn.sink) (g.S.Sink.told l.sink);
+  out : GoesOut (l.fn.self ++ flat_map (λ piece. piece.now) (take l.piece-index l.piece-items)) l.self (g.S.Sink.view l.fn.sink).told (g.S.Sink.view l.sink).told;
   most : 0 < l.piece-index → length l.self ≤ LONG;
-  count : g.S.Sink.faults l.fn.sink ≤ g.S.Sink.faults l.sink;
+  count : (g.S.Sink.view l.fn.sink).faults ≤ (g.S.Sink.view l.sink).faults;
 }
