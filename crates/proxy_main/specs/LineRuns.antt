@@ -176,8 +176,8 @@ NotRecordedIn words path = (line : ProxyLine) → Agrees words (Reads (line_seen
 abbrev pub IsLineFree : ℕ → Type 0
 IsLineFree code = (code ≡ 4) ⊎ ((code ≡ 5) ⊎ (code ≡ 8))
 
--- Of a run of the words of these texts: by the files, the net and err before the run and, with a prime, after it, and by
--- the status.
+-- Of a run of the words of these texts: by the files, the net and err before the run and, with a prime, after it, and
+-- by the status.
 pub record LineRun (texts : List (List ℕ)) (files files' : FilesView) (net net' : NetView) (err err' : SinkView) (code : ℕ) : Type 0 where
   -- It ends in one of four ways, each with its cause and with what the net did and err got.
   pub ends : LineEnds texts files files' net net' err err' code

@@ -8,8 +8,8 @@ use Rattle.proxy_main.specs.Loads.{IsDone, IsFront, IsLogged, IsComparison, IsEn
 use Rattle.proxy_main.specs.FilesRead.{paths_of, policies_of, needed, ToolReads}
 use Rattle.proxy_main.specs.Endings.{Ends, ErrFront, Exactly, ExactlyOfFiles, ExactlyOfWork, IsFree}
 
--- Of a run of the words of these texts: by the files, out and err before the run and, with a prime, after it, and by the
--- status.
+-- Of a run of the words of these texts: by the files, out and err before the run and, with a prime, after it, and by
+-- the status.
 pub record ToolRun (texts : List (List ℕ)) (files files' : FilesView) (out out' err err' : SinkView) (code : ℕ) : Type 0 where
   -- It ends in one of six ways, each with its cause and with what out and err got.
   pub ends : Ends (reading texts) files files' out out' err err' code
