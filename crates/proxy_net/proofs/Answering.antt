@@ -43,35 +43,11 @@ silent_none j = steps_none j refl
 pub silent_through : {a b c : Option (List SystemCall)} → Steps IsSilent a b → Steps IsSilent b c → Steps IsSilent a c
 silent_through p q = steps_through (λ first second f s. answers_append second first ∙ ap₂ (λ (x y : Journal). x ++ y) s f) p q
 
-pub silent_told : {a b : Option (List SystemCall)} (calls : List SystemCall) → IsSilent calls → Tells a b calls → Steps IsSilent a b
-silent_told calls silent t = steps_one calls t silent
-
 -- the answers in a journal are the same after calls that hold none
 same_answers : {a b : Option (List SystemCall)} → Steps IsSilent a b → (after : List SystemCall) → b ≡ Some after → (before : List SystemCall) × (a ≡ Some before) × (answers_in after ≡ answers_in before)
 same_answers s after e =
     let x = s.told after e in
     (x.0, x.2, ap answers_in x.3 ∙ answers_append x.1 x.0 ∙ ap (λ (answers : Journal). answers ++ answers_in x.0) x.4)
-
-pub retry_silent : (number : ℕ) (path : List ℕ) (calls : List SystemCall) → IsRetryOf number path calls → IsSilent calls
-retry_silent number path calls is = elim is [
-  | inl none ↦ silent_as none refl
-  | inr tried ↦ silent_as tried.1 refl
-]
-
-pub retried_silent : {T : Type 0} (connection : Connection T) (calls : List SystemCall) → IsRetryIn connection calls → IsSilent calls
-retried_silent (Open stream) calls is = silent_as is refl
-retried_silent (Pending retry) calls is = retry_silent _ _ calls is
-retried_silent Failed calls is = silent_as is refl
-
-pub removal_silent : (path : List ℕ) (calls : List SystemCall) → IsRemoval path calls → IsSilent calls
-removal_silent path calls is = elim is [
-  | inl none ↦ silent_as none refl
-  | inr removed ↦ silent_as removed refl
-]
-
-pub file_removal_silent : (path : Option (List ℕ)) (calls : List SystemCall) → IsFileRemoval path calls → IsSilent calls
-file_removal_silent None calls is = silent_as is refl
-file_removal_silent (Some path) calls is = removal_silent path calls is
 
 pub removals_silent : (P : List ℕ → Type 0) (calls : List SystemCall) → AreRemovals P calls → IsSilent calls
 removals_silent P [] are = refl

@@ -7,6 +7,7 @@ pub mod Tokens
 pub mod Room
 pub mod Written
 pub mod Tries
+pub mod Waiting
 pub mod Judging
 mod Putting
 pub mod Telling

@@ -46,13 +46,6 @@ listen_steps number path socket answer bound looked awaited clean = record {
       (x.0, z.1 ++ (y.1 ++ x.1), x.2, z.3 ∙ ap (λ (w : List SystemCall). z.1 ++ w) rest ∙ append_after z.1 (y.1 ++ x.1) x.0, listened number path answer x.1 y.1 z.1 x.4 y.4 z.4);
 }
 
--- a bind that was refused
-pub bind_refused : (number : ℕ) (path : List ℕ) (fault : NetFault) (calls : List SystemCall) → (calls ≡ []) ⊎ ((kind : ErrorKind) × (calls ≡ bind number path (Some kind) ∷ [])) → IsListen number path (Err fault) calls
-bind_refused number path fault calls is = elim is [
-  | inl none ↦ inl none
-  | inr refused ↦ inr (inl refused)
-]
-
 -- a listener that is registered by the number of its place has that number
 pub own_number : {L : Type 0} (listeners : List (ListenerSocket L)) (place : ℕ) (socket : ListenerSocket L) → slice_get listeners place ≡ Some socket → is_own_listener place (slice_get listeners place) ≡ true
     → socket.listener.number ≡ listeners_from + place

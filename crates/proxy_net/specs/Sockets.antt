@@ -170,6 +170,14 @@ abbrev pub due_in : {T : Type 0} → Option (LinkSocket T) → Option Instant
 due_in None = None
 due_in (Some socket) = due_of socket.connection
 
+-- there is a link of a number
+abbrev pub HasLink : {T L : Type 0} → SocketSet T L → ℕ → Type 0
+HasLink sockets number = is_some (tree.get nat_cmp sockets.links number) ≡ true
+
+-- the connect of the link of a number is tried again to a path
+abbrev pub IsTriedTo : {T L : Type 0} → SocketSet T L → ℕ → List ℕ → Type 0
+IsTriedTo sockets number path = tried_path_at sockets number ≡ Some path
+
 -- the wishes of all links are as before
 pub record KeepsWishesIn {T L : Type 0} (old new : SocketSet T L) : Type 0 where
   pub each : (link : Link) → wishes_in new link ≡ wishes_in old link

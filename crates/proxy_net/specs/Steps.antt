@@ -14,7 +14,7 @@ use Rattle.link_traits.specs.Entries.{Entry}
 use Rattle.link_traits.specs.Numbers.{number_of}
 use Rattle.std.specs.String.{string_bytes}
 use Rattle.proxy_net.specs.Answers.{answers_in}
-use Rattle.proxy_net.specs.SystemCalls.{SystemCall, bind, await_clients, accept, connect, watch, read, write, close, remove, answered}
+use Rattle.proxy_net.specs.SystemCalls.{SystemCall, bind, await_clients, accept, connect, watch, read, write, close, wait, remove, answered}
 use Rattle.proxy_net.specs.declared.link_sockets.Connection.{Connection}
 use Rattle.proxy_net.specs.declared.link_sockets.Connection.TheVariants.{Open, Pending, Failed}
 use Rattle.proxy_net.specs.declared.listeners.Arrival.{Arrival}
@@ -122,6 +122,30 @@ IsRetryIn Failed calls = calls ≡ []
 abbrev pub IsAnswered : Entry → (List SystemCall → Type 0) → List SystemCall → Type 0
 IsAnswered entry P calls = (asked : List SystemCall) × (calls ≡ answered entry ∷ asked) × P asked
 
+-- what a link's stream is asked when the system reports it: it is watched for reading alone, or nothing is asked
+abbrev pub IsNoted : ℕ → List SystemCall → Type 0
+IsNoted number calls = (calls ≡ []) ⊎ ((fault : Option ErrorKind) × (calls ≡ watch number false fault ∷ []))
+
+-- A call that a wait makes, over links of these numbers and connects to these paths: it waits, it watches a link for reading
+-- alone, or it tries a connect again.
+abbrev pub IsWaitCall : (ℕ → Type 0) → (ℕ → List ℕ → Type 0) → SystemCall → Type 0
+IsWaitCall Own To (wait reports) = Unit {0}
+IsWaitCall Own To (watch number true fault) = ⊥
+IsWaitCall Own To (watch number false fault) = Own number
+IsWaitCall Own To (connect number path fault) = To number path
+IsWaitCall Own To (bind number path fault) = ⊥
+IsWaitCall Own To (await_clients number fault) = ⊥
+IsWaitCall Own To (accept listener number fault) = ⊥
+IsWaitCall Own To (read number answer) = ⊥
+IsWaitCall Own To (write number answer) = ⊥
+IsWaitCall Own To (close number) = ⊥
+IsWaitCall Own To (remove path) = ⊥
+IsWaitCall Own To (answered entry) = ⊥
+
+abbrev pub AreWaitCalls : (ℕ → Type 0) → (ℕ → List ℕ → Type 0) → List SystemCall → Type 0
+AreWaitCalls Own To [] = Unit {0}
+AreWaitCalls Own To (call ∷ before) = IsWaitCall Own To call × AreWaitCalls Own To before
+
 -- the file at a path is removed, or nothing is asked
 abbrev pub IsRemoval : List ℕ → List SystemCall → Type 0
 IsRemoval path calls = (calls ≡ []) ⊎ (calls ≡ remove path ∷ [])
@@ -155,7 +179,8 @@ abbrev pub IsCleanUp : List ℕ → Result ℕ NetFault → List SystemCall → 
 IsCleanUp path (Ok _) calls = calls ≡ []
 IsCleanUp path (Err _) calls = IsRemoval path calls
 
--- A listen: a socket is bound to the path, and its clients are awaited. Where that can't be, no file but the one at the path is removed.
+-- A listen: a socket is bound to the path, and its clients are awaited. Where that can't be, no file but the one at the path is
+-- removed.
 abbrev pub IsListen : ℕ → List ℕ → Result ℕ NetFault → List SystemCall → Type 0
 IsListen number path (Ok _) calls = calls ≡ await_clients number None ∷ bind number path None ∷ []
 IsListen number path (Err _) calls = (calls ≡ []) ⊎ (((kind : ErrorKind) × (calls ≡ bind number path (Some kind) ∷ []))

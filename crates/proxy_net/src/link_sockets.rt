@@ -8,7 +8,7 @@ ghost use Rattle.proxy_net.specs.Registering.{is_registered_by, is_connected_by}
 ghost use Rattle.proxy_net.specs.Noting.{is_link_noted};
 ghost use Rattle.proxy_net.specs.Connecting.{IsLater, is_open, is_pending, is_given_up as is_failed, due_of, tried_path};
 ghost use Rattle.std.specs.Prelude.{List};
-ghost use Rattle.proxy_net.specs.Steps.{Steps, IsRead, IsLinkWrite, IsConnectionWrite, IsRoomAwaited, IsWatched, IsRetryOf, IsRetryIn, IsShut, IsSilent, got_of};
+ghost use Rattle.proxy_net.specs.Steps.{Steps, IsRead, IsLinkWrite, IsConnectionWrite, IsRoomAwaited, IsWatched, IsRetryOf, IsRetryIn, IsShut, IsNoted, got_of};
 ghost use Rattle.std.specs.String.{string_bytes};
 ghost use Rattle.std.specs.Time.{instant_nanos};
 
@@ -346,7 +346,6 @@ impl<T: Drop> LinkSocket<T> {
     fn watch<S: Sockets<Stream = T>>(&mut self, system: &mut S, writable: bool) -> bool
         ensures same { self.new ≡ self.old }
         ensures told { (number : ℕ) → is_registered_by number self.old.connection ≡ true → Steps (IsWatched (is_open self.old.connection) number writable result) (S.journal system.old) (S.journal system.new) }
-        ensures silent { Steps IsSilent (S.journal system.old) (S.journal system.new) }
     {
         match &mut self.connection {
             Connection::Open(stream) => system.watch(stream, writable).is_ok(),
@@ -361,7 +360,7 @@ impl<T: Drop> LinkSocket<T> {
         ensures readable { self.new.readable ≡ (self.old.readable || readable) }
         ensures writable { self.new.writable ≡ (self.old.writable || (writable && not self.old.peer_closed)) }
         ensures rest { self.new ≡ record self.old { faults = self.new.faults; readable = self.new.readable; writable = self.new.writable } }
-        ensures silent { Steps IsSilent (S.journal system.old) (S.journal system.new) }
+        ensures told { (number : ℕ) → is_registered_by number self.old.connection ≡ true → Steps (IsNoted number) (S.journal system.old) (S.journal system.new) }
         ensures faults { self.old.faults ≤ self.new.faults }
     {
         self.readable = self.readable || readable;

@@ -12,7 +12,7 @@ use link_traits::{Accepted, Count, Got, Link, Net, NetFault, Ready, Took, Wishes
 use std::alloc::{AllocError, Global};
 use std::io;
 
-/// A net over Unix sockets. Each of its answers is told to its system, so that it tells its journal if the system tells its own.
+/// A net over Unix sockets. It tells its journal if its system does: each of its answers is told to the system.
 ///
 /// It names a link only for a wish that is true. A thing that is ready goes on being named, in turn with the others, until it
 /// answered that it would wait. A link that answered so to a read isn't named for reading again until the system reports
@@ -53,9 +53,9 @@ impl<'a> MioNet<SystemSockets<'a>> {
 impl<S: Sockets + Drop> MioNet<S> {
     ghost use Rattle.std.specs.Prelude.{ℕ, false, ◌≢◌};
     ghost use Rattle.proxy_net.specs.Answers.{IsUnanswered};
-    ghost use Rattle.proxy_net.specs.Steps.{Steps, IsSilent, AreRemovals};
+    ghost use Rattle.proxy_net.specs.Steps.{Steps, AreWaitCalls, AreRemovals};
     ghost use Rattle.link_traits.specs.Views.{KeepsWishes};
-    ghost use Rattle.proxy_net.specs.Sockets.{shown, RoseIn, GoesOn, IsUnused, IsWished, StaysClosed, HasFileAt, has_file_at};
+    ghost use Rattle.proxy_net.specs.Sockets.{shown, RoseIn, GoesOn, IsUnused, IsWished, StaysClosed, HasFileAt, HasLink, IsTriedTo, has_file_at};
 
     /// A net over the sockets of a system, without listeners and links. No net answered anything over that system before.
     pub fn over(alloc: Global, system: S) -> Result<MioNet<S>, AllocError>
@@ -105,7 +105,7 @@ impl<S: Sockets + Drop> MioNet<S> {
     fn next(&mut self) -> Option<Ready>
         ensures wished { IfSome result (IsWished self.old.sockets self.new.sockets) }
         ensures closed { StaysClosed self.old.sockets self.new.sockets }
-        ensures silent { Steps IsSilent (S.journal self.old.system) (S.journal self.new.system) }
+        ensures asked { Steps (AreWaitCalls (HasLink self.old.sockets) (IsTriedTo self.old.sockets)) (S.journal self.old.system) (S.journal self.new.system) }
         ensures goes { GoesOn self.old.sockets self.new.sockets }
     {
         for _ in 0..u64::MAX {
@@ -127,7 +127,7 @@ impl<S: Sockets + Drop> MioNet<S> {
         ensures closed { StaysClosed self.old.sockets self.new.sockets }
         ensures failed { result ≡ Ready.Failed → RoseIn Count.Own self.old.sockets self.new.sockets }
         ensures waits { result ≢ Ready.Quiet }
-        ensures silent { Steps IsSilent (S.journal self.old.system) (S.journal self.new.system) }
+        ensures asked { Steps (AreWaitCalls (HasLink self.old.sockets) (IsTriedTo self.old.sockets)) (S.journal self.old.system) (S.journal self.new.system) }
         ensures goes { GoesOn self.old.sockets self.new.sockets }
     {
         match self.next() {
@@ -151,9 +151,9 @@ impl<S: Sockets + Drop> Net for MioNet<S> {
     ghost use Rattle.std.specs.Option.{option_map};
     ghost use Rattle.proxy_net.specs.Naming.{other_of};
     ghost use Rattle.proxy_net.specs.Registering.{listeners_from};
-    ghost use Rattle.proxy_net.specs.Steps.{Steps, IsAnswered, IsListen, IsAccept, IsConnect, IsRead, IsWrite, IsShut};
+    ghost use Rattle.proxy_net.specs.Steps.{Steps, IsAnswered, AreWaitCalls, IsListen, IsAccept, IsConnect, IsRead, IsWrite, IsShut};
     ghost use Rattle.std.specs.Prelude.{List};
-    ghost use Rattle.proxy_net.specs.Sockets.{path_at, is_put_off_at, delay_at, is_readable_at, StaysUnread, StaysClosed, KeepsReports};
+    ghost use Rattle.proxy_net.specs.Sockets.{path_at, is_put_off_at, delay_at, is_readable_at, StaysUnread, StaysClosed, KeepsReports, HasLink, IsTriedTo};
     ghost use Rattle.proxy_net.specs.Sockets.{shown, is_open_at, is_pending_in, is_closed_at, is_peer_closed_at, is_stalled_at, IsJudgedAt, IsWished};
 
     ghost view = { λ net. shown net.sockets (S.journal net.system) };
@@ -194,6 +194,9 @@ impl<S: Sockets + Drop> Net for MioNet<S> {
 
         // It forgets no close.
         ensures closed { StaysClosed self.old.sockets self.new.sockets }
+
+        // What the system is asked for it, and told then.
+        ensures asked { Steps (IsAnswered (ready result) (AreWaitCalls (HasLink self.old.sockets) (IsTriedTo self.old.sockets))) (S.journal self.old.system) (S.journal self.new.system) }
 
         // What the trait says.
         ensures told { Adds (shown self.old.sockets (S.journal self.old.system)) (shown self.new.sockets (S.journal self.new.system)) (ready result ∷ []) }

@@ -11,7 +11,8 @@ ghost use Rattle.link_traits.specs.Numbers.{number_of as link_number};
 ghost use Rattle.proxy_net.specs.Delays.{IsWithin, nanos_of};
 ghost use Rattle.proxy_net.specs.Noting.{is_link_noted, is_listener_noted, reports_read};
 ghost use Rattle.proxy_net.specs.Naming.{is_link_unmarked, is_listener_unmarked};
-ghost use Rattle.proxy_net.specs.Steps.{Steps, IsSilent};
+ghost use Rattle.proxy_net.specs.Steps.{Steps, AreWaitCalls};
+ghost use Rattle.proxy_net.specs.Sockets.{HasLink, IsTriedTo, is_link_registered};
 
 use super::{LISTENERS, SocketSet};
 use crate::delays::{BLIND_DELAY, delay_until};
@@ -63,7 +64,7 @@ impl<T: Drop, L: Drop> SocketSet<T, L> {
         ensures count { vec_len reports.new ≤ REPORTS }
         ensures capacity { vec_capacity reports.new ≡ vec_capacity reports.old }
         ensures reports { KeepsReports self.old self.new }
-        ensures silent { Steps IsSilent (S.journal system.old) (S.journal system.new) }
+        ensures told { ((number : ℕ) → is_link_registered self.old number ≡ true) → Steps (AreWaitCalls (HasLink self.old) (IsTriedTo self.old)) (S.journal system.old) (S.journal system.new) }
         ensures goes { GoesOn self.old self.new }
     {
         let timeout = self.timeout(system);
@@ -80,7 +81,7 @@ impl<T: Drop, L: Drop> SocketSet<T, L> {
         ensures noted { list_all (is_report_noted self.new) reports.now ≡ true }
         ensures reported { IsReadIf (λ number. list_any (reports_read number) reports.now) self.old self.new }
         ensures kept { KeepsNotes self.old self.new }
-        ensures silent { Steps IsSilent (S.journal system.old) (S.journal system.new) }
+        ensures told { ((number : ℕ) → is_link_registered self.old number ≡ true) → Steps (AreWaitCalls (HasLink self.old) (IsTriedTo self.old)) (S.journal system.old) (S.journal system.new) }
         ensures goes { GoesOn self.old self.new }
     {
         self.note_side(system, reports, false);
@@ -98,7 +99,7 @@ impl<T: Drop, L: Drop> SocketSet<T, L> {
         ensures noted { list_all (is_side_noted of_buses self.new) reports.now ≡ true }
         ensures reported { IsReadIf (λ number. list_any (reports_read number) reports.now) self.old self.new }
         ensures kept { KeepsNotes self.old self.new }
-        ensures silent { Steps IsSilent (S.journal system.old) (S.journal system.new) }
+        ensures told { ((number : ℕ) → is_link_registered self.old number ≡ true) → Steps (AreWaitCalls (HasLink self.old) (IsTriedTo self.old)) (S.journal system.old) (S.journal system.new) }
         ensures goes { GoesOn self.old self.new }
     {
         for report in reports {
@@ -116,7 +117,7 @@ impl<T: Drop, L: Drop> SocketSet<T, L> {
         ensures noted { is_side_noted of_buses self.new report.now ≡ true }
         ensures reported { IsReadIf (λ number. reports_read number report.now) self.old self.new }
         ensures kept { KeepsNotes self.old self.new }
-        ensures silent { Steps IsSilent (S.journal system.old) (S.journal system.new) }
+        ensures told { ((number : ℕ) → is_link_registered self.old number ≡ true) → Steps (AreWaitCalls (HasLink self.old) (IsTriedTo self.old)) (S.journal system.old) (S.journal system.new) }
         ensures goes { GoesOn self.old self.new }
     {
         if is_bus(report.number) == of_buses {
@@ -128,7 +129,7 @@ impl<T: Drop, L: Drop> SocketSet<T, L> {
         ensures noted { is_report_noted self.new report.now ≡ true }
         ensures reported { IsReadIf (λ number. reports_read number report.now) self.old self.new }
         ensures kept { KeepsNotes self.old self.new }
-        ensures silent { Steps IsSilent (S.journal system.old) (S.journal system.new) }
+        ensures told { ((number : ℕ) → is_link_registered self.old number ≡ true) → Steps (AreWaitCalls (HasLink self.old) (IsTriedTo self.old)) (S.journal system.old) (S.journal system.new) }
         ensures goes { GoesOn self.old self.new }
     {
         self.note(system, report.number, report.readable, report.writable);
@@ -145,7 +146,7 @@ impl<T: Drop, L: Drop> SocketSet<T, L> {
         ensures noted { is_noted self.new number readable writable ≡ true }
         ensures reported { IsReadIf (λ other. nat_eq number other && readable) self.old self.new }
         ensures kept { KeepsNotes self.old self.new }
-        ensures silent { Steps IsSilent (S.journal system.old) (S.journal system.new) }
+        ensures told { ((number : ℕ) → is_link_registered self.old number ≡ true) → Steps (AreWaitCalls (HasLink self.old) (IsTriedTo self.old)) (S.journal system.old) (S.journal system.new) }
         ensures goes { GoesOn self.old self.new }
     {
         if number >= LISTENERS {
@@ -165,7 +166,7 @@ impl<T: Drop, L: Drop> SocketSet<T, L> {
         ensures noted { is_link_noted readable writable (tree.get nat_cmp self.new.links number) ≡ true }
         ensures reported { IsReadIf (λ other. nat_eq number other && readable) self.old self.new }
         ensures kept { KeepsNotes self.old self.new }
-        ensures silent { Steps IsSilent (S.journal system.old) (S.journal system.new) }
+        ensures told { ((number : ℕ) → is_link_registered self.old number ≡ true) → Steps (AreWaitCalls (HasLink self.old) (IsTriedTo self.old)) (S.journal system.old) (S.journal system.new) }
         ensures goes { GoesOn self.old self.new }
     {
         if let Some(socket) = self.links.get_mut(&number) {
@@ -412,7 +413,7 @@ impl<T: Drop, L: Drop> SocketSet<T, L> {
     fn retry_all<S: Sockets<Stream = T, Listener = L>>(&mut self, system: &mut S)
         ensures reported { IsReadIf (λ _. false) self.old self.new }
         ensures kept { KeepsNotes self.old self.new }
-        ensures silent { Steps IsSilent (S.journal system.old) (S.journal system.new) }
+        ensures told { ((number : ℕ) → is_link_registered self.old number ≡ true) → Steps (AreWaitCalls (HasLink self.old) (IsTriedTo self.old)) (S.journal system.old) (S.journal system.new) }
         ensures goes { GoesOn self.old self.new }
     {
         if self.pending.is_empty() && !self.has_stalled() {
@@ -460,7 +461,7 @@ impl<T: Drop, L: Drop> SocketSet<T, L> {
     )
         ensures reported { IsReadIf (λ _. false) self.old self.new }
         ensures kept { KeepsNotes self.old self.new }
-        ensures silent { Steps IsSilent (S.journal system.old) (S.journal system.new) }
+        ensures told { ((number : ℕ) → is_link_registered self.old number ≡ true) → Steps (AreWaitCalls (HasLink self.old) (IsTriedTo self.old)) (S.journal system.old) (S.journal system.new) }
         ensures goes { GoesOn self.old self.new }
     {
         for _ in 0..self.pending.len() {
@@ -476,7 +477,7 @@ impl<T: Drop, L: Drop> SocketSet<T, L> {
     )
         ensures reported { IsReadIf (λ _. false) self.old self.new }
         ensures kept { KeepsNotes self.old self.new }
-        ensures silent { Steps IsSilent (S.journal system.old) (S.journal system.new) }
+        ensures told { ((number : ℕ) → is_link_registered self.old number ≡ true) → Steps (AreWaitCalls (HasLink self.old) (IsTriedTo self.old)) (S.journal system.old) (S.journal system.new) }
         ensures goes { GoesOn self.old self.new }
     {
         let Some(&number) = self.pending.front() else {
@@ -505,7 +506,7 @@ impl<T: Drop, L: Drop> SocketSet<T, L> {
         ensures done { result ≡ Attempt.Done → is_pending_at self.new number ≡ false }
         ensures reported { IsReadIf (λ _. false) self.old self.new }
         ensures kept { KeepsNotes self.old self.new }
-        ensures silent { Steps IsSilent (S.journal system.old) (S.journal system.new) }
+        ensures told { ((number : ℕ) → is_link_registered self.old number ≡ true) → Steps (AreWaitCalls (HasLink self.old) (IsTriedTo self.old)) (S.journal system.old) (S.journal system.new) }
         ensures goes { GoesOn self.old self.new }
     {
         match self.links.get_mut(&number) {

@@ -1,12 +1,7 @@
 use Rattle.std.specs.IoError.{error_kind}
 use Rattle.proxy_net.proofs.Meaning.{watch_told, open_watched}
-use Rattle.std.proofs.Common.{refl}
-use Rattle.proxy_net.proofs.Answering.{silent_told}
 use Rattle.proxy_net.proofs.link_sockets.LinkSocket.watch.Goals as goal
 
 pub returns-in-Open-clause-told : goal.returns-in-Open-clause-told
 returns-in-Open-clause-told g c = λ number own.
     open_watched c.args.self.now.connection c.in-Open.stream c.in-Open.is number own c.args.writable c.is_ok.result (watch_told error_kind _ _ c.watch.result c.is_ok.result c.watch.ensures.told c.is_ok.ensures.value)
-
-pub returns-in-Open-clause-silent : goal.returns-in-Open-clause-silent
-returns-in-Open-clause-silent g c = silent_told _ refl c.watch.ensures.told

@@ -1,6 +1,5 @@
-use Rattle.std.proofs.Common.{refl}
-use Rattle.proxy_net.proofs.Answering.{silent_told}
+use Rattle.proxy_net.proofs.Telling.{steps_one}
 use Rattle.proxy_net.proofs.sockets.SocketSet.ask.Goals as goal
 
-pub returns-clause-silent : goal.returns-clause-silent
-returns-clause-silent g c = silent_told _ refl c.wait.ensures.told
+pub returns-clause-told : goal.returns-clause-told
+returns-clause-told g c = λ own. steps_one _ c.wait.ensures.told (tt, tt)

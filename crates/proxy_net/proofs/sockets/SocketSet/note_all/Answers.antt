@@ -1,7 +1,8 @@
 use Rattle.proxy_net.proofs.Going.{goes_through}
 use Rattle.proxy_net.proofs.Notes.{both_sides, all_kept}
 use Rattle.proxy_net.proofs.Reading.{read_through, read_weaker}
-use Rattle.proxy_net.proofs.Answering.{silent_through}
+use Rattle.proxy_net.specs.Sockets.{HasLink, IsTriedTo}
+use Rattle.proxy_net.proofs.Waiting.{waits_through, waits_before, registered_after}
 use Rattle.proxy_net.proofs.sockets.SocketSet.note_all.Goals as goal
 
 pub returns-clause-noted : goal.returns-clause-noted
@@ -15,5 +16,11 @@ returns-clause-reported g c = read_through c.note_side.ensures.reported (read_th
 pub returns-clause-goes : goal.returns-clause-goes
 returns-clause-goes g c = goes_through c.note_side.ensures.goes (goes_through c.note_side-2.ensures.goes c.retry_all.ensures.goes)
 
-pub returns-clause-silent : goal.returns-clause-silent
-returns-clause-silent g c = silent_through c.note_side.ensures.silent (silent_through c.note_side-2.ensures.silent c.retry_all.ensures.silent)
+pub returns-clause-told : goal.returns-clause-told
+returns-clause-told g c = λ own.
+    let sockets = c.args.self.now in
+    let one = c.note_side.ensures.goes in
+    let both = goes_through one c.note_side-2.ensures.goes in
+    waits_through (HasLink sockets) (IsTriedTo sockets) (c.note_side.ensures.told own)
+    (waits_through (HasLink sockets) (IsTriedTo sockets) (waits_before sockets c.note_side.new.self one (c.note_side-2.ensures.told (registered_after sockets c.note_side.new.self one own)))
+    (waits_before sockets c.note_side-2.new.self both (c.retry_all.ensures.told (registered_after sockets c.note_side-2.new.self both own))))

@@ -3,7 +3,8 @@ use Rattle.std.specs.List.{list_all, list_any}
 use Rattle.proxy_net.specs.declared.reports.Report.{Report}
 use Rattle.proxy_net.specs.Noting.{reports_read}
 use Rattle.proxy_net.specs.Sockets.{is_side_noted}
-use Rattle.proxy_net.proofs.Answering.{silent_through}
+use Rattle.proxy_net.specs.Sockets.{HasLink, IsTriedTo}
+use Rattle.proxy_net.proofs.Waiting.{waits_through, waits_before, registered_after}
 use Rattle.proxy_net.proofs.Going.{goes_through}
 use Rattle.proxy_net.proofs.Notes.{notes_through, one_more}
 use Rattle.std.proofs.lemmas.List.{drop_more}
@@ -18,7 +19,7 @@ loop-report-preserved g c =
     let step = drop_more c.args.reports.now c.loop-report.report-index none c.loop-report-test.true in
     record {
       goes = goes_through c.loop-report.invariant.goes c.note_of_side.ensures.goes;
-      silent = silent_through c.loop-report.invariant.silent c.note_of_side.ensures.silent;
+      told = λ own. waits_through (HasLink c.args.self.now) (IsTriedTo c.args.self.now) (c.loop-report.invariant.told own) (waits_before c.args.self.now c.loop-report.self c.loop-report.invariant.goes (c.note_of_side.ensures.told (registered_after c.args.self.now c.loop-report.self c.loop-report.invariant.goes own)));
       kept = notes_through c.loop-report.invariant.kept c.note_of_side.ensures.kept;
       reported = read_through c.loop-report.invariant.reported (read_weaker (λ number e. c.loop-report.invariant.among (reports_read number)
           (ap (λ (reports : List Report). list_any (reports_read number) reports) step ∙ any_first (reports_read number) report rest e)) c.note_of_side.ensures.reported);
