@@ -150,3 +150,8 @@ pub returns-in-ListSessions-clause-logged : goal.returns-in-ListSessions-clause-
 returns-in-ListSessions-clause-logged g c =
     let unasked = ap (λ (w : CommandWords). may_log (g.F.Files.view c.args.files.now).told (Some (command_of w))) c.in-ListSessions.is in
     quiet_done c.work_sessions.result (g.F.Files.view c.args.files.now).told _ _ unasked
+
+pub returns-in-Version-clause-log : goal.returns-in-Version-clause-log
+returns-in-Version-clause-log g c =
+    let unasked = ap (λ (w : CommandWords). may_log (g.F.Files.view c.args.files.now).told (Some (command_of w))) c.in-Version.is in
+    quiet_stop c.work_version.result (g.F.Files.view c.args.files.now).told _ _ _ _ _ unasked c.work_version.ensures.cause refl
