@@ -439,7 +439,9 @@ fn told_with_known_fields(alloc: Global, row: &str) -> Result<String, AllocError
 
 fn told_start(alloc: Global, row: &str) -> Result<String, AllocError> {
     let (words, name) = row.rsplit_once(' ').unwrap_or(("", row));
-    let row = format!(in alloc; "call path=/ member=StartServiceByName signature=su text={name} number=0")?;
+    let row = format!(in alloc;
+        "call path=/ member=StartServiceByName signature=su text={name} number=0"
+    )?;
     told(alloc, &nothing(alloc, words)?, &row)
 }
 
@@ -532,7 +534,9 @@ fn members_of_the_bus_are_judged_by_the_level_of_their_text(rt: HostRuntime) -> 
 }
 
 #[test]
-fn names_that_may_be_called_may_be_started_if_the_policy_says_so(rt: HostRuntime) -> Result<(), Fail> {
+fn names_that_may_be_called_may_be_started_if_the_policy_says_so(
+    rt: HostRuntime,
+) -> Result<(), Fail> {
     assert_eq!(rt; wrong_row(rt.alloc(), STARTS, &told_start)?, None);
     Ok(())
 }
