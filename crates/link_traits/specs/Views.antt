@@ -9,11 +9,12 @@ use Rattle.link_traits.specs.declared.links.Wishes.{Wishes}
 
 -- ---- files
 
--- The bytes that each path holds where that is told. How often a call has failed, up to the greatest number that the
--- count has. The paths that were read, in order: each read is in it once, whatever it answered.
 pub record FilesView : Type 0 where
+  -- the bytes of the file at each path, where they are known
   pub told : List ℕ → Option (List ℕ)
+  -- how many calls have failed, up to the greatest number of the count
   pub faults : ℕ
+  -- the path of each read, in order, whatever the read answered
   pub reads : List (List ℕ)
 
 -- a call of the files failed: their count of faults rose
@@ -22,10 +23,10 @@ FilesRose old new = Rose old.faults new.faults
 
 -- ---- a sink
 
--- All bytes that were taken, where they are told. How often a write has failed, up to the greatest number that the
--- count has.
 pub record SinkView : Type 0 where
+  -- all bytes that were taken, where they are known
   pub told : Option (List ℕ)
+  -- how many writes have failed, up to the greatest number of the count
   pub faults : ℕ
 
 -- a write of the sink failed: its count of faults rose

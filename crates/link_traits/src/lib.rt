@@ -2,9 +2,9 @@
 //! links of a proxy's sessions, and gates that jobs pass. All are traits, so that what stands above them is the same
 //! over a disk and sockets and in memory (`memory_links`).
 //!
-//! What contracts see of each is its view. What files and sinks hold is its `told`, as far as it is known: what is told in
-//! memory is all of it, and a disk tells nothing. Which files were read is told too, by their paths. Of links the journal
-//! is told in the same way: what the net's calls answered. Counts of faults say when the outside failed.
+//! A contract speaks of each by its view. The view of files in memory has all their bytes, and that of a disk has none;
+//! sinks are seen in the same way. The view of files has the paths that were read, and the view of a net its journal: what
+//! its calls answered, where that is known. Each view counts faults, so that a contract can say that the outside failed.
 #![tactic(auto)]
 
 pub mod gates;

@@ -27,8 +27,8 @@ pub struct SinkFault;
 
 /// Files by their paths.
 pub trait Files {
-    /// What contracts see of the files: the bytes that each path holds where that is told, the count of faults, and the paths
-    /// that were read.
+    /// What contracts see of the files: their bytes where these are known, the count of faults, and the paths that were
+    /// read.
     ghost view: { Self → FilesView };
 
     /// Puts the whole file behind what `into` holds, in the caller's memory. A file of more than
@@ -71,7 +71,7 @@ pub trait Files {
 
 /// Where bytes are written, in pieces.
 pub trait Sink {
-    /// What contracts see of the sink: all bytes that were taken, where they are told, and the count of faults.
+    /// What contracts see of the sink: all bytes that it took, where these are known, and the count of faults.
     ghost view: { Self → SinkView };
 
     /// Takes a front of the piece, at least a byte where there is one, and answers how many bytes

@@ -17,7 +17,7 @@ reverse-calls_of notes now noted e =
     ∙ ap reverse (calls_of-append notes noted)
     ∙ reverse-append (calls_of notes) (call_of noted.note noted.bytes.items noted.reports.items ∷ [])
 
--- a call more is told, if the calls before it were
+-- one more call is in the journal, if the calls before it are
 pub tells-more : (told tells : Bool) (old new : List SystemCall) (call : SystemCall) → tells ≡ told → new ≡ call ∷ old →
     Tells (journal_if told old) (journal_if tells new) (call ∷ [])
 tells-more true true old new call t n = record { told = λ after e. (old, refl, cc) }

@@ -1,4 +1,4 @@
--- What the notes of a system in memory stand for.
+-- The journal that the notes of a system in memory are.
 use Rattle.std.specs.Prelude.{ℕ, Bool, true, false, List, [], ◌∷◌, reverse, Option, Some, None, Result, Ok, Err}
 use Rattle.std.specs.declared.io.ErrorKind.{ErrorKind}
 use Rattle.proxy_net.specs.Answers.{entry_of}

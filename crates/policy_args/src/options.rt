@@ -68,8 +68,8 @@ impl Options {
 ///
 /// `--filter` asks for the filter, and `--log` for a line of the log for each message. With `--sloppy-names` owner changes of
 /// all unique names are shown, and with `--known-fields` messages of the client with a header field of an unknown code are
-/// refused; with `--start-called`, an option of this program too, names at See that a Call entry covers may be started. Each
-/// other word gives an entry: `--see=NAME`, `--talk=NAME` and `--own=NAME` a level, and `--call=NAME=RULE`,
+/// refused. With `--start-called`, an option of this program too, names at See that a Call entry covers may be started.
+/// Each other word gives an entry: `--see=NAME`, `--talk=NAME` and `--own=NAME` a level, and `--call=NAME=RULE`,
 /// `--broadcast=NAME=RULE` and `--property=NAME=RULE` the level `See` and what a rule matches. The first two take the RULE
 /// `[METHOD][@PATH]`, and `--property`, an option of this program, takes `INTERFACE.PROPERTY[@PATH]`: those properties may be
 /// read and set. NAME is a well-known bus name or `N.*`, and before a RULE it ends at the first `=`; any other is a `BadName`,

@@ -265,8 +265,8 @@ fn told_options(alloc: Global, row: &str) -> Result<String, AllocError> {
     told_read(alloc, read_options(alloc, &words))
 }
 
-/// Of each block, whether owner changes of unique names are shown, whether known header fields alone pass, and whether names that
-/// may be called may be started.
+/// Of each block, whether owner changes of unique names are shown, whether known header fields alone pass, and whether
+/// names that may be called may be started.
 fn told_truth_values(alloc: Global, row: &str) -> Result<String, AllocError> {
     let words = split(alloc, row)?;
     let line = match read_line(alloc, &words) {

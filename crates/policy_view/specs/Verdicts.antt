@@ -173,8 +173,8 @@ demand_of member =
     else (if bytes_eq member (codes "StartServiceByName") then OnText Startable
     else (if is_one_of member name_members then OnText Ownable else Unlisted)))))
 
--- A name that is only seen may be started where the policy lets called names be started, and one of the name's entries has a rule
--- on calls of methods.
+-- A name at See may be started if the policy lets called names be started, and one of the name's entries has a rule on
+-- calls of methods.
 abbrev pub may_start : Policy → List ℕ → Bool
 may_start policy numbers = policy.start_called && list_any (entry_passes policy calls_methods) numbers
 

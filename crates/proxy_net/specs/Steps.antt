@@ -126,8 +126,8 @@ IsAnswered entry P calls = (asked : List SystemCall) × (calls ≡ answered entr
 abbrev pub IsNoted : ℕ → List SystemCall → Type 0
 IsNoted number calls = (calls ≡ []) ⊎ ((fault : Option ErrorKind) × (calls ≡ watch number false fault ∷ []))
 
--- A call that a wait makes, over links of these numbers and connects to these paths: it waits, it watches a link for reading
--- alone, or it tries a connect again.
+-- One call that a wait makes: it waits, it watches a link of one of these numbers for reading alone, or it tries a
+-- connect to one of these paths again.
 abbrev pub IsWaitCall : (ℕ → Type 0) → (ℕ → List ℕ → Type 0) → SystemCall → Type 0
 IsWaitCall Own To (wait reports) = Unit {0}
 IsWaitCall Own To (watch number true fault) = ⊥
@@ -179,8 +179,8 @@ abbrev pub IsCleanUp : List ℕ → Result ℕ NetFault → List SystemCall → 
 IsCleanUp path (Ok _) calls = calls ≡ []
 IsCleanUp path (Err _) calls = IsRemoval path calls
 
--- A listen: a socket is bound to the path, and its clients are awaited. Where that can't be, no file but the one at the path is
--- removed.
+-- A listen: a socket is bound to the path, and its clients are awaited. If that fails, no file but the one at the path
+-- is removed.
 abbrev pub IsListen : ℕ → List ℕ → Result ℕ NetFault → List SystemCall → Type 0
 IsListen number path (Ok _) calls = calls ≡ await_clients number None ∷ bind number path None ∷ []
 IsListen number path (Err _) calls = (calls ≡ []) ⊎ (((kind : ErrorKind) × (calls ≡ bind number path (Some kind) ∷ []))

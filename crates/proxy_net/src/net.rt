@@ -57,7 +57,7 @@ impl<S: Sockets + Drop> MioNet<S> {
     ghost use Rattle.link_traits.specs.Views.{KeepsWishes};
     ghost use Rattle.proxy_net.specs.Sockets.{shown, RoseIn, GoesOn, IsUnused, IsWished, StaysClosed, HasFileAt, HasLink, IsTriedTo, has_file_at};
 
-    /// A net over the sockets of a system, without listeners and links. No net answered anything over that system before.
+    /// A net over the sockets of a system, without listeners and links. No other net may have used that system.
     pub fn over(alloc: Global, system: S) -> Result<MioNet<S>, AllocError>
         requires { IsUnanswered (S.journal system) }
         ensures { IfOk result (λ net. IsUnused (shown net.sockets (S.journal net.system))) }

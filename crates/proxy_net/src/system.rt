@@ -121,8 +121,7 @@ pub trait Sockets {
     /// The time, if the clock can be read.
     fn now(&self) -> Option<Instant>;
 
-    /// Notes in the journal what a net over these sockets answered, with the path or the bytes that it was given. It does
-    /// nothing else.
+    /// Notes in the journal what a net over these sockets answered, with its path or its bytes. It does nothing else.
     fn tell(&mut self, answer: Answer, bytes: &[u8])
         ensures { Tells (journal self.old) (journal self.new) (answered (entry_of answer bytes.now) ∷ []) };
 }

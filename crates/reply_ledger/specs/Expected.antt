@@ -37,8 +37,8 @@ pub record IsInOrder (others : Kinds) (queue : List Awaited) : Type 0 where
   pub ascending : IsAscending queue
   pub apart : All (λ a. get others a.position ≡ None) queue
 
--- What it takes to find one answer: at most two look-ups, and one for each answer that is passed over. Those are expected, and
--- their messages were sent earlier.
+-- What it takes to find one answer: at most two look-ups, and one for each answer that is passed over. Each of those is
+-- expected, and its message was sent earlier.
 pub record TakeCost (expected : Kinds) (position before after : ℕ) : Type 0 where
   pub passed : List ℕ
   pub ascending : AllPairs (λ a b. a < b) passed

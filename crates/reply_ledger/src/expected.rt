@@ -154,8 +154,8 @@ fn remove<L: StepLedger>(
     // An answer that is passed over is a step, ..
     ensures cost { TakeCost (with_queue (kinds_of others.old.entries) queue.old.items) position steps.old steps.new }
 
-    // .. and leaves the queue by it. So each answer is passed over once, and all takes together cost at most two steps each
-    // and one for each answer that was expected.
+    // .. and leaves the queue. So each answer is passed over once: all takes together cost at most two steps each, and one
+    // for each answer that was expected.
     ensures once { steps.new + length queue.new.items ≤ steps.old + 2 + length queue.old.items }
 {
     if is_first(queue, position) {

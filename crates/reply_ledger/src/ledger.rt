@@ -95,8 +95,8 @@ impl Ledger {
         take_from::<Brand>(self, position, Blank::new(1))
     }
 
-    /// What `take` does: it takes at most two look-ups, and one for each answer that is expected earlier and is passed over.
-    /// Each is passed over once, so all takes together cost no more than two look-ups each and one for each `expect`.
+    /// What `take` does: it takes at most two look-ups, and one for each earlier answer that is passed over. Each is passed
+    /// over once, so all takes together cost no more than two look-ups each and one for each `expect`.
     pub fn take_counted<L: StepLedger>(
         &mut self,
         position: u32,

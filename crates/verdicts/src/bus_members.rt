@@ -184,8 +184,8 @@ fn judge_start<L: Ledger>(
     }
 }
 
-// Whether a name that is only seen may be started: one of its entries has a rule on calls of methods. What is known of a unique
-// name is looked up for that, which is a step.
+// Whether a name at See may be started: the policy lets called names be started, and one of the name's entries has a rule
+// on calls of methods. What is known of a unique name is looked up for that, which is a step.
 fn may_start<L: Ledger>(
     policy: &Policy,
     tracker: &Tracker,
