@@ -3,7 +3,7 @@ use Rattle.std.proofs.Common.{ℕ, ◌≡◌, inl, inr, Bool, true, false, is_ok
 use Rattle.std.specs.declared.io.ErrorKind.{ErrorKind}
 use Rattle.std.specs.declared.io.ErrorKind.TheVariants.{WouldBlock, Interrupted, ConnectionReset}
 use Rattle.proxy_net.specs.SystemCalls.{SystemCall, close, watch, read, write, fault_of, IsToldRead, IsToldWrite, Tells}
-use Rattle.proxy_net.specs.Steps.{Steps, IsRead, IsStreamWrite, IsConnectionWrite, IsWatched, IsShut, got_of}
+use Rattle.proxy_net.specs.Steps.{Steps, IsRead, IsStreamRead, IsStreamWrite, IsConnectionWrite, IsWatched, IsShut, got_of}
 use Rattle.proxy_net.specs.Streams.{IsMeantRead, IsMeantWrite}
 use Rattle.proxy_net.specs.declared.streams.StreamRead.{StreamRead}
 use Rattle.proxy_net.specs.declared.streams.StreamRead.TheVariants.{Bytes, End, Nothing, Fault}
@@ -17,9 +17,16 @@ use Rattle.proxy_net.specs.declared.system.Numbered.{Numbered}
 use Rattle.std.proofs.lemmas.Bool.Decides.{nat_tests}
 use Rattle.proxy_net.proofs.Telling.{steps_one}
 
+-- what a stream answers is what its link does
+pub stream_read : (number : ℕ) (into : List ℕ) (meaning : StreamRead) (calls : List SystemCall) → IsStreamRead number into meaning calls → IsRead number into (got_of meaning) calls
+stream_read number into (Bytes n) calls is = is
+stream_read number into End calls is = is
+stream_read number into Nothing calls is = inr is
+stream_read number into Fault calls is = is
+
 module _ {E : Type 0} (kind : E → ErrorKind) (number : ℕ) where
   pub read_told : (into : List ℕ) (answer : Result ℕ E) (meaning : StreamRead) {old new : Option (List SystemCall)} → IsToldRead kind number into answer old new → IsMeantRead kind answer (Some meaning)
-      → Steps (IsRead number into (got_of meaning)) old new
+      → Steps (IsStreamRead number into meaning) old new
   read_told into (Ok n) (Bytes m) told meant = steps_one (read number (Ok (take n into)) ∷ []) told (ap (λ (k : ℕ). read number (Ok (take k into)) ∷ []) meant)
   read_told into (Ok n) End told meant = steps_one (read number (Ok (take n into)) ∷ []) told (inl (ap (λ (k : ℕ). read number (Ok (take k into)) ∷ []) meant))
   read_told into (Ok n) Nothing told meant = absurd meant
@@ -28,7 +35,7 @@ module _ {E : Type 0} (kind : E → ErrorKind) (number : ℕ) where
   read_told into (Err error) End told meant =
       steps_one (read number (Err (kind error)) ∷ []) (told.0 (λ e. let no : ConnectionReset ≡ Interrupted = sym meant ∙ e in cc)) (inr (ap (λ (k : ErrorKind). read number (Err k) ∷ []) meant))
   read_told into (Err error) Nothing told meant =
-      steps_one (read number (Err (kind error)) ∷ []) (told.0 (λ e. let no : WouldBlock ≡ Interrupted = sym meant ∙ e in cc)) (inr (ap (λ (k : ErrorKind). read number (Err k) ∷ []) meant))
+      steps_one (read number (Err (kind error)) ∷ []) (told.0 (λ e. let no : WouldBlock ≡ Interrupted = sym meant ∙ e in cc)) (ap (λ (k : ErrorKind). read number (Err k) ∷ []) meant)
   read_told into (Err error) Fault told meant = steps_one (read number (Err (kind error)) ∷ []) (told.0 meant) (inr (kind error, refl))
 
   -- a read that is made again

@@ -42,6 +42,13 @@ IsRead number into Finished calls = (calls ≡ read number (Ok []) ∷ []) ⊎ (
 IsRead number into ReadNotReady calls = (calls ≡ []) ⊎ (calls ≡ read number (Err WouldBlock) ∷ [])
 IsRead number into ReadFailed calls = (calls ≡ []) ⊎ ((kind : ErrorKind) × (calls ≡ read number (Err kind) ∷ []))
 
+-- What a stream answers to a read: nothing was there only if the system said so.
+abbrev pub IsStreamRead : ℕ → List ℕ → StreamRead → List SystemCall → Type 0
+IsStreamRead number into (Bytes n) calls = calls ≡ read number (Ok (take n into)) ∷ []
+IsStreamRead number into End calls = (calls ≡ read number (Ok []) ∷ []) ⊎ (calls ≡ read number (Err ConnectionReset) ∷ [])
+IsStreamRead number into Nothing calls = calls ≡ read number (Err WouldBlock) ∷ []
+IsStreamRead number into Fault calls = (calls ≡ []) ⊎ ((kind : ErrorKind) × (calls ≡ read number (Err kind) ∷ []))
+
 -- what a link answers where its stream reads so
 abbrev pub got_of : StreamRead → Got
 got_of (Bytes n) = GotBytes n

@@ -2,7 +2,7 @@
 ghost use Rattle.std.specs.Prelude.{◌≡◌, ◌≢◌, ◌≤◌, ◌<◌, ℕ, Ok, Some, IfErr, length, true};
 ghost use Rattle.std.specs.IoError.{error_kind};
 ghost use Rattle.proxy_net.specs.Streams.{IsRefusedRead, IsRefusedWrite, IsMeantRead, IsRefusalRead, IsMeantWrite, IsRefusalWrite};
-ghost use Rattle.proxy_net.specs.Steps.{Steps, IsRead, IsStreamWrite, got_of};
+ghost use Rattle.proxy_net.specs.Steps.{Steps, IsStreamRead, IsStreamWrite};
 
 use crate::system::{Numbered, Sockets};
 use std::io::{self, ErrorKind};
@@ -43,7 +43,7 @@ pub fn read_stream<S: Sockets>(
 ) -> StreamRead
     ensures within { (n : ℕ) → result ≡ StreamRead.Bytes n → n ≤ length into.new }
     ensures progress { (n : ℕ) → result ≡ StreamRead.Bytes n → 0 < length into.new → 0 < n }
-    ensures told { Steps (IsRead stream.now.number into.new (got_of result)) (S.journal system.old) (S.journal system.new) }
+    ensures told { Steps (IsStreamRead stream.now.number into.new result) (S.journal system.old) (S.journal system.new) }
 {
     let has_room = !into.is_empty();
     for _ in 0..u64::MAX {
