@@ -49,6 +49,10 @@ IsStreamRead number into End calls = (calls ≡ read number (Ok []) ∷ []) ⊎ 
 IsStreamRead number into Nothing calls = calls ≡ read number (Err WouldBlock) ∷ []
 IsStreamRead number into Fault calls = (calls ≡ []) ⊎ ((kind : ErrorKind) × (calls ≡ read number (Err kind) ∷ []))
 
+-- the system was asked once for bytes of a socket, and had none yet
+abbrev pub IsPolled : ℕ → List SystemCall → Type 0
+IsPolled number calls = calls ≡ read number (Err WouldBlock) ∷ []
+
 -- what a link answers where its stream reads so
 abbrev pub got_of : StreamRead → Got
 got_of (Bytes n) = GotBytes n

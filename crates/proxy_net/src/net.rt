@@ -151,7 +151,7 @@ impl<S: Sockets + Drop> Net for MioNet<S> {
     ghost use Rattle.std.specs.Option.{option_map};
     ghost use Rattle.proxy_net.specs.Naming.{other_of};
     ghost use Rattle.proxy_net.specs.Registering.{listeners_from};
-    ghost use Rattle.proxy_net.specs.Steps.{Steps, IsAnswered, AreWaitCalls, IsListen, IsAccept, IsConnect, IsRead, IsWrite, IsShut};
+    ghost use Rattle.proxy_net.specs.Steps.{Steps, IsAnswered, AreWaitCalls, IsListen, IsAccept, IsConnect, IsRead, IsPolled, IsWrite, IsShut};
     ghost use Rattle.std.specs.Prelude.{List};
     ghost use Rattle.proxy_net.specs.Sockets.{path_at, is_put_off_at, delay_at, is_readable_at, StaysUnread, StaysClosed, KeepsReports, HasLink, IsTriedTo};
     ghost use Rattle.proxy_net.specs.Sockets.{shown, is_open_at, is_pending_in, is_closed_at, is_peer_closed_at, is_stalled_at, IsJudgedAt, IsWished};
@@ -296,6 +296,9 @@ impl<S: Sockets + Drop> Net for MioNet<S> {
 
         // What the system is asked for it, and told then.
         ensures asked { Steps (IsAnswered (read_entry link into.new result) (IsRead (number_of link) into.new result)) (S.journal self.old.system) (S.journal self.new.system) }
+
+        // A link that is connected isn't said to have nothing yet without a read of its socket.
+        ensures polled { is_pending_in self.old.sockets link ≡ false → result ≡ Got.NotReady → Steps (IsAnswered (read_entry link into.new result) (IsPolled (number_of link))) (S.journal self.old.system) (S.journal self.new.system) }
 
         // What the trait says.
         ensures told { Adds (shown self.old.sockets (S.journal self.old.system)) (shown self.new.sockets (S.journal self.new.system)) (read_entry link into.new result ∷ []) }

@@ -3,7 +3,7 @@ ghost use Rattle.std.specs.Prelude.{◌≡◌, ◌≤◌, ◌<◌, ℕ, None, le
 ghost use Rattle.std.specs.Option.{option_map};
 ghost use Rattle.link_traits.specs.Numbers.{number_of as link_number};
 ghost use Rattle.proxy_net.specs.Naming.{other_of};
-ghost use Rattle.proxy_net.specs.Steps.{Steps, IsRead, IsWrite, IsLinkWrite, IsShut};
+ghost use Rattle.proxy_net.specs.Steps.{Steps, IsRead, IsPolled, IsWrite, IsLinkWrite, IsShut};
 
 use super::{SocketSet, other_number};
 use crate::link_sockets::{LinkWrite, raised};
@@ -48,6 +48,7 @@ impl<T: Drop, L: Drop> SocketSet<T, L> {
         ensures unread { StaysUnread self.old self.new }
         ensures closed { StaysClosed self.old self.new }
         ensures told { is_link_registered self.old (link_number link) ≡ true → Steps (IsRead (link_number link) into.new result) (S.journal system.old) (S.journal system.new) }
+        ensures polled { is_link_registered self.old (link_number link) ≡ true → is_pending_in self.old link ≡ false → result ≡ Got.NotReady → Steps (IsPolled (link_number link)) (S.journal system.old) (S.journal system.new) }
         ensures goes { GoesOn self.old self.new }
     {
         let got = self.read_link(system, link, into);
@@ -75,6 +76,7 @@ impl<T: Drop, L: Drop> SocketSet<T, L> {
         ensures closed { StaysClosed self.old self.new }
         ensures uncounted { self.new.waits ≡ self.old.waits }
         ensures told { is_link_registered self.old (link_number link) ≡ true → Steps (IsRead (link_number link) into.new result) (S.journal system.old) (S.journal system.new) }
+        ensures polled { is_link_registered self.old (link_number link) ≡ true → is_pending_in self.old link ≡ false → result ≡ Got.NotReady → Steps (IsPolled (link_number link)) (S.journal system.old) (S.journal system.new) }
         ensures goes { GoesOn self.old self.new }
     {
         let number = number_of(link);

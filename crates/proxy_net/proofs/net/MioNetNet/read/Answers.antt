@@ -21,3 +21,7 @@ invariant_of-self g c = record {
       (read_makes c.args.link c.read-got.new.into c.read-got.result) c.read-got.ensures.goes.number c.read-got.ensures.goes.sessions;
   bound = bound_kept c.args.self.now.sockets c.read-got.new.self (asked_then_told (read_entry c.args.link c.read-got.new.into c.read-got.result) (c.read-got.ensures.told (c.args.self.now.consistent.link_tokens (number_of c.args.link))) c.tell.ensures) c.read-got.ensures.goes.number c.read-got.ensures.goes.files c.args.self.now.bound;
 }
+
+pub returns-clause-polled : goal.returns-clause-polled
+returns-clause-polled g c = λ connected waits.
+    asked_then_told (read_entry c.args.link c.read-got.new.into c.read-got.result) (c.read-got.ensures.polled (c.args.self.now.consistent.link_tokens (number_of c.args.link)) connected waits) c.tell.ensures
