@@ -111,7 +111,11 @@ module _ (left : List ℕ) (len : ℕ) (head : Head left len) (stands : len ≤ 
       subst (λ (t : List ℕ). (head_fault t ≡ head_fault (take len left)) × (whole_len t ≡ whole_len (take len left))) (take-append-drop len left)
       (same_head (take len left) (drop len left) message_long)
 
-  -- its head states its length
+  -- its head is good
+  pub message_good : head_fault (take len left) ≡ None
+  message_good = sym same.0 ∙ head.good
+
+  -- and states its length
   pub message_states : whole_len (take len left) ≡ len
   message_states = sym same.1 ∙ head.states
 

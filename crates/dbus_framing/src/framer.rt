@@ -11,7 +11,7 @@ use crate::buffer::Buffer;
 use crate::state::State;
 use crate::{Front, Next};
 use bytes::Bytes;
-use dbus_header::{KnownTexts, Malformed, Message, decode_knowing};
+use dbus_header::{KnownTexts, Malformed, Message, decode_checked};
 use std::alloc::{AllocError, Global};
 use std::marker::Model;
 
@@ -76,7 +76,7 @@ fn message_in_front<'a>(
     ensures bad { IfErr result (λ f. fault left.now ≡ Some f) }
 {
     let (message, _) = left.split_at(len);
-    decode_knowing(message, known)
+    decode_checked(message, known)
 }
 
 impl Framer {
@@ -161,8 +161,8 @@ impl Framer {
         front
     }
 
-    /// The message in front, of as many bytes as `front` said, read in place; or what is wrong with it. The texts that are known are
-    /// those of the stream's messages before it.
+    /// The message in front, of as many bytes as `front` said, read in place; or what is wrong with it. Known are headers and texts of
+    /// the stream's messages before it.
     pub fn message<'a>(
         &'a self,
         len: usize,

@@ -20,3 +20,4 @@ pub mod NumberLaws
 pub mod CutLaws
 pub mod MessageBodies
 pub mod BusNames
+pub mod KnownHeaders

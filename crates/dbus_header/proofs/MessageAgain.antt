@@ -107,7 +107,7 @@ fields_end (suc n) o before p = ap (λ (q : Option (Field × At)). and_then_all 
 abbrev pub spelled_from : Order → ℕ → List Field → List ℕ
 spelled_from o p fields = spelled_list o p (map field_value fields)
 
-fields_again : (fields before : List Field) (n : ℕ) (o : Order) (p : ℕ) → are_valid_fields o p fields ≡ true → may_all_follow before fields ≡ true → length (spelled_from o p fields) ≤ n → fields_at o n before (at p (spelled_from o p fields)) ≡ (fields, at (p + length (spelled_from o p fields)) [])
+pub fields_again : (fields before : List Field) (n : ℕ) (o : Order) (p : ℕ) → are_valid_fields o p fields ≡ true → may_all_follow before fields ≡ true → length (spelled_from o p fields) ≤ n → fields_at o n before (at p (spelled_from o p fields)) ≡ (fields, at (p + length (spelled_from o p fields)) [])
 fields_again [] before n o p i m h = fields_end n o before p ∙ ap (λ (q : ℕ). ([], at q [])) (omega arith)
 fields_again (f ∷ fields) before zero o p i m h = absurd (omega (arith, h, spelled_pos (field_value f) o p, length-append (spelled o p (field_value f)) (spelled_from o (p + length (spelled o p (field_value f))) fields)))
 fields_again (f ∷ fields) before (suc n) o p i m h =

@@ -27,7 +27,7 @@ use Rattle.dbus_header.proofs.ReplyLaws.{spell-with_reply_serial}
 pub serial_patched : (n : ℕ) (m : Message) → spell (with_serial n m) ≡ with_number m.order 8 n (spell m)
 serial_patched n m = spell-with_serial n m
 
-patched : (o : Order) (x n place : ℕ) (before after old new : List ℕ) → old ≡ before ++ (number_bytes o w32 x ++ after) → new ≡ before ++ (number_bytes o w32 n ++ after) → place ≡ length before → new ≡ with_number o place n old
+pub patched : (o : Order) (x n place : ℕ) (before after old new : List ℕ) → old ≡ before ++ (number_bytes o w32 x ++ after) → new ≡ before ++ (number_bytes o w32 n ++ after) → place ≡ length before → new ≡ with_number o place n old
 patched o x n place before after old new old_is new_is at =
     let front : take place old ≡ before = ap (take place) old_is ∙ take_at before (number_bytes o w32 x ++ after) place (sym at) in
     let behind : drop (place + 4) old ≡ after =
@@ -124,7 +124,7 @@ accepted bytes are s =
     read (Err k) m e = absurd cc
 
 -- a reply serial's number stands somewhere exactly where there is one
-place_stands : (o : Order) (p : ℕ) (fs : List Field) → is_some (number_place o p fs) ≡ has_field 5 fs
+pub place_stands : (o : Order) (p : ℕ) (fs : List Field) → is_some (number_place o p fs) ≡ has_field 5 fs
 place_stands o p [] = refl
 place_stands o p (f ∷ fs) = go (f.code == 5) (place_stands o (p + length (spelled o p (field_value f))) fs)
   where

@@ -40,7 +40,7 @@ Valid-with_serial n m low high v = record {
 
 module _ (n : ℕ) (low : 0 < n) (high : n < 2 ^ 32) where
   -- a field keeps its code
-  code_is : (f : Field) → (set_reply n f).code ≡ f.code
+  pub code_is : (f : Field) → (set_reply n f).code ≡ f.code
   code_is f = go (f.code == 5)
     where
       go : (c : Bool) → (cond c (record f { value = a_number uint32 n }) f).code ≡ f.code
@@ -58,7 +58,7 @@ module _ (n : ℕ) (low : 0 < n) (high : n < 2 ^ 32) where
       go false e = e
 
   -- any other field stays
-  field_same : (c : ℕ) (fields : List Field) → (c == 5) ≡ false → field_in c (map (set_reply n) fields) ≡ field_in c fields
+  pub field_same : (c : ℕ) (fields : List Field) → (c == 5) ≡ false → field_in c (map (set_reply n) fields) ≡ field_in c fields
   field_same c [] e = refl
   field_same c (f ∷ fields) e =
       ap (λ (k : ℕ). cond (k == c) (some (set_reply n f).value) (field_in c (map (set_reply n) fields))) (code_is f)
@@ -71,7 +71,7 @@ module _ (n : ℕ) (low : 0 < n) (high : n < 2 ^ 32) where
           let is : f.code ≡ c = eqb-true f.code c h in
           ap (λ (d : Bool). some (cond d (record f { value = a_number uint32 n }) f).value) (ap (λ (k : ℕ). k == 5) is ∙ e)
 
-  follow_same : (fields before : List Field) → may_all_follow before fields ≡ true → may_all_follow (map (set_reply n) before) (map (set_reply n) fields) ≡ true
+  pub follow_same : (fields before : List Field) → may_all_follow before fields ≡ true → may_all_follow (map (set_reply n) before) (map (set_reply n) fields) ≡ true
   follow_same [] before m = refl
   follow_same (f ∷ fields) before m =
       let a = and_parts (may_follow before f) (may_all_follow (f ∷ before) fields) m in
@@ -85,7 +85,7 @@ module _ (n : ℕ) (low : 0 < n) (high : n < 2 ^ 32) where
       value_kept false h e = e
       value_kept true h e = ap (λ (k : ℕ). is_field_of k (a_number uint32 n)) (eqb-true f.code 5 h) ∙ lt-ltb 0 n low
 
-  values_same : (fields before : List Field) (o : Order) (p : ℕ) → may_all_follow before fields ≡ true → are_valid_fields o p fields ≡ true → are_valid_fields o p (map (set_reply n) fields) ≡ true
+  pub values_same : (fields before : List Field) (o : Order) (p : ℕ) → may_all_follow before fields ≡ true → are_valid_fields o p fields ≡ true → are_valid_fields o p (map (set_reply n) fields) ≡ true
   unfolding reply_field
   values_same [] before o p m v = refl
   values_same (f ∷ fields) before o p m v = go (f.code == 5) refl (λ q. values_same fields (f ∷ before) o q a.1)
@@ -122,7 +122,7 @@ all_same p q [] h = refl
 all_same p q (x ∷ xs) h = ap (λ (b : Bool). b && list_all p xs) (h x) ∙ ap (λ (b : Bool). q x && b) (all_same p q xs h)
 
 -- texts that differ in one number are as long
-one_len : {o : Order} {x n start : ℕ} {place : Option ℕ} {old new : List ℕ} → OneNumber o x n start place old new → length new ≡ length old
+pub one_len : {o : Order} {x n start : ℕ} {place : Option ℕ} {old new : List ℕ} → OneNumber o x n start place old new → length new ≡ length old
 one_len {o} {x} {n} {old} {new} one =
     ap length one.new_is ∙ parts one.before one.after ∙ sym (ap length one.old_is)
   where

@@ -113,7 +113,7 @@ module _ (o : Order) (signature bytes : List ℕ) (start : ℕ) (are : AreBytes 
 
 -- ---- the fields that are needed
 
-stands : {A : Type 0} (view : Option Value → Option A) (c : ℕ) → is_some (view None) ≡ false → ((v : Value) → is_field_of c v ≡ true → is_some (view (Some v)) ≡ true) → (fields before : List Field) → may_all_follow before fields ≡ true →
+pub stands : {A : Type 0} (view : Option Value → Option A) (c : ℕ) → is_some (view None) ≡ false → ((v : Value) → is_field_of c v ≡ true → is_some (view (Some v)) ≡ true) → (fields before : List Field) → may_all_follow before fields ≡ true →
     is_some (view (field_in c fields)) ≡ has_field c fields
 stands view c none holds [] before follow = none
 stands view c none holds (f ∷ fields) before follow = by (stands view c none holds fields (f ∷ before) k.1) (f.code == c) refl

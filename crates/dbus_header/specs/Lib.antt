@@ -9,3 +9,4 @@ pub mod Seen
 pub mod Whole
 pub mod Kinds
 pub mod Read
+pub mod KnownHeaders

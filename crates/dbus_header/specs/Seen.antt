@@ -11,9 +11,9 @@ use Rattle.dbus_header.specs.declared.fields.Fields.{Fields}
 use denote.Bor.{Bor}
 
 abbrev pub part_seen : HeaderField → Part
-part_seen (header.Text code text) = some_text code text.now
+part_seen (header.Text code text start) = some_text code text.now
 part_seen (header.Number code number) = some_number code number
-part_seen (header.Signed signature) = some_signature signature.bytes.now
+part_seen (header.Signed signature start) = some_signature signature.bytes.now
 part_seen header.Unread = unread
 
 -- a field and where it ends

@@ -1,11 +1,14 @@
 //! Reading a message.
-ghost use Rattle.std.specs.Prelude.{◌≡◌, ◌==◌, ◌≤◌, ◌<◌, ◌+◌, ◌^◌, List, None, IfOk, IfSome, OnOk, ◌&&◌, take, drop, length, slice_index, unwrap_or};
+ghost use Rattle.std.specs.Prelude.{◌≡◌, ◌==◌, ◌≤◌, ◌<◌, ◌+◌, ◌^◌, List, None, IfOk, IfSome, IsSome, OnOk, ◌&&◌, take, drop, length, slice_index, unwrap_or};
 ghost use Rattle.dbus_types.specs.Signature.{Complete, spelled_types};
 ghost use Rattle.dbus_values.specs.Values.{padding as padding_to};
 ghost use Rattle.dbus_values.specs.Reading.{all_zero};
 ghost use Rattle.dbus_header.specs.Malformed.{head_fault, whole_len, whole, fault, fault_in, order_in as stated_order};
 ghost use Rattle.dbus_header.specs.Refusals.{refusal};
 ghost use Rattle.dbus_header.specs.HeaderReading.{has_required_parts, nothing_found};
+ghost use Rattle.dbus_header.specs.KnownHeaders.{fields_bytes as bytes_of_fields};
+ghost use Rattle.dbus_header.specs.Contents.{message_of};
+ghost use Rattle.dbus_header.specs.Message.{body_place};
 ghost use Rattle.dbus_header.specs.Seen.{fields_seen, parts_seen};
 ghost use Rattle.dbus_header.specs.Whole.{body_fault_at, stated_in, HasParts, IsFieldsLen, fields_fault, fields_found, rest_fault};
 
@@ -89,6 +92,17 @@ fn header_fields_len(order: Order, bytes: &[u8]) -> u32
     read_u32(order, bytes, 12)
 }
 
+/// The bytes of the header fields and of the padding after them.
+fn fields_bytes(fields_len: u32, bytes: &[u8]) -> &[u8]
+    requires { IsFieldsLen bytes.now fields_len }
+    ensures bytes { result.now ≡ bytes_of_fields fields_len bytes.now }
+    ensures len { length result.now + 16 ≡ body_place fields_len }
+{
+    let (_, rest) = bytes.split_at(HEAD_LEN);
+    let (own, _) = rest.split_at(body_start(fields_len) as usize - HEAD_LEN);
+    own
+}
+
 /// Reads the header fields of a whole message, which are to end where their length says, with zeros up to the body behind them.
 fn header_fields<'a>(
     known: &mut KnownTexts,
@@ -103,6 +117,10 @@ fn header_fields<'a>(
     ensures refusal { refusal result ≡ fields_fault bytes.now }
     ensures found { OnOk result (fields_seen fields.new ≡ fields_found bytes.now) }
 {
+    let own = fields_bytes(fields_len, bytes);
+    if known.fill(order, fields_len, own, fields) {
+        return Ok(());
+    }
     let fields_end = HEAD_LEN + fields_len as usize;
     let (header, _) = bytes.split_at(fields_end);
     let end = read_fields(known, order, header, fields);
@@ -112,6 +130,7 @@ fn header_fields<'a>(
             at: end as u32,
         });
     }
+    known.keep_header(order, fields_len, own, fields);
     Ok(())
 }
 
@@ -168,31 +187,19 @@ fn read_whole<'a>(
     check_rest(order, bytes, body_start(fields_len) as usize, fields)
 }
 
-/// The message that the bytes are, or what is wrong with them, and where (D-Bus Specification, "Message Format"). One pass
-/// over the header and one over the body.
-pub fn decode(bytes: &[u8]) -> Result<Message<'_>, Malformed>
+/// The valid message of these bytes, whose header fields are these.
+#[inline(always)]
+fn assembled<'a>(order: Order, bytes: &'a [u8], fields: &Fields<'a>) -> Message<'a>
     requires long { 16 ≤ length bytes.now }
-    requires whole { head_fault bytes.now ≡ None → length bytes.now ≡ whole_len bytes.now }
-    ensures refusal { refusal result ≡ fault bytes.now }
-    ensures bytes { IfOk result (λ m. m.bytes.now ≡ bytes.now) }
+    requires head { head_fault bytes.now ≡ None }
+    requires whole { length bytes.now ≡ whole_len bytes.now }
+    requires order { order ≡ stated_order bytes.now }
+    requires parts { HasParts bytes.now (fields_seen fields.now) }
+    ensures { result.bytes.now ≡ bytes.now }
 {
-    decode_knowing(bytes, &mut KnownTexts::none())
-}
-
-/// The same, where texts of earlier messages are known, so that they aren't read once more. Those of this message are known then.
-pub fn decode_knowing<'a>(bytes: &'a [u8], known: &mut KnownTexts) -> Result<Message<'a>, Malformed>
-    requires long { 16 ≤ length bytes.now }
-    requires whole { head_fault bytes.now ≡ None → length bytes.now ≡ whole_len bytes.now }
-    ensures refusal { refusal result ≡ fault bytes.now }
-    ensures bytes { IfOk result (λ m. m.bytes.now ≡ bytes.now) }
-{
-    check_head(bytes)?;
-    let order = order_in(bytes);
-    let mut fields = Fields::none();
-    read_whole(known, order, bytes, &mut fields)?;
     let start = body_start(read_u32(order, bytes, 12)) as usize;
     let (_, body) = bytes.split_at(start);
-    Ok(Message {
+    Message {
         order,
         kind: bytes[1],
         flags: bytes[2],
@@ -206,8 +213,75 @@ pub fn decode_knowing<'a>(bytes: &'a [u8], known: &mut KnownTexts) -> Result<Mes
         has_unknown_field: fields.has_unknown,
         destination: fields.destination,
         sender: fields.sender,
-        signature: stated(&fields),
+        signature: stated(fields),
         body,
         bytes,
-    })
+    }
+}
+
+/// The message that the bytes are, or what is wrong with them, and where (D-Bus Specification, "Message Format"). One pass
+/// over the header and one over the body.
+pub fn decode(bytes: &[u8]) -> Result<Message<'_>, Malformed>
+    requires long { 16 ≤ length bytes.now }
+    requires whole { head_fault bytes.now ≡ None → length bytes.now ≡ whole_len bytes.now }
+    ensures refusal { refusal result ≡ fault bytes.now }
+    ensures bytes { IfOk result (λ m. m.bytes.now ≡ bytes.now) }
+{
+    decode_knowing(bytes, &mut KnownTexts::none())
+}
+
+/// Reads a message as `decode` does. What is known of earlier messages isn't read once more, and this one is known then.
+pub fn decode_knowing<'a>(bytes: &'a [u8], known: &mut KnownTexts) -> Result<Message<'a>, Malformed>
+    requires long { 16 ≤ length bytes.now }
+    requires whole { head_fault bytes.now ≡ None → length bytes.now ≡ whole_len bytes.now }
+    ensures refusal { refusal result ≡ fault bytes.now }
+    ensures bytes { IfOk result (λ m. m.bytes.now ≡ bytes.now) }
+{
+    check_head(bytes)?;
+    decode_checked(bytes, known)
+}
+
+/// Reads a message as `decode_knowing` does, whose first sixteen bytes `length` has found to be in order.
+pub fn decode_checked<'a>(bytes: &'a [u8], known: &mut KnownTexts) -> Result<Message<'a>, Malformed>
+    requires long { 16 ≤ length bytes.now }
+    requires head { head_fault bytes.now ≡ None }
+    requires whole { length bytes.now ≡ whole_len bytes.now }
+    ensures refusal { refusal result ≡ fault bytes.now }
+    ensures bytes { IfOk result (λ m. m.bytes.now ≡ bytes.now) }
+{
+    let order = order_in(bytes);
+    let mut fields = Fields::none();
+    read_whole(known, order, bytes, &mut fields)?;
+    Ok(assembled(order, bytes, &fields))
+}
+
+/// Reads the header fields of a message that is valid.
+fn valid_fields<'a>(known: &KnownTexts, order: Order, bytes: &'a [u8], fields: &mut Fields<'a>)
+    requires none { fields_seen fields.old ≡ nothing_found }
+    requires order { order ≡ stated_order bytes.now }
+    requires valid { IsSome (message_of bytes.now) }
+    ensures { HasParts bytes.now (fields_seen fields.new) }
+{
+    let fields_len = header_fields_len(order, bytes);
+    let own = fields_bytes(fields_len, bytes);
+    if known.find(order, fields_len, own, fields) {
+        return;
+    }
+    let mut none = KnownTexts::none();
+    match header_fields(&mut none, order, fields_len, bytes, fields) {
+        Ok(()) => {}
+        Err(_) => unreachable!(),
+    }
+}
+
+/// The message that bytes are of which that is known: its header fields are read again, unless a known header has them, and
+/// its body isn't. What is known stays as it is.
+pub fn read_valid<'a>(bytes: &'a [u8], known: &KnownTexts) -> Message<'a>
+    requires { IsSome (message_of bytes.now) }
+    ensures { result.bytes.now ≡ bytes.now }
+{
+    let order = order_in(bytes);
+    let mut fields = Fields::none();
+    valid_fields(known, order, bytes, &mut fields);
+    assembled(order, bytes, &fields)
 }

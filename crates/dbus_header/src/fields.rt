@@ -1,9 +1,10 @@
 //! The header fields of a message, read in place.
-ghost use Rattle.std.specs.Prelude.{◌≡◌, ◌≢◌, ◌≤◌, ◌<◌, ◌+◌, ◌^◌, ◌∷◌, [], Some, None, option_map, length, if◌then◌else◌};
+ghost use Rattle.std.specs.Prelude.{◌≡◌, ◌≢◌, ◌≤◌, ◌<◌, ◌+◌, ◌^◌, ◌∷◌, [], ℕ, List, Some, None, IfSome, option_map, length, if◌then◌else◌};
 ghost use Rattle.dbus_types.specs.Signature.{variant};
 ghost use Rattle.dbus_values.specs.Ends.{values_end};
 ghost use Rattle.dbus_header.specs.HeaderReading.{type_code, ended_text as text_ended, text_part, number_part, signature_part, known_value as value_known, known_part, unread_to, coded_part, part_at, with_text, with_number_part, with_part, nothing_found};
 ghost use Rattle.dbus_header.specs.HeaderFields.{FieldsRead};
+ghost use Rattle.dbus_header.specs.KnownHeaders.{AllBeginAt, Begins, BeginsAt};
 ghost use Rattle.dbus_header.specs.Seen.{part_seen, end_seen, fields_seen, parts_seen};
 
 use crate::grammars::KnownTexts;
@@ -34,14 +35,27 @@ const UNIX_FDS: u8 = 9;
 /// A header field.
 #[derive(Clone, Copy)]
 enum HeaderField<'a> {
-    /// One that holds a path or a string, by its code.
-    Text(u8, &'a str),
+    /// One that holds a path or a string, by its code, and where that begins.
+    Text(u8, &'a str, usize),
     /// REPLY_SERIAL or UNIX_FDS, by its code.
     Number(u8, u32),
-    /// SIGNATURE.
-    Signed(Signature<'a>),
+    /// SIGNATURE, and where it begins.
+    Signed(Signature<'a>, usize),
     /// One with an unknown code, whose value isn't read.
     Unread,
+}
+
+/// Where the texts and the signature of a message's header fields begin in the message. The place of an absent one says
+/// nothing.
+#[derive(Clone, Copy)]
+pub(crate) struct Starts {
+    pub(crate) path: usize,
+    pub(crate) interface: usize,
+    pub(crate) member: usize,
+    pub(crate) error_name: usize,
+    pub(crate) destination: usize,
+    pub(crate) sender: usize,
+    pub(crate) signature: usize,
 }
 
 /// The header fields of a message, each where it stands.
@@ -61,6 +75,7 @@ pub(crate) struct Fields<'a> {
     pub(crate) signature: Option<Signature<'a>>,
     /// UNIX_FDS.
     pub(crate) descriptors: Option<u32>,
+    pub(crate) starts: Starts,
 }
 
 /// The type that a known code's value has, as a signature spells it.
@@ -101,9 +116,11 @@ fn text_field<'a>(
     at: usize,
 ) -> Option<(HeaderField<'a>, usize)>
     requires code { code ≢ 8 }
+    requires low { 16 ≤ at }
     requires inside { at ≤ length bytes.now }
     requires short { length bytes.now ≤ 2 ^ 28 }
-    ensures { option_map end_seen result ≡ text_part order code bytes.now at }
+    ensures part { option_map end_seen result ≡ text_part order code bytes.now at }
+    ensures begins { IfSome result (λ x. Begins bytes.now x.0) }
 {
     if at + 4 > bytes.len() {
         return None;
@@ -118,14 +135,15 @@ fn text_field<'a>(
     }
     // The grammar of each name lets ASCII alone pass.
     let text = unsafe { str::from_utf8_unchecked(text) };
-    Some((HeaderField::Text(code, text), end))
+    Some((HeaderField::Text(code, text, at + 4), end))
 }
 
 /// REPLY_SERIAL, which isn't 0, or UNIX_FDS.
 fn number_field(order: Order, code: u8, bytes: &[u8], at: usize) -> Option<(HeaderField<'_>, usize)>
     requires inside { at ≤ length bytes.now }
     requires short { length bytes.now ≤ 2 ^ 28 }
-    ensures { option_map end_seen result ≡ number_part order code bytes.now at }
+    ensures part { option_map end_seen result ≡ number_part order code bytes.now at }
+    ensures begins { IfSome result (λ x. Begins bytes.now x.0) }
 {
     if at + 4 > bytes.len() {
         return None;
@@ -143,9 +161,11 @@ fn signature_field<'a>(
     bytes: &'a [u8],
     at: usize,
 ) -> Option<(HeaderField<'a>, usize)>
+    requires low { 16 ≤ at }
     requires inside { at ≤ length bytes.now }
     requires short { length bytes.now ≤ 2 ^ 28 }
-    ensures { option_map end_seen result ≡ signature_part bytes.now at }
+    ensures part { option_map end_seen result ≡ signature_part bytes.now at }
+    ensures begins { IfSome result (λ x. Begins bytes.now x.0) }
 {
     if at >= bytes.len() {
         return None;
@@ -155,7 +175,7 @@ fn signature_field<'a>(
         None => return None,
     };
     match known.signature(text) {
-        Some(signature) => Some((HeaderField::Signed(signature), end)),
+        Some(signature) => Some((HeaderField::Signed(signature, at + 1), end)),
         None => None,
     }
 }
@@ -168,9 +188,11 @@ fn known_value<'a>(
     bytes: &'a [u8],
     at: usize,
 ) -> Option<(HeaderField<'a>, usize)>
+    requires low { 16 ≤ at }
     requires inside { at ≤ length bytes.now }
     requires short { length bytes.now ≤ 2 ^ 28 }
-    ensures { option_map end_seen result ≡ value_known order code bytes.now at }
+    ensures part { option_map end_seen result ≡ value_known order code bytes.now at }
+    ensures begins { IfSome result (λ x. Begins bytes.now x.0) }
 {
     match code {
         REPLY_SERIAL => number_field(order, code, bytes, at),
@@ -188,9 +210,11 @@ fn known_field<'a>(
     bytes: &'a [u8],
     at: usize,
 ) -> Option<(HeaderField<'a>, usize)>
+    requires low { 16 ≤ at }
     requires inside { at ≤ length bytes.now }
     requires short { length bytes.now ≤ 2 ^ 28 }
-    ensures { option_map end_seen result ≡ known_part order code bytes.now at }
+    ensures part { option_map end_seen result ≡ known_part order code bytes.now at }
+    ensures begins { IfSome result (λ x. Begins bytes.now x.0) }
 {
     if at + 3 > bytes.len()
         || bytes[at] != 1
@@ -212,7 +236,8 @@ fn variant_signature() -> Signature<'static>
 /// A field with an unknown code by the place of its variant, which may hold anything.
 fn unread_field(order: Order, bytes: &[u8], at: usize) -> Option<(HeaderField<'_>, usize)>
     requires { at ≤ length bytes.now }
-    ensures { option_map end_seen result ≡ unread_to (values_end order (variant ∷ []) at bytes.now) }
+    ensures part { option_map end_seen result ≡ unread_to (values_end order (variant ∷ []) at bytes.now) }
+    ensures begins { IfSome result (λ x. Begins bytes.now x.0) }
 {
     match value_end(order, variant_signature(), bytes, at) {
         Ok(end) => Some((HeaderField::Unread, end)),
@@ -228,9 +253,11 @@ fn coded_field<'a>(
     bytes: &'a [u8],
     at: usize,
 ) -> Option<(HeaderField<'a>, usize)>
+    requires low { 16 ≤ at }
     requires inside { at < length bytes.now }
     requires short { length bytes.now ≤ 2 ^ 28 }
-    ensures { option_map end_seen result ≡ coded_part order code bytes.now at }
+    ensures part { option_map end_seen result ≡ coded_part order code bytes.now at }
+    ensures begins { IfSome result (λ x. Begins bytes.now x.0) }
 {
     match code {
         0 => None,
@@ -246,9 +273,11 @@ fn read_field<'a>(
     bytes: &'a [u8],
     place: usize,
 ) -> Option<(HeaderField<'a>, usize)>
+    requires low { 16 ≤ place }
     requires inside { place ≤ length bytes.now }
     requires short { length bytes.now ≤ 2 ^ 28 }
-    ensures { option_map end_seen result ≡ part_at order bytes.now place }
+    ensures part { option_map end_seen result ≡ part_at order bytes.now place }
+    ensures begins { IfSome result (λ x. Begins bytes.now x.0) }
 {
     let start = place + padding(8, place);
     if start >= bytes.len() {
@@ -279,25 +308,53 @@ impl<'a> Fields<'a> {
             sender: None,
             signature: None,
             descriptors: None,
+            starts: Starts {
+                path: 0,
+                interface: 0,
+                member: 0,
+                error_name: 0,
+                destination: 0,
+                sender: 0,
+                signature: 0,
+            },
         }
     }
 
-    /// Puts in a text, unless one stands there.
-    fn put_text(&mut self, code: u8, text: &'a str) -> bool
+    /// Puts in a text that begins at a place, unless one stands there.
+    fn put_text(&mut self, code: u8, text: &'a str, start: usize) -> bool
         ensures parts { (if result then Some (parts_seen self.new) else None) ≡ with_text (parts_seen self.old) code text.now }
         ensures place { self.new.reply_serial_place ≡ self.old.reply_serial_place }
         ensures unknown { self.new.has_unknown ≡ self.old.has_unknown }
         ensures signature { self.new.signature ≡ self.old.signature }
         ensures descriptors { self.new.descriptors ≡ self.old.descriptors }
+        ensures begins { (message : List ℕ) → AllBeginAt message self.old → BeginsAt message start text.now → AllBeginAt message self.new }
     {
         match code {
-            PATH if self.path.is_none() => self.path = Some(text),
-            INTERFACE if self.interface.is_none() => self.interface = Some(text),
-            MEMBER if self.member.is_none() => self.member = Some(text),
-            ERROR_NAME if self.error_name.is_none() => self.error_name = Some(text),
-            DESTINATION if self.destination.is_none() => self.destination = Some(text),
+            PATH if self.path.is_none() => {
+                self.path = Some(text);
+                self.starts.path = start;
+            }
+            INTERFACE if self.interface.is_none() => {
+                self.interface = Some(text);
+                self.starts.interface = start;
+            }
+            MEMBER if self.member.is_none() => {
+                self.member = Some(text);
+                self.starts.member = start;
+            }
+            ERROR_NAME if self.error_name.is_none() => {
+                self.error_name = Some(text);
+                self.starts.error_name = start;
+            }
+            DESTINATION if self.destination.is_none() => {
+                self.destination = Some(text);
+                self.starts.destination = start;
+            }
             PATH | INTERFACE | MEMBER | ERROR_NAME | DESTINATION => return false,
-            _ if self.sender.is_none() => self.sender = Some(text),
+            _ if self.sender.is_none() => {
+                self.sender = Some(text);
+                self.starts.sender = start;
+            }
             _ => return false,
         }
         true
@@ -306,7 +363,8 @@ impl<'a> Fields<'a> {
     /// Puts in REPLY_SERIAL, whose field stands at a place, or UNIX_FDS, unless one stands there.
     fn put_number(&mut self, place: usize, code: u8, number: u32) -> bool
         requires { place < 2 ^ 40 }
-        ensures { (if result then Some (fields_seen self.new) else None) ≡ with_number_part (fields_seen self.old) place code number }
+        ensures part { (if result then Some (fields_seen self.new) else None) ≡ with_number_part (fields_seen self.old) place code number }
+        ensures begins { (message : List ℕ) → AllBeginAt message self.old → AllBeginAt message self.new }
     {
         if code == REPLY_SERIAL {
             if self.reply_serial.is_some() {
@@ -326,16 +384,18 @@ impl<'a> Fields<'a> {
     /// Puts in a field that stands at a place, unless one with its code stands there.
     fn put(&mut self, place: usize, field: HeaderField<'a>) -> bool
         requires { place < 2 ^ 40 }
-        ensures { (if result then Some (fields_seen self.new) else None) ≡ with_part (fields_seen self.old) place (part_seen field.entry) }
+        ensures part { (if result then Some (fields_seen self.new) else None) ≡ with_part (fields_seen self.old) place (part_seen field.entry) }
+        ensures begins { (message : List ℕ) → AllBeginAt message self.old → Begins message field.entry → AllBeginAt message self.new }
     {
         match field {
-            HeaderField::Text(code, text) => self.put_text(code, text),
+            HeaderField::Text(code, text, start) => self.put_text(code, text, start),
             HeaderField::Number(code, number) => self.put_number(place, code, number),
-            HeaderField::Signed(signature) => {
+            HeaderField::Signed(signature, start) => {
                 if self.signature.is_some() {
                     return false;
                 }
                 self.signature = Some(signature);
+                self.starts.signature = start;
                 true
             }
             HeaderField::Unread => {
@@ -358,7 +418,8 @@ pub(crate) fn read_fields<'a>(
     requires none { fields_seen fields.old ≡ nothing_found }
     requires long { 16 ≤ length bytes.now }
     requires short { length bytes.now ≤ 2 ^ 28 }
-    ensures { FieldsRead order bytes.now (fields_seen fields.new) result }
+    ensures read { FieldsRead order bytes.now (fields_seen fields.new) result }
+    ensures begins { AllBeginAt bytes.now fields.new }
 {
     let mut place = 16;
     loop {

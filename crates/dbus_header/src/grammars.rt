@@ -1,18 +1,34 @@
-//! The grammars of the texts in header fields, and the texts that are known to be in them.
-ghost use Rattle.std.specs.Prelude.{◌≡◌, ◌≢◌, ◌==◌, ◌||◌, true, Some, None, is_none, option_map, length, if◌then◌else◌};
+//! The grammars of the texts in header fields, and the texts and headers of earlier messages that are known.
+ghost use Rattle.std.specs.Prelude.{◌≡◌, ◌≢◌, ◌==◌, ◌||◌, ◌+◌, ◌<◌, true, false, Some, None, is_none, IfSome, option_map, length, if◌then◌else◌};
 ghost use Rattle.dbus_types.specs.Signature.{signature_fault};
 ghost use Rattle.dbus_header.specs.HeaderReading.{is_text_of as is_value_text, is_sound_of};
+ghost use Rattle.dbus_header.specs.KnownHeaders.{AllBeginIn, AreRead};
+ghost use Rattle.dbus_header.specs.Message.{body_place};
+ghost use Rattle.dbus_header.specs.Seen.{fields_seen};
 
-use crate::fields::{DESTINATION, ERROR_NAME, INTERFACE, MEMBER, PATH, SENDER, SIGNATURE};
+use crate::fields::{DESTINATION, ERROR_NAME, Fields, INTERFACE, MEMBER, PATH, SENDER, SIGNATURE};
+use crate::headers::KnownHeader;
+use crate::spans::Places;
 use dbus_names::{is_bus_name, is_error_name, is_interface, is_member, is_path};
 use dbus_types::Signature;
+use dbus_values::Order;
 use std::alloc::Global;
 
 /// No longer text is kept. A path alone may be longer (D-Bus Specification, "Valid Names").
 const LONGEST_KEPT: usize = 255;
 
-/// So many texts are read before the first is kept, so that a stream that is little used keeps none.
-const OFTEN: u8 = 64;
+/// No longer header is kept, by the bytes of its fields. Those of a desktop's messages have 100 to 250.
+const LONGEST_HEADER: usize = 512;
+
+/// The number of headers that a stream keeps.
+const HEADERS_KEPT: usize = 4;
+
+/// Once the unknown headers outnumber the known ones by this number, the header of every eighth message alone is looked up and
+/// kept, so that a stream whose headers all differ is hardly slower.
+const MISSES: u8 = 16;
+
+/// The number of messages that are read before a text or a header is kept. A stream that is little used keeps none.
+const OFTEN: u64 = 64;
 
 /// Whether a text is in the grammar of the field with this code.
 fn is_in_grammar(code: u8, text: &[u8]) -> bool
@@ -67,13 +83,17 @@ impl KnownText {
     }
 }
 
-/// The texts that a stream keeps.
+/// The texts and the headers that a stream keeps. They take no memory before many messages were read.
 #[derive(Drop)]
 struct Kept {
-    /// By the codes of their fields. It takes no memory before many were read.
+    /// The last text of each field, by the fields' codes.
     texts: Vec<KnownText>,
-    /// How many were read before the first was kept, [`OFTEN`] at most.
-    read: u8,
+    /// The headers of the kinds of messages that were read last.
+    headers: Vec<KnownHeader>,
+    /// How many messages were read.
+    read: u64,
+    /// By how many the unknown headers outnumber the known ones, from 0 to [`MISSES`].
+    missed: u8,
     alloc: Global,
 }
 
@@ -88,12 +108,11 @@ impl Kept {
         }
     }
 
-    /// Keeps a text that is in the grammar of the field with this code, where many were read and memory for it is left.
+    /// Keeps a text that is in the grammar of the field with this code, if many messages were read and memory is left.
     fn keep(&mut self, code: u8, text: &[u8])
         requires { is_sound_of code text.now ≡ true }
     {
-        if self.read < OFTEN {
-            self.read += 1;
+        if self.read <= OFTEN {
             return;
         }
         let place = code as usize;
@@ -105,10 +124,114 @@ impl Kept {
             known.keep(code, text);
         }
     }
+
+    /// Whether the header of the message that is read is looked up and kept.
+    fn is_turn(&self) -> bool {
+        self.read > OFTEN && (self.missed < MISSES || self.read % 8 == 0)
+    }
+
+    /// Counts a message that is read.
+    fn count(&mut self) {
+        self.read = self.read.wrapping_add(1);
+    }
+
+    /// Puts the header fields of these bytes in, if a kept header has them; else nothing changes.
+    fn fill<'a>(
+        &mut self,
+        order: Order,
+        fields_len: u32,
+        bytes: &'a [u8],
+        fields: &mut Fields<'a>,
+    ) -> bool
+        requires { length bytes.now + 16 ≡ body_place fields_len }
+        ensures read { result ≡ true → AreRead order fields_len bytes.now (fields_seen fields.new) }
+        ensures stays { result ≡ false → fields_seen fields.new ≡ fields_seen fields.old }
+    {
+        if !self.is_turn() {
+            return false;
+        }
+        let read = self.read;
+        for header in self.headers.iter_mut() {
+            if header.fill(order, fields_len, bytes, fields) {
+                header.used = read;
+                self.missed = self.missed.saturating_sub(1);
+                return true;
+            }
+        }
+        self.missed = self.missed.saturating_add(1).min(MISSES);
+        false
+    }
+
+    /// The same, and nothing is noted of it.
+    fn find<'a>(
+        &self,
+        order: Order,
+        fields_len: u32,
+        bytes: &'a [u8],
+        fields: &mut Fields<'a>,
+    ) -> bool
+        requires { length bytes.now + 16 ≡ body_place fields_len }
+        ensures read { result ≡ true → AreRead order fields_len bytes.now (fields_seen fields.new) }
+        ensures stays { result ≡ false → fields_seen fields.new ≡ fields_seen fields.old }
+    {
+        for header in &self.headers {
+            if header.fill(order, fields_len, bytes, fields) {
+                return true;
+            }
+        }
+        false
+    }
+
+    /// The place of the header that wasn't used for the longest time.
+    fn oldest(&self) -> usize
+        requires { 0 < length self.now.headers.items }
+        ensures { result < length self.now.headers.items }
+    {
+        let mut oldest = 0;
+        for place in 1..self.headers.len() {
+            if self.headers[place].used < self.headers[oldest].used {
+                oldest = place;
+            }
+        }
+        oldest
+    }
+
+    /// The place of the header that the next one is kept in, if memory is left.
+    fn place(&mut self) -> Option<usize>
+        ensures { IfSome result (λ place. place < length self.new.headers.items) }
+    {
+        if self.headers.len() < HEADERS_KEPT {
+            let header = KnownHeader::none(self.alloc);
+            if self.headers.push(header).is_err() {
+                return None;
+            }
+            return Some(self.headers.len() - 1);
+        }
+        Some(self.oldest())
+    }
+
+    /// Keeps the header fields of a message that was read, if many were read and memory is left.
+    fn keep_header(&mut self, order: Order, fields_len: u32, bytes: &[u8], fields: &Fields<'_>)
+        requires read { AreRead order fields_len bytes.now (fields_seen fields.now) }
+        requires len { length bytes.now + 16 ≡ body_place fields_len }
+        requires begins { AllBeginIn bytes.now fields.now }
+    {
+        if bytes.len() > LONGEST_HEADER || !self.is_turn() {
+            return;
+        }
+        let Some(places) = Places::of(order, bytes, fields) else {
+            return;
+        };
+        let Some(place) = self.place() else {
+            return;
+        };
+        self.headers[place].keep(self.read, order, fields_len, bytes, &places);
+    }
 }
 
-/// Of each header field that holds a name, a path or a signature the last text that was found in its grammar. Most messages of a stream
-/// have those of an earlier one, so that a text is compared and not read again.
+/// What is known of the messages that a stream had: the headers of the last four kinds, and the last text of each field.
+/// The parts of a message whose header equals a known one, but for its reply serial, are taken from their places. In any
+/// other header each text is compared with the last one of its field, and is read only if it differs.
 #[derive(Drop)]
 pub struct KnownTexts {
     kept: Option<Kept>,
@@ -120,7 +243,9 @@ impl KnownTexts {
         KnownTexts {
             kept: Some(Kept {
                 texts: Vec::new(alloc),
+                headers: Vec::new(alloc),
                 read: 0,
+                missed: 0,
                 alloc,
             }),
         }
@@ -147,6 +272,62 @@ impl KnownTexts {
     {
         if let Some(kept) = &mut self.kept {
             kept.keep(code, text);
+        }
+    }
+
+    /// Puts the header fields of these bytes in, if a known header has them; else nothing changes.
+    pub(crate) fn fill<'a>(
+        &mut self,
+        order: Order,
+        fields_len: u32,
+        bytes: &'a [u8],
+        fields: &mut Fields<'a>,
+    ) -> bool
+        requires { length bytes.now + 16 ≡ body_place fields_len }
+        ensures read { result ≡ true → AreRead order fields_len bytes.now (fields_seen fields.new) }
+        ensures stays { result ≡ false → fields_seen fields.new ≡ fields_seen fields.old }
+    {
+        match &mut self.kept {
+            Some(kept) => {
+                kept.count();
+                kept.fill(order, fields_len, bytes, fields)
+            }
+            None => false,
+        }
+    }
+
+    /// The same, and nothing is noted of it.
+    pub(crate) fn find<'a>(
+        &self,
+        order: Order,
+        fields_len: u32,
+        bytes: &'a [u8],
+        fields: &mut Fields<'a>,
+    ) -> bool
+        requires { length bytes.now + 16 ≡ body_place fields_len }
+        ensures read { result ≡ true → AreRead order fields_len bytes.now (fields_seen fields.new) }
+        ensures stays { result ≡ false → fields_seen fields.new ≡ fields_seen fields.old }
+    {
+        match &self.kept {
+            Some(kept) => kept.find(order, fields_len, bytes, fields),
+            None => false,
+        }
+    }
+
+    /// The header fields of a message that was read are known from now on, if headers are kept.
+    pub(crate) fn keep_header(
+        &mut self,
+        order: Order,
+        fields_len: u32,
+        bytes: &[u8],
+        fields: &Fields<'_>,
+    )
+        requires read { AreRead order fields_len bytes.now (fields_seen fields.now) }
+        requires len { length bytes.now + 16 ≡ body_place fields_len }
+        requires begins { AllBeginIn bytes.now fields.now }
+    {
+        if let Some(kept) = &mut self.kept {
+            kept.keep_header(order, fields_len, bytes, fields);
         }
     }
 

@@ -1,7 +1,8 @@
 //! D-Bus messages: their parts, their spelling, which are valid, and the laws between spelling and reading.
 //!
 //! It is driven by `length`, with the first sixteen bytes of a message, and then by `decode`, with the whole of it; a `Message` lends its parts.
-//! `decode_knowing` reads the messages of a stream faster.
+//! `decode_knowing` reads the messages of a stream faster, and `decode_checked` spares it a second look at the first
+//! sixteen bytes.
 #![tactic(auto)]
 
 mod bodies;
@@ -9,10 +10,12 @@ mod decoding;
 mod fields;
 mod grammars;
 mod head;
+mod headers;
 mod kinds;
 mod message;
 mod names;
 mod numbers;
+mod spans;
 
 ghost use Rattle.std.specs.Prelude.{◌≡◌, ℕ, ◌++◌, ◌<◌, List, Some, slice_index};
 ghost use Rattle.dbus_header.specs.Message.{Message as MessageTree, Valid, spell};
@@ -20,7 +23,7 @@ ghost use Rattle.dbus_header.specs.Malformed.{front};
 ghost use Rattle.dbus_header.specs.Stream.{Splits, split, messages, bad};
 ghost use Rattle.dbus_header.specs.declared.Malformed.{Malformed as Fault};
 
-pub use decoding::{decode, decode_knowing};
+pub use decoding::{decode, decode_checked, decode_knowing, read_valid};
 pub use grammars::KnownTexts;
 pub use head::length;
 pub use kinds::{ERROR, METHOD_CALL, METHOD_RETURN, NO_AUTO_START, NO_REPLY_EXPECTED, SIGNAL};

@@ -1,5 +1,8 @@
 //! What bytes are as messages, what is wrong with others, and the numbers that are changed in place.
-use crate::messages::{changed, is_whole};
+ghost use Rattle.std.specs.Prelude.{◌≡◌, ◌≤◌, None, length};
+ghost use Rattle.dbus_header.specs.Malformed.{head_fault, whole_len};
+
+use crate::messages::{changed, deep_call, is_whole};
 use dbus_header::{
     KnownTexts, Malformed, MalformedKind, Message, SERIAL_PLACE, decode, decode_knowing, length,
     set_reply_serial, set_serial, write_u32,
@@ -66,6 +69,37 @@ boolean => Little 2 9 - - - - - 2 20 b 4
 big_boolean => Big 2 9 - - - - - 2 20 b 4
 ";
 
+/// Messages that a stream had again and again, and one that follows them, and what that is read as.
+const FOLLOWING: &str = "\
+return; return => Little 2 60 - - - :1.40 :1.7 2 20  0
+return; return 8=61 20=7 => Little 2 61 - - - :1.40 :1.7 7 20  0
+return; return 23=1 => Little 2 60 - - - :1.40 :1.7 16777218 20  0
+return; return 20=0 => Fields 16
+return; return 19=1 => Fields 16
+return; return 24=7 => Fields 38
+return; return 54=1 => Fields 53
+return; return 1=3 => Required 12
+return, boolean; return 20=9 => Little 2 60 - - - :1.40 :1.7 9 20  0
+return, boolean; boolean 20=9 => Little 2 9 - - - - - 9 20 b 4
+return, boolean; boolean 20=0 => Fields 16
+boolean; boolean 32=0 => Little 2 9 - - - - - 2 20 b 4
+boolean; boolean 29=y => Body 33
+boolean; boolean 29=u => Little 2 9 - - - - - 2 20 u 4
+boolean, boolean 29=u; boolean => Little 2 9 - - - - - 2 20 b 4
+boolean, boolean 29=u; boolean 32=7 => Body 32
+boolean; big_boolean 23=5 => Big 2 9 - - - - - 5 20 b 4
+big_boolean; big_boolean 20=1 => Big 2 9 - - - - - 16777218 20 b 4
+big_boolean; big_boolean 23=0 => Fields 16
+big_boolean; boolean => Little 2 9 - - - - - 2 20 b 4
+call; call 8=9 25=q => Little 1 9 /q org.a.I A org.a.T - 0 0  0
+call, call 25=q; call => Little 1 7 /p org.a.I A org.a.T - 0 0  0
+call, return, boolean, big_call, big_boolean; call 64=2 => Fields 58
+call, return, boolean, big_call, big_boolean; return 20=7 => Little 2 60 - - - :1.40 :1.7 7 20  0
+call, return, boolean, big_call, big_boolean; big_call => Big 1 16909060 / - M a.b - 0 0  0
+call, return, boolean, big_call, big_boolean, descriptors; call => Little 1 7 /p org.a.I A org.a.T - 0 0  0
+descriptors; descriptors 28=1 => Descriptors 12
+";
+
 /// A serial and a message, a change, and whether the message with that serial is the message with that change.
 const SERIALS: &str = "\
 258 call, 8=2 9=1 10=0 11=0 => true
@@ -128,6 +162,38 @@ fn known_before(alloc: Global, row: &str) -> Result<KnownTexts, AllocError> {
         }
     }
     Ok(known)
+}
+
+/// The same whether or not messages before it are known.
+fn told_following(alloc: Global, row: &str) -> Result<String, AllocError> {
+    let (before, name) = row.split_once("; ").unwrap_or(("", row));
+    let mut known = KnownTexts::new(alloc);
+    for _ in 0..TIMES {
+        for earlier in before.split(", ") {
+            let bytes = changed(alloc, earlier)?;
+            if is_whole(&bytes) {
+                let _is_valid = decode_knowing(&bytes, &mut known).is_ok();
+            }
+        }
+    }
+    let bytes = changed(alloc, name)?;
+    if !is_whole(&bytes) {
+        return String::from_str(alloc, "cut");
+    }
+    told_twice(alloc, &bytes, &mut known)
+}
+
+/// What a message is read as alone, and where others are known if that differs.
+fn told_twice(alloc: Global, bytes: &[u8], known: &mut KnownTexts) -> Result<String, AllocError>
+    requires long { 16 ≤ length bytes.now }
+    requires whole { head_fault bytes.now ≡ None → length bytes.now ≡ whole_len bytes.now }
+{
+    let alone = told_message(alloc, decode(bytes))?;
+    let told = told_message(alloc, decode_knowing(bytes, known))?;
+    if alone.as_str() != told.as_str() {
+        return format!(in alloc; "{alone} or {told}");
+    }
+    Ok(told)
 }
 
 fn told_validity_of(alloc: Global, row: &str) -> Result<String, AllocError> {
@@ -257,6 +323,29 @@ fn a_message_is_the_same_where_texts_are_known(rt: HostRuntime) -> Result<(), Fa
         wrong_row(rt.alloc(), MESSAGES, &told_message_where_known)?,
         None
     );
+    Ok(())
+}
+
+#[test]
+fn a_message_is_the_same_where_headers_are_known(rt: HostRuntime) -> Result<(), Fail> {
+    assert_eq!(rt; wrong_row(rt.alloc(), FOLLOWING, &told_following)?, None);
+    Ok(())
+}
+
+#[test]
+fn a_header_that_is_too_long_to_be_kept_is_read(rt: HostRuntime) -> Result<(), Fail> {
+    let bytes = deep_call(rt.alloc())?;
+    let mut known = KnownTexts::new(rt.alloc());
+    let mut read: u32 = 0;
+    for _ in 0..TIMES {
+        if is_whole(&bytes) {
+            let told = told_twice(rt.alloc(), &bytes, &mut known)?;
+            if told.as_str().starts_with("Little 1 7 /aaa") && told.len() > 600 {
+                read = read.wrapping_add(1);
+            }
+        }
+    }
+    assert_eq!(rt; read, TIMES);
     Ok(())
 }
 

@@ -100,6 +100,20 @@ pub fn long_call(alloc: Global, len: u32) -> Result<Vec<u8>, AllocError> {
     Ok(bytes)
 }
 
+/// A call of a path with 600 bytes.
+pub fn deep_call(alloc: Global) -> Result<Vec<u8>, AllocError> {
+    let mut bytes = Vec::from_slice(
+        alloc,
+        b"l\x01\x00\x01\x00\x00\x00\x00\x07\x00\x00\x00\x72\x02\x00\x00\x01\x01o\x00\x58\x02\x00\x00/",
+    )?;
+    for _ in 0..599 {
+        bytes.push(b'a')?;
+    }
+    bytes.extend_from_slice(b"\x00\x00\x00\x00\x00\x00\x00\x00\x03\x01s\x00\x01\x00\x00\x00A\x00")?;
+    bytes.extend_from_slice(&[0; 6])?;
+    Ok(bytes)
+}
+
 fn put(bytes: &mut [u8], place: &str, byte: &str) {
     if let Some(old) = bytes.get_mut(place.parse().unwrap_or(usize::MAX)) {
         *old = match byte.as_bytes() {

@@ -20,6 +20,20 @@ static CALL: &[u8] = b"\
     \x05\0\0\0:1.42\0\0\0\0\0\0\0\0\0\0\0\x14\0\0\0\
     \x07\0\0\0version\0\x01u\0\0\x02\0\0\0";
 
+/// A return to a call, which has a short body.
+static RETURN: &[u8] = b"\
+    l\x02\x01\x01\x09\0\0\0\x07\0\0\0\x2f\0\0\0\
+    \x05\x01u\0\x06\0\0\0\
+    \x06\x01s\0\x05\0\0\0:1.42\0\0\0\
+    \x07\x01s\0\x04\0\0\0:1.7\0\0\0\0\
+    \x08\x01g\0\x01s\0\0\
+    \x04\0\0\0yes.\0";
+
+/// Where the first byte of the call's member and of the return's reply serial stand.
+const MEMBER: usize = 104;
+
+const REPLY_SERIAL: usize = 20;
+
 /// How many entries the dictionary has, in fives.
 const FIVES: u32 = 10;
 
@@ -66,6 +80,33 @@ pub(crate) fn calls(alloc: Global) -> Result<Vec<u8>, AllocError> {
         if index == SECOND_SERIAL {
             *byte = 8;
         }
+    }
+    Ok(bytes)
+}
+
+/// Adds a message with another byte at a place.
+fn add(bytes: &mut Vec<u8>, message: &[u8], place: usize, other: u8) -> Result<(), AllocError> {
+    for (index, byte) in message.iter().enumerate() {
+        bytes.push(if index == place { other } else { *byte })?;
+    }
+    Ok(())
+}
+
+/// Calls of five members in turn.
+pub(crate) fn members(alloc: Global) -> Result<Vec<u8>, AllocError> {
+    let mut bytes = Vec::new(alloc);
+    for letter in b"ABCDE" {
+        add(&mut bytes, CALL, MEMBER, *letter)?;
+    }
+    Ok(bytes)
+}
+
+/// Five calls, each with its return.
+pub(crate) fn replies(alloc: Global) -> Result<Vec<u8>, AllocError> {
+    let mut bytes = Vec::new(alloc);
+    for serial in b"\x01\x02\x03\x04\x05" {
+        bytes.extend_from_slice(CALL)?;
+        add(&mut bytes, RETURN, REPLY_SERIAL, *serial)?;
     }
     Ok(bytes)
 }

@@ -1,7 +1,8 @@
 //! How long it takes to pass over a body and to read a message.
 //!
 //! With no words each input is looked at once, and nothing is printed. With a word each is measured, and gets a line
-//! `NAME NANOSECONDS BYTES SUM`: what one call takes at best, how many bytes it looks at, and a sum of the input.
+//! `NAME NANOSECONDS BYTES SUM`: what one call takes at best, how many bytes it looks at, and a sum of the input. With the name of a
+//! stream (`calls`, `members` or `replies`) its messages are read 10,000 times, for a count of instructions, and their number is printed.
 #![tactic(auto)]
 
 mod inputs;
@@ -12,7 +13,8 @@ ghost use Rattle.dbus_header.specs.Malformed.{head_fault, whole_len};
 use dbus_header::{KnownTexts, decode_knowing, length};
 use dbus_types::Signature;
 use dbus_values::{Order, value_end};
-use inputs::{byte_arrays, calls, dictionaries};
+use inputs::{byte_arrays, calls, dictionaries, members, replies};
+use std::alloc::{AllocError, Global};
 use std::process::ExitCode;
 use std::time::{Duration, Instant};
 use std::{env, io};
@@ -26,6 +28,9 @@ const DICTIONARY_CALLS: u32 = 100;
 const BYTE_ARRAY_CALLS: u32 = 20_000;
 
 const DECODE_CALLS: u32 = 1_000;
+
+/// How often a stream is read.
+const STREAM_READINGS: u32 = 10_000;
 
 /// A place of the bytes: the one given, or the first where they end there.
 fn next_place(bytes: &[u8], end: usize) -> usize
@@ -78,6 +83,26 @@ fn read(first: &[u8], second: &[u8], calls: u32, known: &mut KnownTexts) -> bool
         }
     }
     serial == 8
+}
+
+/// Reads the messages of a stream, and counts them; none where one isn't valid.
+fn read_stream(stream: &[u8], known: &mut KnownTexts) -> Option<u32> {
+    let mut rest = stream;
+    let mut count: u32 = 0;
+    while let Some(head) = rest.first_chunk::<16>() {
+        let len = length(head).ok()? as usize;
+        if len < 16 || len > rest.len() {
+            return None;
+        }
+        let (message, behind) = rest.split_at(len);
+        if !is_whole(message) {
+            return None;
+        }
+        decode_knowing(message, known).ok()?;
+        count = count.wrapping_add(1);
+        rest = behind;
+    }
+    Some(count)
 }
 
 /// The shortest time that so many passes take, of many measures.
@@ -146,6 +171,30 @@ fn print_line(
     println!(rt; "{name} {whole}.{rest:02} {len} {sum}")
 }
 
+/// The messages of the stream with a name.
+fn stream(alloc: Global, name: &str) -> Result<Option<Vec<u8>>, AllocError> {
+    Ok(match name {
+        "calls" => Some(calls(alloc)?),
+        "members" => Some(members(alloc)?),
+        "replies" => Some(replies(alloc)?),
+        _ => None,
+    })
+}
+
+/// Reads a stream again and again, for a count of instructions, and prints the number of messages.
+fn read_often(rt: &HostRuntime, stream: &[u8]) -> io::Result<bool> {
+    let mut known = KnownTexts::new(rt.alloc());
+    let mut count: u32 = 0;
+    for _ in 0..STREAM_READINGS {
+        match read_stream(stream, &mut known) {
+            Some(read) => count = count.wrapping_add(read),
+            None => return Ok(false),
+        }
+    }
+    println!(rt; "{count}")?;
+    Ok(true)
+}
+
 /// Looks at each input once, or measures each.
 fn run(
     rt: &HostRuntime,
@@ -175,15 +224,25 @@ fn run(
     )
 }
 
-fn main(rt: HostRuntime) -> io::Result<ExitCode> {
-    let is_measured = env::args(&rt)?.count() > 1;
-    let (entries, array) = match (Signature::read(b"a{sv}"), Signature::read(b"ay")) {
-        (Ok(entries), Ok(array)) => (entries, array),
-        _ => return Ok(ExitCode::FAILURE),
-    };
-    if run(&rt, is_measured, entries, array)? {
+fn exit_code(is_good: bool) -> io::Result<ExitCode> {
+    if is_good {
         Ok(ExitCode::SUCCESS)
     } else {
         Ok(ExitCode::FAILURE)
     }
+}
+
+fn main(rt: HostRuntime) -> io::Result<ExitCode> {
+    let word = env::args(&rt)?.nth(1);
+    if let Some(word) = &word {
+        if let Some(stream) = stream(rt.alloc(), word.as_str())? {
+            return exit_code(read_often(&rt, &stream)?);
+        }
+    }
+    let is_measured = word.is_some();
+    let (entries, array) = match (Signature::read(b"a{sv}"), Signature::read(b"ay")) {
+        (Ok(entries), Ok(array)) => (entries, array),
+        _ => return Ok(ExitCode::FAILURE),
+    };
+    exit_code(run(&rt, is_measured, entries, array)?)
 }

@@ -1,0 +1,42 @@
+use Rattle.std.proofs.Common.{◌≡◌, ◌∙◌, ℕ, List, Some, None, sym, ap, subst, arith}
+use Rattle.byte_lists.specs.Bytes.{AreBytes}
+use Rattle.dbus_header.specs.Malformed.{fault_in, whole}
+use Rattle.dbus_header.specs.Refusals.{refusal}
+use Rattle.dbus_header.specs.KnownHeaders.{AreRead, fields_bytes}
+use Rattle.dbus_header.specs.Seen.{fields_seen}
+use Rattle.dbus_header.proofs.KnownHeaders.{found-read}
+use Rattle.dbus_header.proofs.NumberLaws.{is_whole, accepted}
+use Rattle.dbus_header.proofs.WholeMessage.{fault_of_whole, fields_wrong, has_parts}
+use Rattle.dbus_header.proofs.decoding.valid_fields.Goals as goal
+
+pub header_fields_len-fields_len-requires-clause-long : goal.header_fields_len-fields_len-requires-clause-long
+header_fields_len-fields_len-requires-clause-long c = (is_whole c.args.bytes.now (λ i. omega (arith, c.type_inv.bytes i)) c.requires.valid).long
+
+pub header_fields_len-fields_len-requires-clause-head : goal.header_fields_len-fields_len-requires-clause-head
+header_fields_len-fields_len-requires-clause-head c = (is_whole c.args.bytes.now (λ i. omega (arith, c.type_inv.bytes i)) c.requires.valid).head
+
+pub header_fields_len-fields_len-requires-clause-whole : goal.header_fields_len-fields_len-requires-clause-whole
+header_fields_len-fields_len-requires-clause-whole c = (is_whole c.args.bytes.now (λ i. omega (arith, c.type_inv.bytes i)) c.requires.valid).exact
+
+pub unreachable-requires : goal.unreachable-requires
+unreachable-requires c =
+    let are : AreBytes c.args.bytes.now = λ i. omega (arith, c.type_inv.bytes i) in
+    let t = c.args.bytes.now in
+    let sound : fault_in (whole t) ≡ None = sym (fault_of_whole t (is_whole t are c.requires.valid)) ∙ accepted t are c.requires.valid in
+    let wrong : fault_in (whole t) ≡ Some c.in-Err.field-0 = fields_wrong t c.in-Err.field-0 (ap refusal (sym c.in-Err.is) ∙ c.header_fields.ensures.refusal) in
+    cc
+
+pub returns : goal.returns
+returns c =
+    let are : AreBytes c.args.bytes.now = λ i. omega (arith, c.type_inv.bytes i) in
+    let t = c.args.bytes.now in
+    has_parts t _ c.in-Ok.ensures.found (sym (fault_of_whole t (is_whole t are c.requires.valid)) ∙ accepted t are c.requires.valid)
+
+pub returns-then-find : goal.returns-then-find
+returns-then-find c =
+    let are : AreBytes c.args.bytes.now = λ i. omega (arith, c.type_inv.bytes i) in
+    let t = c.args.bytes.now in
+    let read : AreRead c.args.order c.header_fields_len-fields_len.result (fields_bytes c.header_fields_len-fields_len.result t) (fields_seen c.find.new.fields) =
+    subst (λ (b : List ℕ). AreRead c.args.order c.header_fields_len-fields_len.result b (fields_seen c.find.new.fields)) c.fields_bytes-own.ensures.bytes (c.find.ensures.read c.if-find.true) in
+    has_parts t _ (found-read t c.args.order c.header_fields_len-fields_len.result c.requires.order c.header_fields_len-fields_len.ensures (fields_seen c.find.new.fields) read).1
+    (sym (fault_of_whole t (is_whole t are c.requires.valid)) ∙ accepted t are c.requires.valid)

@@ -1,0 +1,113 @@
+//! Headers that were read, by which equal ones are read without a walk over their fields.
+ghost use Rattle.std.specs.Prelude.{◌≡◌, ◌==◌, ◌+◌, true, false, length};
+ghost use Rattle.dbus_header.specs.Message.{body_place};
+ghost use Rattle.dbus_header.specs.KnownHeaders.{AreKnown, AreAlike, AreRead};
+ghost use Rattle.dbus_header.specs.Seen.{fields_seen};
+
+use crate::fields::Fields;
+use crate::head::read_u32;
+use crate::spans::Places;
+use dbus_values::Order;
+use std::alloc::Global;
+
+/// The header fields of a message that was read, or none.
+#[derive(Drop)]
+pub(crate) struct KnownHeader {
+    /// How many messages were read when it was used last.
+    pub(crate) used: u64,
+    order: Order,
+    fields_len: u32,
+    /// The bytes of the fields and of the padding after them.
+    bytes: Vec<u8>,
+    places: Places,
+    ghost known: { (length bytes.items == 0) ≡ false → AreKnown order fields_len bytes.items places },
+}
+
+impl KnownHeader {
+    /// None yet, which takes no memory.
+    pub(crate) fn none(alloc: Global) -> KnownHeader {
+        KnownHeader {
+            used: 0,
+            order: Order::Little,
+            fields_len: 0,
+            bytes: Vec::new(alloc),
+            places: Places::none(),
+        }
+    }
+
+    /// Whether these bytes are the kept ones but for REPLY_SERIAL's number, which isn't 0.
+    fn is_alike(&self, bytes: &[u8]) -> bool
+        requires known { AreKnown self.now.order self.now.fields_len self.now.bytes.items self.now.places }
+        requires len { length bytes.now ≡ length self.now.bytes.items }
+        ensures { result ≡ true → AreAlike self.now.order self.now.places.reply_serial self.now.bytes.items bytes.now }
+    {
+        let kept = self.bytes.as_slice();
+        let Some(at) = self.places.reply_serial else {
+            return kept == bytes;
+        };
+        let at = at as usize;
+        let (kept_front, kept_rest) = kept.split_at(at);
+        let (front, rest) = bytes.split_at(at);
+        let (_, kept_back) = kept_rest.split_at(4);
+        let (_, back) = rest.split_at(4);
+        if kept_front != front {
+            return false;
+        }
+        if kept_back != back {
+            return false;
+        }
+        read_u32(self.order, bytes, at) > 0
+    }
+
+    /// Whether header fields of these bytes are read as the kept ones.
+    fn is_header(&self, order: Order, fields_len: u32, bytes: &[u8]) -> bool
+        requires { length bytes.now + 16 ≡ body_place fields_len }
+        ensures order { result ≡ true → self.now.order ≡ order }
+        ensures len { result ≡ true → self.now.fields_len ≡ fields_len }
+        ensures some { result ≡ true → (length self.now.bytes.items == 0) ≡ false }
+        ensures alike { result ≡ true → AreAlike self.now.order self.now.places.reply_serial self.now.bytes.items bytes.now }
+    {
+        self.order == order
+            && self.fields_len == fields_len
+            && !self.bytes.is_empty()
+            && self.is_alike(bytes)
+    }
+
+    /// Puts in the parts of these header fields, if they are read as the kept ones; else nothing changes.
+    pub(crate) fn fill<'a>(
+        &self,
+        order: Order,
+        fields_len: u32,
+        bytes: &'a [u8],
+        fields: &mut Fields<'a>,
+    ) -> bool
+        requires { length bytes.now + 16 ≡ body_place fields_len }
+        ensures read { result ≡ true → AreRead order fields_len bytes.now (fields_seen fields.new) }
+        ensures stays { result ≡ false → fields_seen fields.new ≡ fields_seen fields.old }
+    {
+        if !self.is_header(order, fields_len, bytes) {
+            return false;
+        }
+        self.places.fill(order, bytes, fields);
+        true
+    }
+
+    /// Keeps header fields that were read, unless memory is short.
+    pub(crate) fn keep(
+        &mut self,
+        read: u64,
+        order: Order,
+        fields_len: u32,
+        bytes: &[u8],
+        places: &Places,
+    )
+        requires { AreKnown order fields_len bytes.now places.now }
+    {
+        self.bytes.clear();
+        self.used = read;
+        self.order = order;
+        self.fields_len = fields_len;
+        self.places = *places;
+        let _kept = self.bytes.extend_from_slice(bytes);
+    }
+}

@@ -1,0 +1,239 @@
+//! Where the parts of a header stand.
+ghost use Rattle.std.specs.Prelude.{◌≡◌, ◌+◌, ◌<◌, ◌≤◌, ◌^◌, ℕ, true, Some, IfSome, option_map, length};
+ghost use Rattle.dbus_header.specs.HeaderReading.{number_at};
+ghost use Rattle.dbus_header.specs.KnownHeaders.{AllBeginIn, AreApart, AreWithin, BeginsIn, HasSignature, HasText, NumberIn, OfSignature, OfText, cut as cut_of, found_at, is_apart as has_none_of};
+ghost use Rattle.dbus_header.specs.Seen.{fields_seen, signature_seen, text_seen};
+ghost use Rattle.dbus_header.specs.declared.spans.Span.{Span as Stretch};
+
+use crate::fields::Fields;
+use crate::head::{HEAD_LEN, read_u32};
+use dbus_types::Signature;
+use dbus_values::Order;
+use std::str;
+
+/// A part of some bytes by its place in them and its length.
+#[derive(Clone, Copy)]
+pub(crate) struct Span {
+    pub(crate) start: u32,
+    pub(crate) len: u32,
+}
+
+/// The parts of a message's header fields by their places in the fields' bytes.
+#[derive(Clone, Copy)]
+pub(crate) struct Places {
+    pub(crate) path: Option<Span>,
+    pub(crate) interface: Option<Span>,
+    pub(crate) member: Option<Span>,
+    pub(crate) error_name: Option<Span>,
+    /// Where REPLY_SERIAL's number begins, which has four bytes.
+    pub(crate) reply_serial: Option<u32>,
+    /// Whether a field has an unknown code.
+    pub(crate) has_unknown: bool,
+    pub(crate) destination: Option<Span>,
+    pub(crate) sender: Option<Span>,
+    pub(crate) signature: Option<Span>,
+    /// UNIX_FDS.
+    pub(crate) descriptors: Option<u32>,
+}
+
+/// The bytes of a part.
+fn cut(part: Span, bytes: &[u8]) -> &[u8]
+    requires { part.start + part.len ≤ length bytes.now }
+    ensures { result.now ≡ cut_of bytes.now part }
+{
+    let (_, rest) = bytes.split_at(part.start as usize);
+    let (part, _) = rest.split_at(part.len as usize);
+    part
+}
+
+/// The text at a place.
+fn text_at(place: Option<Span>, bytes: &[u8]) -> Option<&str>
+    requires { (s : Stretch) → place ≡ Some s → HasText bytes.now s }
+    ensures { text_seen result ≡ option_map (cut_of bytes.now) place }
+{
+    match place {
+        Some(part) => Some(unsafe { str::from_utf8_unchecked(cut(part, bytes)) }),
+        None => None,
+    }
+}
+
+/// The signature at a place.
+fn signature_at(place: Option<Span>, bytes: &[u8]) -> Option<Signature<'_>>
+    requires { (s : Stretch) → place ≡ Some s → HasSignature bytes.now s }
+    ensures { signature_seen result ≡ option_map (cut_of bytes.now) place }
+{
+    match place {
+        Some(part) => Some(Signature {
+            bytes: cut(part, bytes),
+        }),
+        None => None,
+    }
+}
+
+/// Where a text of header fields with these bytes is, which begins at a place of the message.
+fn text_span(bytes: &[u8], start: usize, text: Option<&str>) -> Option<Span>
+    requires short { length bytes.now < 2 ^ 32 }
+    requires begins { OfText (BeginsIn bytes.now) start text }
+    ensures is { option_map (cut_of bytes.now) result ≡ text_seen text.entry }
+    ensures within { (s : Stretch) → result ≡ Some s → HasText bytes.now s }
+{
+    let _bytes = bytes;
+    match text {
+        Some(text) => {
+            let text = text.as_bytes();
+            Some(Span {
+                start: (start - HEAD_LEN) as u32,
+                len: text.len() as u32,
+            })
+        }
+        None => None,
+    }
+}
+
+/// Where the signature of header fields with these bytes is, which begins at a place of the message.
+fn signature_span(bytes: &[u8], start: usize, signature: Option<Signature<'_>>) -> Option<Span>
+    requires short { length bytes.now < 2 ^ 32 }
+    requires begins { OfSignature (BeginsIn bytes.now) start signature }
+    ensures is { option_map (cut_of bytes.now) result ≡ signature_seen signature.entry }
+    ensures within { (s : Stretch) → result ≡ Some s → HasSignature bytes.now s }
+{
+    let _bytes = bytes;
+    match signature {
+        Some(signature) => Some(Span {
+            start: (start - HEAD_LEN) as u32,
+            len: signature.bytes.len() as u32,
+        }),
+        None => None,
+    }
+}
+
+/// Where REPLY_SERIAL's number is in header fields with these bytes, which stands at a place of the message.
+fn number_span(order: Order, bytes: &[u8], serial: Option<u32>, place: Option<usize>) -> Option<u32>
+    requires short { length bytes.now < 2 ^ 31 }
+    requires number { NumberIn order bytes.now serial place }
+    ensures is { option_map (number_at order bytes.now) result ≡ serial }
+    ensures place { option_map (λ at. 16 + at) result ≡ place }
+    ensures within { (at : ℕ) → result ≡ Some at → at + 4 ≤ length bytes.now }
+{
+    let (_bytes, _serial, _order) = (bytes, serial, order);
+    match place {
+        Some(place) => Some((place - HEAD_LEN) as u32),
+        None => None,
+    }
+}
+
+/// Whether a part, if there is one, has none of the four bytes of the number at a place.
+fn is_apart(place: Option<Span>, at: u32) -> bool
+    ensures { result ≡ true → (s : Stretch) → place ≡ Some s → has_none_of (Some at) s ≡ true }
+{
+    match place {
+        Some(part) => {
+            let (start, len, at) = (part.start as u64, part.len as u64, at as u64);
+            start + len <= at || at + 4 <= start
+        }
+        None => true,
+    }
+}
+
+impl Places {
+    /// Those of no fields.
+    pub(crate) fn none() -> Places {
+        Places {
+            path: None,
+            interface: None,
+            member: None,
+            error_name: None,
+            reply_serial: None,
+            has_unknown: false,
+            destination: None,
+            sender: None,
+            signature: None,
+            descriptors: None,
+        }
+    }
+
+    /// Whether no part has bytes of REPLY_SERIAL's number.
+    fn are_apart(&self) -> bool
+        ensures { result ≡ true → AreApart self.now }
+    {
+        match self.reply_serial {
+            Some(at) => {
+                is_apart(self.path, at)
+                    && is_apart(self.interface, at)
+                    && is_apart(self.member, at)
+                    && is_apart(self.error_name, at)
+                    && is_apart(self.destination, at)
+                    && is_apart(self.sender, at)
+                    && is_apart(self.signature, at)
+            }
+            None => true,
+        }
+    }
+
+    /// The places of the parts of a message whose fields have these bytes.
+    fn of_all(order: Order, bytes: &[u8], fields: &Fields<'_>) -> Places
+        requires short { length bytes.now < 2 ^ 31 }
+        requires begins { AllBeginIn bytes.now fields.now }
+        requires number { NumberIn order bytes.now fields.now.reply_serial fields.now.reply_serial_place }
+        ensures within { AreWithin bytes.now result }
+        ensures found { found_at order bytes.now result ≡ fields_seen fields.now }
+    {
+        let starts = fields.starts;
+        Places {
+            path: text_span(bytes, starts.path, fields.path),
+            interface: text_span(bytes, starts.interface, fields.interface),
+            member: text_span(bytes, starts.member, fields.member),
+            error_name: text_span(bytes, starts.error_name, fields.error_name),
+            reply_serial: number_span(order, bytes, fields.reply_serial, fields.reply_serial_place),
+            has_unknown: fields.has_unknown,
+            destination: text_span(bytes, starts.destination, fields.destination),
+            sender: text_span(bytes, starts.sender, fields.sender),
+            signature: signature_span(bytes, starts.signature, fields.signature),
+            descriptors: fields.descriptors,
+        }
+    }
+
+    /// The places of the parts of a message whose fields have these bytes. None if a part has bytes of REPLY_SERIAL's
+    /// number, which doesn't happen.
+    pub(crate) fn of(order: Order, bytes: &[u8], fields: &Fields<'_>) -> Option<Places>
+        requires short { length bytes.now < 2 ^ 31 }
+        requires begins { AllBeginIn bytes.now fields.now }
+        requires number { NumberIn order bytes.now fields.now.reply_serial fields.now.reply_serial_place }
+        ensures within { IfSome result (λ p. AreWithin bytes.now p) }
+        ensures apart { IfSome result (λ p. AreApart p) }
+        ensures found { IfSome result (λ p. found_at order bytes.now p ≡ fields_seen fields.now) }
+    {
+        let places = Places::of_all(order, bytes, fields);
+        if places.are_apart() {
+            Some(places)
+        } else {
+            None
+        }
+    }
+
+    /// Puts in the parts of a message whose fields have these bytes.
+    pub(crate) fn fill<'a>(&self, order: Order, bytes: &'a [u8], fields: &mut Fields<'a>)
+        requires { AreWithin bytes.now self.now }
+        ensures { fields_seen fields.new ≡ found_at order bytes.now self.now }
+    {
+        fields.path = text_at(self.path, bytes);
+        fields.interface = text_at(self.interface, bytes);
+        fields.member = text_at(self.member, bytes);
+        fields.error_name = text_at(self.error_name, bytes);
+        fields.destination = text_at(self.destination, bytes);
+        fields.sender = text_at(self.sender, bytes);
+        fields.signature = signature_at(self.signature, bytes);
+        fields.has_unknown = self.has_unknown;
+        fields.descriptors = self.descriptors;
+        match self.reply_serial {
+            Some(at) => {
+                fields.reply_serial = Some(read_u32(order, bytes, at as usize));
+                fields.reply_serial_place = Some(HEAD_LEN + at as usize);
+            }
+            None => {
+                fields.reply_serial = None;
+                fields.reply_serial_place = None;
+            }
+        }
+    }
+}
