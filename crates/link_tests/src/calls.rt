@@ -1,5 +1,5 @@
 //! Calls of a net that are written in words, and what they answer.
-use link_traits::{Got, Net, Ready};
+use link_traits::{Got, Net, Ready, Setting};
 use memory_links::MemNet;
 use std::alloc::{AllocError, Global};
 use test_nets::{link_of, name_of};
@@ -12,6 +12,7 @@ pub fn told_calls(alloc: Global, net: &mut MemNet, calls: &str) -> Result<String
         let (kind, rest) = call.split_once(' ').unwrap_or((call, ""));
         let answer = match kind {
             "written" => text_of(alloc, &net.written(alloc, link_of(rest))?)?,
+            "setting" => format!(in alloc; "{:?}", net.setting())?,
             _ => told_call(alloc, net, kind, rest)?,
         };
         if !told.is_empty() && !answer.is_empty() {
@@ -32,6 +33,7 @@ fn told_call<N: Net>(
     let (name, more) = rest.split_once(' ').unwrap_or((rest, ""));
     match kind {
         "open" => told_open(alloc, net),
+        "prepare" => format!(in alloc; "{:?}", net.prepare(setting_of(name, more))),
         "listen" => format!(in alloc; "{:?}", net.listen("/p")),
         "wait" => told_ready(alloc, net.wait()),
         "accept" => format!(in alloc; "{:?}", net.accept(rest.parse().unwrap_or(0))),
@@ -47,6 +49,14 @@ fn told_call<N: Net>(
             Ok(String::new(alloc))
         }
         _ => String::from_str(alloc, "no call"),
+    }
+}
+
+/// The setting of two words: whether it replaces, and its starter's descriptor if that is a number.
+fn setting_of(replaces: &str, starter: &str) -> Setting {
+    Setting {
+        replaces: replaces == "true",
+        starter: starter.parse().ok(),
     }
 }
 

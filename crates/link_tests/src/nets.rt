@@ -31,6 +31,10 @@ arrival 0, piece c1 hello; open, shut c1, want c1 r, wait => New(1), Quiet
 
 /// Calls that answer otherwise.
 const EXCEPTIONS: &str = "\
+; setting, prepare true 7, setting, prepare false, setting, wait => None, Ok(()), Some(Setting { replaces: true, starter: Some(7) }), Ok(()), Some(Setting { replaces: false, starter: None }), Quiet
+PrepareFails 2; prepare true, prepare false 7, setting, prepare false, setting => Ok(()), Err(Failed), Some(Setting { replaces: true, starter: None }), Ok(()), Some(Setting { replaces: false, starter: None })
+PrepareRefused 1, PrepareFails 1; prepare true, setting, listen => Err(Memory), None, Ok(0)
+room 0 0; prepare true, setting, listen => Ok(()), Some(Setting { replaces: true, starter: None }), Err(Memory)
 ListenFails 2; listen, listen, listen => Ok(0), Err(Failed), Ok(1)
 ListenRefused 1; listen, listen => Err(Memory), Ok(0)
 WaitFails 2; wait, wait, wait => Quiet, Failed, Quiet

@@ -14,7 +14,9 @@ pub mod read_paths;
 pub mod tables;
 
 pub use gates::{Gate, OpenGate};
-pub use links::{Accepted, Call, Count, Got, Link, Net, NetFault, Ready, Side, Took, Wishes};
+pub use links::{
+    Accepted, Call, Count, Got, Link, Net, NetFault, Ready, Setting, Side, Took, Wishes,
+};
 pub use outside::{FileFault, Files, Sink, SinkFault, read_whole, write_all};
 pub use read_paths::ReadPaths;
 pub use tables::LinkTable;

@@ -6,6 +6,7 @@ ghost use Rattle.link_traits.specs.Entries.{ready, shut};
 ghost use Rattle.link_traits.specs.Views.{NetView, Adds, RoseAt, KeepsOthers, KeepsWishes};
 ghost use Rattle.link_traits.specs.Answers.{listen_entry, accept_entry, connect_entry, read_entry, write_entry, no_wishes, client_link, bus_link, AfterAccept};
 ghost use Rattle.link_traits.specs.declared.links.Count.{Count};
+ghost use Rattle.link_traits.specs.declared.links.Setting.{Setting as SettingValue};
 ghost use Rattle.link_traits.specs.declared.links.Wishes.{Wishes};
 
 use thiserror::Error;
@@ -33,7 +34,7 @@ pub enum Ready {
     Listener(u32),
     /// This link may be read or written.
     Link(Link),
-    /// The net's script is done, as that of a net in memory may be.
+    /// Nothing more will come: the script of a net in memory is done, or the starter is gone.
     Quiet,
     /// The wait failed. The net's own count rises.
     Failed,
@@ -76,10 +77,22 @@ pub enum Took {
     Failed,
 }
 
-/// Why a listen or a connect was refused.
+/// What a net does beside carrying links.
+#[derive(Clone, Copy, Debug, PartialEq, Eq)]
+pub struct Setting {
+    /// Whether a listen first removes a socket or an empty regular file at its path.
+    pub replaces: bool,
+    /// The number of the descriptor of the starter's pipe, or `None` if there is no starter.
+    ///
+    /// The starter is the program that started this one and holds the reading end of the pipe (`--fd` in xdg-dbus-proxy(1)).
+    /// One byte in the pipe tells it that clients can connect to all paths, and the run ends when the reading end is closed.
+    pub starter: Option<u32>,
+}
+
+/// Why a prepare, a listen or a connect was refused.
 #[derive(Clone, Copy, Debug, PartialEq, Eq, Error)]
 pub enum NetFault {
-    /// It failed. The net's own count rises where it was a listen, and that of the session's bus link where it was a connect.
+    /// It failed. The count of the session's bus link rises if it was a connect, and else the net's own count.
     #[error("the net failed")]
     Failed,
     /// Memory was refused.
@@ -107,7 +120,7 @@ pub enum Call {
 /// What a net counts, each up to the greatest `u64`.
 #[derive(Clone, Copy, Debug, PartialEq, Eq)]
 pub enum Count {
-    /// Its own faults, those of a listen and of a wait.
+    /// Its own faults, those of a prepare, a listen and a wait.
     Own,
     /// The faults of a listener.
     Listener(u32),
@@ -120,8 +133,18 @@ pub enum Count {
 /// The links between a proxy, its clients and the bus.
 pub trait Net {
     /// What contracts see of the net: its journal where it tells that, its counts, the wishes of each link that was made and
-    /// isn't shut, and whether its script is done.
+    /// isn't shut, and whether nothing more will come.
     ghost view: { Self → NetView };
+
+    /// What a prepare with this setting that answers `Ok` makes of the net.
+    ghost takes: { Self → SettingValue → Self → Type 0 };
+
+    /// Takes the setting. It is called before the first listen.
+    fn prepare(&mut self, setting: Setting) -> Result<(), NetFault>
+        ensures taken { OnOk result (takes self.old setting self.new) }
+        ensures told { Adds (view self.old) (view self.new) [] }
+        ensures failed { IsErrOf result NetFault.Failed → RoseAt Count.Own (view self.old) (view self.new) }
+        ensures wishes { KeepsWishes (view self.old) (view self.new) };
 
     /// Listens for clients at a path. Listeners are numbered from 0 in the order of their listens; where no number is left,
     /// it fails.

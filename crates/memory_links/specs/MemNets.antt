@@ -7,7 +7,7 @@ use Rattle.memory_links.specs.Transcripts.{is_spent}
 use Rattle.memory_links.specs.Scripts.{ends_next, next_place}
 use Rattle.link_traits.specs.declared.links.Link.{Link}
 use Rattle.link_traits.specs.declared.links.Count.{Count}
-use Rattle.memory_links.specs.declared.scripts.Exception.TheVariants.{ReadFails, ReadNotReady}
+use Rattle.memory_links.specs.declared.scripts.Exception.TheVariants.{PrepareFails, PrepareRefused, ReadFails, ReadNotReady}
 use Rattle.memory_links.specs.declared.mem_net.MemNet.{MemNet}
 
 abbrev pub journal_if : Bool → Journal → Option Journal
@@ -28,6 +28,14 @@ pub record IsNew (net : NetView) : Type 0 where
   pub counts : (count : Count) → net.counts count ≡ 0
   pub wishes : (link : Link) → net.wishes link ≡ None
   pub script_done : net.script_done ≡ false
+
+-- whether the script says that the next prepare is refused memory
+abbrev pub IsPrepareRefused : MemNet → Type 0
+IsPrepareRefused net = Contains net.script.exceptions.items (PrepareRefused (next_place net.calls.prepares))
+
+-- whether it says that the next prepare fails, and doesn't say that it is refused memory
+abbrev pub IsPrepareFailing : MemNet → Type 0
+IsPrepareFailing net = (IsPrepareRefused net → ⊥) × Contains net.script.exceptions.items (PrepareFails (next_place net.calls.prepares))
 
 -- the room isn't spent, the link was made and isn't shut, no exception is of the next read, and what comes next on the link is its end
 pub record HasEndNext (net : MemNet) (link : Link) : Type 0 where

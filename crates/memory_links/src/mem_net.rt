@@ -1,5 +1,5 @@
 //! A net in memory, which tells what its calls answered.
-ghost use Rattle.std.specs.Prelude.{◌≡◌, ◌≢◌, ◌≤◌, ◌<◌, ◌+◌, ◌-◌, ◌^◌, ◌↔◌, ◌||◌, nat_lt, [], ◌∷◌, ℕ, Some, None, Err, IfOk, IfSome, IfNone, IsErrOf, IsSome, IsTrue, OnOk, length, true, false, vec_len};
+ghost use Rattle.std.specs.Prelude.{◌≡◌, ◌≢◌, ◌≤◌, ◌<◌, ◌+◌, ◌-◌, ◌^◌, ◌↔◌, ◌||◌, nat_lt, [], ◌∷◌, ℕ, Some, None, Err, IfOk, IfSome, IfNone, IsErrOf, IsSome, IsTrue, OnOk, OnErr, length, true, false, vec_len};
 ghost use Rattle.std.specs.Option.{option_map};
 ghost use Rattle.link_traits.specs.Entries.{Entry, ready, accepted, not_ready, failed, refused, shut};
 ghost use Rattle.link_traits.specs.Journals.{Journal, accepts, listens, accepts_by, listens_by, written};
@@ -10,7 +10,7 @@ ghost use Rattle.memory_links.specs.Scripts.{next_place};
 use crate::scripts::{Coming, Exception, Script};
 use crate::transcripts::{Note, Transcript};
 use link_traits::links::{
-    Accepted, Call, Count, Got, Link, Net, NetFault, Ready, Side, Took, Wishes,
+    Accepted, Call, Count, Got, Link, Net, NetFault, Ready, Setting, Side, Took, Wishes,
 };
 use link_traits::tables::LinkTable;
 use std::alloc::{AllocError, Global};
@@ -18,6 +18,7 @@ use std::alloc::{AllocError, Global};
 /// How often each call was made.
 #[derive(Clone, Copy)]
 struct Calls {
+    prepares: u64,
     listens: u64,
     waits: u64,
     accepts: u64,
@@ -39,6 +40,7 @@ pub struct MemNet {
     calls: Calls,
     sessions: u32,
     done: bool,
+    setting: Option<Setting>,
     ghost listeners: { vec_len table.listeners ≡ listens transcript.entries },
     ghost accepted: { sessions ≡ accepts transcript.entries },
 }
@@ -59,6 +61,7 @@ impl MemNet {
         ensures new { IfOk result (λ net. IsNew (mem_view net)) }
         ensures script { IfOk result (λ net. script_of net.script ≡ script_of script) }
         ensures room { IfOk result (λ net. net.transcript ≡ record { tells = true; entries = []; entries_left = entries; bytes_left = bytes }) }
+        ensures setting { IfOk result (λ net. net.setting ≡ None) }
     {
         let mut script = script;
         script.reserve()?;
@@ -67,6 +70,7 @@ impl MemNet {
             table: LinkTable::new(alloc),
             script,
             calls: Calls {
+                prepares: 0,
                 listens: 0,
                 waits: 0,
                 accepts: 0,
@@ -76,6 +80,7 @@ impl MemNet {
             },
             sessions: 0,
             done: false,
+            setting: None,
         })
     }
 
@@ -84,6 +89,13 @@ impl MemNet {
         ensures { IfOk result (λ v. (journal : Journal) → (mem_view self.now).journal ≡ Some journal → v.items ≡ written link journal) }
     {
         self.transcript.written(alloc, link)
+    }
+
+    /// The setting of the last prepare that answered `Ok`.
+    pub fn setting(&self) -> Option<Setting>
+        ensures { result ≡ self.now.setting }
+    {
+        self.setting
     }
 
     /// Tells an entry, and raises a count.
@@ -251,11 +263,40 @@ impl MemNet {
 impl Net for MemNet {
     ghost use Rattle.link_traits.specs.Views.{Adds, RoseAt, KeepsWishes, KeepsOthers};
     ghost use Rattle.link_traits.specs.Answers.{listen_entry, accept_entry, connect_entry, read_entry, write_entry, no_wishes, client_link, bus_link, AfterAccept};
-    ghost use Rattle.memory_links.specs.MemNets.{mem_view, HasEndNext};
+    ghost use Rattle.memory_links.specs.MemNets.{mem_view, HasEndNext, IsPrepareRefused, IsPrepareFailing};
     ghost use Rattle.link_traits.specs.declared.links.Link.{Link};
     ghost use Rattle.link_traits.specs.declared.links.Wishes.{Wishes};
 
     ghost view = { mem_view };
+
+    ghost takes = { λ old setting new. new.setting ≡ Some setting };
+
+    /// It fails or is refused memory only if the script says so, and is not told in the journal. It takes no room.
+    fn prepare(&mut self, setting: Setting) -> Result<(), NetFault>
+        ensures taken { OnOk result (self.new.setting ≡ Some setting) }
+        ensures kept { OnErr result (self.new.setting ≡ self.old.setting) }
+        ensures refuses { IsErrOf result NetFault.Memory ↔ IsPrepareRefused self.old }
+        ensures fails { IsErrOf result NetFault.Failed ↔ IsPrepareFailing self.old }
+        ensures transcript { self.new.transcript ≡ self.old.transcript }
+        ensures done { self.new.done ≡ self.old.done }
+
+        // What the trait says.
+        ensures told { Adds (mem_view self.old) (mem_view self.new) [] }
+        ensures failed { IsErrOf result NetFault.Failed → RoseAt Count.Own (mem_view self.old) (mem_view self.new) }
+        ensures wishes { KeepsWishes (mem_view self.old) (mem_view self.new) }
+    {
+        let place = counted(self.calls.prepares);
+        self.calls.prepares = place;
+        if self.script.has(Exception::PrepareRefused(place)) {
+            return Err(NetFault::Memory);
+        }
+        if self.script.has(Exception::PrepareFails(place)) {
+            self.table.raise(Count::Own);
+            return Err(NetFault::Failed);
+        }
+        self.setting = Some(setting);
+        Ok(())
+    }
 
     /// It answers that memory was refused where the room is spent, and where it has too little for the path. Such an answer is
     /// told where an entry is left.

@@ -16,6 +16,8 @@ use std::alloc::{AllocError, Global};
 /// later call, for which it is named again.
 #[derive(Clone, Copy, Debug, PartialEq, Eq)]
 pub enum Exception {
+    PrepareFails(u64),
+    PrepareRefused(u64),
     ListenFails(u64),
     ListenRefused(u64),
     WaitFails(u64),

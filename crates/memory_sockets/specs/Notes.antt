@@ -2,10 +2,10 @@
 use Rattle.std.specs.Prelude.{ℕ, Bool, true, false, List, [], ◌∷◌, reverse, Option, Some, None, Result, Ok, Err}
 use Rattle.std.specs.declared.io.ErrorKind.{ErrorKind}
 use Rattle.proxy_net.specs.Answers.{entry_of}
-use Rattle.proxy_net.specs.SystemCalls.{SystemCall, bind, await_clients, accept, connect, watch, read, write, close, wait, remove, answered}
+use Rattle.proxy_net.specs.SystemCalls.{SystemCall, bind, await_clients, accept, connect, watch, read, write, close, wait, identify, remove, open_starter, notify_starter, answered}
 use Rattle.proxy_net.specs.declared.reports.Report.{Report}
 use Rattle.memory_sockets.specs.declared.notes.Note.{Note}
-use Rattle.memory_sockets.specs.declared.notes.Note.TheVariants.{Bind, AwaitClients, Accept, Connect, Watch, Read, Write, Close, Wait, Remove, Answered}
+use Rattle.memory_sockets.specs.declared.notes.Note.TheVariants.{Bind, AwaitClients, Accept, Connect, Watch, Read, Write, Close, Wait, Identify, Remove, OpenStarter, NotifyStarter, Answered}
 use Rattle.memory_sockets.specs.declared.notes.Noted.{Noted}
 use Rattle.memory_sockets.specs.declared.notes.CallNotes.{CallNotes}
 
@@ -24,8 +24,11 @@ call_of (Watch number writable fault) bytes reports = watch number writable faul
 call_of (Read number fault) bytes reports = read number (given fault bytes)
 call_of (Write number fault) bytes reports = write number (given fault bytes)
 call_of (Close number) bytes reports = close number
-call_of Wait bytes reports = wait reports
+call_of (Wait fault) bytes reports = wait reports fault
+call_of (Identify found) path reports = identify path found
 call_of Remove path reports = remove path
+call_of (OpenStarter descriptor fault) bytes reports = open_starter descriptor fault
+call_of (NotifyStarter fault) bytes reports = notify_starter fault
 call_of (Answered answer) bytes reports = answered (entry_of answer bytes)
 
 -- the calls of notes, in their order

@@ -2,7 +2,7 @@
 use Rattle.std.specs.Prelude.{ℕ, Bool, ◌&&◌, nat_eq, nat_le, List, [], ◌∷◌, Option, Some, None, if◌then◌else◌}
 use Rattle.std.specs.declared.io.ErrorKind.{ErrorKind}
 use Rattle.memory_sockets.specs.declared.scripts.CallKind.{CallKind}
-use Rattle.memory_sockets.specs.declared.scripts.CallKind.TheVariants.{Bind, AwaitClients, Accept, Connect, Watch, Read, Write, Wait}
+use Rattle.memory_sockets.specs.declared.scripts.CallKind.TheVariants.{Bind, AwaitClients, Accept, Connect, Watch, Read, Write, Wait, OpenStarter, NotifyStarter}
 use Rattle.memory_sockets.specs.declared.scripts.Exception.{Exception}
 
 abbrev pub kind_number : CallKind → ℕ
@@ -14,6 +14,8 @@ kind_number Watch = 4
 kind_number Read = 5
 kind_number Write = 6
 kind_number Wait = 7
+kind_number OpenStarter = 8
+kind_number NotifyStarter = 9
 
 -- whether an exception is of the call of a kind that has this place
 abbrev pub is_of : CallKind → ℕ → Exception → Bool

@@ -1,4 +1,7 @@
 //! The time in memory.
+ghost use Rattle.std.specs.Prelude.{◌≡◌, ◌+◌, ◌-◌, ◌*◌, ◌^◌, min};
+ghost use Rattle.std.specs.Duration.{as_nanos};
+
 use std::io;
 use std::time::{Clock, Duration, Instant};
 
@@ -10,19 +13,25 @@ pub struct ClockInMemory {
 
 impl ClockInMemory {
     /// A clock at its start.
-    pub fn new() -> ClockInMemory {
+    pub fn new() -> ClockInMemory
+        ensures { as_nanos result.time ≡ 0 }
+    {
         ClockInMemory {
             time: Duration::ZERO,
         }
     }
 
-    /// Moves it on.
-    pub fn pass(&mut self, duration: Duration) {
+    /// Moves it on, up to the longest duration.
+    pub fn pass(&mut self, duration: Duration)
+        ensures { as_nanos self.new.time ≡ min (as_nanos self.old.time + as_nanos duration) (2 ^ 64 * 1_000_000_000 - 1) }
+    {
         self.time = self.time.saturating_add(duration);
     }
 
     /// How far it was moved on.
-    pub fn elapsed(&self) -> Duration {
+    pub fn elapsed(&self) -> Duration
+        ensures { result ≡ self.now.time }
+    {
         self.time
     }
 

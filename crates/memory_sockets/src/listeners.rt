@@ -1,7 +1,7 @@
-//! The listeners of a system in memory, and the files that their binds make.
+//! The listeners of a system in memory, and its files: those that binds make, and those of the script.
 ghost use Rattle.std.specs.Prelude.{◌≡◌, false, IfSome};
 
-use proxy_net::{FileIdentity, Report};
+use proxy_net::{FileIdentity, FileKind, FoundFile, Report};
 use std::alloc::{AllocError, Global};
 use std::io::ErrorKind;
 
@@ -17,12 +17,24 @@ struct ListenerInMemory {
     waiting: u32,
 }
 
-/// The listeners, in the order of their binds.
+/// A file that no bind made.
+#[derive(Drop)]
+struct FileInMemory {
+    path: String,
+    kind: FileKind,
+    is_there: bool,
+}
+
+/// The listeners, in the order of their binds, and the files that no bind made.
 #[derive(Drop)]
 pub struct Listeners {
     alloc: Global,
     listeners: Vec<ListenerInMemory>,
+    files: Vec<FileInMemory>,
 }
+
+/// The device of the files that no bind made. Those of binds are on the device 0.
+const OTHER_DEVICE: u64 = 1;
 
 impl Listeners {
     /// No listener.
@@ -30,7 +42,33 @@ impl Listeners {
         Listeners {
             alloc,
             listeners: Vec::new(alloc),
+            files: Vec::new(alloc),
         }
+    }
+
+    /// Puts a file that no bind made at a path.
+    pub fn add_file(&mut self, path: &str, kind: FileKind) -> Result<(), AllocError> {
+        let path = String::from_str(self.alloc, path)?;
+        self.files.push(FileInMemory {
+            path,
+            kind,
+            is_there: true,
+        })?;
+        Ok(())
+    }
+
+    /// The file that is at a path and that no bind made.
+    fn other_file(&self, path: &str) -> Option<FoundFile> {
+        for place in 0..self.files.len() {
+            let file = &self.files[place];
+            if file.is_there && file.path.as_str() == path {
+                return Some(FoundFile {
+                    identity: FileIdentity::new(OTHER_DEVICE, place as u64),
+                    kind: file.kind,
+                });
+            }
+        }
+        None
     }
 
     /// The listener whose file is at a path.
@@ -45,7 +83,7 @@ impl Listeners {
 
     /// Binds a listener to a path, where no file is.
     pub fn bind(&mut self, path: &str, number: u64) -> Result<(), ErrorKind> {
-        if self.at(path).is_some() {
+        if self.identify(path).is_some() {
             return Err(ErrorKind::AddrInUse);
         }
         if self.add(path, number).is_err() {
@@ -84,6 +122,7 @@ impl Listeners {
                 number: listener.number,
                 readable: true,
                 writable: false,
+                closed: false,
             }),
             _ => None,
         }
@@ -99,6 +138,7 @@ impl Listeners {
                     number,
                     readable: true,
                     writable: false,
+                    closed: false,
                 });
             }
         }
@@ -125,11 +165,14 @@ impl Listeners {
         false
     }
 
-    /// The identity of the file at a path.
-    pub fn identify(&self, path: &str) -> Option<FileIdentity> {
+    /// The file at a path.
+    pub fn identify(&self, path: &str) -> Option<FoundFile> {
         match self.at(path) {
-            Some(listener) => Some(FileIdentity::new(0, listener.number)),
-            None => None,
+            Some(listener) => Some(FoundFile {
+                identity: FileIdentity::new(0, listener.number),
+                kind: FileKind::Socket,
+            }),
+            None => self.other_file(path),
         }
     }
 
@@ -139,6 +182,12 @@ impl Listeners {
         for listener in &mut self.listeners {
             if listener.has_file && listener.path.as_str() == path {
                 listener.has_file = false;
+                found = true;
+            }
+        }
+        for file in &mut self.files {
+            if file.is_there && file.path.as_str() == path {
+                file.is_there = false;
                 found = true;
             }
         }

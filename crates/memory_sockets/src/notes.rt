@@ -1,9 +1,9 @@
 //! The calls of a system in memory, with what they answered.
-ghost use Rattle.std.specs.Prelude.{◌≡◌, [], ◌∷◌, ◌++◌, true, OnOk, OnErr};
+ghost use Rattle.std.specs.Prelude.{◌≡◌, ◌↔◌, [], ◌∷◌, ◌++◌, true, IfSome, IsSome, OnOk, OnErr};
 ghost use Rattle.proxy_net.specs.SystemCalls.{Tells};
 ghost use Rattle.memory_sockets.specs.Notes.{call_of, calls_in, told_in};
 
-use proxy_net::{Answer, Report};
+use proxy_net::{Answer, FoundFile, Report};
 use std::alloc::{AllocError, Global};
 use std::io::ErrorKind;
 
@@ -22,8 +22,13 @@ pub enum Note {
     Read(u64, Option<ErrorKind>),
     Write(u64, Option<ErrorKind>),
     Close(u64),
-    Wait,
+    Wait(Option<ErrorKind>),
+    /// A look at a path, and the file that was found.
+    Identify(Option<FoundFile>),
     Remove,
+    /// The opening of the starter's pipe, with the number of its descriptor.
+    OpenStarter(u32, Option<ErrorKind>),
+    NotifyStarter(Option<ErrorKind>),
     /// What a net over the system answered.
     Answered(Answer),
 }
@@ -58,7 +63,10 @@ impl CallNotes {
     }
 
     /// The calls, the oldest first. `None` if memory for one was refused.
-    pub fn calls(&self) -> Option<&[Noted]> {
+    pub fn calls(&self) -> Option<&[Noted]>
+        ensures calls { IfSome result (λ calls. calls.now ≡ self.now.calls.items) }
+        ensures some { IsSome result ↔ (self.now.tells ≡ true) }
+    {
         if self.tells { Some(&self.calls) } else { None }
     }
 

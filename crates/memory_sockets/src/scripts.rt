@@ -4,13 +4,13 @@
 //! step happen whose socket is there and is watched for it, and reports that. Beside the steps stands what goes
 //! otherwise: the first, the second or a later call of a kind fails, a stream gives no more than so many bytes in a
 //! read, or takes no more in a write or in all.
-ghost use Rattle.std.specs.Prelude.{◌≡◌, ◌≤◌, ◌<◌, ◌++◌, ℕ, [], take, length, IfOk, IfSome, OnOk, OnErr};
+ghost use Rattle.std.specs.Prelude.{◌≡◌, ◌≤◌, ◌<◌, ◌++◌, ℕ, [], false, take, length, IfOk, IfSome, OnOk, OnErr};
 ghost use Rattle.memory_sockets.specs.Streams.{KeepsStreams, KeepsOthers, coming_in, written_in};
 ghost use Rattle.memory_sockets.specs.Scripts.{is_of as is_of_call, kind_number};
 
 use crate::listeners::Listeners;
 use crate::streams::Streams;
-use proxy_net::Report;
+use proxy_net::{Report, STARTER};
 use std::alloc::{AllocError, Global};
 use std::io::ErrorKind;
 
@@ -25,6 +25,8 @@ pub enum CallKind {
     Read,
     Write,
     Wait,
+    OpenStarter,
+    NotifyStarter,
 }
 
 /// Calls that fail, told by their places among the calls of their kind, from 1.
@@ -53,6 +55,8 @@ enum Event {
     Nobody(String),
     /// The listener of a number is reported again.
     Again(u64),
+    /// The starter closes its end of the pipe.
+    StarterGone,
 }
 
 /// An event, whether it happened, and whether it happens in the wait of the step before it.
@@ -70,6 +74,8 @@ pub struct SocketScript {
     pub(crate) streams: Streams,
     steps: Vec<Step>,
     exceptions: Vec<Exception>,
+    // Whether the starter's pipe was opened.
+    has_starter: bool,
 }
 
 impl SocketScript {
@@ -83,6 +89,7 @@ impl SocketScript {
             streams: Streams::new(alloc),
             steps: Vec::new(alloc),
             exceptions: Vec::new(alloc),
+            has_starter: false,
         }
     }
 
@@ -165,6 +172,13 @@ impl SocketScript {
     {
         let path = String::from_str(self.alloc, path)?;
         self.add(Event::Nobody(path))
+    }
+
+    /// Then the starter closes its end of the pipe, if that was opened.
+    pub fn starter_gone(&mut self) -> Result<(), AllocError>
+        ensures { self.new.streams ≡ self.old.streams }
+    {
+        self.add(Event::StarterGone)
     }
 
     /// Has the last step happen in the wait of the step before it.
@@ -310,7 +324,30 @@ impl SocketScript {
             Event::Spurious(number, readable, writable) => {
                 self.streams.report(*number, *readable, *writable)
             }
+            Event::StarterGone => self.starter_report(),
         }
+    }
+
+    /// The starter's pipe is opened.
+    pub(crate) fn open_starter(&mut self)
+        ensures { self.new.streams ≡ self.old.streams }
+    {
+        self.has_starter = true;
+    }
+
+    /// What is reported if the starter closes its end of the pipe.
+    fn starter_report(&self) -> Option<Report>
+        ensures { IfSome result (λ report. report.writable ≡ false) }
+    {
+        if !self.has_starter {
+            return None;
+        }
+        Some(Report {
+            number: STARTER,
+            readable: false,
+            writable: false,
+            closed: true,
+        })
     }
 
     /// The step at a place happens.
@@ -328,7 +365,11 @@ impl SocketScript {
             Event::End(number) => self.streams.end(*number),
             Event::HangUp(number) => self.streams.hang_up(*number),
             Event::Reset(number) => self.streams.reset(*number),
-            Event::Room(_) | Event::Spurious(_, _, _) | Event::Nobody(_) | Event::Again(_) => {}
+            Event::Room(_)
+            | Event::Spurious(_, _, _)
+            | Event::Nobody(_)
+            | Event::Again(_)
+            | Event::StarterGone => {}
         }
     }
 }
@@ -355,5 +396,7 @@ fn number_of(call: CallKind) -> u64
         CallKind::Read => 5,
         CallKind::Write => 6,
         CallKind::Wait => 7,
+        CallKind::OpenStarter => 8,
+        CallKind::NotifyStarter => 9,
     }
 }

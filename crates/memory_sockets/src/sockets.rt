@@ -1,5 +1,5 @@
 //! A system of sockets in memory, which tells what its calls answered.
-ghost use Rattle.std.specs.Prelude.{◌≡◌, ◌≢◌, ◌≤◌, ◌<◌, ◌++◌, ◌∷◌, [], ℕ, None, Some, take, length, IfOk, IfSome, OnOk, OnErr, vec_len, vec_capacity};
+ghost use Rattle.std.specs.Prelude.{◌≡◌, ◌≢◌, ◌≤◌, ◌<◌, ◌++◌, ◌∷◌, ◌↔◌, [], ℕ, None, Some, true, take, length, IfOk, IfSome, IsSome, OnOk, OnErr, vec_len, vec_capacity};
 ghost use Rattle.std.specs.IoError.{error_kind};
 ghost use Rattle.proxy_net.specs.declared.system.TheConstants.{REPORTS};
 ghost use Rattle.memory_sockets.specs.Notes.{told_in};
@@ -12,8 +12,8 @@ use crate::listeners::Listeners;
 use crate::notes::{CallNotes, Note, Noted};
 use crate::scripts::{CallKind, SocketScript};
 use proxy_net::system::REPORTS;
-use proxy_net::{Answer, FileIdentity, Numbered, Report, Sockets};
-use std::alloc::Global;
+use proxy_net::{Answer, FileKind, FoundFile, Numbered, Report, Sockets};
+use std::alloc::{AllocError, Global};
 use std::io::{self, ErrorKind};
 use std::time::{Duration, Instant};
 
@@ -32,6 +32,8 @@ struct Calls {
     reads: u64,
     writes: u64,
     waits: u64,
+    starter_opens: u64,
+    starter_notices: u64,
 }
 
 /// A system of sockets in memory. Its script says what happens, and it tells what its calls answered as long as memory
@@ -72,6 +74,8 @@ impl SocketsInMemory {
                 reads: 0,
                 writes: 0,
                 waits: 0,
+                starter_opens: 0,
+                starter_notices: 0,
             },
             clock: ClockInMemory::new(),
         }
@@ -84,13 +88,26 @@ impl SocketsInMemory {
         self.script.streams.written(number)
     }
 
+    /// Puts a file that no bind made at a path.
+    pub fn add_file(&mut self, path: &str, kind: FileKind) -> Result<(), AllocError>
+        ensures notes { self.new.notes ≡ self.old.notes }
+        ensures script { self.new.script ≡ self.old.script }
+    {
+        self.listeners.add_file(path, kind)
+    }
+
     /// The calls, the oldest first. `None` if memory for one was refused.
-    pub fn calls(&self) -> Option<&[Noted]> {
+    pub fn calls(&self) -> Option<&[Noted]>
+        ensures calls { IfSome result (λ calls. calls.now ≡ self.now.notes.calls.items) }
+        ensures some { IsSome result ↔ (self.now.notes.tells ≡ true) }
+    {
         self.notes.calls()
     }
 
     /// How much time went by.
-    pub fn elapsed(&self) -> Duration {
+    pub fn elapsed(&self) -> Duration
+        ensures { result ≡ self.now.clock.time }
+    {
         self.clock.elapsed()
     }
 
@@ -268,7 +285,7 @@ impl Sockets for SocketsInMemory {
     ghost use Rattle.std.specs.Prelude.{◌≤◌, ◌<◌, ◌∷◌, [], ℕ, List, Option, IfOk, OnErr, length, vec_len, vec_capacity};
     ghost use Rattle.std.specs.IoError.{error_kind};
     ghost use Rattle.proxy_net.specs.Answers.{entry_of};
-    ghost use Rattle.proxy_net.specs.SystemCalls.{SystemCall, bind, await_clients, accept, connect, watch, read, write, close, wait, remove, answered, fault_of, IsToldRead, IsToldWrite, Tells};
+    ghost use Rattle.proxy_net.specs.SystemCalls.{SystemCall, bind, await_clients, accept, connect, watch, read, write, close, wait, identify, remove, open_starter, notify_starter, answered, fault_of, IsToldRead, IsToldWrite, Tells};
 
     type Listener = SocketInMemory;
 
@@ -462,28 +479,30 @@ impl Sockets for SocketsInMemory {
         ensures count { vec_len reports.new ≤ REPORTS }
         ensures capacity { vec_capacity reports.new ≡ vec_capacity reports.old }
         ensures err { OnErr result (reports.new.items ≡ []) }
-        ensures told { Tells (told_in self.old.notes) (told_in self.new.notes) (wait reports.new.items ∷ []) }
+        ensures told { Tells (told_in self.old.notes) (told_in self.new.notes) (wait reports.new.items (fault_of error_kind result) ∷ []) }
     {
         reports.clear();
         match self.await_reports(reports, timeout) {
             Ok(()) => {
-                self.notes.note(Note::Wait, &[], reports);
+                self.notes.note(Note::Wait(None), &[], reports);
                 Ok(())
             }
             Err(kind) => {
-                self.notes.note(Note::Wait, &[], &[]);
+                self.notes.note(Note::Wait(Some(kind)), &[], &[]);
                 Err(io::Error::from(kind))
             }
         }
     }
 
-    fn identify(&mut self, path: &str) -> Option<FileIdentity>
+    fn identify(&mut self, path: &str) -> Option<FoundFile>
         ensures kept { KeepsBytes self.old self.new }
 
         // What the trait says.
-        ensures told { Tells (told_in self.old.notes) (told_in self.new.notes) [] }
+        ensures told { Tells (told_in self.old.notes) (told_in self.new.notes) (identify path.now result ∷ []) }
     {
-        self.listeners.identify(path)
+        let found = self.listeners.identify(path);
+        self.notes.note(Note::Identify(found), path.as_bytes(), &[]);
+        found
     }
 
     fn remove_file(&mut self, path: &str) -> io::Result<()>
@@ -497,6 +516,45 @@ impl Sockets for SocketsInMemory {
             Ok(())
         } else {
             Err(io::Error::from(ErrorKind::NotFound))
+        }
+    }
+
+    fn open_starter(&mut self, descriptor: u32) -> io::Result<()>
+        ensures kept { KeepsBytes self.old self.new }
+
+        // What the trait says.
+        ensures told { Tells (told_in self.old.notes) (told_in self.new.notes) (open_starter descriptor (fault_of error_kind result) ∷ []) }
+    {
+        match self.refusal(CallKind::OpenStarter) {
+            Some(kind) => {
+                self.notes
+                    .note(Note::OpenStarter(descriptor, Some(kind)), &[], &[]);
+                Err(io::Error::from(kind))
+            }
+            None => {
+                self.script.open_starter();
+                self.notes
+                    .note(Note::OpenStarter(descriptor, None), &[], &[]);
+                Ok(())
+            }
+        }
+    }
+
+    fn notify_starter(&mut self) -> io::Result<()>
+        ensures kept { KeepsBytes self.old self.new }
+
+        // What the trait says.
+        ensures told { Tells (told_in self.old.notes) (told_in self.new.notes) (notify_starter (fault_of error_kind result) ∷ []) }
+    {
+        match self.refusal(CallKind::NotifyStarter) {
+            Some(kind) => {
+                self.notes.note(Note::NotifyStarter(Some(kind)), &[], &[]);
+                Err(io::Error::from(kind))
+            }
+            None => {
+                self.notes.note(Note::NotifyStarter(None), &[], &[]);
+                Ok(())
+            }
         }
     }
 
@@ -525,6 +583,8 @@ fn counted(calls: &mut Calls, call: CallKind) -> u64 {
         CallKind::Read => &mut calls.reads,
         CallKind::Write => &mut calls.writes,
         CallKind::Wait => &mut calls.waits,
+        CallKind::OpenStarter => &mut calls.starter_opens,
+        CallKind::NotifyStarter => &mut calls.starter_notices,
     };
     *count = count.saturating_add(1);
     *count

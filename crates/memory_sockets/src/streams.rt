@@ -382,6 +382,7 @@ impl Streams {
                         number,
                         readable,
                         writable,
+                        closed: false,
                     })
                 } else {
                     None

@@ -1,7 +1,7 @@
 //! Calls of a net over sockets in memory, written in words, and what they answer.
 use crate::scripted::{NetInMemory, net_over};
 use link_traits::tables::number_of;
-use link_traits::{Count, Got, Net, Ready};
+use link_traits::{Count, Got, Net, Ready, Setting};
 use std::alloc::{AllocError, Global};
 use test_nets::{link_of, name_of};
 use test_tables::text_of;
@@ -32,6 +32,7 @@ pub fn told_call(
     let (name, more) = rest.split_once(' ').unwrap_or((rest, ""));
     match kind {
         "open" => told_open(alloc, net),
+        "prepare" => format!(in alloc; "{:?}", net.prepare(setting_of(rest))),
         "listen" => format!(in alloc; "{:?}", net.listen(rest)),
         "wait" => told_ready(alloc, net.wait()),
         "accept" => format!(in alloc; "{:?}", net.accept(rest.parse().unwrap_or(0))),
@@ -47,6 +48,14 @@ pub fn told_call(
             Ok(String::new(alloc))
         }
         _ => told_after(alloc, net, kind, rest),
+    }
+}
+
+/// A setting: `replace` alone, or the starter's descriptor.
+fn setting_of(word: &str) -> Setting {
+    Setting {
+        replaces: word == "replace",
+        starter: word.parse().ok(),
     }
 }
 

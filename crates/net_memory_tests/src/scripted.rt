@@ -4,7 +4,7 @@ ghost use Rattle.memory_sockets.specs.Notes.{told_in};
 
 use link_traits::tables::number_of;
 use memory_sockets::{CallKind, SocketScript, SocketsInMemory};
-use proxy_net::MioNet;
+use proxy_net::{FileKind, MioNet};
 use std::alloc::{AllocError, Global};
 use std::io::ErrorKind;
 use test_nets::link_of;
@@ -21,7 +21,8 @@ pub fn net_over(alloc: Global, words: &str) -> Result<NetInMemory, AllocError> {
 /// A system of a script that is written in words. What happens: `arrival /p`, `nobody /p`, `piece c1 bytes`, `end c1`,
 /// `hangup c1`, `reset c1`, `room c1` and `spurious c1 rw`; a `+` in front has it happen in the wait of the word before
 /// it. What goes otherwise: `trickle c1 2`, `pace c1 2`, `limit c1 9`, and a call with its place and its error as `Read
-/// 2 WouldBlock`, or with its first and its last place as `Connect 1-9 WouldBlock`.
+/// 2 WouldBlock`, or with its first and its last place as `Connect 1-9 WouldBlock`. A file that is there from the start is written as
+/// `file /p EmptyFile`.
 fn system_of(alloc: Global, words: &str) -> Result<SocketsInMemory, AllocError>
     ensures { IfOk result (λ system. told_in system.notes ≡ Some []) }
 {
@@ -36,7 +37,30 @@ fn system_of(alloc: Global, words: &str) -> Result<SocketsInMemory, AllocError>
             None => add(alloc, &mut script, kind, rest)?,
         }
     }
-    Ok(SocketsInMemory::new(alloc, script))
+    let mut system = SocketsInMemory::new(alloc, script);
+    add_files(&mut system, words)?;
+    Ok(system)
+}
+
+/// Adds the files of a script.
+fn add_files(system: &mut SocketsInMemory, words: &str) -> Result<(), AllocError>
+    ensures { system.new.notes ≡ system.old.notes }
+{
+    for word in words.split(", ") {
+        if let Some(file) = word.strip_prefix("file ") {
+            let (path, kind) = file.split_once(' ').unwrap_or((file, ""));
+            system.add_file(path, kind_of(kind))?;
+        }
+    }
+    Ok(())
+}
+
+fn kind_of(name: &str) -> FileKind {
+    match name {
+        "Socket" => FileKind::Socket,
+        "EmptyFile" => FileKind::EmptyFile,
+        _ => FileKind::Other,
+    }
 }
 
 fn add(alloc: Global, script: &mut SocketScript, kind: &str, rest: &str) -> Result<(), AllocError> {
@@ -51,6 +75,7 @@ fn add(alloc: Global, script: &mut SocketScript, kind: &str, rest: &str) -> Resu
         "reset" => script.reset(number),
         "room" => script.room(number),
         "spurious" => script.spurious(number, more.contains('r'), more.contains('w')),
+        "starter" => script.starter_gone(),
         "trickle" => script.trickle(number, more.parse().unwrap_or(0)),
         "pace" => script.pace(number, more.parse().unwrap_or(0)),
         "limit" => script.limit(number, more.parse().unwrap_or(0), ErrorKind::Other),
@@ -86,6 +111,8 @@ fn call_of(name: &str) -> Option<CallKind> {
         "Read" => Some(CallKind::Read),
         "Write" => Some(CallKind::Write),
         "Wait" => Some(CallKind::Wait),
+        "OpenStarter" => Some(CallKind::OpenStarter),
+        "NotifyStarter" => Some(CallKind::NotifyStarter),
         _ => None,
     }
 }

@@ -12,4 +12,6 @@ mod paths;
 #[cfg(test)]
 mod sessions;
 #[cfg(test)]
+mod starters;
+#[cfg(test)]
 mod streams;

@@ -1,9 +1,10 @@
-//! Paths that are refused.
+//! Paths that are refused, and those whose files are replaced.
 use crate::sessions::{bus, listening, one_client};
-use link_traits::{Count, Got, Net, NetFault, Took};
+use link_traits::{Count, Got, Net, NetFault, Setting, Took};
 use proxy_net::MioNet;
 use std::fs;
-use std::os::unix::net::UnixListener;
+use std::os::unix::fs::symlink;
+use std::os::unix::net::{UnixListener, UnixStream};
 use std::test::Fail;
 
 /// What stands at a path is left as it is, and an empty path names nothing.
@@ -21,6 +22,39 @@ fn taken_paths(rt: HostRuntime) -> Result<(), Fail> {
     assert_eq!(rt; net.listen("free"), Err(NetFault::Failed));
     assert_eq!(rt; net.count(Count::Own), 4);
     assert_eq!(rt; net.count(Count::Waits), 0);
+    Ok(())
+}
+
+/// By the setting a socket and an empty file are replaced, and nothing else: no file with a byte, no folder and no link.
+#[test]
+fn replaced_paths(rt: HostRuntime) -> Result<(), Fail> {
+    let mut net = MioNet::new(&rt)?;
+    drop(UnixListener::bind(&rt, "replaced_stale")?);
+    fs::write(&rt, "replaced_empty", b"")?;
+    fs::write(&rt, "replaced_not", b"k")?;
+    fs::create_dir(&rt, "replaced_folder")?;
+    symlink(&rt, "replaced_stale", "replaced_link")?;
+    assert_eq!(rt; net.listen("replaced_empty"), Err(NetFault::Failed));
+    assert_eq!(rt; net.listen("replaced_stale"), Err(NetFault::Failed));
+    let setting = Setting {
+        replaces: true,
+        starter: None,
+    };
+    assert_eq!(rt; net.prepare(setting), Ok(()));
+    assert_eq!(rt; net.listen("replaced_not"), Err(NetFault::Failed));
+    assert_eq!(rt; net.listen("replaced_folder"), Err(NetFault::Failed));
+    assert_eq!(rt; net.listen("replaced_link"), Err(NetFault::Failed));
+    assert_eq!(rt; fs::read(&rt, "replaced_not")?.as_slice(), b"k".as_slice());
+    assert!(rt; fs::symlink_metadata(&rt, "replaced_folder")?.is_dir());
+    assert!(rt; fs::symlink_metadata(&rt, "replaced_link")?.is_symlink());
+    assert_eq!(rt; net.listen("replaced_stale"), Ok(0));
+    assert_eq!(rt; net.listen("replaced_empty"), Ok(1));
+    assert_eq!(rt; net.listen("replaced_new"), Ok(2));
+    let _first = UnixStream::connect(&rt, "replaced_stale")?;
+    let _second = UnixStream::connect(&rt, "replaced_empty")?;
+    net.remove_sockets();
+    assert!(rt; fs::symlink_metadata(&rt, "replaced_stale").is_err());
+    assert!(rt; fs::symlink_metadata(&rt, "replaced_empty").is_err());
     Ok(())
 }
 

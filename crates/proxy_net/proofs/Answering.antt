@@ -20,10 +20,13 @@ use Rattle.std.proofs.lemmas.List.Folds.{list_any-append}
 use Rattle.std.proofs.lemmas.Slice.Eq.{bytes_eq-Decides}
 use Rattle.proxy_net.specs.Registering.{listeners_from}
 use Rattle.proxy_net.specs.Sockets.{GoesOn, Grows, IsConsistent, AreBound, count_in, path_in, path_at, sessions_after, shown}
-use Rattle.proxy_net.specs.Steps.{Steps, IsSilent, IsAnswered, AreRemovals, IsListen, IsAccept, IsConnect, IsRead, IsWrite, IsShut, IsRetryOf, IsRetryIn, IsRemoval, IsFileRemoval}
-use Rattle.proxy_net.specs.SystemCalls.{SystemCall, Tells, bind, answered, is_bind, was_bound}
-use Rattle.proxy_net.specs.declared.link_sockets.Connection.{Connection}
-use Rattle.proxy_net.specs.declared.link_sockets.Connection.TheVariants.{Open, Pending, Failed}
+use Rattle.proxy_net.specs.Files.{removal}
+use Rattle.proxy_net.specs.Steps.{Steps, IsSilent, IsAnswered, AreRemovals, IsListen, IsAccept, IsConnect, IsRead, IsWrite, IsShut, IsFileRemoval, IsMadeRemoval, IsClearing, IsBindCall, IsBoundAndAwaited, IsUndone, IsOpened, IsPrepare}
+use Rattle.proxy_net.specs.SystemCalls.{SystemCall, Tells, bind, await_clients, identify, open_starter, answered, is_bind, was_bound}
+use Rattle.std.specs.declared.io.ErrorKind.{ErrorKind}
+use Rattle.proxy_net.specs.declared.bound_files.BoundFile.{BoundFile}
+use Rattle.proxy_net.specs.declared.bound_files.FoundFile.{FoundFile}
+use Rattle.proxy_net.specs.declared.starters.Starter.{Starter}
 use Rattle.proxy_net.specs.declared.listeners.ListenerSocket.{ListenerSocket}
 use Rattle.proxy_net.specs.declared.sockets.SocketSet.{SocketSet}
 use Rattle.std.proofs.lemmas.List.{append_assoc}
@@ -40,6 +43,9 @@ silent_as e s = ap answers_in e ∙ s
 pub silent_none : (j : Option (List SystemCall)) → Steps IsSilent j j
 silent_none j = steps_none j refl
 
+pub silent_one : {a b : Option (List SystemCall)} {call : SystemCall} → Tells a b (call ∷ []) → answers_by call ≡ [] → Steps IsSilent a b
+silent_one {call = call} t none = steps_one (call ∷ []) t (ap (λ (answers : Journal). answers ++ []) none)
+
 pub silent_through : {a b c : Option (List SystemCall)} → Steps IsSilent a b → Steps IsSilent b c → Steps IsSilent a c
 silent_through p q = steps_through (λ first second f s. answers_append second first ∙ ap₂ (λ (x y : Journal). x ++ y) s f) p q
 
@@ -49,22 +55,74 @@ same_answers s after e =
     let x = s.told after e in
     (x.0, x.2, ap answers_in x.3 ∙ answers_append x.1 x.0 ∙ ap (λ (answers : Journal). answers ++ answers_in x.0) x.4)
 
-pub removals_silent : (P : List ℕ → Type 0) (calls : List SystemCall) → AreRemovals P calls → IsSilent calls
-removals_silent P [] are = refl
-removals_silent P (call ∷ calls) are = ap₂ (λ (x y : Journal). x ++ y) (ap answers_by are.0.1) (removals_silent P calls are.1)
+removal_silent : (wanted : Bool) (path : List ℕ) (found : Option FoundFile) → IsSilent (removal wanted path ++ identify path found ∷ [])
+removal_silent true path found = refl
+removal_silent false path found = refl
 
-pub listen_silent : (number : ℕ) (path : List ℕ) (answer : Result ℕ NetFault) (calls : List SystemCall) → IsListen number path answer calls → IsSilent calls
-listen_silent number path (Ok listener) calls is = silent_as is refl
-listen_silent number path (Err fault) calls is = elim is [
-  | inl none ↦ silent_as none refl
+made_silent : (path : List ℕ) (made : Option FoundFile) (calls : List SystemCall) → IsMadeRemoval path made calls → IsSilent calls
+made_silent path None calls is = silent_as is refl
+made_silent path (Some file) calls is = silent_as is.1 (removal_silent _ path is.0)
+
+file_silent : (file : Option BoundFile) (calls : List SystemCall) → IsFileRemoval file calls → IsSilent calls
+file_silent None calls is = silent_as is refl
+file_silent (Some file) calls is = silent_as is.1 (removal_silent _ _ is.0)
+
+pub removals_silent : (files : List (Option BoundFile)) (calls : List SystemCall) → AreRemovals files calls → IsSilent calls
+removals_silent [] calls are = silent_as are refl
+removals_silent (file ∷ files) calls are = silent_as are.2 (answers_append are.1 are.0 ∙ ap₂ (λ (x y : Journal). x ++ y) (removals_silent files are.1 are.4) (file_silent file are.0 are.3))
+
+clearing_silent : (replaces : Bool) (path : List ℕ) (calls : List SystemCall) → IsClearing replaces path calls → IsSilent calls
+clearing_silent true path calls is = silent_as is.1 (removal_silent _ path is.0)
+clearing_silent false path calls is = silent_as is refl
+
+bind_silent : {number : ℕ} {path : List ℕ} {replaces : Bool} {fault : Option ErrorKind} (calls : List SystemCall) → IsBindCall number path replaces fault calls → IsSilent calls
+bind_silent {path = path} {replaces = replaces} calls is = silent_as is.are (clearing_silent replaces path is.cleared is.clearing)
+
+awaited_silent : {number : ℕ} {path : List ℕ} {replaces : Bool} {found : Option FoundFile} {fault : Option ErrorKind} (calls : List SystemCall) → IsBoundAndAwaited number path replaces found fault calls → IsSilent calls
+awaited_silent calls is = silent_as is.are (bind_silent is.bound is.binding)
+
+undone_silent : {number : ℕ} {path : List ℕ} {replaces : Bool} {fault : Option ErrorKind} (calls : List SystemCall) → IsUndone number path replaces fault calls → IsSilent calls
+undone_silent {path = path} calls is = silent_as is.are (answers_append is.removed is.awaited ∙ ap₂ (λ (x y : Journal). x ++ y) (made_silent path is.found is.removed is.removing) (awaited_silent is.awaited is.awaiting))
+
+pub listen_silent : (number : ℕ) (path : List ℕ) (replaces : Bool) (answer : Result ℕ NetFault) (calls : List SystemCall) → IsListen number path replaces answer calls → IsSilent calls
+listen_silent number path replaces (Ok listener) calls is = awaited_silent calls is.1
+listen_silent number path replaces (Err FaultFailed) calls is = elim is [
+  | inl none ↦ silent_as none.0 refl
   | inr some ↦ elim some [
-    | inl refused ↦ silent_as refused.1 refl
-    | inr more ↦ elim more [
-      | inl stays ↦ silent_as stays.1 refl
-      | inr removed ↦ silent_as removed.1 refl
-    ]
+    | inl refused ↦ bind_silent calls refused.1
+    | inr undone ↦ undone_silent calls undone.1
   ]
 ]
+listen_silent number path replaces (Err FaultMemory) calls is = elim is [
+  | inl none ↦ silent_as none refl
+  | inr undone ↦ undone_silent calls undone
+]
+
+pub opened_silent : (present : Bool) (descriptor : ℕ) (result : Result (Unit {0}) NetFault) (calls : List SystemCall) → IsOpened present descriptor result calls → IsSilent calls
+opened_silent false descriptor (Ok done) calls is = silent_as is refl
+opened_silent false descriptor (Err FaultFailed) calls is = silent_as is.1 refl
+opened_silent false descriptor (Err FaultMemory) calls is = absurd is
+opened_silent true descriptor (Ok done) calls is = absurd is
+opened_silent true descriptor (Err FaultFailed) calls is = silent_as is refl
+opened_silent true descriptor (Err FaultMemory) calls is = absurd is
+
+pub prepare_silent : (present : Bool) (starter : Option ℕ) (result : Result (Unit {0}) NetFault) (calls : List SystemCall) → IsPrepare present starter result calls → IsSilent calls
+prepare_silent present None (Ok done) calls is = silent_as is refl
+prepare_silent present None (Err fault) calls is = absurd is
+prepare_silent present (Some descriptor) result calls is = opened_silent present descriptor result calls is
+
+-- nothing is opened beside a starter, and one pipe without one
+pub second_refused : (present : Bool) (descriptor : ℕ) → present ≡ true → IsOpened present descriptor (Err FaultFailed) []
+second_refused true descriptor same = refl
+second_refused false descriptor same = absurd cc
+
+pub first_opened : (present : Bool) (descriptor : ℕ) → present ≡ false → IsOpened present descriptor (Ok tt) (open_starter descriptor None ∷ [])
+first_opened false descriptor same = refl
+first_opened true descriptor same = absurd cc
+
+pub first_refused : (present : Bool) (descriptor : ℕ) (kind : ErrorKind) → present ≡ false → IsOpened present descriptor (Err FaultFailed) (open_starter descriptor (Some kind) ∷ [])
+first_refused false descriptor kind same = (kind, refl)
+first_refused true descriptor kind same = absurd cc
 
 pub accept_silent : (listener : ℕ) (answer : Accepted) (calls : List SystemCall) → IsAccept listener answer calls → IsSilent calls
 accept_silent listener (New session) calls is = silent_as is refl
@@ -79,8 +137,18 @@ accept_silent listener Memory calls is = elim is [
 ]
 
 pub connect_silent : (number : ℕ) (path : List ℕ) (answer : Result (Unit {0}) NetFault) (calls : List SystemCall) → IsConnect number path answer calls → IsSilent calls
-connect_silent number path (Ok done) calls is = silent_as is.1 refl
-connect_silent number path (Err fault) calls is = elim is [
+connect_silent number path (Ok done) calls is = elim is [
+  | inl made ↦ silent_as made refl
+  | inr later ↦ elim later [
+    | inl waits ↦ silent_as waits refl
+    | inr interrupted ↦ silent_as interrupted refl
+  ]
+]
+connect_silent number path (Err FaultFailed) calls is = elim is [
+  | inl none ↦ silent_as none refl
+  | inr asked ↦ silent_as asked.1 refl
+]
+connect_silent number path (Err FaultMemory) calls is = elim is [
   | inl none ↦ silent_as none refl
   | inr asked ↦ silent_as asked.1 refl
 ]
@@ -137,20 +205,31 @@ same_some a b e = cc
 
 module _ {T L : Type 0} (a b : SocketSet T L) where
   -- one answer is told, after calls that hold none
-  pub told_one : {i j k : Option (List SystemCall)} (entry : Entry) → Steps IsSilent i j → Tells j k (answered entry ∷ []) → ((count : Count) → count_in a count ≤ count_in b count) → Adds (shown a i) (shown b k) (entry ∷ [])
-  told_one {i} {j} {k} entry keeps tells counts = record { told = by k tells; counts = counts }
+  pub told_one : {i j k : Option (List SystemCall)} (s t : Starter) (entry : Entry) → Steps IsSilent i j → Tells j k (answered entry ∷ []) → ((count : Count) → count_in a count ≤ count_in b count) → Adds (shown a i s) (shown b k t) (entry ∷ [])
+  told_one {i} {j} {k} s t entry keeps tells counts = record { told = by k tells; counts = counts }
     where
       by : (now : Option (List SystemCall)) → Tells j now (answered entry ∷ []) → (after : Journal) → net_journal now ≡ Some after → (before : Journal) × (net_journal i ≡ Some before) × (after ≡ (entry ∷ []) ++ before)
-      by None t after e = absurd (let no : None ≡ Some after = e in cc)
-      by (Some calls) t after e =
-          let y = t.told calls refl in
+      by None tells after e = absurd (let no : None ≡ Some after = e in cc)
+      by (Some calls) tells after e =
+          let y = tells.told calls refl in
           let x = same_answers keeps y.0 y.1 in
           let is : answers_in calls ≡ after = same_some (answers_in calls) after e in
           (answers_in x.0, ap net_journal x.1, sym is ∙ ap answers_in y.2 ∙ ap (λ (before : Journal). entry ∷ before) x.2)
 
   -- nothing is told
-  pub told_none : (i : Option (List SystemCall)) → ((count : Count) → count_in a count ≤ count_in b count) → Adds (shown a i) (shown b i) []
-  told_none i counts = record { told = λ after e. (after, e, refl); counts = counts }
+  pub told_none : (s t : Starter) (i : Option (List SystemCall)) → ((count : Count) → count_in a count ≤ count_in b count) → Adds (shown a i s) (shown b i t) []
+  told_none s t i counts = record { told = λ after e. (after, e, refl); counts = counts }
+
+  -- .. nor by calls that hold no answer
+  pub told_silent : {i k : Option (List SystemCall)} (s t : Starter) → Steps IsSilent i k → ((count : Count) → count_in a count ≤ count_in b count) → Adds (shown a i s) (shown b k t) []
+  told_silent {i} {k} s t keeps counts = record { told = by k keeps; counts = counts }
+    where
+      by : (now : Option (List SystemCall)) → Steps IsSilent i now → (after : Journal) → net_journal now ≡ Some after → (before : Journal) × (net_journal i ≡ Some before) × (after ≡ [] ++ before)
+      by None keeps after e = absurd (let no : None ≡ Some after = e in cc)
+      by (Some calls) keeps after e =
+          let x = same_answers keeps calls refl in
+          let is : answers_in calls ≡ after = same_some (answers_in calls) after e in
+          (answers_in x.0, ap net_journal x.1, sym is ∙ x.2)
 
   pub consistent_goes : GoesOn a b → IsConsistent a → IsConsistent b
   consistent_goes p is = record {
@@ -289,12 +368,12 @@ module _ {T L : Type 0} (a b : SocketSet T L) where
   }
 
   -- .. and where one is
-  pub bound_more : {i k : Option (List SystemCall)} (entry : Entry) (path : List ℕ) (answer : Result ℕ NetFault) → Steps (IsAnswered entry (IsListen (listeners_from + vec_len a.listeners) path answer)) i k
+  pub bound_more : {i k : Option (List SystemCall)} (entry : Entry) (path : List ℕ) (replaces : Bool) (answer : Result ℕ NetFault) → Steps (IsAnswered entry (IsListen (listeners_from + vec_len a.listeners) path replaces answer)) i k
       → OnOk answer (vec_len b.listeners ≡ vec_len a.listeners + 1) → OnErr answer (vec_len b.listeners ≡ vec_len a.listeners)
       → ((own : List ℕ) → path_at b (vec_len a.listeners) ≡ Some own → own ≡ path)
       → ((place : ℕ) (own : List ℕ) → place < vec_len a.listeners → path_at b place ≡ Some own → path_at a place ≡ Some own) → AreBound i a → AreBound k b
-  bound_more entry path (Err fault) s made same file files bound = bound_kept s same files bound
-  bound_more {i} {k} entry path (Ok listener) s made same file files bound = record { told = λ after e place own at. by after e place own at (nat_lt place (vec_len a.listeners)) refl }
+  bound_more entry path replaces (Err fault) s made same file files bound = bound_kept s same files bound
+  bound_more {i} {k} entry path replaces (Ok listener) s made same file files bound = record { told = λ after e place own at. by after e place own at (nat_lt place (vec_len a.listeners)) refl }
     where
       by : (after : List SystemCall) → k ≡ Some after → (place : ℕ) (own : List ℕ) → path_at b place ≡ Some own → (less : Bool) → nat_lt place (vec_len a.listeners) ≡ less → was_bound (listeners_from + place) own after ≡ true
       by after e place own at true less =
@@ -307,8 +386,9 @@ module _ {T L : Type 0} (a b : SocketSet T L) where
           let last : place ≡ vec_len a.listeners = grind (arith, nat_tests, less, below, made) in
           let is : own ≡ path = file own (subst (λ n. path_at b n ≡ Some own) last at) in
           let own_call = ap₂ (λ (n : ℕ) (p : List ℕ). is_bind (listeners_from + n) p (bind (listeners_from + vec_len a.listeners) path None)) last is ∙ own_bind (listeners_from + vec_len a.listeners) path in
-          let calls = x.4.1 ∙ ap (λ (asked : List SystemCall). answered entry ∷ asked) x.4.2 in
-          let among = ap (was_bound (listeners_from + place) own) calls ∙ ap (λ (found : Bool). found || false) own_call in
+          let awaited = x.4.2.1 in
+          let calls = x.4.1 ∙ ap (λ (asked : List SystemCall). answered entry ∷ asked) (awaited.are ∙ ap (λ (bound : List SystemCall). await_clients (listeners_from + vec_len a.listeners) None ∷ identify path x.4.2.0 ∷ bound) awaited.binding.are) in
+          let among = ap (was_bound (listeners_from + place) own) calls ∙ ap (λ (found : Bool). found || was_bound (listeners_from + place) own awaited.binding.cleared) own_call in
           ap (was_bound (listeners_from + place) own) x.3 ∙ was_earlier (listeners_from + place) own x.1 x.0 among
 
 -- no listener has a file yet

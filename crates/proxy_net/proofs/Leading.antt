@@ -1,10 +1,11 @@
 -- What calls lead to, by the answer.
-use Rattle.std.proofs.Common.{ℕ, ◌≡◌, inl, inr, Bool, true, false, List, [], ◌∷◌, ◌++◌, Option, Result, Ok, Err, refl, ap, ap₂}
+use Rattle.std.proofs.Common.{ℕ, ◌≡◌, ◌≢◌, ◌⊎◌, ◌∙◌, inl, inr, Bool, true, false, List, [], ◌∷◌, ◌++◌, Option, Some, None, Result, Ok, Err, refl, ap, ap₂}
 use Rattle.std.specs.declared.io.ErrorKind.{ErrorKind}
-use Rattle.std.specs.declared.io.ErrorKind.TheVariants.{WouldBlock}
+use Rattle.std.specs.declared.io.ErrorKind.TheVariants.{WouldBlock, Interrupted}
 use Rattle.link_traits.specs.declared.links.Took.{Took}
 use Rattle.link_traits.specs.declared.links.Took.TheVariants.{Bytes as TookBytes, NotReady as WriteNotReady, Failed as WriteFailed}
 use Rattle.link_traits.specs.declared.links.NetFault.{NetFault}
+use Rattle.link_traits.specs.declared.links.NetFault.TheVariants.{Failed as FaultFailed, Memory as FaultMemory}
 use Rattle.proxy_net.specs.SystemCalls.{SystemCall, connect, write, Tells}
 use Rattle.proxy_net.specs.Steps.{Steps, IsRetryOf, IsWrite, IsLinkWrite, IsConnectionWrite, IsRoomAwaited, IsConnect}
 use Rattle.proxy_net.specs.declared.streams.StreamWrite.TheVariants.{Again, Fault as WriteFault}
@@ -36,10 +37,24 @@ closed_took number piece (TookBytes n) none calls is = absurd (none n refl)
 closed_took number piece WriteNotReady none calls is = inr (inl is)
 closed_took number piece WriteFailed none calls is = inr (inr (inl is))
 
--- a connect that was made once
-pub connected_once : (number : ℕ) (path : List ℕ) (fault : Option ErrorKind) (result : Result (Unit {0}) NetFault) (calls : List SystemCall) → calls ≡ connect number path fault ∷ [] → IsConnect number path result calls
-connected_once number path fault (Ok done) calls is = (fault, is)
-connected_once number path fault (Err refused) calls is = inr (fault, is)
+-- a connect that was made
+pub connected_once : (number : ℕ) (path : List ℕ) (result : Result (Unit {0}) NetFault) → result ≢ Err FaultFailed → (calls : List SystemCall) → calls ≡ connect number path None ∷ [] → IsConnect number path result calls
+connected_once number path (Ok done) kept calls is = inl is
+connected_once number path (Err FaultFailed) kept calls is = absurd (kept refl)
+connected_once number path (Err FaultMemory) kept calls is = inr (None, is)
+
+-- .. one that was put off
+pub put_off_once : (number : ℕ) (path : List ℕ) (kind : ErrorKind) (result : Result (Unit {0}) NetFault) → (kind ≡ WouldBlock) ⊎ (kind ≡ Interrupted) → (calls : List SystemCall) → calls ≡ connect number path (Some kind) ∷ [] → IsConnect number path result calls
+put_off_once number path kind (Ok done) why calls is = elim why [
+  | inl waits ↦ inr (inl (is ∙ ap (λ (k : ErrorKind). connect number path (Some k) ∷ []) waits))
+  | inr interrupted ↦ inr (inr (is ∙ ap (λ (k : ErrorKind). connect number path (Some k) ∷ []) interrupted))
+]
+put_off_once number path kind (Err FaultFailed) why calls is = inr (kind, is)
+put_off_once number path kind (Err FaultMemory) why calls is = inr (Some kind, is)
+
+-- .. and one that was refused
+pub refused_once : (number : ℕ) (path : List ℕ) (kind : ErrorKind) (calls : List SystemCall) → calls ≡ connect number path (Some kind) ∷ [] → IsConnect number path (Err FaultFailed) calls
+refused_once number path kind calls is = inr (kind, is)
 
 -- a connect that was tried again
 pub tried_once : (number : ℕ) (path own : List ℕ) (fault : Option ErrorKind) {old new : Option (List SystemCall)} → path ≡ own → Tells old new (connect number path fault ∷ []) → Steps (IsRetryOf number own) old new

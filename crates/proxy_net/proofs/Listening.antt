@@ -1,50 +1,59 @@
 -- What a listen and an accept ask of the system, one call after the other.
-use Rattle.std.proofs.Common.{ℕ, ◌≡◌, ◌≢◌, ◌+◌, ◌⊎◌, inl, inr, nat_eq, true, List, [], ◌∷◌, ◌++◌, Option, Some, None, Result, Ok, Err, slice_get, refl, sym, ap, ap₂, subst, ◌∙◌, arith}
+use Rattle.std.proofs.Common.{ℕ, zero, suc, ◌≡◌, ◌≢◌, ◌<◌, ◌+◌, ◌⊎◌, inl, inr, nat_eq, Bool, true, false, append-nil, length, map, take, unwrap_or, List, [], ◌∷◌, ◌++◌, Option, Some, None, Result, Ok, Err, slice_get, refl, sym, ap, ap₂, subst, ◌∙◌, arith}
 use Rattle.std.specs.Option.{option_map}
 use Rattle.std.specs.String.{string_bytes}
 use Rattle.std.specs.declared.io.ErrorKind.{ErrorKind}
 use Rattle.std.proofs.lemmas.Bool.Decides.{nat_tests}
 use Rattle.link_traits.specs.declared.links.NetFault.{NetFault}
+use Rattle.link_traits.specs.declared.links.NetFault.TheVariants.{Failed as FaultFailed, Memory as FaultMemory}
 use Rattle.link_traits.specs.declared.links.Accepted.{Accepted}
 use Rattle.link_traits.specs.declared.links.Accepted.TheVariants.{New, NotReady as AcceptNotReady, Failed as AcceptFailed, Memory}
 use Rattle.link_traits.specs.Answers.{client_link}
 use Rattle.link_traits.specs.Numbers.{number_of}
-use Rattle.proxy_net.specs.SystemCalls.{SystemCall, bind, await_clients, accept, Tells}
-use Rattle.proxy_net.specs.Steps.{Steps, IsBind, IsAwait, IsCleanUp, IsListen, IsArrival, IsAccept, IsRemoval, IsFileRemoval, AreRemovals, IsRetryOf, IsRetryIn}
+use Rattle.proxy_net.specs.SystemCalls.{SystemCall, bind, await_clients, accept, identify, Tells}
+use Rattle.proxy_net.specs.Steps.{Steps, IsBind, IsBindCall, IsClearing, IsAwait, IsCleanUp, IsListen, IsArrival, IsAccept, IsRemoval, IsFileRemoval, AreRemovals, IsRetryOf, IsRetryIn}
 use Rattle.proxy_net.specs.Registering.{is_own_listener, listeners_from}
 use Rattle.proxy_net.specs.declared.listeners.Arrival.{Arrival}
 use Rattle.proxy_net.specs.declared.listeners.Arrival.TheVariants.{Client, NotReady as NobodyCame, Failed as ArrivalFailed}
 use Rattle.proxy_net.specs.declared.listeners.ListenerSocket.{ListenerSocket}
+use Rattle.proxy_net.specs.Files.{removal, is_replaceable}
+use Rattle.proxy_net.specs.Sockets.{file_in}
 use Rattle.proxy_net.specs.declared.bound_files.BoundFile.{BoundFile}
+use Rattle.proxy_net.specs.declared.bound_files.FileIdentity.{FileIdentity}
+use Rattle.proxy_net.specs.declared.bound_files.FoundFile.{FoundFile}
 use Rattle.proxy_net.specs.declared.link_sockets.Connection.{Connection}
 use Rattle.proxy_net.specs.declared.link_sockets.Connection.TheVariants.{Open, Pending, Failed}
 use Rattle.proxy_net.specs.declared.link_sockets.Retry.{Retry}
 use Rattle.proxy_net.specs.declared.system.Numbered.{Numbered}
-use Rattle.proxy_net.proofs.Telling.{append_after, steps_none, steps_one, steps_through}
+use Rattle.proxy_net.proofs.Telling.{append_after, steps_none, steps_one, steps_then, steps_through}
 
 joined : {first second known more : List SystemCall} → second ≡ more → first ≡ known → second ++ first ≡ more ++ known
 joined s f = ap₂ (λ (x y : List SystemCall). x ++ y) s f
 
-listened : (number : ℕ) (path : List ℕ) (answer : Result ℕ NetFault) (first second third : List SystemCall) → first ≡ bind number path None ∷ [] → IsAwait number answer second → IsCleanUp path answer third
-    → IsListen number path answer (third ++ (second ++ first))
-listened number path (Ok listener) first second third bound awaited clean = joined clean (joined awaited bound)
-listened number path (Err fault) first second third bound awaited clean = elim clean [
-  | inl none ↦ inr (inr (inl (awaited.0, joined none (joined awaited.1 bound))))
-  | inr removed ↦ inr (inr (inr (awaited.0, joined removed (joined awaited.1 bound))))
-]
+listened : (number : ℕ) (path : List ℕ) (replaces : Bool) (found : Option FoundFile) (answer : Result ℕ NetFault) (first second third : List SystemCall) → IsBindCall number path replaces None first → IsAwait number answer second → IsCleanUp path found answer third
+    → IsListen number path replaces answer (third ++ (second ++ (identify path found ∷ first)))
+listened number path replaces found (Ok listener) first second third bound awaited clean = (found, record { bound = first; are = joined clean (joined awaited refl); binding = bound })
+listened number path replaces found (Err FaultFailed) first second third bound awaited clean =
+    inr (inr (awaited.0, record { found = found; awaited = second ++ (identify path found ∷ first); removed = third; are = refl; awaiting = record { bound = first; are = joined awaited.1 refl; binding = bound }; removing = clean }))
+listened number path replaces found (Err FaultMemory) first second third bound awaited clean =
+    inr (record { found = found; awaited = second ++ (identify path found ∷ first); removed = third; are = refl; awaiting = record { bound = first; are = joined awaited refl; binding = bound }; removing = clean })
 
--- a bind, a look at its file, a wait for clients, and what is done where that fails
-pub listen_steps : {L : Type 0} {i j k l m : Option (List SystemCall)} (number : ℕ) (path : List ℕ) (socket : L) (answer : Result ℕ NetFault) → Steps (IsBind number path (Some socket)) i j → Tells j k [] → Steps (IsAwait number answer) k l
-    → Steps (IsCleanUp path answer) l m → Steps (IsListen number path answer) i m
-listen_steps number path socket answer bound looked awaited clean = record {
+-- a bind, a look at its file, a wait for clients, and what is done if that fails
+pub listen_steps : {L : Type 0} {i j k l m : Option (List SystemCall)} (number : ℕ) (path : List ℕ) (replaces : Bool) (found : Option FoundFile) (socket : L) (answer : Result ℕ NetFault) → Steps (IsBind number path replaces (Some socket)) i j → Tells j k (identify path found ∷ []) → Steps (IsAwait number answer) k l
+    → Steps (IsCleanUp path found answer) l m → Steps (IsListen number path replaces answer) i m
+listen_steps number path replaces found socket answer bound seen awaited clean = record {
   told = λ after e.
       let z = clean.told after e in
       let y = awaited.told z.0 z.2 in
-      let n = looked.told y.0 y.2 in
+      let n = seen.told y.0 y.2 in
       let x = bound.told n.0 n.1 in
-      let rest = y.3 ∙ ap (λ (w : List SystemCall). y.1 ++ w) (n.2 ∙ x.3) ∙ append_after y.1 x.1 x.0 in
-      (x.0, z.1 ++ (y.1 ++ x.1), x.2, z.3 ∙ ap (λ (w : List SystemCall). z.1 ++ w) rest ∙ append_after z.1 (y.1 ++ x.1) x.0, listened number path answer x.1 y.1 z.1 x.4 y.4 z.4);
+      let rest = y.3 ∙ ap (λ (w : List SystemCall). y.1 ++ w) (n.2 ∙ ap (λ (w : List SystemCall). identify path found ∷ w) x.3) ∙ append_after y.1 (identify path found ∷ x.1) x.0 in
+      (x.0, z.1 ++ (y.1 ++ (identify path found ∷ x.1)), x.2, z.3 ∙ ap (λ (w : List SystemCall). z.1 ++ w) rest ∙ append_after z.1 (y.1 ++ (identify path found ∷ x.1)) x.0, listened number path replaces found answer x.1 y.1 z.1 x.4 y.4 z.4);
 }
+
+-- what is at a path is cleared, and then bound to
+pub bound_then : {number : ℕ} {path : List ℕ} {replaces : Bool} {fault : Option ErrorKind} {i j k : Option (List SystemCall)} → Steps (IsClearing replaces path) i j → Tells j k (bind number path fault ∷ []) → Steps (IsBindCall number path replaces fault) i k
+bound_then {number} {path} {fault = fault} s t = steps_then (bind number path fault ∷ []) s t (λ first p. record { cleared = first; are = refl; clearing = p })
 
 -- a listener that is registered by the number of its place has that number
 pub own_number : {L : Type 0} (listeners : List (ListenerSocket L)) (place : ℕ) (socket : ListenerSocket L) → slice_get listeners place ≡ Some socket → is_own_listener place (slice_get listeners place) ≡ true
@@ -76,26 +85,55 @@ refused_arrival listener number kind NobodyCame none calls is = (kind, is)
 refused_arrival listener number kind ArrivalFailed none calls is = inr (kind, is)
 
 -- a file that was removed at its path, which may be known by another name
-pub removed_at : {path own : List ℕ} {old new : Option (List SystemCall)} → path ≡ own → Steps (IsRemoval path) old new → Steps (IsRemoval own) old new
-removed_at {path} {own} {old} {new} same s = subst (λ (p : List ℕ). Steps (IsRemoval p) old new) same s
+pub removed_at : {path own : List ℕ} (made : FileIdentity) {old new : Option (List SystemCall)} → path ≡ own → Steps (IsRemoval path made) old new → Steps (IsRemoval own made) old new
+removed_at {path} {own} made {old} {new} same s = subst (λ (p : List ℕ). Steps (IsRemoval p made) old new) same s
 
-pub file_removed : (file : Option BoundFile) (own : BoundFile) {old new : Option (List SystemCall)} → file ≡ Some own → Steps (IsRemoval (string_bytes own.path)) old new → Steps (IsFileRemoval (option_map (λ (f : BoundFile). string_bytes f.path) file)) old new
-file_removed file own {old = old} {new = new} is s = subst (λ (o : Option BoundFile). Steps (IsFileRemoval (option_map (λ (f : BoundFile). string_bytes f.path) o)) old new) (sym is) s
+pub file_removed : (file : Option BoundFile) (own : BoundFile) {old new : Option (List SystemCall)} → file ≡ Some own → Steps (IsRemoval (string_bytes own.path) own.identity) old new → Steps (IsFileRemoval file) old new
+file_removed file own {old = old} {new = new} is s = subst (λ (o : Option BoundFile). Steps (IsFileRemoval o) old new) (sym is) s
 
--- another file is removed, or none is
-removals_join : (P : List ℕ → Type 0) (first second : List SystemCall) → AreRemovals P first → AreRemovals P second → AreRemovals P (second ++ first)
-removals_join P first [] f s = f
-removals_join P first (call ∷ second) f s = (s.0, removals_join P first second f s.1)
+-- a look at a path, and what is removed by what is there
+pub looked : {path : List ℕ} {found : Option FoundFile} {wanted own : Bool} {i j k : Option (List SystemCall)} → wanted ≡ own → Tells i j (identify path found ∷ []) → Tells j k (removal wanted path) → Steps (λ calls. calls ≡ removal own path ++ identify path found ∷ []) i k
+looked {path} {found} {wanted} same p q = steps_then (removal wanted path) (steps_one (identify path found ∷ []) p refl) q (λ first e. ap₂ (λ (b : Bool) (f : List SystemCall). removal b path ++ f) same e)
 
-one_removal : {P : List ℕ → Type 0} (path : Option (List ℕ)) → ((own : List ℕ) → path ≡ Some own → P own) → (calls : List SystemCall) → IsFileRemoval path calls → AreRemovals P calls
-one_removal {P} None among calls is = subst (AreRemovals P) (sym is) tt
-one_removal {P} (Some path) among calls is = elim is [
-  | inl none ↦ subst (AreRemovals P) (sym none) tt
-  | inr removed ↦ subst (AreRemovals P) (sym removed) ((path, refl, among path refl), tt)
-]
+-- .. if that is to be replaced
+pub cleared_so : (replaces : Bool) (path : List ℕ) (found : Option FoundFile) → replaces ≡ true → (calls : List SystemCall) → calls ≡ removal (is_replaceable found) path ++ identify path found ∷ [] → IsClearing replaces path calls
+cleared_so true path found same calls is = (found, is)
+cleared_so false path found same calls is = absurd cc
 
-pub removals_then : (P : List ℕ → Type 0) (path : Option (List ℕ)) → ((own : List ℕ) → path ≡ Some own → P own) → {a b c : Option (List SystemCall)} → Steps (AreRemovals P) a b → Steps (IsFileRemoval path) b c → Steps (AreRemovals P) a c
-removals_then P path among p q = steps_through (λ first second f s. removals_join P first second f (one_removal path among second s)) p q
+-- one file more is removed
+removals_more : (files : List (Option BoundFile)) (file : Option BoundFile) (first second : List SystemCall) → AreRemovals files first → IsFileRemoval file second → AreRemovals (files ++ file ∷ []) (second ++ first)
+removals_more [] file first second f s = (second, [], ap (λ (calls : List SystemCall). second ++ calls) f ∙ append-nil second, s, refl)
+removals_more (other ∷ files) file first second f s = (f.0, second ++ f.1, ap (λ (calls : List SystemCall). second ++ calls) f.2 ∙ append_after second f.1 f.0, f.3, removals_more files file f.1 second f.4 s)
+
+take_more : {A B : Type 0} (f : A → Option B) (xs : List A) (place : ℕ) → place < length xs → take (suc place) (map f xs) ≡ take place (map f xs) ++ unwrap_or (option_map f (slice_get xs place)) None ∷ []
+take_more f [] place below = absurd (omega (arith, below))
+take_more f (x ∷ xs) zero below = refl
+take_more f (x ∷ xs) (suc place) below = ap (λ (l : List (Option _)). f x ∷ l) (take_more f xs place (omega (arith, below)))
+
+take_all : {A : Type 0} (xs : List A) → take (length xs) xs ≡ xs
+take_all [] = refl
+take_all (x ∷ xs) = ap (λ (l : List _). x ∷ l) (take_all xs)
+
+-- the files of the first listeners are removed, and that of the next
+pub removals_then : {L : Type 0} (listeners : List (ListenerSocket L)) (place : ℕ) (file : Option BoundFile) → place < length listeners → file ≡ file_in (slice_get listeners place) → {a b c : Option (List SystemCall)}
+    → Steps (AreRemovals (take place (map (λ (s : ListenerSocket L). s.file) listeners))) a b → Steps (IsFileRemoval file) b c → Steps (AreRemovals (take (place + 1) (map (λ (s : ListenerSocket L). s.file) listeners))) a c
+removals_then {L} listeners place file below same {a} {b} {c} p q =
+    let one : suc place ≡ place + 1 = omega arith in
+    let files = map (λ (s : ListenerSocket L). s.file) listeners in
+    subst (λ n. Steps (AreRemovals (take n files)) a c) one
+    (subst (λ (fs : List (Option BoundFile)). Steps (AreRemovals fs) a c) (ap (λ (f : Option BoundFile). take place files ++ f ∷ []) same ∙ sym (take_more (λ (s : ListenerSocket L). s.file) listeners place below))
+    (steps_through (λ first second f s. removals_more (take place files) file first second f s) p q))
+
+length-mapped : {A B : Type 0} (f : A → B) (xs : List A) → length (map f xs) ≡ length xs
+length-mapped f [] = refl
+length-mapped f (x ∷ xs) = ap suc (length-mapped f xs)
+
+-- the files of all listeners are removed
+pub removals_all : {L : Type 0} (listeners : List (ListenerSocket L)) (count : ℕ) → count ≡ length listeners → {a b : Option (List SystemCall)} → Steps (AreRemovals (take count (map (λ (s : ListenerSocket L). s.file) listeners))) a b
+    → Steps (AreRemovals (map (λ (s : ListenerSocket L). s.file) listeners)) a b
+removals_all {L} listeners count same {a} {b} s =
+    let files = map (λ (s : ListenerSocket L). s.file) listeners in
+    subst (λ (fs : List (Option BoundFile)). Steps (AreRemovals fs) a b) (ap (λ n. take n files) (same ∙ sym (length-mapped (λ (s : ListenerSocket L). s.file) listeners)) ∙ take_all files) s
 
 -- a connect that is tried again
 pub retried_in : {T : Type 0} (connection : Connection T) (retry : Retry) {old new : Option (List SystemCall)} → connection ≡ Pending retry → Steps (IsRetryOf retry.token (string_bytes retry.path)) old new → Steps (IsRetryIn connection) old new
@@ -107,10 +145,11 @@ not_retried (Pending retry) j = steps_none j (inl refl)
 not_retried Failed j = steps_none j refl
 
 -- clients of a listener that are awaited, by what came of the listener
-pub awaited : {number own : ℕ} (answer : Result ℕ NetFault) {old new : Option (List SystemCall)} → number ≡ own → Tells old new (await_clients number None ∷ []) → Steps (IsAwait own answer) old new
-awaited {number} (Ok listener) same t = steps_one (await_clients number None ∷ []) t (ap (λ n. await_clients n None ∷ []) same)
-awaited {number} (Err fault) same t = steps_one (await_clients number None ∷ []) t (None, ap (λ n. await_clients n None ∷ []) same)
+pub awaited : {number own : ℕ} (answer : Result ℕ NetFault) → answer ≢ Err FaultFailed → {old new : Option (List SystemCall)} → number ≡ own → Tells old new (await_clients number None ∷ []) → Steps (IsAwait own answer) old new
+awaited {number} (Ok listener) kept same t = steps_one (await_clients number None ∷ []) t (ap (λ n. await_clients n None ∷ []) same)
+awaited {number} (Err FaultMemory) kept same t = steps_one (await_clients number None ∷ []) t (ap (λ n. await_clients n None ∷ []) same)
+awaited {number} (Err FaultFailed) kept same t = absurd (kept refl)
 
 -- .. and those that can't be awaited
-pub not_awaited : {number own : ℕ} (refused : Option ErrorKind) (fault : NetFault) {old new : Option (List SystemCall)} → number ≡ own → Tells old new (await_clients number refused ∷ []) → Steps (IsAwait own (Err fault)) old new
-not_awaited {number} refused fault same t = steps_one (await_clients number refused ∷ []) t (refused, ap (λ n. await_clients n refused ∷ []) same)
+pub not_awaited : {number own : ℕ} (kind : ErrorKind) {old new : Option (List SystemCall)} → number ≡ own → Tells old new (await_clients number (Some kind) ∷ []) → Steps (IsAwait own (Err FaultFailed)) old new
+not_awaited {number} kind same t = steps_one (await_clients number (Some kind) ∷ []) t (kind, ap (λ n. await_clients n (Some kind) ∷ []) same)

@@ -6,7 +6,7 @@ use Rattle.link_traits.specs.Journals.{Journal, accepts, listens}
 use Rattle.link_traits.specs.Answers.{listen_entry, accept_entry, connect_entry, read_entry, write_entry}
 use Rattle.proxy_net.specs.declared.answers.Answer.{Answer}
 use Rattle.proxy_net.specs.declared.answers.Answer.TheVariants.{Listen, Wait, Accept, Connect, Read, Write, Shut}
-use Rattle.proxy_net.specs.SystemCalls.{SystemCall, bind, await_clients, accept, connect, watch, read, write, close, wait, remove, answered}
+use Rattle.proxy_net.specs.SystemCalls.{SystemCall, bind, await_clients, accept, connect, watch, read, write, close, wait, identify, remove, open_starter, notify_starter, answered}
 
 -- the entry of an answer. A listen and a connect have their path, a read what its buffer holds, and a write its piece.
 abbrev pub entry_of : Answer → List ℕ → Entry
@@ -29,8 +29,11 @@ answers_by (watch number writable fault) = []
 answers_by (read number answer) = []
 answers_by (write number answer) = []
 answers_by (close number) = []
-answers_by (wait reports) = []
+answers_by (wait reports fault) = []
+answers_by (identify path found) = []
 answers_by (remove path) = []
+answers_by (open_starter descriptor fault) = []
+answers_by (notify_starter fault) = []
 
 -- the journal of the net over a system, the newest first
 abbrev pub answers_in : List SystemCall → Journal

@@ -10,3 +10,5 @@ pub mod Reports
 pub mod SystemCalls
 pub mod Answers
 pub mod Steps
+pub mod Files
+pub mod Starters

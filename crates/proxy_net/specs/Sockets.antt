@@ -1,5 +1,5 @@
 -- What a set of sockets shows, and how that goes on from call to call.
-use Rattle.std.specs.Prelude.{ℕ, ◌≡◌, ◌≤◌, ◌<◌, ◌+◌, ◌-◌, ◌^◌, nat_eq, nat_lt, ◌||◌, not, if◌then◌else◌, false, true, Bool, List, Option, Some, None, slice_get, unwrap_or, is_some, vec_len}
+use Rattle.std.specs.Prelude.{ℕ, ◌≡◌, ◌≤◌, ◌<◌, ◌+◌, ◌-◌, ◌^◌, nat_eq, nat_lt, ◌||◌, not, if◌then◌else◌, false, true, Bool, List, Option, Some, None, slice_get, unwrap_or, is_some, map, vec_len}
 use Rattle.std.specs.Option.{option_map}
 use Rattle.std.specs.List.{list_any}
 use Rattle.std.specs.Ordering.{nat_cmp}
@@ -21,6 +21,7 @@ use Rattle.link_traits.specs.declared.links.Accepted.{Accepted}
 use Rattle.link_traits.specs.declared.links.Accepted.TheVariants.{New, NotReady, Failed as Refused, Memory}
 use Rattle.link_traits.specs.Answers.{client_link}
 use Rattle.proxy_net.specs.Answers.{net_journal}
+use Rattle.proxy_net.specs.Starters.{is_gone}
 use Rattle.proxy_net.specs.SystemCalls.{SystemCall, was_bound}
 use Rattle.proxy_net.specs.Room.{room_for}
 use Rattle.std.specs.VecDeque.{deque_len, deque_capacity}
@@ -35,6 +36,7 @@ use Rattle.proxy_net.specs.declared.link_sockets.LinkSocket.{LinkSocket}
 use Rattle.proxy_net.specs.declared.bound_files.BoundFile.{BoundFile}
 use Rattle.proxy_net.specs.declared.listeners.ListenerSocket.{ListenerSocket}
 use Rattle.proxy_net.specs.declared.sockets.SocketSet.{SocketSet}
+use Rattle.proxy_net.specs.declared.starters.Starter.{Starter}
 
 -- the socket of a link that was made and isn't shut
 abbrev pub socket_in : {T L : Type 0} → SocketSet T L → Link → Option (LinkSocket T)
@@ -53,13 +55,13 @@ count_in sockets Waits = sockets.waits
 count_in sockets (Listener listener) = unwrap_or (option_map (λ (s : ListenerSocket _). s.faults) (slice_get sockets.listeners.items listener)) sockets.absent
 count_in sockets (OfLink link) = unwrap_or (option_map (λ (s : LinkSocket _). s.faults) (socket_in sockets link)) sockets.absent
 
--- what a net shows of its sockets and of the journal of its system
-abbrev pub shown : {T L : Type 0} → SocketSet T L → Option (List SystemCall) → NetView
-shown sockets calls = record {
+-- what a net shows of its sockets, of the journal of its system and of its starter
+abbrev pub shown : {T L : Type 0} → SocketSet T L → Option (List SystemCall) → Starter → NetView
+shown sockets calls starter = record {
   journal = net_journal calls;
   counts = count_in sockets;
   wishes = wishes_in sockets;
-  script_done = false;
+  script_done = is_gone starter;
 }
 
 abbrev pub RoseIn : {T L : Type 0} → Count → SocketSet T L → SocketSet T L → Type 0
@@ -266,9 +268,16 @@ pub record IsFirstLeft {T L : Type 0} (sockets : SocketSet T L) (now : Option In
   pub by : (place left : ℕ) → place < count → accept_left_at sockets now place ≡ Some left → IsWithin left first
   pub one : (nanos : ℕ) → first ≡ Some nanos → (place : ℕ) × (accept_left_at sockets now place ≡ Some nanos)
 
--- a listener has a file that its bind made at a path
-abbrev pub HasFileAt : {T L : Type 0} → SocketSet T L → List ℕ → Type 0
-HasFileAt sockets path = (place : ℕ) × (path_at sockets place ≡ Some path)
+-- the file that the bind of a listener made and that isn't removed yet
+abbrev pub file_in : {L : Type 0} → Option (ListenerSocket L) → Option BoundFile
+file_in socket = unwrap_or (option_map (λ (s : ListenerSocket _). s.file) socket) None
+
+abbrev pub file_at : {T L : Type 0} → SocketSet T L → ℕ → Option BoundFile
+file_at sockets place = file_in (slice_get sockets.listeners.items place)
+
+-- .. of each listener
+abbrev pub files_of : {T L : Type 0} → SocketSet T L → List (Option BoundFile)
+files_of sockets = map (λ (s : ListenerSocket _). s.file) sockets.listeners.items
 
 -- where the journal is told, each file that a listener has was made by that listener's bind to its path
 pub record AreBound {T L : Type 0} (calls : Option (List SystemCall)) (sockets : SocketSet T L) : Type 0 where

@@ -1,12 +1,15 @@
 -- Which calls of the system one call of the net made.
-use Rattle.std.specs.Prelude.{ℕ, ◌≡◌, ◌⊎◌, Bool, true, false, List, [], ◌∷◌, ◌++◌, take, Option, Some, None, Result, Ok, Err}
+use Rattle.std.specs.Prelude.{ℕ, ◌≡◌, ◌≤◌, ◌+◌, ◌-◌, ◌^◌, ◌⊎◌, Bool, true, false, List, [], ◌∷◌, ◌++◌, length, take, Option, Some, None, Result, Ok, Err}
 use Rattle.std.specs.declared.io.ErrorKind.{ErrorKind}
-use Rattle.std.specs.declared.io.ErrorKind.TheVariants.{WouldBlock, ConnectionReset}
+use Rattle.std.specs.declared.io.ErrorKind.TheVariants.{WouldBlock, ConnectionReset, Interrupted}
 use Rattle.link_traits.specs.declared.links.Got.{Got}
 use Rattle.link_traits.specs.declared.links.Got.TheVariants.{Bytes as GotBytes, Finished, NotReady as ReadNotReady, Failed as ReadFailed}
 use Rattle.link_traits.specs.declared.links.Took.{Took}
 use Rattle.link_traits.specs.declared.links.Took.TheVariants.{Bytes as TookBytes, NotReady as WriteNotReady, Failed as WriteFailed}
 use Rattle.link_traits.specs.declared.links.NetFault.{NetFault}
+use Rattle.link_traits.specs.declared.links.NetFault.TheVariants.{Failed as FaultFailed, Memory as FaultMemory}
+use Rattle.link_traits.specs.declared.links.Ready.{Ready}
+use Rattle.link_traits.specs.declared.links.Ready.TheVariants.{Listener as IsListener, Link as IsLink, Quiet, Failed as WaitFailed}
 use Rattle.link_traits.specs.declared.links.Accepted.{Accepted}
 use Rattle.link_traits.specs.declared.links.Accepted.TheVariants.{New, NotReady as AcceptNotReady, Failed as AcceptFailed, Memory}
 use Rattle.link_traits.specs.Answers.{client_link}
@@ -14,7 +17,18 @@ use Rattle.link_traits.specs.Entries.{Entry}
 use Rattle.link_traits.specs.Numbers.{number_of}
 use Rattle.std.specs.String.{string_bytes}
 use Rattle.proxy_net.specs.Answers.{answers_in}
-use Rattle.proxy_net.specs.SystemCalls.{SystemCall, bind, await_clients, accept, connect, watch, read, write, close, wait, remove, answered}
+use Rattle.proxy_net.specs.SystemCalls.{SystemCall, bind, await_clients, accept, connect, watch, read, write, close, wait, identify, remove, open_starter, notify_starter, answered, has_failed_wait}
+use Rattle.proxy_net.specs.Files.{has_identity, is_replaceable, removal}
+use Rattle.proxy_net.specs.Registering.{listeners_from}
+use Rattle.proxy_net.specs.Starters.{after_calls}
+use Rattle.proxy_net.specs.declared.bound_files.BoundFile.{BoundFile}
+use Rattle.proxy_net.specs.declared.bound_files.FileIdentity.{FileIdentity}
+use Rattle.proxy_net.specs.declared.bound_files.FoundFile.{FoundFile}
+use Rattle.proxy_net.specs.declared.reports.Report.{Report}
+use Rattle.proxy_net.specs.declared.net.Turn.{Turn}
+use Rattle.proxy_net.specs.declared.net.Turn.TheVariants.{Named, Ended, Failed as TurnFailed, Again}
+use Rattle.proxy_net.specs.declared.starters.Starter.{Starter}
+use Rattle.proxy_net.specs.declared.starters.Starter.TheVariants.{Absent, Waiting, Told, Gone}
 use Rattle.proxy_net.specs.declared.link_sockets.Connection.{Connection}
 use Rattle.proxy_net.specs.declared.link_sockets.Connection.TheVariants.{Open, Pending, Failed}
 use Rattle.proxy_net.specs.declared.listeners.Arrival.{Arrival}
@@ -83,10 +97,12 @@ IsLinkWrite number piece LinkNotReady calls = IsWrite number piece WriteNotReady
 IsLinkWrite number piece LinkClosed calls = (kind : ErrorKind) × (calls ≡ write number (Err kind) ∷ [])
 IsLinkWrite number piece LinkFailed calls = IsWrite number piece WriteFailed calls
 
--- a connect of the link of a number: to that path, once at most
+-- A connect of the link of a number: to that path, once at most. It is made, or put off if the system would have waited. It fails for
+-- an error of the system, or without a call.
 abbrev pub IsConnect : ℕ → List ℕ → Result (Unit {0}) NetFault → List SystemCall → Type 0
-IsConnect number path (Ok _) calls = (fault : Option ErrorKind) × (calls ≡ connect number path fault ∷ [])
-IsConnect number path (Err fault) calls = (calls ≡ []) ⊎ ((refused : Option ErrorKind) × (calls ≡ connect number path refused ∷ []))
+IsConnect number path (Ok _) calls = (calls ≡ connect number path None ∷ []) ⊎ ((calls ≡ connect number path (Some WouldBlock) ∷ []) ⊎ (calls ≡ connect number path (Some Interrupted) ∷ []))
+IsConnect number path (Err FaultFailed) calls = (calls ≡ []) ⊎ ((kind : ErrorKind) × (calls ≡ connect number path (Some kind) ∷ []))
+IsConnect number path (Err FaultMemory) calls = (calls ≡ []) ⊎ ((refused : Option ErrorKind) × (calls ≡ connect number path refused ∷ []))
 
 -- a link of a number is shut: its socket is closed, if it has one
 abbrev pub IsShut : Bool → ℕ → List SystemCall → Type 0
@@ -137,66 +153,166 @@ IsAnswered entry P calls = (asked : List SystemCall) × (calls ≡ answered entr
 abbrev pub IsNoted : ℕ → List SystemCall → Type 0
 IsNoted number calls = (calls ≡ []) ⊎ ((fault : Option ErrorKind) × (calls ≡ watch number false fault ∷ []))
 
--- One call that a wait makes: it waits, it watches a link of one of these numbers for reading alone, or it tries a
--- connect to one of these paths again.
+-- One call that is made for reports: a link of one of these numbers is watched for reading alone, or a connect to one of these
+-- paths is tried again.
+abbrev pub IsNoteCall : (ℕ → Type 0) → (ℕ → List ℕ → Type 0) → SystemCall → Type 0
+IsNoteCall Own To (watch number true fault) = ⊥
+IsNoteCall Own To (watch number false fault) = Own number
+IsNoteCall Own To (connect number path fault) = To number path
+IsNoteCall Own To (wait reports fault) = ⊥
+IsNoteCall Own To (bind number path fault) = ⊥
+IsNoteCall Own To (await_clients number fault) = ⊥
+IsNoteCall Own To (accept listener number fault) = ⊥
+IsNoteCall Own To (read number answer) = ⊥
+IsNoteCall Own To (write number answer) = ⊥
+IsNoteCall Own To (close number) = ⊥
+IsNoteCall Own To (identify path found) = ⊥
+IsNoteCall Own To (remove path) = ⊥
+IsNoteCall Own To (open_starter descriptor fault) = ⊥
+IsNoteCall Own To (notify_starter fault) = ⊥
+IsNoteCall Own To (answered entry) = ⊥
+
+abbrev pub AreNoteCalls : (ℕ → Type 0) → (ℕ → List ℕ → Type 0) → List SystemCall → Type 0
+AreNoteCalls Own To [] = Unit {0}
+AreNoteCalls Own To (call ∷ before) = IsNoteCall Own To call × AreNoteCalls Own To before
+
+-- one call that a wait makes: it waits, or notes what was reported
 abbrev pub IsWaitCall : (ℕ → Type 0) → (ℕ → List ℕ → Type 0) → SystemCall → Type 0
-IsWaitCall Own To (wait reports) = Unit {0}
-IsWaitCall Own To (watch number true fault) = ⊥
-IsWaitCall Own To (watch number false fault) = Own number
-IsWaitCall Own To (connect number path fault) = To number path
-IsWaitCall Own To (bind number path fault) = ⊥
-IsWaitCall Own To (await_clients number fault) = ⊥
-IsWaitCall Own To (accept listener number fault) = ⊥
-IsWaitCall Own To (read number answer) = ⊥
-IsWaitCall Own To (write number answer) = ⊥
-IsWaitCall Own To (close number) = ⊥
-IsWaitCall Own To (remove path) = ⊥
-IsWaitCall Own To (answered entry) = ⊥
+IsWaitCall Own To call = (IsNoteCall Own To call) ⊎ ((reports : List Report) × (fault : Option ErrorKind) × (call ≡ wait reports fault))
 
 abbrev pub AreWaitCalls : (ℕ → Type 0) → (ℕ → List ℕ → Type 0) → List SystemCall → Type 0
 AreWaitCalls Own To [] = Unit {0}
 AreWaitCalls Own To (call ∷ before) = IsWaitCall Own To call × AreWaitCalls Own To before
 
--- the file at a path is removed, or nothing is asked
-abbrev pub IsRemoval : List ℕ → List SystemCall → Type 0
-IsRemoval path calls = (calls ≡ []) ⊎ (calls ≡ remove path ∷ [])
+-- Whether a wait of the net failed, by the waits of the system: none of these failed, or the last one did. A system that reports
+-- nothing that is to be named isn't asked more than 2^64 - 1 times.
+abbrev pub IsFailure : Bool → List SystemCall → Type 0
+IsFailure false calls = has_failed_wait calls ≡ false
+IsFailure true calls = (has_failed_wait (take 1 calls) ≡ true) ⊎ (2 ^ 64 - 1 ≤ length calls)
 
--- the file that a bind made is removed, if it made one at this path
-abbrev pub IsFileRemoval : Option (List ℕ) → List SystemCall → Type 0
+-- Calls of a wait. The starter is known so before them and so after them, and the wait failed or not.
+pub record AreWaits (Own : ℕ → Type 0) (To : ℕ → List ℕ → Type 0) (before after : Starter) (failed : Bool) (calls : List SystemCall) : Type 0 where
+  pub each : AreWaitCalls Own To calls
+  pub starter : after ≡ after_calls calls before
+  pub failure : IsFailure failed calls
+
+-- The calls of one turn: none if something is named, and else a wait and what is asked for its reports.
+abbrev pub IsTurn : (ℕ → Type 0) → (ℕ → List ℕ → Type 0) → Starter → Starter → Turn → List SystemCall → Type 0
+IsTurn Own To before after (Named ready) calls = (calls ≡ []) × (after ≡ before)
+IsTurn Own To before after Ended calls = AreWaits Own To before after false calls
+IsTurn Own To before after TurnFailed calls = AreWaits Own To before after true calls × (has_failed_wait (take 1 calls) ≡ true)
+IsTurn Own To before after Again calls = AreWaits Own To before after false calls × (1 ≤ length calls)
+
+-- the byte for the starter is written if it waits for it, and nothing else is asked
+abbrev pub IsNotice : Starter → List SystemCall → Type 0
+IsNotice Waiting calls = (fault : Option ErrorKind) × (calls ≡ notify_starter fault ∷ [])
+IsNotice Absent calls = calls ≡ []
+IsNotice Told calls = calls ≡ []
+IsNotice Gone calls = calls ≡ []
+
+-- .. and the starter is known so then
+pub record IsNoticed (before after : Starter) (calls : List SystemCall) : Type 0 where
+  pub notice : IsNotice before calls
+  pub starter : after ≡ after_calls calls before
+
+abbrev pub is_failed : Ready → Bool
+is_failed (IsListener listener) = false
+is_failed (IsLink link) = false
+is_failed Quiet = false
+is_failed WaitFailed = true
+
+-- A wait of the net: the byte for the starter is written at first, if the starter waits for it.
+pub record IsWait (Own : ℕ → Type 0) (To : ℕ → List ℕ → Type 0) (before after : Starter) (failed : Bool) (calls : List SystemCall) : Type 0 where
+  pub notice : List SystemCall
+  pub waits : List SystemCall
+  pub are : calls ≡ waits ++ notice
+  pub noticed : IsNotice before notice
+  pub waited : AreWaits Own To (after_calls notice before) after failed waits
+
+-- the pipe of a starter is opened, unless there is a starter already
+abbrev pub IsOpened : Bool → ℕ → Result (Unit {0}) NetFault → List SystemCall → Type 0
+IsOpened false descriptor (Ok _) calls = calls ≡ open_starter descriptor None ∷ []
+IsOpened false descriptor (Err FaultFailed) calls = (kind : ErrorKind) × (calls ≡ open_starter descriptor (Some kind) ∷ [])
+IsOpened false descriptor (Err FaultMemory) calls = ⊥
+IsOpened true descriptor (Ok _) calls = ⊥
+IsOpened true descriptor (Err FaultFailed) calls = calls ≡ []
+IsOpened true descriptor (Err FaultMemory) calls = ⊥
+
+-- A prepare: the pipe of the starter is opened, if one is named, and nothing else is asked. With no starter it succeeds.
+abbrev pub IsPrepare : Bool → Option ℕ → Result (Unit {0}) NetFault → List SystemCall → Type 0
+IsPrepare present None (Ok _) calls = calls ≡ []
+IsPrepare present None (Err fault) calls = ⊥
+IsPrepare present (Some descriptor) result calls = IsOpened present descriptor result calls
+
+-- the file that was made at a path is removed: what is there is looked at, and removed if it is that file
+abbrev pub IsRemoval : List ℕ → FileIdentity → List SystemCall → Type 0
+IsRemoval path made calls = (found : Option FoundFile) × (calls ≡ removal (has_identity made found) path ++ identify path found ∷ [])
+
+-- the file that a bind made is removed, if it made one
+abbrev pub IsFileRemoval : Option BoundFile → List SystemCall → Type 0
 IsFileRemoval None calls = calls ≡ []
-IsFileRemoval (Some path) calls = IsRemoval path calls
+IsFileRemoval (Some file) calls = IsRemoval (string_bytes file.path) file.identity calls
 
--- a call that removes the file at one of these paths
-abbrev pub IsRemovalAmong : (List ℕ → Type 0) → SystemCall → Type 0
-IsRemovalAmong P call = (path : List ℕ) × (call ≡ remove path) × P path
+-- the files that binds made are removed, one after the other, and nothing else is asked
+abbrev pub AreRemovals : List (Option BoundFile) → List SystemCall → Type 0
+AreRemovals [] calls = calls ≡ []
+AreRemovals (file ∷ files) calls = (first : List SystemCall) × (later : List SystemCall) × (calls ≡ later ++ first) × IsFileRemoval file first × AreRemovals files later
 
--- the files at these paths are removed, or some of them, and nothing else is asked
-abbrev pub AreRemovals : (List ℕ → Type 0) → List SystemCall → Type 0
-AreRemovals P [] = Unit {0}
-AreRemovals P (call ∷ before) = IsRemovalAmong P call × AreRemovals P before
+-- what is at a path is looked at, if it is to be replaced, and removed if it is a socket or an empty regular file
+abbrev pub IsClearing : Bool → List ℕ → List SystemCall → Type 0
+IsClearing true path calls = (found : Option FoundFile) × (calls ≡ removal (is_replaceable found) path ++ identify path found ∷ [])
+IsClearing false path calls = calls ≡ []
 
--- a bind to a path, where that isn't empty
-abbrev pub IsBind : {L : Type 0} → ℕ → List ℕ → Option L → List SystemCall → Type 0
-IsBind number path (Some _) calls = calls ≡ bind number path None ∷ []
-IsBind number path None calls = (calls ≡ []) ⊎ ((kind : ErrorKind) × (calls ≡ bind number path (Some kind) ∷ []))
+-- a bind to a path, which is cleared before
+pub record IsBindCall (number : ℕ) (path : List ℕ) (replaces : Bool) (fault : Option ErrorKind) (calls : List SystemCall) : Type 0 where
+  pub cleared : List SystemCall
+  pub are : calls ≡ bind number path fault ∷ cleared
+  pub clearing : IsClearing replaces path cleared
 
--- clients of a listener are awaited
+-- a bind to a path, unless that is empty
+abbrev pub IsBind : {L : Type 0} → ℕ → List ℕ → Bool → Option L → List SystemCall → Type 0
+IsBind number path replaces (Some _) calls = IsBindCall number path replaces None calls
+IsBind number path replaces None calls = ((calls ≡ []) × (path ≡ [])) ⊎ ((kind : ErrorKind) × IsBindCall number path replaces (Some kind) calls)
+
+-- clients of a listener are awaited, or can't be awaited, or memory for the listener was refused then
 abbrev pub IsAwait : ℕ → Result ℕ NetFault → List SystemCall → Type 0
 IsAwait number (Ok _) calls = calls ≡ await_clients number None ∷ []
-IsAwait number (Err _) calls = (fault : Option ErrorKind) × (calls ≡ await_clients number fault ∷ [])
+IsAwait number (Err FaultFailed) calls = (kind : ErrorKind) × (calls ≡ await_clients number (Some kind) ∷ [])
+IsAwait number (Err FaultMemory) calls = calls ≡ await_clients number None ∷ []
 
--- the file at the path of a listen that failed is removed, or nothing is asked
-abbrev pub IsCleanUp : List ℕ → Result ℕ NetFault → List SystemCall → Type 0
-IsCleanUp path (Ok _) calls = calls ≡ []
-IsCleanUp path (Err _) calls = IsRemoval path calls
+-- the file that a bind made is removed, if the system said which it is
+abbrev pub IsMadeRemoval : List ℕ → Option FoundFile → List SystemCall → Type 0
+IsMadeRemoval path None calls = calls ≡ []
+IsMadeRemoval path (Some file) calls = IsRemoval path file.identity calls
 
--- A listen: a socket is bound to the path, and its clients are awaited. If that fails, no file but the one at the path
--- is removed.
-abbrev pub IsListen : ℕ → List ℕ → Result ℕ NetFault → List SystemCall → Type 0
-IsListen number path (Ok _) calls = calls ≡ await_clients number None ∷ bind number path None ∷ []
-IsListen number path (Err _) calls = (calls ≡ []) ⊎ (((kind : ErrorKind) × (calls ≡ bind number path (Some kind) ∷ []))
-    ⊎ (((fault : Option ErrorKind) × (calls ≡ await_clients number fault ∷ bind number path None ∷ []))
-    ⊎ ((fault : Option ErrorKind) × (calls ≡ remove path ∷ await_clients number fault ∷ bind number path None ∷ []))))
+-- .. if the listen failed
+abbrev pub IsCleanUp : List ℕ → Option FoundFile → Result ℕ NetFault → List SystemCall → Type 0
+IsCleanUp path found (Ok _) calls = calls ≡ []
+IsCleanUp path found (Err _) calls = IsMadeRemoval path found calls
+
+-- a socket is bound to a path, the file that this made is looked at, and clients are awaited
+pub record IsBoundAndAwaited (number : ℕ) (path : List ℕ) (replaces : Bool) (found : Option FoundFile) (fault : Option ErrorKind) (calls : List SystemCall) : Type 0 where
+  pub bound : List SystemCall
+  pub are : calls ≡ await_clients number fault ∷ identify path found ∷ bound
+  pub binding : IsBindCall number path replaces None bound
+
+-- .. and the file is removed then
+pub record IsUndone (number : ℕ) (path : List ℕ) (replaces : Bool) (fault : Option ErrorKind) (calls : List SystemCall) : Type 0 where
+  pub found : Option FoundFile
+  pub awaited : List SystemCall
+  pub removed : List SystemCall
+  pub are : calls ≡ removed ++ awaited
+  pub awaiting : IsBoundAndAwaited number path replaces found fault awaited
+  pub removing : IsMadeRemoval path found removed
+
+-- A listen: what is at the path is removed if it is replaced, a socket is bound to the path, and its clients are awaited. What was
+-- made is removed if the listen fails or is refused memory. It fails for an error of the system, for an empty path, and if no number
+-- is left for a listener.
+abbrev pub IsListen : ℕ → List ℕ → Bool → Result ℕ NetFault → List SystemCall → Type 0
+IsListen number path replaces (Ok _) calls = (found : Option FoundFile) × IsBoundAndAwaited number path replaces found None calls
+IsListen number path replaces (Err FaultFailed) calls = ((calls ≡ []) × ((path ≡ []) ⊎ (listeners_from + 2 ^ 32 ≤ number)))
+    ⊎ (((kind : ErrorKind) × IsBindCall number path replaces (Some kind) calls) ⊎ ((kind : ErrorKind) × IsUndone number path replaces (Some kind) calls))
+IsListen number path replaces (Err FaultMemory) calls = (calls ≡ []) ⊎ IsUndone number path replaces None calls
 
 -- a client is taken at the listener of a number, as the stream of another number
 abbrev pub IsArrival : {T : Type 0} → ℕ → ℕ → Arrival T → List SystemCall → Type 0

@@ -1,13 +1,15 @@
 -- What a system was asked, and what it answered.
 use Rattle.std.specs.List.{list_any}
-use Rattle.std.specs.Prelude.{ℕ, ◌≡◌, ◌≢◌, ◌&&◌, nat_eq, bytes_eq, Bool, false, List, [], ◌∷◌, ◌++◌, take, Option, Some, None, Result, Ok, Err}
+use Rattle.std.specs.Prelude.{ℕ, ◌≡◌, ◌≢◌, ◌&&◌, nat_eq, bytes_eq, Bool, false, List, [], ◌∷◌, ◌++◌, take, is_some, Option, Some, None, Result, Ok, Err}
 use Rattle.std.specs.declared.io.ErrorKind.{ErrorKind}
 use Rattle.std.specs.declared.io.ErrorKind.TheVariants.{Interrupted}
 use Rattle.link_traits.specs.Entries.{Entry}
+use Rattle.proxy_net.specs.declared.bound_files.FoundFile.{FoundFile}
 use Rattle.proxy_net.specs.declared.reports.Report.{Report}
 
 -- A call, with the number of its socket, its path or its bytes, and the kind of the fault for which it was refused. An accept has
--- the listener's number and that of the stream. Beside its own calls stands what a net over the system answered.
+-- the listener's number and that of the stream, an identify what it found, and the opening of the starter's pipe the number of its
+-- descriptor. Beside its own calls stands what a net over the system answered.
 pub data SystemCall : Type 0 where
   bind : ℕ → List ℕ → Option ErrorKind → SystemCall
   await_clients : ℕ → Option ErrorKind → SystemCall
@@ -17,8 +19,11 @@ pub data SystemCall : Type 0 where
   read : ℕ → Result (List ℕ) ErrorKind → SystemCall
   write : ℕ → Result (List ℕ) ErrorKind → SystemCall
   close : ℕ → SystemCall
-  wait : List Report → SystemCall
+  wait : List Report → Option ErrorKind → SystemCall
+  identify : List ℕ → Option FoundFile → SystemCall
   remove : List ℕ → SystemCall
+  open_starter : ℕ → Option ErrorKind → SystemCall
+  notify_starter : Option ErrorKind → SystemCall
   answered : Entry → SystemCall
 
 -- a bind of the socket of a number to a path, which was made
@@ -32,8 +37,11 @@ is_bind number path (watch link writable fault) = false
 is_bind number path (read link answer) = false
 is_bind number path (write link answer) = false
 is_bind number path (close link) = false
-is_bind number path (wait reports) = false
+is_bind number path (wait reports fault) = false
+is_bind number path (identify at found) = false
 is_bind number path (remove at) = false
+is_bind number path (open_starter descriptor fault) = false
+is_bind number path (notify_starter fault) = false
 is_bind number path (answered entry) = false
 
 -- the socket of a number was bound to a path
@@ -44,6 +52,27 @@ was_bound number path calls = list_any (is_bind number path) calls
 abbrev pub fault_of : {T E : Type 0} → (E → ErrorKind) → Result T E → Option ErrorKind
 fault_of kind (Ok value) = None
 fault_of kind (Err error) = Some (kind error)
+
+-- a wait that was refused
+abbrev pub is_failed_wait : SystemCall → Bool
+is_failed_wait (wait reports fault) = is_some fault
+is_failed_wait (bind number path fault) = false
+is_failed_wait (await_clients listener fault) = false
+is_failed_wait (accept listener stream fault) = false
+is_failed_wait (connect link path fault) = false
+is_failed_wait (watch link writable fault) = false
+is_failed_wait (read link answer) = false
+is_failed_wait (write link answer) = false
+is_failed_wait (close link) = false
+is_failed_wait (identify path found) = false
+is_failed_wait (remove path) = false
+is_failed_wait (open_starter descriptor fault) = false
+is_failed_wait (notify_starter fault) = false
+is_failed_wait (answered entry) = false
+
+-- a wait among these was refused
+abbrev pub has_failed_wait : List SystemCall → Bool
+has_failed_wait calls = list_any is_failed_wait calls
 
 -- Where the journal is still told, it was told before, and these calls were added. A system may cease to tell.
 pub record Tells (old new : Option (List SystemCall)) (added : List SystemCall) : Type 0 where

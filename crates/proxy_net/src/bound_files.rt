@@ -1,16 +1,34 @@
-//! The files that binds make.
+//! The files at the paths of listeners.
 ghost use Rattle.std.specs.Prelude.{◌≡◌, ◌∷◌, [], true, false, IfSome};
 ghost use Rattle.std.specs.String.{string_bytes};
-ghost use Rattle.proxy_net.specs.SystemCalls.{Tells, remove};
-ghost use Rattle.proxy_net.specs.Steps.{Steps, IsRemoval};
+ghost use Rattle.proxy_net.specs.Files.{has_identity, is_replaceable as can_be_replaced, removal};
+ghost use Rattle.proxy_net.specs.SystemCalls.{Tells};
+ghost use Rattle.proxy_net.specs.Steps.{Steps, IsRemoval, IsClearing};
 
 use crate::system::Sockets;
 
 /// What tells a file from every other one. As long as the socket of a bound file is open, no other file gets its number.
-#[derive(Clone, Copy, PartialEq)]
+#[derive(Clone, Copy, Debug, PartialEq, Eq)]
 pub struct FileIdentity {
     device: u64,
     inode: u64,
+}
+
+/// What a file is.
+#[derive(Clone, Copy, Debug, PartialEq, Eq)]
+pub enum FileKind {
+    Socket,
+    /// A regular file that has no byte.
+    EmptyFile,
+    /// Anything else: a file with bytes, a folder, a link.
+    Other,
+}
+
+/// A file that was found at a path.
+#[derive(Clone, Copy, Debug, PartialEq, Eq)]
+pub struct FoundFile {
+    pub identity: FileIdentity,
+    pub kind: FileKind,
 }
 
 /// The file that a bind made.
@@ -38,29 +56,66 @@ impl BoundFile {
         BoundFile { path, identity }
     }
 
-    /// Removes it, unless something else is at its path by now.
+    /// Looks at what is at its path, and removes it if it is this file.
     pub fn remove<S: Sockets>(&self, system: &mut S)
-        ensures { Steps (IsRemoval (string_bytes self.now.path)) (S.journal system.old) (S.journal system.new) }
+        ensures { Steps (IsRemoval (string_bytes self.now.path) self.now.identity) (S.journal system.old) (S.journal system.new) }
     {
         remove_made(system, self.path.as_str(), self.identity);
     }
 }
 
-/// Removes what is at a path, if it is the file that was made there.
+/// Looks at what is at a path, and removes it if it is the file that was made there.
 pub fn remove_made<S: Sockets>(system: &mut S, path: &str, made: FileIdentity)
-    ensures { Steps (IsRemoval path.now) (S.journal system.old) (S.journal system.new) }
+    ensures { Steps (IsRemoval path.now made) (S.journal system.old) (S.journal system.new) }
 {
-    if let Some(found) = system.identify(path)
-        && found == made
-    {
-        remove_found(system, path, found, made);
+    let found = system.identify(path);
+    let is_own = is_file(found, made);
+    remove_if(system, path, is_own);
+}
+
+/// Looks at what is at a path, if that is to be replaced, and removes it if it is a socket or an empty regular file.
+///
+/// A file that another program changes or puts there after the look is removed without a look. The socket that a bind makes then has
+/// the mode 0777 without the bits of the umask, so the owner of the file can connect to it, as it could write to the file.
+pub fn clear<S: Sockets>(system: &mut S, path: &str, replaces: bool)
+    ensures { Steps (IsClearing replaces path.now) (S.journal system.old) (S.journal system.new) }
+{
+    if !replaces {
+        return;
+    }
+    let found = system.identify(path);
+    let is_replaceable = is_replaceable(found);
+    remove_if(system, path, is_replaceable);
+}
+
+/// Removes the file at a path, or asks nothing.
+fn remove_if<S: Sockets>(system: &mut S, path: &str, is_wanted: bool)
+    ensures { Tells (S.journal system.old) (S.journal system.new) (removal is_wanted path.now) }
+{
+    if is_wanted {
+        let _ = system.remove_file(path);
     }
 }
 
-/// Removes a file that was found at a path.
-fn remove_found<S: Sockets>(system: &mut S, path: &str, found: FileIdentity, made: FileIdentity)
-    requires { found ≡ made }
-    ensures { Tells (S.journal system.old) (S.journal system.new) (remove path.now ∷ []) }
+/// Whether a file that was found is the one of an identity.
+fn is_file(found: Option<FoundFile>, made: FileIdentity) -> bool
+    ensures { result ≡ has_identity made found }
 {
-    let _ = system.remove_file(path);
+    match found {
+        Some(file) => file.identity.device == made.device && file.identity.inode == made.inode,
+        None => false,
+    }
+}
+
+/// Whether a file that was found is one that a listen replaces.
+fn is_replaceable(found: Option<FoundFile>) -> bool
+    ensures { result ≡ can_be_replaced found }
+{
+    match found {
+        Some(file) => match file.kind {
+            FileKind::Socket | FileKind::EmptyFile => true,
+            FileKind::Other => false,
+        },
+        None => false,
+    }
 }

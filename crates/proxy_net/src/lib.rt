@@ -11,11 +11,13 @@ mod listeners;
 pub mod net;
 pub mod reports;
 mod sockets;
+pub mod starters;
 mod streams;
 pub mod system;
 
 pub use answers::Answer;
-pub use bound_files::FileIdentity;
+pub use bound_files::{FileIdentity, FileKind, FoundFile};
 pub use net::MioNet;
 pub use reports::Report;
+pub use starters::{STARTER, Starter};
 pub use system::{Numbered, Sockets, SystemSockets};

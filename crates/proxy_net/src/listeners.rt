@@ -4,7 +4,6 @@ ghost use Rattle.proxy_net.specs.Connecting.{IsLater};
 ghost use Rattle.proxy_net.specs.Delays.{next_delay, is_accept_due, is_accept_early, accept_left, nanos_of};
 ghost use Rattle.proxy_net.specs.Naming.{is_awaited, is_listener_placed};
 ghost use Rattle.proxy_net.specs.Noting.{is_listener_noted};
-ghost use Rattle.proxy_net.specs.Sockets.{path_in};
 ghost use Rattle.proxy_net.specs.Steps.{Steps, IsArrival, IsFileRemoval};
 
 use crate::bound_files::BoundFile;
@@ -193,9 +192,9 @@ impl<L: Drop> ListenerSocket<L> {
         self.stalled && is_time(self.due, now)
     }
 
-    /// Removes the file that its bind made, unless something else is at the path by now.
+    /// Looks at what is at the path of its file, if it has one, and removes it if it is that file.
     pub fn remove_file<S: Sockets>(&mut self, system: &mut S)
-        ensures told { Steps (IsFileRemoval (path_in (Some self.old))) (S.journal system.old) (S.journal system.new) }
+        ensures told { Steps (IsFileRemoval self.old.file) (S.journal system.old) (S.journal system.new) }
         ensures rest { self.new ≡ record self.old { file = None } }
     {
         if let Some(file) = self.file.take() {

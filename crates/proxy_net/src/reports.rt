@@ -9,4 +9,6 @@ pub struct Report {
     pub readable: bool,
     /// A write wouldn't wait.
     pub writable: bool,
+    /// Nobody reads what is written any more.
+    pub closed: bool,
 }

@@ -16,6 +16,7 @@ ghost use Rattle.proxy_net.specs.Connecting.{is_pending};
 ghost use Rattle.proxy_net.specs.Registering.{is_registered_by};
 ghost use Rattle.proxy_net.specs.Steps.{Steps, IsShut};
 ghost use Rattle.proxy_net.specs.SystemCalls.{SystemCall};
+ghost use Rattle.proxy_net.specs.declared.starters.Starter.{Starter};
 
 mod calls;
 mod making;
@@ -75,7 +76,7 @@ impl<T: Drop, L: Drop> SocketSet<T, L> {
 
     /// No sockets.
     pub fn new(alloc: Global) -> SocketSet<T, L>
-        ensures unused { (calls : Option (List SystemCall)) → IsUnused (shown result calls) }
+        ensures unused { (calls : Option (List SystemCall)) (starter : Starter) → IsUnused (shown result calls starter) }
         ensures empty { (vec_len result.listeners ≡ 0) × (result.sessions ≡ 0) }
         ensures consistent { IsConsistent result }
     {

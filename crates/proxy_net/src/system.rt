@@ -1,4 +1,4 @@
-//! What the system gives: Unix sockets, and the files that their binds make.
+//! What the system gives: Unix sockets, the files that their binds make, and the starter's pipe.
 ghost use Rattle.std.specs.Prelude.{◌≡◌, ◌≤◌, [], IfOk, length, map, true, false, vec_capacity};
 ghost use Rattle.mio.specs.Events.{items, capacity as events_capacity};
 ghost use Rattle.mio.specs.Interest.{is_readable, is_writable, is_priority};
@@ -6,14 +6,17 @@ ghost use Rattle.proxy_net.specs.Reports.{report_of};
 ghost use Rattle.proxy_net.specs.declared.system.TheConstants.{REPORTS};
 
 use crate::answers::Answer;
-use crate::bound_files::FileIdentity;
+use crate::bound_files::{FileIdentity, FileKind, FoundFile};
 use crate::reports::Report;
+use crate::starters::STARTER;
 use mio::event::Event;
 use mio::net::{UnixListener, UnixStream};
+use mio::unix::SourceFd;
 use mio::{Events, Interest, Poll, Token};
-use std::fs;
-use std::io::{self, Read, Write};
-use std::os::unix::fs::MetadataExt;
+use std::fs::{self, File, Metadata, OpenOptions};
+use std::io::{self, ErrorKind, Read, Write};
+use std::os::fd::AsRawFd;
+use std::os::unix::fs::{FileTypeExt, MetadataExt};
 use std::time::{Duration, Instant};
 
 /// How many reports a wait gives at most.
@@ -48,7 +51,7 @@ pub trait Sockets {
     ghost use Rattle.std.specs.Prelude.{◌≤◌, ◌<◌, ◌∷◌, [], ℕ, List, Option, OnErr, length, vec_len, vec_capacity};
     ghost use Rattle.std.specs.IoError.{error_kind};
     ghost use Rattle.proxy_net.specs.Answers.{entry_of};
-    ghost use Rattle.proxy_net.specs.SystemCalls.{SystemCall, bind, await_clients, accept, connect, watch, read, write, close, wait, remove, answered, fault_of, IsToldRead, IsToldWrite, Tells};
+    ghost use Rattle.proxy_net.specs.SystemCalls.{SystemCall, bind, await_clients, accept, connect, watch, read, write, close, wait, identify, remove, open_starter, notify_starter, answered, fault_of, IsToldRead, IsToldWrite, Tells};
 
     /// A socket that listens.
     type Listener: Drop;
@@ -108,15 +111,24 @@ pub trait Sockets {
         ensures count { vec_len reports.new ≤ REPORTS }
         ensures capacity { vec_capacity reports.new ≡ vec_capacity reports.old }
         ensures err { OnErr result (reports.new.items ≡ []) }
-        ensures told { Tells (journal self.old) (journal self.new) (wait reports.new.items ∷ []) };
+        ensures told { Tells (journal self.old) (journal self.new) (wait reports.new.items (fault_of error_kind result) ∷ []) };
 
-    /// What tells the file at a path from every other one. `None` if there is none, or the system doesn't say.
-    fn identify(&mut self, path: &str) -> Option<FileIdentity>
-        ensures { Tells (journal self.old) (journal self.new) [] };
+    /// The file at a path. A link is found itself, not the file that it names. `None` if there is none, or the system doesn't say.
+    fn identify(&mut self, path: &str) -> Option<FoundFile>
+        ensures { Tells (journal self.old) (journal self.new) (identify path.now result ∷ []) };
 
     /// Removes the file at a path.
     fn remove_file(&mut self, path: &str) -> io::Result<()>
         ensures { Tells (journal self.old) (journal self.new) (remove path.now ∷ []) };
+
+    /// Opens the starter's pipe, which this process has as a descriptor of this number, and watches it for the close of its
+    /// reading end. That is reported by the number `STARTER`. What isn't a pipe is refused.
+    fn open_starter(&mut self, descriptor: u32) -> io::Result<()>
+        ensures { Tells (journal self.old) (journal self.new) (open_starter descriptor (fault_of error_kind result) ∷ []) };
+
+    /// Writes one byte to the starter's pipe.
+    fn notify_starter(&mut self) -> io::Result<()>
+        ensures { Tells (journal self.old) (journal self.new) (notify_starter (fault_of error_kind result) ∷ []) };
 
     /// The time, if the clock can be read.
     fn now(&self) -> Option<Instant>;
@@ -129,12 +141,15 @@ pub trait Sockets {
 /// The sockets of the system, over epoll. It tells no journal.
 ///
 /// That each call does what it is asked is trusted: that it binds and connects the path that it is given, reads and writes the
-/// socket that it is given, watches it by its own number, and removes the file of the path that it is given.
+/// socket that it is given, watches it by its own number, looks at and removes the file of the path that it is given, and opens and
+/// writes to the pipe that it is given.
 #[derive(Drop)]
 pub struct SystemSockets<'a> {
     rt: &'a HostRuntime,
     poll: Poll,
     events: Events,
+    // The starter's pipe, if it was opened.
+    starter: Option<File>,
     ghost room: { events_capacity events ≡ REPORTS },
 }
 
@@ -145,6 +160,7 @@ impl<'a> SystemSockets<'a> {
             rt,
             poll: Poll::new(rt)?,
             events: Events::with_capacity(rt.alloc(), REPORTS)?,
+            starter: None,
         })
     }
 }
@@ -216,9 +232,12 @@ impl<'a> Sockets for SystemSockets<'a> {
         Ok(())
     }
 
-    fn identify(&mut self, path: &str) -> Option<FileIdentity> {
+    fn identify(&mut self, path: &str) -> Option<FoundFile> {
         match fs::symlink_metadata(self.rt, path) {
-            Ok(metadata) => Some(FileIdentity::new(metadata.dev(), metadata.ino())),
+            Ok(metadata) => Some(FoundFile {
+                identity: FileIdentity::new(metadata.dev(), metadata.ino()),
+                kind: kind_of(&metadata),
+            }),
             Err(_) => None,
         }
     }
@@ -227,11 +246,48 @@ impl<'a> Sockets for SystemSockets<'a> {
         fs::remove_file(self.rt, path)
     }
 
+    /// The pipe is opened anew by the name of the descriptor: what is opened so is closed again, and the descriptor stays as it is.
+    fn open_starter(&mut self, descriptor: u32) -> io::Result<()> {
+        let path = format!(in self.rt.alloc(); "/dev/fd/{descriptor}")?;
+        let metadata = fs::metadata(self.rt, &path)?;
+        if !metadata.file_type().is_fifo() {
+            return Err(io::Error::from(ErrorKind::InvalidInput));
+        }
+        let pipe = OpenOptions::new().write(true).open(self.rt, &path)?;
+        // A writing end is never readable, so nothing is reported of it but that the reading end is closed.
+        self.poll.registry().register(
+            &mut SourceFd(&pipe.as_raw_fd()),
+            Token(STARTER as usize),
+            Interest::READABLE,
+        )?;
+        self.starter = Some(pipe);
+        Ok(())
+    }
+
+    fn notify_starter(&mut self) -> io::Result<()> {
+        match &mut self.starter {
+            Some(pipe) => pipe.write_all(b"x"),
+            None => Err(io::Error::from(ErrorKind::NotFound)),
+        }
+    }
+
     fn now(&self) -> Option<Instant> {
         Instant::now(self.rt).ok()
     }
 
     fn tell(&mut self, _answer: Answer, _bytes: &[u8]) {}
+}
+
+/// What a file is.
+fn kind_of(metadata: &Metadata) -> FileKind {
+    let file_type = metadata.file_type();
+    if file_type.is_socket() {
+        FileKind::Socket
+    } else if file_type.is_file() && metadata.len() == 0 {
+        FileKind::EmptyFile
+    } else {
+        FileKind::Other
+    }
 }
 
 /// Reading, and writing too if that is asked for.
@@ -267,5 +323,6 @@ fn reported(event: &Event) -> Report
         number: event.token().0 as u64,
         readable: event.is_error() || event.is_readable() || event.is_read_closed(),
         writable: event.is_error() || event.is_writable() || event.is_write_closed(),
+        closed: event.is_error() || event.is_write_closed(),
     }
 }

@@ -14,7 +14,7 @@ ghost use Rattle.record_net.specs.Starts.{IsRecording, start_of};
 use crate::READ_LIMIT;
 use crate::record_file::RecordFile;
 use crate::spelling::{CONNECT_END, end_record, failed_record, read_end, write_end};
-use link_traits::{Accepted, FileFault, Files, Got, Link, Net, NetFault, Ready, Took};
+use link_traits::{Accepted, FileFault, Files, Got, Link, Net, NetFault, Ready, Setting, Took};
 
 /// A net that passes each call on to another net, and appends a record of what that net's links gave to a file.
 ///
@@ -49,6 +49,23 @@ impl<'a, N: Net, F: Files> Recorder<'a, N, F> {
 
 impl<N: Net, F: Files> Net for Recorder<'_, N, F> {
     ghost view = { λ r. N.view r.net.now };
+
+    ghost takes = { λ old setting new. N.takes old.net.now setting new.net.now };
+
+    fn prepare(&mut self, setting: Setting) -> Result<(), NetFault>
+        // Nothing is recorded.
+        ensures files { self.new.files ≡ self.old.files }
+        ensures file { self.new.file ≡ self.old.file }
+        ensures net_name { self.new.net.ghost_name ≡ self.old.net.ghost_name }
+
+        // What the trait says.
+        ensures taken { OnOk result (N.takes self.old.net.now setting self.new.net.now) }
+        ensures told { Adds (N.view self.old.net.now) (N.view self.new.net.now) [] }
+        ensures failed { IsErrOf result NetFault.Failed → RoseAt Count.Own (N.view self.old.net.now) (N.view self.new.net.now) }
+        ensures wishes { KeepsWishes (N.view self.old.net.now) (N.view self.new.net.now) }
+    {
+        self.net.prepare(setting)
+    }
 
     fn listen(&mut self, path: &str) -> Result<u32, NetFault>
         // Nothing is recorded.

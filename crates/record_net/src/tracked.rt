@@ -5,7 +5,7 @@ ghost use Rattle.record_net.specs.Tapes.{tape_of};
 ghost use Rattle.record_net.specs.Starts.{Start, IsRecording, no_start};
 
 use crate::recorder::Recorder;
-use link_traits::{Accepted, Files, Got, Link, Net, NetFault, Ready, Took};
+use link_traits::{Accepted, Files, Got, Link, Net, NetFault, Ready, Setting, Took};
 use std::marker::{Brand, PhantomData};
 
 /// Where a recording began, and by which borrows its recorder holds the net and the files. A function that makes a
@@ -45,6 +45,12 @@ pub struct TrackedRecorder<'a, N: Net, F: Files, K: RecordingStart> {
 
 impl<N: Net, F: Files, K: RecordingStart> Net for TrackedRecorder<'_, N, F, K> {
     ghost view = { λ r. N.view r.recorder.net.now };
+
+    ghost takes = { λ old setting new. N.takes old.recorder.net.now setting new.recorder.net.now };
+
+    fn prepare(&mut self, setting: Setting) -> Result<(), NetFault> {
+        self.recorder.prepare(setting)
+    }
 
     fn listen(&mut self, path: &str) -> Result<u32, NetFault> {
         self.recorder.listen(path)

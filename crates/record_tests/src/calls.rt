@@ -1,5 +1,5 @@
 //! Calls of a net that are written in words, and what they answer.
-use link_traits::Net;
+use link_traits::{Net, Setting};
 use std::alloc::{AllocError, Global};
 use test_nets::link_of;
 
@@ -24,6 +24,13 @@ fn told_call<N: Net>(
 ) -> Result<String, AllocError> {
     let (name, more) = rest.split_once(' ').unwrap_or((rest, ""));
     match kind {
+        "prepare" => {
+            let setting = Setting {
+                replaces: true,
+                starter: rest.parse().ok(),
+            };
+            format!(in alloc; "{:?}", net.prepare(setting))
+        }
         "listen" => format!(in alloc; "{:?}", net.listen("/p")),
         "wait" => format!(in alloc; "{:?}", net.wait()),
         "accept" => format!(in alloc; "{:?}", net.accept(rest.parse().unwrap_or(0))),

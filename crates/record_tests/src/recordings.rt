@@ -18,6 +18,7 @@ arrival 0, ReadFails 1, WriteFails 1; ; listen, accept 0, connect 1, read b1 9, 
 arrival 0, ConnectFails 1; ; listen, accept 0, connect 1 => Ok(0), New(1), Err(Failed); DBPR%02%01%04%01~~~%01~~~%0B None
 arrival 0, ConnectRefused 1; ; listen, accept 0, connect 1 => Ok(0), New(1), Err(Memory); DBPR%02%01 None
 ListenFails 1, WaitFails 1, AcceptFails 1; ; listen, wait, accept 0 => Err(Failed), Failed, Failed; DBPR%02%01 None
+PrepareFails 1; ; prepare 7, prepare 7, listen => Err(Failed), Ok(()), Ok(0); DBPR%02%01 None
 arrival 0, ReadNotReady 1, WriteNotReady 1; ; listen, accept 0, connect 1, read c1 9, write b1 x, write b1 yz, want c1, shut c1 => Ok(0), New(1), Ok(()), NotReady, NotReady, Bytes(2), wanted, shut; DBPR%02%01 None
 ";
 

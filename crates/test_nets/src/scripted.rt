@@ -45,6 +45,8 @@ fn add(alloc: Global, script: &mut Script, kind: &str, rest: &str) -> Result<(),
 
 fn exception_of(kind: &str, place: u64) -> Option<Exception> {
     match kind {
+        "PrepareFails" => Some(Exception::PrepareFails(place)),
+        "PrepareRefused" => Some(Exception::PrepareRefused(place)),
         "ListenFails" => Some(Exception::ListenFails(place)),
         "ListenRefused" => Some(Exception::ListenRefused(place)),
         "WaitFails" => Some(Exception::WaitFails(place)),

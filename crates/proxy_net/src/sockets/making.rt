@@ -4,12 +4,12 @@ ghost use Rattle.std.specs.VecDeque.{deque_len, deque_capacity};
 ghost use Rattle.std.specs.Option.{option_map};
 ghost use Rattle.std.specs.String.{string_bytes};
 ghost use Rattle.proxy_net.specs.Delays.{next_delay};
-ghost use Rattle.proxy_net.specs.Steps.{Steps, IsConnect, IsListen, IsBind, IsAwait, IsCleanUp, IsRemoval, IsArrival, IsAccept};
+ghost use Rattle.proxy_net.specs.Steps.{Steps, IsConnect, IsListen, IsBind, IsAwait, IsCleanUp, IsMadeRemoval, IsArrival, IsAccept};
 ghost use Rattle.link_traits.specs.Answers.{no_wishes, client_link, bus_link};
 ghost use Rattle.link_traits.specs.Numbers.{number_of as link_number};
 
 use super::{LISTENERS, SocketSet};
-use crate::bound_files::{BoundFile, FileIdentity, remove_made};
+use crate::bound_files::{BoundFile, FoundFile, clear, remove_made};
 use crate::link_sockets::{Connection, Retry, is_put_off, raised};
 use crate::listeners::{Arrival, ListenerSocket};
 use crate::system::{Numbered, Sockets};
@@ -20,12 +20,14 @@ use std::alloc::{AllocError, Global};
 impl<T: Drop, L: Drop> SocketSet<T, L> {
     ghost use Rattle.proxy_net.specs.Sockets.{HasRoomFor, RoseIn, Grows, GoesOn, KeepsWishesIn, StaysUnread, path_at};
 
-    /// Listens at a path. An empty one is refused, since the system would take a name of its own for it.
+    /// Listens at a path. An empty one is refused, since the system would take a name of its own for it. A socket or an empty
+    /// regular file that is there is removed first, if it `replaces`.
     pub fn listen<S: Sockets<Stream = T, Listener = L>>(
         &mut self,
         alloc: Global,
         system: &mut S,
         path: &str,
+        replaces: bool,
     ) -> Result<u32, NetFault>
         ensures numbered { IfOk result (λ listener. listener ≡ vec_len self.old.listeners) }
         ensures made { OnOk result (vec_len self.new.listeners ≡ vec_len self.old.listeners + 1) }
@@ -33,13 +35,13 @@ impl<T: Drop, L: Drop> SocketSet<T, L> {
         ensures err { OnErr result (vec_len self.new.listeners ≡ vec_len self.old.listeners) }
         ensures file { (own : List ℕ) → path_at self.new (vec_len self.old.listeners) ≡ Some own → own ≡ path.now }
         ensures failed { IsErrOf result NetFault.Failed → RoseIn Count.Own self.old self.new }
-        ensures told { Steps (IsListen (LISTENERS + vec_len self.old.listeners) path.now result) (S.journal system.old) (S.journal system.new) }
+        ensures told { Steps (IsListen (LISTENERS + vec_len self.old.listeners) path.now replaces result) (S.journal system.old) (S.journal system.new) }
         ensures unread { StaysUnread self.old self.new }
         ensures sessions { self.new.sessions ≡ self.old.sessions }
         ensures wishes { KeepsWishesIn self.old self.new }
         ensures grows { Grows self.old self.new }
     {
-        match self.make_listener(alloc, system, path) {
+        match self.make_listener(alloc, system, path, replaces) {
             Err(NetFault::Failed) => {
                 self.own = raised(self.own);
                 Err(NetFault::Failed)
@@ -54,13 +56,14 @@ impl<T: Drop, L: Drop> SocketSet<T, L> {
         alloc: Global,
         system: &mut S,
         path: &str,
+        replaces: bool,
     ) -> Result<u32, NetFault>
         ensures numbered { IfOk result (λ listener. listener ≡ vec_len self.old.listeners) }
         ensures made { OnOk result (vec_len self.new.listeners ≡ vec_len self.old.listeners + 1) }
         ensures path { OnOk result (path.now ≢ []) }
         ensures err { OnErr result (vec_len self.new.listeners ≡ vec_len self.old.listeners) }
         ensures file { (own : List ℕ) → path_at self.new (vec_len self.old.listeners) ≡ Some own → own ≡ path.now }
-        ensures told { Steps (IsListen (LISTENERS + vec_len self.old.listeners) path.now result) (S.journal system.old) (S.journal system.new) }
+        ensures told { Steps (IsListen (LISTENERS + vec_len self.old.listeners) path.now replaces result) (S.journal system.old) (S.journal system.new) }
         ensures unread { StaysUnread self.old self.new }
         ensures sessions { self.new.sessions ≡ self.old.sessions }
         ensures wishes { KeepsWishesIn self.old self.new }
@@ -75,13 +78,13 @@ impl<T: Drop, L: Drop> SocketSet<T, L> {
         if self.reserve_listener().is_err() {
             return Err(NetFault::Memory);
         }
-        let Some(socket) = bound(system, path, LISTENERS + u64::from(listener)) else {
+        let Some(socket) = bound(system, path, LISTENERS + u64::from(listener), replaces) else {
             return Err(NetFault::Failed);
         };
-        let identity = system.identify(path);
-        let file = bound_file(own_path, identity);
+        let found = system.identify(path);
+        let file = bound_file(own_path, found);
         let answer = self.add_listener(system, listener, socket, file);
-        cleaned_up(system, path, identity, answer)
+        cleaned_up(system, path, found, answer)
     }
 
     /// Takes the room for one more listener.
@@ -116,10 +119,10 @@ impl<T: Drop, L: Drop> SocketSet<T, L> {
         ensures grows { Grows self.old self.new }
     {
         let mut socket = socket;
-        let Ok(()) = system.await_clients(&mut socket) else {
-            return Err(NetFault::Failed);
-        };
-        self.keep_listener(listener, socket, file)
+        match system.await_clients(&mut socket) {
+            Ok(()) => self.keep_listener(listener, socket, file),
+            Err(_) => Err(NetFault::Failed),
+        }
     }
 
     /// Keeps a socket whose clients are awaited, as the next listener.
@@ -135,6 +138,7 @@ impl<T: Drop, L: Drop> SocketSet<T, L> {
         ensures numbered { IfOk result (λ number. number ≡ listener) }
         ensures made { OnOk result (vec_len self.new.listeners ≡ vec_len self.old.listeners + 1) }
         ensures err { OnErr result (vec_len self.new.listeners ≡ vec_len self.old.listeners) }
+        ensures fault { result ≢ Err NetFault.Failed }
         ensures file { OnOk result (path_at self.new listener ≡ option_map (λ (f : BoundFile). string_bytes f.path) file) }
         ensures unread { StaysUnread self.old self.new }
         ensures sessions { self.new.sessions ≡ self.old.sessions }
@@ -151,15 +155,21 @@ impl<T: Drop, L: Drop> SocketSet<T, L> {
     }
 }
 
-/// Binds a socket to a path. `None` where it is empty, and where the system refuses it, as where a file stands there.
-fn bound<S: Sockets>(system: &mut S, path: &str, number: u64) -> Option<Numbered<S::Listener>>
+/// Binds a socket to a path. `None` if it is empty, and if the system refuses it, as it does if a file is there.
+fn bound<S: Sockets>(
+    system: &mut S,
+    path: &str,
+    number: u64,
+    replaces: bool,
+) -> Option<Numbered<S::Listener>>
     ensures path { IsSome result → path.now ≢ [] }
     ensures number { IfSome result (λ listener. listener.number ≡ number) }
-    ensures told { Steps (IsBind number path.now result) (S.journal system.old) (S.journal system.new) }
+    ensures told { Steps (IsBind number path.now replaces result) (S.journal system.old) (S.journal system.new) }
 {
     if path.is_empty() {
         return None;
     }
+    clear(system, path, replaces);
     match system.bind(path, number) {
         Ok(listener) => Some(listener),
         Err(_) => None,
@@ -167,24 +177,25 @@ fn bound<S: Sockets>(system: &mut S, path: &str, number: u64) -> Option<Numbered
 }
 
 /// The file that a bind made at a path, if the system says which it is.
-fn bound_file(path: String, identity: Option<FileIdentity>) -> Option<BoundFile>
-    ensures { (own : BoundFile) → result ≡ Some own → own.path ≡ path }
+fn bound_file(path: String, found: Option<FoundFile>) -> Option<BoundFile>
+    ensures is { result ≡ option_map (λ (file : FoundFile). record { path = path; identity = file.identity }) found }
+    ensures path { (own : BoundFile) → result ≡ Some own → own.path ≡ path }
 {
-    match identity {
-        Some(identity) => Some(BoundFile::new(path, identity)),
+    match found {
+        Some(file) => Some(BoundFile::new(path, file.identity)),
         None => None,
     }
 }
 
-/// Removes the file that a bind made, where the socket can't listen.
+/// Removes the file that a bind made, if the socket can't listen.
 fn cleaned_up<S: Sockets>(
     system: &mut S,
     path: &str,
-    made: Option<FileIdentity>,
+    made: Option<FoundFile>,
     answer: Result<u32, NetFault>,
 ) -> Result<u32, NetFault>
     ensures answer { result ≡ answer }
-    ensures told { Steps (IsCleanUp path.now answer) (S.journal system.old) (S.journal system.new) }
+    ensures told { Steps (IsCleanUp path.now made answer) (S.journal system.old) (S.journal system.new) }
 {
     match answer {
         Ok(listener) => Ok(listener),
@@ -196,22 +207,22 @@ fn cleaned_up<S: Sockets>(
 }
 
 /// Removes the file that a bind made at a path, if the system said which it is.
-fn remove_bound<S: Sockets>(system: &mut S, path: &str, made: Option<FileIdentity>)
-    ensures { Steps (IsRemoval path.now) (S.journal system.old) (S.journal system.new) }
+fn remove_bound<S: Sockets>(system: &mut S, path: &str, made: Option<FoundFile>)
+    ensures { Steps (IsMadeRemoval path.now made) (S.journal system.old) (S.journal system.new) }
 {
-    if let Some(made) = made {
-        remove_made(system, path, made);
+    if let Some(file) = made {
+        remove_made(system, path, file.identity);
     }
 }
 
 impl<T: Drop, L: Drop> SocketSet<T, L> {
-    ghost use Rattle.proxy_net.specs.Sockets.{GoesOn, HasFileAt, has_file_at, path_at};
+    ghost use Rattle.proxy_net.specs.Sockets.{GoesOn, has_file_at, file_at, files_of};
     ghost use Rattle.proxy_net.specs.Steps.{IsFileRemoval, AreRemovals};
 
-    /// Removes the files that the binds of the listeners made, unless something else is at their paths by now.
+    /// Looks at what is at the path of each file that the bind of a listener made, and removes it if it is that file.
     pub fn remove_files<S: Sockets<Stream = T, Listener = L>>(&mut self, system: &mut S)
         ensures removed { (place : ℕ) → has_file_at self.new place ≡ false }
-        ensures told { Steps (AreRemovals (HasFileAt self.old)) (S.journal system.old) (S.journal system.new) }
+        ensures told { Steps (AreRemovals (files_of self.old)) (S.journal system.old) (S.journal system.new) }
         ensures number { vec_len self.new.listeners ≡ vec_len self.old.listeners }
         ensures goes { GoesOn self.old self.new }
     {
@@ -224,8 +235,8 @@ impl<T: Drop, L: Drop> SocketSet<T, L> {
         requires { place < 2 ^ 63 }
         ensures removed { has_file_at self.new place ≡ false }
         ensures others { (other : ℕ) → has_file_at self.old other ≡ false → has_file_at self.new other ≡ false }
-        ensures told { Steps (IsFileRemoval (path_at self.old place)) (S.journal system.old) (S.journal system.new) }
-        ensures files { (other : ℕ) (path : List ℕ) → path_at self.new other ≡ Some path → path_at self.old other ≡ Some path }
+        ensures told { Steps (IsFileRemoval (file_at self.old place)) (S.journal system.old) (S.journal system.new) }
+        ensures files { (other : ℕ) → other ≢ place → file_at self.new other ≡ file_at self.old other }
         ensures number { vec_len self.new.listeners ≡ vec_len self.old.listeners }
         ensures goes { GoesOn self.old self.new }
     {
@@ -483,6 +494,7 @@ impl<T: Drop, L: Drop> SocketSet<T, L> {
     fn join(&mut self, link: Link, stream: Numbered<T>) -> Result<(), NetFault>
         requires room { HasRoomFor 1 self.old }
         requires own { stream.number ≡ link_number link }
+        ensures fault { result ≢ Err NetFault.Failed }
         ensures err { OnErr result (GoesOn self.old self.new) }
         ensures own { OnOk result (wishes_in self.new link ≡ Some no_wishes) }
         ensures others { KeepsOthersIn link self.old self.new }

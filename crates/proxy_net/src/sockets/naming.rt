@@ -1,5 +1,5 @@
 //! What the system reports of sockets, and what is named for it.
-ghost use Rattle.std.specs.Prelude.{◌≡◌, ◌≢◌, ◌≤◌, ◌<◌, ◌%◌, ◌&&◌, ◌⊎◌, ◌++◌, ◌+◌, ◌-◌, ◌*◌, ◌^◌, min, vec_len, vec_capacity, ℕ, nat_eq, nat_lt, [], true, false, Some, None, IfSome, IfNone, OnErr, drop, take, slice_get};
+ghost use Rattle.std.specs.Prelude.{◌≡◌, ◌≢◌, ◌≤◌, ◌<◌, ◌%◌, ◌&&◌, ◌⊎◌, ◌++◌, ◌+◌, ◌-◌, ◌*◌, ◌^◌, ◌∷◌, min, vec_len, vec_capacity, ℕ, nat_eq, nat_lt, [], true, false, Some, None, IfSome, IfNone, OnErr, drop, take, slice_get};
 ghost use Rattle.std.specs.VecDeque.{deque_len};
 ghost use Rattle.std.specs.Option.{option_map};
 ghost use Rattle.std.specs.Time.{instant_nanos};
@@ -11,7 +11,9 @@ ghost use Rattle.link_traits.specs.Numbers.{number_of as link_number};
 ghost use Rattle.proxy_net.specs.Delays.{IsWithin, nanos_of};
 ghost use Rattle.proxy_net.specs.Noting.{is_link_noted, is_listener_noted, reports_read};
 ghost use Rattle.proxy_net.specs.Naming.{is_link_unmarked, is_listener_unmarked};
-ghost use Rattle.proxy_net.specs.Steps.{Steps, AreWaitCalls};
+ghost use Rattle.proxy_net.specs.Steps.{Steps, AreNoteCalls};
+ghost use Rattle.proxy_net.specs.SystemCalls.{Tells, wait, fault_of};
+ghost use Rattle.std.specs.IoError.{error_kind};
 ghost use Rattle.proxy_net.specs.Sockets.{HasLink, IsTriedTo, is_link_registered};
 
 use super::{LISTENERS, SocketSet};
@@ -64,7 +66,7 @@ impl<T: Drop, L: Drop> SocketSet<T, L> {
         ensures count { vec_len reports.new ≤ REPORTS }
         ensures capacity { vec_capacity reports.new ≡ vec_capacity reports.old }
         ensures reports { KeepsReports self.old self.new }
-        ensures told { ((number : ℕ) → is_link_registered self.old number ≡ true) → Steps (AreWaitCalls (HasLink self.old) (IsTriedTo self.old)) (S.journal system.old) (S.journal system.new) }
+        ensures told { Tells (S.journal system.old) (S.journal system.new) (wait reports.new.items (fault_of error_kind result) ∷ []) }
         ensures goes { GoesOn self.old self.new }
     {
         let timeout = self.timeout(system);
@@ -81,7 +83,7 @@ impl<T: Drop, L: Drop> SocketSet<T, L> {
         ensures noted { list_all (is_report_noted self.new) reports.now ≡ true }
         ensures reported { IsReadIf (λ number. list_any (reports_read number) reports.now) self.old self.new }
         ensures kept { KeepsNotes self.old self.new }
-        ensures told { ((number : ℕ) → is_link_registered self.old number ≡ true) → Steps (AreWaitCalls (HasLink self.old) (IsTriedTo self.old)) (S.journal system.old) (S.journal system.new) }
+        ensures told { ((number : ℕ) → is_link_registered self.old number ≡ true) → Steps (AreNoteCalls (HasLink self.old) (IsTriedTo self.old)) (S.journal system.old) (S.journal system.new) }
         ensures goes { GoesOn self.old self.new }
     {
         self.note_side(system, reports, false);
@@ -99,7 +101,7 @@ impl<T: Drop, L: Drop> SocketSet<T, L> {
         ensures noted { list_all (is_side_noted of_buses self.new) reports.now ≡ true }
         ensures reported { IsReadIf (λ number. list_any (reports_read number) reports.now) self.old self.new }
         ensures kept { KeepsNotes self.old self.new }
-        ensures told { ((number : ℕ) → is_link_registered self.old number ≡ true) → Steps (AreWaitCalls (HasLink self.old) (IsTriedTo self.old)) (S.journal system.old) (S.journal system.new) }
+        ensures told { ((number : ℕ) → is_link_registered self.old number ≡ true) → Steps (AreNoteCalls (HasLink self.old) (IsTriedTo self.old)) (S.journal system.old) (S.journal system.new) }
         ensures goes { GoesOn self.old self.new }
     {
         for report in reports {
@@ -117,7 +119,7 @@ impl<T: Drop, L: Drop> SocketSet<T, L> {
         ensures noted { is_side_noted of_buses self.new report.now ≡ true }
         ensures reported { IsReadIf (λ number. reports_read number report.now) self.old self.new }
         ensures kept { KeepsNotes self.old self.new }
-        ensures told { ((number : ℕ) → is_link_registered self.old number ≡ true) → Steps (AreWaitCalls (HasLink self.old) (IsTriedTo self.old)) (S.journal system.old) (S.journal system.new) }
+        ensures told { ((number : ℕ) → is_link_registered self.old number ≡ true) → Steps (AreNoteCalls (HasLink self.old) (IsTriedTo self.old)) (S.journal system.old) (S.journal system.new) }
         ensures goes { GoesOn self.old self.new }
     {
         if is_bus(report.number) == of_buses {
@@ -129,7 +131,7 @@ impl<T: Drop, L: Drop> SocketSet<T, L> {
         ensures noted { is_report_noted self.new report.now ≡ true }
         ensures reported { IsReadIf (λ number. reports_read number report.now) self.old self.new }
         ensures kept { KeepsNotes self.old self.new }
-        ensures told { ((number : ℕ) → is_link_registered self.old number ≡ true) → Steps (AreWaitCalls (HasLink self.old) (IsTriedTo self.old)) (S.journal system.old) (S.journal system.new) }
+        ensures told { ((number : ℕ) → is_link_registered self.old number ≡ true) → Steps (AreNoteCalls (HasLink self.old) (IsTriedTo self.old)) (S.journal system.old) (S.journal system.new) }
         ensures goes { GoesOn self.old self.new }
     {
         self.note(system, report.number, report.readable, report.writable);
@@ -146,7 +148,7 @@ impl<T: Drop, L: Drop> SocketSet<T, L> {
         ensures noted { is_noted self.new number readable writable ≡ true }
         ensures reported { IsReadIf (λ other. nat_eq number other && readable) self.old self.new }
         ensures kept { KeepsNotes self.old self.new }
-        ensures told { ((number : ℕ) → is_link_registered self.old number ≡ true) → Steps (AreWaitCalls (HasLink self.old) (IsTriedTo self.old)) (S.journal system.old) (S.journal system.new) }
+        ensures told { ((number : ℕ) → is_link_registered self.old number ≡ true) → Steps (AreNoteCalls (HasLink self.old) (IsTriedTo self.old)) (S.journal system.old) (S.journal system.new) }
         ensures goes { GoesOn self.old self.new }
     {
         if number >= LISTENERS {
@@ -166,7 +168,7 @@ impl<T: Drop, L: Drop> SocketSet<T, L> {
         ensures noted { is_link_noted readable writable (tree.get nat_cmp self.new.links number) ≡ true }
         ensures reported { IsReadIf (λ other. nat_eq number other && readable) self.old self.new }
         ensures kept { KeepsNotes self.old self.new }
-        ensures told { ((number : ℕ) → is_link_registered self.old number ≡ true) → Steps (AreWaitCalls (HasLink self.old) (IsTriedTo self.old)) (S.journal system.old) (S.journal system.new) }
+        ensures told { ((number : ℕ) → is_link_registered self.old number ≡ true) → Steps (AreNoteCalls (HasLink self.old) (IsTriedTo self.old)) (S.journal system.old) (S.journal system.new) }
         ensures goes { GoesOn self.old self.new }
     {
         if let Some(socket) = self.links.get_mut(&number) {
@@ -413,7 +415,7 @@ impl<T: Drop, L: Drop> SocketSet<T, L> {
     fn retry_all<S: Sockets<Stream = T, Listener = L>>(&mut self, system: &mut S)
         ensures reported { IsReadIf (λ _. false) self.old self.new }
         ensures kept { KeepsNotes self.old self.new }
-        ensures told { ((number : ℕ) → is_link_registered self.old number ≡ true) → Steps (AreWaitCalls (HasLink self.old) (IsTriedTo self.old)) (S.journal system.old) (S.journal system.new) }
+        ensures told { ((number : ℕ) → is_link_registered self.old number ≡ true) → Steps (AreNoteCalls (HasLink self.old) (IsTriedTo self.old)) (S.journal system.old) (S.journal system.new) }
         ensures goes { GoesOn self.old self.new }
     {
         if self.pending.is_empty() && !self.has_stalled() {
@@ -461,7 +463,7 @@ impl<T: Drop, L: Drop> SocketSet<T, L> {
     )
         ensures reported { IsReadIf (λ _. false) self.old self.new }
         ensures kept { KeepsNotes self.old self.new }
-        ensures told { ((number : ℕ) → is_link_registered self.old number ≡ true) → Steps (AreWaitCalls (HasLink self.old) (IsTriedTo self.old)) (S.journal system.old) (S.journal system.new) }
+        ensures told { ((number : ℕ) → is_link_registered self.old number ≡ true) → Steps (AreNoteCalls (HasLink self.old) (IsTriedTo self.old)) (S.journal system.old) (S.journal system.new) }
         ensures goes { GoesOn self.old self.new }
     {
         for _ in 0..self.pending.len() {
@@ -477,7 +479,7 @@ impl<T: Drop, L: Drop> SocketSet<T, L> {
     )
         ensures reported { IsReadIf (λ _. false) self.old self.new }
         ensures kept { KeepsNotes self.old self.new }
-        ensures told { ((number : ℕ) → is_link_registered self.old number ≡ true) → Steps (AreWaitCalls (HasLink self.old) (IsTriedTo self.old)) (S.journal system.old) (S.journal system.new) }
+        ensures told { ((number : ℕ) → is_link_registered self.old number ≡ true) → Steps (AreNoteCalls (HasLink self.old) (IsTriedTo self.old)) (S.journal system.old) (S.journal system.new) }
         ensures goes { GoesOn self.old self.new }
     {
         let Some(&number) = self.pending.front() else {
@@ -506,7 +508,7 @@ impl<T: Drop, L: Drop> SocketSet<T, L> {
         ensures done { result ≡ Attempt.Done → is_pending_at self.new number ≡ false }
         ensures reported { IsReadIf (λ _. false) self.old self.new }
         ensures kept { KeepsNotes self.old self.new }
-        ensures told { ((number : ℕ) → is_link_registered self.old number ≡ true) → Steps (AreWaitCalls (HasLink self.old) (IsTriedTo self.old)) (S.journal system.old) (S.journal system.new) }
+        ensures told { ((number : ℕ) → is_link_registered self.old number ≡ true) → Steps (AreNoteCalls (HasLink self.old) (IsTriedTo self.old)) (S.journal system.old) (S.journal system.new) }
         ensures goes { GoesOn self.old self.new }
     {
         match self.links.get_mut(&number) {

@@ -1,60 +1,78 @@
-use Rattle.std.proofs.Common.{◌∙◌}
-use Rattle.proxy_net.proofs.Answering.{bound_kept, consistent_goes, silent_none, counted_kept, silent_through}
-use Rattle.proxy_net.proofs.Going.{goes_through, wished_before}
-use Rattle.proxy_net.proofs.Reading.{closed_through, reports_closed}
+use Rattle.std.proofs.Common.{◌≡◌, Bool, false, true, refl, sym, subst, ◌∙◌, arith}
+use Rattle.proxy_net.specs.Steps.{Steps, AreWaits}
 use Rattle.proxy_net.specs.Sockets.{HasLink, IsTriedTo}
-use Rattle.proxy_net.proofs.Telling.{steps_weaker}
-use Rattle.proxy_net.proofs.Waiting.{waits_through, waits_before, waits_silent, registered_after}
+use Rattle.proxy_net.specs.declared.net.Turn.TheVariants.{Named, Ended, Again}
+use Rattle.proxy_net.proofs.Going.{goes_through, wished_before}
+use Rattle.proxy_net.proofs.Reading.{closed_through}
+use Rattle.proxy_net.proofs.Telling.{steps_through, steps_weaker}
+use Rattle.proxy_net.proofs.Waiting.{again_then, many_fail, named_succeeds, named_then, not_quiet, not_true, turns_before, waits_then}
 use Rattle.proxy_net.proofs.net.MioNet.next.Goals as goal
 
-pub returns-in-Some-clause-wished : goal.returns-in-Some-clause-wished
-returns-in-Some-clause-wished g c = wished_before c.args.self.now.sockets c.loop.self.sockets c.next.new.self c.in-Some.ready c.loop.invariant.goes c.in-Some.ensures.wished
+pub turn-requires : goal.turn-requires
+turn-requires g c = c.loop-turn.invariant.there
 
-pub returns-in-Some-clause-closed : goal.returns-in-Some-clause-closed
-returns-in-Some-clause-closed g c = closed_through c.loop.invariant.closed (reports_closed c.next.ensures.reports)
+pub returns-in-Named-clause-wished : goal.returns-in-Named-clause-wished
+returns-in-Named-clause-wished g c = λ _ _. wished_before c.args.self.now.sockets c.loop-turn.self.sockets c.turn.new.self.sockets c.in-Named.ready c.loop-turn.invariant.goes (c.in-Named.ensures.wished c.in-Named.ready refl)
 
-pub returns-in-Some-clause-goes : goal.returns-in-Some-clause-goes
-returns-in-Some-clause-goes g c = goes_through c.loop.invariant.goes c.next.ensures.goes
+pub returns-in-Named-clause-quiet : goal.returns-in-Named-clause-quiet
+returns-in-Named-clause-quiet g c = (
+  λ e. absurd (not_quiet c.loop-turn.self.sockets c.turn.new.self.sockets c.in-Named.ready (c.in-Named.ensures.wished c.in-Named.ready refl) e),
+  λ gone. absurd (let no : Named c.in-Named.ready ≡ Ended = c.in-Named.ensures.ended.1 gone in cc),
+)
 
-pub returns-then-is_err-clause-closed : goal.returns-then-is_err-clause-closed
-returns-then-is_err-clause-closed g c = closed_through c.loop.invariant.closed (closed_through (reports_closed c.next.ensures.reports) (reports_closed c.ask-asked.ensures.reports))
+pub returns-in-Named-clause-present : goal.returns-in-Named-clause-present
+returns-in-Named-clause-present g c = c.turn.ensures.present ∙ c.loop-turn.invariant.present
 
-pub returns-then-is_err-clause-goes : goal.returns-then-is_err-clause-goes
-returns-then-is_err-clause-goes g c = goes_through c.loop.invariant.goes (goes_through c.next.ensures.goes c.ask-asked.ensures.goes)
+pub returns-in-Named-clause-closed : goal.returns-in-Named-clause-closed
+returns-in-Named-clause-closed g c = closed_through c.loop-turn.invariant.closed c.turn.ensures.closed
 
-pub returns-then-is_err-clause-asked : goal.returns-then-is_err-clause-asked
-returns-then-is_err-clause-asked g c = waits_through (HasLink c.args.self.now.sockets) (IsTriedTo c.args.self.now.sockets) c.loop.invariant.asked (waits_before c.args.self.now.sockets c.next.new.self (goes_through c.loop.invariant.goes c.next.ensures.goes) (c.ask-asked.ensures.told (registered_after c.loop.self.sockets c.next.new.self c.next.ensures.goes c.loop.self.consistent.link_tokens)))
+pub returns-in-Named-clause-goes : goal.returns-in-Named-clause-goes
+returns-in-Named-clause-goes g c = goes_through c.loop-turn.invariant.goes c.turn.ensures.goes
 
-pub loop-preserved : goal.loop-preserved
-loop-preserved g c = record {
-  asked = waits_through (HasLink c.args.self.now.sockets) (IsTriedTo c.args.self.now.sockets) c.loop.invariant.asked (waits_through (HasLink c.args.self.now.sockets) (IsTriedTo c.args.self.now.sockets) (waits_before c.args.self.now.sockets c.next.new.self (goes_through c.loop.invariant.goes c.next.ensures.goes) (c.ask-asked.ensures.told (registered_after c.loop.self.sockets c.next.new.self c.next.ensures.goes c.loop.self.consistent.link_tokens))) (waits_before c.args.self.now.sockets c.ask-asked.new.self (goes_through c.loop.invariant.goes (goes_through c.next.ensures.goes c.ask-asked.ensures.goes)) (c.note_all.ensures.told (registered_after c.loop.self.sockets c.ask-asked.new.self (goes_through c.next.ensures.goes c.ask-asked.ensures.goes) c.loop.self.consistent.link_tokens))));
-  goes = goes_through c.loop.invariant.goes (goes_through c.next.ensures.goes (goes_through c.ask-asked.ensures.goes c.note_all.ensures.goes));
-  closed = closed_through c.loop.invariant.closed (closed_through (reports_closed c.next.ensures.reports) (closed_through (reports_closed c.ask-asked.ensures.reports) (record { each = c.note_all.ensures.reported.closed })));
-}
+pub returns-in-Named-clause-asked : goal.returns-in-Named-clause-asked
+returns-in-Named-clause-asked g c =
+    let sockets = c.args.self.now.sockets in
+    let succeeds = named_succeeds c.loop-turn.self.sockets c.turn.new.self.sockets c.in-Named.ready (c.in-Named.ensures.wished c.in-Named.ready refl) in
+    subst (λ (failed : Bool). Steps (AreWaits (HasLink sockets) (IsTriedTo sockets) c.args.self.now.starter c.turn.new.self.starter failed) (g.S.Sockets.journal c.args.self.now.system) (g.S.Sockets.journal c.turn.new.self.system)) (sym succeeds)
+    (steps_through (λ first second p q. named_then c.turn.new.self.starter first second p.0 q) c.loop-turn.invariant.asked c.in-Named.ensures.asked)
 
-pub invariant_of-self-then-is_err-clause-counted : goal.invariant_of-self-then-is_err-clause-counted
-invariant_of-self-then-is_err-clause-counted g c =
-    counted_kept c.loop.self.counted (steps_weaker (waits_silent _ _) (c.ask-asked.ensures.told (registered_after c.loop.self.sockets c.next.new.self c.next.ensures.goes c.loop.self.consistent.link_tokens))) (c.ask-asked.ensures.goes.number ∙ c.next.ensures.goes.number) (c.ask-asked.ensures.goes.sessions ∙ c.next.ensures.goes.sessions)
+pub returns-in-Ended-clause-closed : goal.returns-in-Ended-clause-closed
+returns-in-Ended-clause-closed g c = closed_through c.loop-turn.invariant.closed c.turn.ensures.closed
 
-pub invariant_of-self-in-loop-clause-counted : goal.invariant_of-self-in-loop-clause-counted
-invariant_of-self-in-loop-clause-counted g c =
-    counted_kept c.loop.self.counted (silent_through (steps_weaker (waits_silent _ _) (c.ask-asked.ensures.told (registered_after c.loop.self.sockets c.next.new.self c.next.ensures.goes c.loop.self.consistent.link_tokens))) (steps_weaker (waits_silent _ _) (c.note_all.ensures.told (registered_after c.loop.self.sockets c.ask-asked.new.self (goes_through c.next.ensures.goes c.ask-asked.ensures.goes) c.loop.self.consistent.link_tokens)))) (c.note_all.ensures.goes.number ∙ c.ask-asked.ensures.goes.number ∙ c.next.ensures.goes.number)
-    (c.note_all.ensures.goes.sessions ∙ c.ask-asked.ensures.goes.sessions ∙ c.next.ensures.goes.sessions)
+pub returns-in-Ended-clause-goes : goal.returns-in-Ended-clause-goes
+returns-in-Ended-clause-goes g c = goes_through c.loop-turn.invariant.goes c.turn.ensures.goes
 
-pub invariant_of-self-then-is_err-clause-bound : goal.invariant_of-self-then-is_err-clause-bound
-invariant_of-self-then-is_err-clause-bound g c =
-    let goes = goes_through c.next.ensures.goes c.ask-asked.ensures.goes in
-    bound_kept c.loop.self.sockets c.ask-asked.new.self (steps_weaker (waits_silent _ _) (c.ask-asked.ensures.told (registered_after c.loop.self.sockets c.next.new.self c.next.ensures.goes c.loop.self.consistent.link_tokens))) goes.number goes.files c.loop.self.bound
+pub returns-in-Ended-clause-asked : goal.returns-in-Ended-clause-asked
+returns-in-Ended-clause-asked g c =
+    let sockets = c.args.self.now.sockets in
+    steps_through (λ first second p q. waits_then (HasLink sockets) (IsTriedTo sockets) false first second p.0 (turns_before sockets c.loop-turn.self.sockets c.loop-turn.invariant.goes second q)) c.loop-turn.invariant.asked c.in-Ended.ensures.asked
 
-pub invariant_of-self-in-loop-clause-bound : goal.invariant_of-self-in-loop-clause-bound
-invariant_of-self-in-loop-clause-bound g c =
-    let goes = goes_through c.next.ensures.goes (goes_through c.ask-asked.ensures.goes c.note_all.ensures.goes) in
-    bound_kept c.loop.self.sockets c.note_all.new.self (silent_through (steps_weaker (waits_silent _ _) (c.ask-asked.ensures.told (registered_after c.loop.self.sockets c.next.new.self c.next.ensures.goes c.loop.self.consistent.link_tokens))) (steps_weaker (waits_silent _ _) (c.note_all.ensures.told (registered_after c.loop.self.sockets c.ask-asked.new.self (goes_through c.next.ensures.goes c.ask-asked.ensures.goes) c.loop.self.consistent.link_tokens)))) goes.number goes.files c.loop.self.bound
+pub returns-in-Failed-clause-closed : goal.returns-in-Failed-clause-closed
+returns-in-Failed-clause-closed g c = closed_through c.loop-turn.invariant.closed c.turn.ensures.closed
 
-pub invariant_of-self : goal.invariant_of-self
-invariant_of-self g c = record {
-  consistent = consistent_goes c.loop.self.sockets c.next.new.self c.next.ensures.goes c.loop.self.consistent;
-  room = c.loop.self.room;
-  counted = counted_kept c.loop.self.counted (silent_none (g.S.Sockets.journal c.loop.self.system)) c.next.ensures.goes.number c.next.ensures.goes.sessions;
-  bound = bound_kept c.loop.self.sockets c.next.new.self (silent_none (g.S.Sockets.journal c.loop.self.system)) c.next.ensures.goes.number c.next.ensures.goes.files c.loop.self.bound;
-}
+pub returns-in-Failed-clause-goes : goal.returns-in-Failed-clause-goes
+returns-in-Failed-clause-goes g c = goes_through c.loop-turn.invariant.goes c.turn.ensures.goes
+
+pub returns-in-Failed-clause-asked : goal.returns-in-Failed-clause-asked
+returns-in-Failed-clause-asked g c =
+    let sockets = c.args.self.now.sockets in
+    steps_through (λ first second p q. waits_then (HasLink sockets) (IsTriedTo sockets) true first second p.0 (turns_before sockets c.loop-turn.self.sockets c.loop-turn.invariant.goes second q.0)) c.loop-turn.invariant.asked c.in-Failed.ensures.asked
+
+pub returns-clause-quiet : goal.returns-clause-quiet
+returns-clause-quiet g c = (λ e. absurd cc, λ gone. absurd (let no : false ≡ true = sym c.loop-turn.invariant.there ∙ gone in cc))
+
+pub returns-clause-asked : goal.returns-clause-asked
+returns-clause-asked g c = steps_weaker (λ calls p. many_fail calls p.0 (grind (arith, p.1))) c.loop-turn.invariant.asked
+
+pub loop-turn-preserved : goal.loop-turn-preserved
+loop-turn-preserved g c =
+    let sockets = c.args.self.now.sockets in
+    record {
+      goes = goes_through c.loop-turn.invariant.goes c.turn.ensures.goes;
+      closed = closed_through c.loop-turn.invariant.closed c.turn.ensures.closed;
+      there = not_true _ (λ gone. absurd (let no : Again ≡ Ended = c.in-Again.ensures.ended.1 gone in cc));
+      present = c.turn.ensures.present ∙ c.loop-turn.invariant.present;
+      replaces = c.turn.ensures.replaces ∙ c.loop-turn.invariant.replaces;
+      once = λ told. c.turn.ensures.once (c.loop-turn.invariant.once told);
+      asked = steps_through (λ first second p q. again_then c.loop-turn._turn first second p (turns_before sockets c.loop-turn.self.sockets c.loop-turn.invariant.goes second q.0, q.1)) c.loop-turn.invariant.asked c.in-Again.ensures.asked;
+    }

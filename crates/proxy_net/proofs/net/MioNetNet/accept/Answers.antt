@@ -9,7 +9,7 @@ returns-clause-asked g c = asked_then_told (accept_entry c.args.listener c.accep
 
 pub returns-clause-told : goal.returns-clause-told
 returns-clause-told g c =
-    told_one c.args.self.now.sockets c.accept-answer.new.self (accept_entry c.args.listener c.accept-answer.result)
+    told_one c.args.self.now.sockets c.accept-answer.new.self c.args.self.now.starter c.args.self.now.starter (accept_entry c.args.listener c.accept-answer.result)
     (steps_weaker (accept_silent _ c.accept-answer.result) (c.accept-answer.ensures.told (c.args.self.now.consistent.listener_tokens c.args.listener))) c.tell.ensures c.accept-answer.ensures.grows.each
 
 pub returns-clause-numbered : goal.returns-clause-numbered

@@ -8,7 +8,7 @@ returns-clause-asked g c = asked_then_told (connect_entry c.args.session c.args.
 
 pub returns-clause-told : goal.returns-clause-told
 returns-clause-told g c =
-    told_one c.args.self.now.sockets c.connect-answer.new.self (connect_entry c.args.session c.args.path.now c.connect-answer.result)
+    told_one c.args.self.now.sockets c.connect-answer.new.self c.args.self.now.starter c.args.self.now.starter (connect_entry c.args.session c.args.path.now c.connect-answer.result)
     (steps_weaker (connect_silent _ _ c.connect-answer.result) c.connect-answer.ensures.told) (told_as (λ path. connect_entry c.args.session path c.connect-answer.result) c.as_bytes.ensures.value c.tell.ensures) c.connect-answer.ensures.grows.each
 
 pub invariant_of-self : goal.invariant_of-self

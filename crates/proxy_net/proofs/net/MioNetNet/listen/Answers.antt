@@ -9,8 +9,8 @@ returns-clause-asked g c = asked_then_told (listen_entry c.args.path.now c.liste
 
 pub returns-clause-told : goal.returns-clause-told
 returns-clause-told g c =
-    told_one c.args.self.now.sockets c.listen-answer.new.self (listen_entry c.args.path.now c.listen-answer.result)
-    (steps_weaker (listen_silent _ _ c.listen-answer.result) c.listen-answer.ensures.told) (told_as (λ path. listen_entry path c.listen-answer.result) c.as_bytes.ensures.value c.tell.ensures) c.listen-answer.ensures.grows.each
+    told_one c.args.self.now.sockets c.listen-answer.new.self c.args.self.now.starter c.args.self.now.starter (listen_entry c.args.path.now c.listen-answer.result)
+    (steps_weaker (listen_silent _ _ _ c.listen-answer.result) c.listen-answer.ensures.told) (told_as (λ path. listen_entry path c.listen-answer.result) c.as_bytes.ensures.value c.tell.ensures) c.listen-answer.ensures.grows.each
 
 pub returns-clause-numbered : goal.returns-clause-numbered
 returns-clause-numbered g c = listener_numbered (g.S.Sockets.journal c.args.self.now.system) c.listen-answer.result c.args.self.now.counted c.listen-answer.ensures.numbered
@@ -22,7 +22,7 @@ invariant_of-self g c =
       consistent = consistent_grows c.args.self.now.sockets c.listen-answer.new.self c.listen-answer.ensures.grows c.args.self.now.consistent;
       room = c.args.self.now.room;
       counted = counted_one (listen_entry c.args.path.now c.listen-answer.result) c.args.self.now.counted
-          (steps_weaker (listen_silent _ _ c.listen-answer.result) c.listen-answer.ensures.told) (told_as (λ path. listen_entry path c.listen-answer.result) c.as_bytes.ensures.value c.tell.ensures)
+          (steps_weaker (listen_silent _ _ _ c.listen-answer.result) c.listen-answer.ensures.told) (told_as (λ path. listen_entry path c.listen-answer.result) c.as_bytes.ensures.value c.tell.ensures)
           makes.0 (omega (arith, makes.1, c.listen-answer.ensures.sessions));
-      bound = bound_more c.args.self.now.sockets c.listen-answer.new.self _ c.args.path.now c.listen-answer.result (asked_then_told (listen_entry c.args.path.now c.listen-answer.result) c.listen-answer.ensures.told (told_as (λ path. listen_entry path c.listen-answer.result) c.as_bytes.ensures.value c.tell.ensures)) c.listen-answer.ensures.made c.listen-answer.ensures.err c.listen-answer.ensures.file c.listen-answer.ensures.grows.files c.args.self.now.bound;
+      bound = bound_more c.args.self.now.sockets c.listen-answer.new.self _ c.args.path.now _ c.listen-answer.result (asked_then_told (listen_entry c.args.path.now c.listen-answer.result) c.listen-answer.ensures.told (told_as (λ path. listen_entry path c.listen-answer.result) c.as_bytes.ensures.value c.tell.ensures)) c.listen-answer.ensures.made c.listen-answer.ensures.err c.listen-answer.ensures.file c.listen-answer.ensures.grows.files c.args.self.now.bound;
     }

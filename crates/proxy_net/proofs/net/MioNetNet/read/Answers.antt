@@ -9,7 +9,7 @@ returns-clause-asked g c = asked_then_told (read_entry c.args.link c.read-got.ne
 
 pub returns-clause-told : goal.returns-clause-told
 returns-clause-told g c =
-    told_one c.args.self.now.sockets c.read-got.new.self (read_entry c.args.link c.read-got.new.into c.read-got.result)
+    told_one c.args.self.now.sockets c.read-got.new.self c.args.self.now.starter c.args.self.now.starter (read_entry c.args.link c.read-got.new.into c.read-got.result)
     (steps_weaker (read_silent _ _ c.read-got.result) (c.read-got.ensures.told (c.args.self.now.consistent.link_tokens (number_of c.args.link)))) c.tell.ensures c.read-got.ensures.goes.counts
 
 pub invariant_of-self : goal.invariant_of-self

@@ -11,7 +11,7 @@ returns-clause-asked g c = asked_then_told (shut c.args.link) (c.shut.ensures.to
 
 pub returns-clause-told : goal.returns-clause-told
 returns-clause-told g c =
-    told_one c.args.self.now.sockets c.shut.new.self (shut c.args.link)
+    told_one c.args.self.now.sockets c.shut.new.self c.args.self.now.starter c.args.self.now.starter (shut c.args.link)
     (steps_weaker (shut_silent (is_open_at c.args.self.now.sockets (number_of c.args.link)) (number_of c.args.link)) (c.shut.ensures.told (c.args.self.now.consistent.link_tokens (number_of c.args.link)))) c.tell.ensures c.shut.ensures.grows.each
 
 pub invariant_of-self : goal.invariant_of-self

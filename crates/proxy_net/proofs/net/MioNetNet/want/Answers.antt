@@ -2,7 +2,7 @@ use Rattle.proxy_net.proofs.Answering.{bound_kept, silent_none, told_none, consi
 use Rattle.proxy_net.proofs.net.MioNetNet.want.Goals as goal
 
 pub returns-clause-told : goal.returns-clause-told
-returns-clause-told g c = told_none c.args.self.now.sockets c.want.new.self (g.S.Sockets.journal c.args.self.now.system) c.want.ensures.grows.each
+returns-clause-told g c = told_none c.args.self.now.sockets c.want.new.self c.args.self.now.starter c.args.self.now.starter (g.S.Sockets.journal c.args.self.now.system) c.want.ensures.grows.each
 
 pub invariant_of-self : goal.invariant_of-self
 invariant_of-self g c = record {

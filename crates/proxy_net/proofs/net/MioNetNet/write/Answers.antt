@@ -9,7 +9,7 @@ returns-clause-asked g c = asked_then_told (write_entry c.args.link c.args.piece
 
 pub returns-clause-told : goal.returns-clause-told
 returns-clause-told g c =
-    told_one c.args.self.now.sockets c.write-took.new.self (write_entry c.args.link c.args.piece.now c.write-took.result)
+    told_one c.args.self.now.sockets c.write-took.new.self c.args.self.now.starter c.args.self.now.starter (write_entry c.args.link c.args.piece.now c.write-took.result)
     (steps_weaker (write_silent _ _ c.write-took.result) (c.write-took.ensures.told (c.args.self.now.consistent.link_tokens (number_of c.args.link)))) c.tell.ensures c.write-took.ensures.goes.counts
 
 pub invariant_of-self : goal.invariant_of-self

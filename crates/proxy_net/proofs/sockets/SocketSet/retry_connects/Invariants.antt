@@ -1,5 +1,5 @@
 use Rattle.std.proofs.Common.{ℕ, ◌≡◌, true, false}
-use Rattle.proxy_net.specs.Steps.{Steps, AreWaitCalls}
+use Rattle.proxy_net.specs.Steps.{Steps, AreNoteCalls}
 use Rattle.proxy_net.specs.Sockets.{GoesOn, HasLink, IsTriedTo, is_link_registered, KeepsNotes, IsReadIf}
 use Rattle.proxy_net.proofs.sockets.SocketSet.retry_connects.Given as goal
 
@@ -8,5 +8,5 @@ invariant-loop g l = record {
   goes : GoesOn l.fn.self l.self;
   kept : KeepsNotes l.fn.self l.self;
   reported : IsReadIf (λ _. false) l.fn.self l.self;
-  told : ((number : ℕ) → is_link_registered l.fn.self number ≡ true) → Steps (AreWaitCalls (HasLink l.fn.self) (IsTriedTo l.fn.self)) (g.S.Sockets.journal l.fn.system) (g.S.Sockets.journal l.system);
+  told : ((number : ℕ) → is_link_registered l.fn.self number ≡ true) → Steps (AreNoteCalls (HasLink l.fn.self) (IsTriedTo l.fn.self)) (g.S.Sockets.journal l.fn.system) (g.S.Sockets.journal l.system);
 }
