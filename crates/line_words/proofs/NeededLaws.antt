@@ -121,3 +121,22 @@ stops_needed {Z = Z} was now words i word before reads between new_reads why lt 
         ap (λ (ws : List (String Z)). texts_of ws) (sym (take-append-drop i words))
         ∙ map-append (λ w. string_bytes w) (take i words) (drop i words)
         ∙ ap (λ (ws : List (List ℕ)). first ++ ws) (next_word words i word lt is)
+
+-- where memory runs out before the next word
+pub needed_before : {Z : Type 0} (was : Told) (words : List (String Z)) (i : ℕ) (reads now : List (List ℕ)) → now ≡ reads ++ paths_in (texts_of (take i words)) →
+    NoneIsBad was (texts_of (take i words)) → ReadFront (needed_by was (texts_of words)) reads now
+needed_before {Z = Z} was words i reads now so_far sound =
+    read_first (needed_by was (texts_of words)) (paths_in first) (up_to_bad was (paths_in rest)) reads now parts so_far
+  where
+    first : List (List ℕ)
+    first = texts_of (take i words)
+
+    rest : List (List ℕ)
+    rest = texts_of (drop i words)
+
+    parts : needed_by was (texts_of words) ≡ paths_in first ++ up_to_bad was (paths_in rest)
+    parts =
+        ap (λ (ws : List (String Z)). needed_by was (texts_of ws)) (sym (take-append-drop i words))
+        ∙ ap (needed_by was) (map-append (λ w. string_bytes w) (take i words) (drop i words))
+        ∙ ap (up_to_bad was) (filter_map-append args_path first rest)
+        ∙ sound (paths_in rest)

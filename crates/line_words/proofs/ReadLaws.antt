@@ -67,14 +67,22 @@ read_until {Z = Z} words i word reads now new_reads why lt is so_far next named 
 
     by : (stopped : LineStop) → IsNamedBy (string_bytes word) stopped → ReadUntil (paths_in (texts_of words)) reads new_reads stopped
     by (stop.File path) h =
-        let one : paths_in (string_bytes word ∷ []) ≡ path.now ∷ [] = ap (λ (o : Option (List ℕ)). cons_option o []) h in
+        let one : paths_in (string_bytes word ∷ []) ≡ string_bytes path ∷ [] = ap (λ (o : Option (List ℕ)). cons_option o []) h in
         record {
           before = paths_in first;
           after = paths_in rest;
           among = parts ∙ ap (λ (paths : List (List ℕ)). paths ++ paths_in rest) (more ∙ ap (λ (paths : List (List ℕ)). paths_in first ++ paths) one)
-              ∙ append_assoc (paths_in first) (path.now ∷ []) (paths_in rest);
-          are = next ∙ ap (λ (paths : List (List ℕ)). now ++ paths) one ∙ ap (λ (paths : List (List ℕ)). paths ++ path.now ∷ []) so_far;
+              ∙ append_assoc (paths_in first) (string_bytes path ∷ []) (paths_in rest);
+          are = next ∙ ap (λ (paths : List (List ℕ)). now ++ paths) one ∙ ap (λ (paths : List (List ℕ)). paths ++ string_bytes path ∷ []) so_far;
         }
     by stop.TooLong h = front
     by (stop.Bad bad) h = front
     by stop.Memory h = front
+
+-- where memory runs out before the next word
+pub read_before : {Z : Type 0} (words : List (String Z)) (i : ℕ) (reads now : List (List ℕ)) → now ≡ reads ++ paths_in (texts_of (take i words)) → ReadFront (paths_in (texts_of words)) reads now
+read_before words i reads now so_far =
+    read_first (paths_in (texts_of words)) (paths_in (texts_of (take i words))) (paths_in (texts_of (drop i words))) reads now
+    (ap (λ (ws : List (String _)). paths_in (texts_of ws)) (sym (take-append-drop i words)) ∙ ap paths_in (map-append (λ w. string_bytes w) (take i words) (drop i words))
+    ∙ filter_map-append args_path (texts_of (take i words)) (texts_of (drop i words)))
+    so_far

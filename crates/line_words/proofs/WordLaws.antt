@@ -69,8 +69,9 @@ module _ (told : Told) (before : List (List ℕ)) (word path : List ℕ) (rest :
   -- the words behind these stop for what stops the file's
   pub file_stops : (why now : LineStop) → FileStops (told path) path why → IsBehind (length before) why now → StopsFrom told before (word ∷ rest) now
   file_stops (stop.File p) now f e =
-      rw e (from_file (without p.now told)
-      ∙ ap (λ (x : Option (List ℕ)). with_file before x (λ now. line_from (without p.now told) now rest)) (ap (without p.now told) (sym f) ∙ without-path p.now told))
+      let named_path = string_bytes p in
+      rw e (from_file (without named_path told)
+      ∙ ap (λ (x : Option (List ℕ)). with_file before x (λ now. line_from (without named_path told) now rest)) (ap (without named_path told) (sym f) ∙ without-path named_path told))
   file_stops stop.Memory now f e = rw e tt
   file_stops stop.TooLong now f e = rw e (by (told path) refl f)
     where
@@ -110,9 +111,9 @@ agrees_then told a b x y this h k settled = by (h told (knows_all told))
     by (inr e) = e ∙ k (subst (λ (l : Line). IsSettled l) e settled)
 
 pub stops_then : (told : Told) (a b x y : List (List ℕ)) (why : LineStop) → Expands told a x b y → StopsFrom told b y why → StopsFrom told a x why
-stops_then told a b x y (stop.File path) h k = by (h (without path.now told) (knows_without path.now told))
+stops_then told a b x y (stop.File path) h k = by (h (without (string_bytes path) told) (knows_without (string_bytes path) told))
   where
-    by : (line_from (without path.now told) a x ≡ Untold) ⊎ (line_from (without path.now told) a x ≡ line_from (without path.now told) b y) → line_from (without path.now told) a x ≡ Untold
+    by : (line_from (without (string_bytes path) told) a x ≡ Untold) ⊎ (line_from (without (string_bytes path) told) a x ≡ line_from (without (string_bytes path) told) b y) → line_from (without (string_bytes path) told) a x ≡ Untold
     by (inl e) = e
     by (inr e) = e ∙ k
 stops_then told a b x y stop.TooLong h k = agrees_then told a b x y TooLong h k
@@ -159,7 +160,8 @@ agrees_same : (was now : Told) (before words : List (List ℕ)) (this : Line) �
 agrees_same was now before words this same h = subst (λ (l : Line). Agrees l this) (line_same was now same before words) h
 
 pub stops_same : (was now : Told) (before words : List (List ℕ)) (why : LineStop) → ((p : List ℕ) → now p ≡ was p) → StopsFrom now before words why → StopsFrom was before words why
-stops_same was now before words (stop.File path) same h = sym (line_same (without path.now was) (without path.now now) (without_same path.now was now same) before words) ∙ h
+stops_same was now before words (stop.File path) same h =
+    sym (line_same (without (string_bytes path) was) (without (string_bytes path) now) (without_same (string_bytes path) was now same) before words) ∙ h
 stops_same was now before words stop.TooLong same h = agrees_same was now before words TooLong same h
 stops_same was now before words (stop.Bad bad) same h = agrees_same was now before words (Bad bad) same h
 stops_same was now before words stop.Memory same h = tt

@@ -1,5 +1,5 @@
 -- What reading words answers, by what is told of the files.
-use Rattle.std.specs.Prelude.{◌≡◌, ◌≤◌, ◌<◌, ◌+◌, ◌⊎◌, ℕ, List, [], length, Option, None, Err, IfSome, bytes_eq, if◌then◌else◌}
+use Rattle.std.specs.Prelude.{◌≡◌, ◌≤◌, ◌<◌, ◌+◌, ◌⊎◌, ℕ, List, [], length, Option, None, Err, IfSome, bytes_eq, string_bytes, if◌then◌else◌}
 use Rattle.policy_args.specs.Words.{words_in}
 use Rattle.line_words.specs.declared.reading.TheConstants.{ARGS_LIMIT}
 use Rattle.line_words.specs.declared.reading.LineStop.{LineStop}
@@ -23,7 +23,7 @@ without path told p = if bytes_eq p path then None else told p
 
 -- why words give no line: what is told settles it so, or a file was not read without which nothing is settled
 abbrev pub StopsFrom : Told → List (List ℕ) → List (List ℕ) → LineStop → Type 0
-StopsFrom told before words (stop.File path) = line_from (without path.now told) before words ≡ Untold
+StopsFrom told before words (stop.File path) = line_from (without (string_bytes path) told) before words ≡ Untold
 StopsFrom told before words stop.TooLong = Agrees (line_from told before words) TooLong
 StopsFrom told before words (stop.Bad bad) = Agrees (line_from told before words) (Bad bad)
 StopsFrom told before words stop.Memory = Unit {0}
@@ -49,7 +49,7 @@ Expands told before words after rest = (some : Told) → Knows some told → (li
 
 -- why the words of one file aren't there
 abbrev pub FileStops : Option (List ℕ) → List ℕ → LineStop → Type 0
-FileStops told path (stop.File p) = p.now ≡ path
+FileStops told path (stop.File p) = string_bytes p ≡ path
 FileStops told path stop.TooLong = IfSome told (λ bytes. ARGS_LIMIT < length bytes)
 FileStops told path (stop.Bad bad) = IfSome told (λ bytes. (length bytes ≤ ARGS_LIMIT) × (words_in bytes ≡ Err bad))
 FileStops told path stop.Memory = Unit {0}

@@ -1,12 +1,13 @@
--- The words of a proxy line, of which each `--args-file=FILE` stands for the words of FILE.
+-- The words of a proxy line. `--args-file=FILE` means the words in FILE, and `--args=FD` those in /dev/fd/FD.
 --
--- The files are read in the order of the words, and each is cut into words before the next is read. The words of a file are ended by
--- NULs; within it `--args-file=FILE` is no option. Then all words are read as a line. An index counts all of them, those of each file
--- in the place of the word that names it.
-use Rattle.std.specs.Prelude.{ℕ, ◌+◌, nat_lt, List, [], ◌∷◌, ◌++◌, length, codes, Option, Some, None, Result, Ok, Err, if◌then◌else◌}
+-- The files are read in the order of the words, and each is cut into words before the next is read. A NUL ends each word of a
+-- file, and these two options can't be used in a file. Then all words are read as a line. An index counts all of them, and the
+-- words of a file are counted at the word that names it.
+use Rattle.std.specs.Prelude.{ℕ, ◌+◌, nat_lt, List, [], ◌∷◌, ◌++◌, length, codes, Option, Some, None, option_map, Result, Ok, Err, if◌then◌else◌}
+use Rattle.std.specs.Option.{option_and_then}
 use Rattle.policy_args.specs.declared.BadWord.{BadWord}
 use Rattle.policy_args.specs.Words.{words_in, behind}
-use Rattle.policy_args.specs.ProxyLine.{LineValue, line_of}
+use Rattle.policy_args.specs.ProxyLine.{LineValue, descriptor_of, line_of}
 use Rattle.line_words.specs.declared.reading.TheConstants.{ARGS_LIMIT}
 
 -- what words come to
@@ -24,9 +25,17 @@ pub data Line : Type 0 where
 abbrev pub Told : Type 0
 Told = List ℕ → Option (List ℕ)
 
--- the path that a word names
+-- the path of a descriptor
+abbrev pub descriptor_path : List ℕ → Option (List ℕ)
+descriptor_path text = option_map (λ n. codes "/dev/fd/" ++ text) (descriptor_of text)
+
+abbrev pub or_descriptor : List ℕ → Option (List ℕ) → Option (List ℕ)
+or_descriptor word (Some path) = Some path
+or_descriptor word None = option_and_then descriptor_path (behind (codes "--args=") word)
+
+-- the path that a word names: FILE by --args-file=FILE, and /dev/fd/FD by --args=FD if FD is a descriptor
 abbrev pub args_path : List ℕ → Option (List ℕ)
-args_path word = behind (codes "--args-file=") word
+args_path word = or_descriptor word (behind (codes "--args-file=") word)
 
 abbrev pub with_words : List (List ℕ) → Result (List (List ℕ)) BadWord → (List (List ℕ) → Line) → Line
 with_words before (Ok words) next = next (before ++ words)

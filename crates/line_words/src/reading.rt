@@ -1,15 +1,15 @@
 //! Words, each file of words put in the place of the word that names it, and the line that they give.
-ghost use Rattle.std.specs.Prelude.{◌≡◌, ◌≤◌, ℕ, [], ◌∷◌, ◌++◌, List, Ok, length, option_map, IfOk, IfErr, IfSome, OnOk};
+ghost use Rattle.std.specs.Prelude.{◌≡◌, ◌≤◌, ℕ, [], ◌∷◌, ◌++◌, List, Ok, length, option_map, string_bytes, IfOk, IfErr, IfSome, OnOk};
 ghost use Rattle.link_traits.specs.Views.{FilesRose};
 ghost use Rattle.link_traits.specs.Texts.{texts_of};
 ghost use Rattle.policy_args.specs.Reading.{line_seen};
-ghost use Rattle.policy_args.specs.Words.{words_in};
-ghost use Rattle.line_words.specs.Words.{args_path, Reads, line_in};
+ghost use Rattle.policy_args.specs.Words.{behind as behind_front, words_in};
+ghost use Rattle.line_words.specs.Words.{args_path, descriptor_path, Reads, line_in};
 ghost use Rattle.line_words.specs.FilesRead.{paths_in, ReadUntil, IsNamedBy, needed_by, ReadsNeeded, NoneIsBad, EndsNeeded};
 ghost use Rattle.line_words.specs.Stops.{IsSettled, Agrees, StopsBy, StopsFrom, FileStops, IsBehind, Expands, CausedBy};
 
 use link_traits::{FileFault, Files, read_whole};
-use policy_args::{BadWord, LineRefusal, ProxyLine, read_line, words_of};
+use policy_args::{BadWord, LineRefusal, ProxyLine, read_descriptor, read_line, words_of};
 use std::alloc::{AllocError, Global};
 use thiserror::Error;
 
@@ -17,11 +17,11 @@ use thiserror::Error;
 pub const ARGS_LIMIT: usize = 16_777_216;
 
 /// Why words give no proxy line.
-#[derive(Clone, Copy, Debug, PartialEq, Eq, Error)]
-pub enum LineStop<'a> {
+#[derive(Debug, Drop, PartialEq, Eq, Error)]
+pub enum LineStop {
     /// The file at this path, which a word names, was not read.
     #[error("the file {0} could not be read")]
-    File(&'a str),
+    File(String),
     /// A file of words has more than `ARGS_LIMIT` bytes.
     #[error("a file of words has too many bytes")]
     TooLong,
@@ -33,13 +33,15 @@ pub enum LineStop<'a> {
     Memory,
 }
 
-/// The proxy line of words. Each `--args-file=FILE` stands for the words of FILE, which are ended by NULs as those of a policy file are; within
-/// such a file it is no option. The files are read first, in the order of the words, and each is cut into words before the next is read.
-pub fn read_words<'a, F: Files>(
+/// The proxy line of words. `--args-file=FILE` means the words in FILE, each ended by a NUL as in a policy file, and
+/// `--args=FD` those in `/dev/fd/FD`, FD being a number that `policy_args::read_descriptor` takes. These two options can't be
+/// used in such a file. The files are read first, in the order of the words, and each is cut into words before the next is
+/// read.
+pub fn read_words<F: Files>(
     alloc: Global,
     files: &mut F,
-    words: &'a [String],
-) -> Result<ProxyLine, LineStop<'a>>
+    words: &[String],
+) -> Result<ProxyLine, LineStop>
     ensures line { IfOk result (λ line. Agrees (line_in (F.view files.old).told (texts_of words.now)) (Reads (line_seen line))) }
     ensures stops { IfErr result (λ stop. StopsBy (F.view files.old).told (texts_of words.now) stop) }
     ensures cause { IfErr result (λ stop. CausedBy (FilesRose (F.view files.old) (F.view files.new)) stop) }
@@ -66,11 +68,7 @@ pub fn read_words<'a, F: Files>(
 }
 
 /// All words, with those of each file in the place of the word that names it.
-fn expand<'a, F: Files>(
-    alloc: Global,
-    files: &mut F,
-    words: &'a [String],
-) -> Result<Vec<String>, LineStop<'a>>
+fn expand<F: Files>(alloc: Global, files: &mut F, words: &[String]) -> Result<Vec<String>, LineStop>
     ensures words { IfOk result (λ all. Expands (F.view files.old).told [] (texts_of words.now) (texts_of all.items) []) }
     ensures stops { IfErr result (λ stop. StopsBy (F.view files.old).told (texts_of words.now) stop) }
     ensures cause { IfErr result (λ stop. CausedBy (FilesRose (F.view files.old) (F.view files.new)) stop) }
@@ -83,7 +81,11 @@ fn expand<'a, F: Files>(
 {
     let mut all = Vec::new(alloc);
     for word in words {
-        match add_word(alloc, files, word, &mut all) {
+        let path = match path_in(alloc, word) {
+            Ok(path) => path,
+            Err(_) => return Err(LineStop::Memory),
+        };
+        match add_word(alloc, files, word, path, &mut all) {
             Ok(()) => {}
             Err(stop) => return Err(stop),
         }
@@ -91,13 +93,15 @@ fn expand<'a, F: Files>(
     Ok(all)
 }
 
-/// Puts a word, or the words of the file that it names, behind these.
-fn add_word<'a, F: Files>(
+/// Appends a word to these, or the words of the file whose path it names.
+fn add_word<F: Files>(
     alloc: Global,
     files: &mut F,
-    word: &'a str,
+    word: &str,
+    path: Option<String>,
     all: &mut Vec<String>,
-) -> Result<(), LineStop<'a>>
+) -> Result<(), LineStop>
+    requires { option_map (λ path. string_bytes path) path ≡ args_path word.now }
     ensures words { OnOk result ((rest : List (List ℕ)) → Expands (F.view files.old).told (texts_of all.old.items) (word.now ∷ rest) (texts_of all.new.items) rest) }
     ensures stops { IfErr result (λ stop. (rest : List (List ℕ)) → StopsFrom (F.view files.old).told (texts_of all.old.items) (word.now ∷ rest) stop) }
     ensures cause { IfErr result (λ stop. CausedBy (FilesRose (F.view files.old) (F.view files.new)) stop) }
@@ -108,7 +112,7 @@ fn add_word<'a, F: Files>(
     ensures sound { OnOk result (NoneIsBad (F.view files.old).told (word.now ∷ [])) }
     ensures ends { IfErr result (λ stop. EndsNeeded (F.view files.old).told (texts_of all.old.items) word.now stop) }
 {
-    match path_in(word) {
+    match path {
         Some(path) => match file_words(alloc, files, path) {
             Ok(mut words) => match all.append(&mut words) {
                 Ok(()) => Ok(()),
@@ -124,15 +128,38 @@ fn add_word<'a, F: Files>(
 }
 
 /// The path of the file that a word names.
-fn path_in(word: &str) -> Option<&str>
-    ensures { option_map (λ path. path.now) result ≡ args_path word.now }
+fn path_in(alloc: Global, word: &str) -> Result<Option<String>, AllocError>
+    ensures { IfOk result (λ path. option_map (λ path. string_bytes path) path ≡ args_path word.now) }
 {
-    word.strip_prefix("--args-file=")
+    match after("--args-file=", word) {
+        Some(path) => Ok(Some(String::from_str(alloc, path)?)),
+        None => match after("--args=", word) {
+            Some(text) => path_of(alloc, text),
+            None => Ok(None),
+        },
+    }
+}
+
+/// The text after the front of a word, if the word has it.
+fn after<'a>(front: &str, word: &'a str) -> Option<&'a str>
+    ensures { option_map (λ text. text.now) result ≡ behind_front front.now word.now }
+{
+    word.strip_prefix(front)
+}
+
+/// The path of a descriptor, if the text is the number of one.
+fn path_of(alloc: Global, text: &str) -> Result<Option<String>, AllocError>
+    ensures { IfOk result (λ path. option_map (λ path. string_bytes path) path ≡ descriptor_path text.now) }
+{
+    match read_descriptor(text) {
+        Some(_) => Ok(Some(format!(in alloc; "/dev/fd/{text}")?)),
+        None => Ok(None),
+    }
 }
 
 /// Why words stop, where a file's words stand behind so many others. An index beyond all numbers is told as want of memory.
-fn behind(count: usize, stop: LineStop<'_>) -> LineStop<'_>
-    ensures { IsBehind count stop.entry result }
+fn behind(count: usize, stop: LineStop) -> LineStop
+    ensures { IsBehind count stop result }
 {
     match stop {
         LineStop::Bad(bad) => match count.checked_add(bad.index) {
@@ -155,19 +182,15 @@ fn add_copy(alloc: Global, word: &str, all: &mut Vec<String>) -> Result<(), Allo
 }
 
 /// The words of a file.
-fn file_words<'a, F: Files>(
-    alloc: Global,
-    files: &mut F,
-    path: &'a str,
-) -> Result<Vec<String>, LineStop<'a>>
-    ensures words { IfOk result (λ words. IfSome ((F.view files.old).told path.now) (λ bytes. (length bytes ≤ ARGS_LIMIT) × (words_in bytes ≡ Ok (texts_of words.items)))) }
-    ensures stops { IfErr result (λ stop. FileStops ((F.view files.old).told path.now) path.now stop) }
+fn file_words<F: Files>(alloc: Global, files: &mut F, path: String) -> Result<Vec<String>, LineStop>
+    ensures words { IfOk result (λ words. IfSome ((F.view files.old).told (string_bytes path)) (λ bytes. (length bytes ≤ ARGS_LIMIT) × (words_in bytes ≡ Ok (texts_of words.items)))) }
+    ensures stops { IfErr result (λ stop. FileStops ((F.view files.old).told (string_bytes path)) (string_bytes path) stop) }
     ensures cause { IfErr result (λ stop. CausedBy (FilesRose (F.view files.old) (F.view files.new)) stop) }
     ensures count { (F.view files.old).faults ≤ (F.view files.new).faults }
     ensures kept { (p : List ℕ) → (F.view files.new).told p ≡ (F.view files.old).told p }
-    ensures read { (F.view files.new).reads ≡ (F.view files.old).reads ++ path.now ∷ [] }
+    ensures read { (F.view files.new).reads ≡ (F.view files.old).reads ++ string_bytes path ∷ [] }
 {
-    match read_whole(alloc, files, path, ARGS_LIMIT) {
+    match read_whole(alloc, files, path.as_str(), ARGS_LIMIT) {
         Ok(bytes) => match words_of(alloc, &bytes) {
             Ok(words) => Ok(words),
             Err(LineRefusal::Bad(bad)) => Err(LineStop::Bad(bad)),

@@ -11,8 +11,8 @@ use Rattle.policy_args.specs.declared.entry.Entry.{Entry}
 use Rattle.policy_args.specs.declared.entry.Grant.TheVariants.{See as to_see, Talk as to_talk, Own as to_own, Call as to_call, Broadcast as to_broadcast, Property as to_property}
 use Rattle.policy_args.specs.Addresses.{bus_path}
 use Rattle.policy_args.specs.Policy.{level, policy_of, policy_with}
-use Rattle.policy_args.specs.ProxyLine.{line_of, sessions_of}
-use Rattle.policy_args.specs.Words.{entry_of, options_of, words_in}
+use Rattle.policy_args.specs.ProxyLine.{descriptor_of, line_of, sessions_of}
+use Rattle.policy_args.specs.Words.{entry_of, no_options, options_of, words_in}
 
 abbrev bad : {A : Type 0} → ℕ → WordKind → Result A BadWord
 bad index kind = Err (record { index = index; kind = kind })
@@ -126,13 +126,13 @@ numbers : map sessions_of (codes "1" ∷ codes "1000000" ∷ codes "1000001" ∷
 numbers = refl
 
 one_block : line_of (codes "unix:path=/run/user/1000/bus,guid=00" ∷ codes "/tmp/p" ∷ codes "--filter" ∷ codes "--talk=org.a.T" ∷ codes "--talk=org.a.T" ∷ codes "--see=org.a.*" ∷ [])
-    ≡ Ok (record { blocks = record { address = codes "/run/user/1000/bus"; path = codes "/tmp/p"; options = record { filter = true; log = false; policy = policy_of (talk_T ∷ see_a ∷ []) } } ∷ []; sessions = 4294967295; record_to = None })
+    ≡ Ok (record { blocks = record { address = codes "/run/user/1000/bus"; path = codes "/tmp/p"; options = record { filter = true; log = false; policy = policy_of (talk_T ∷ see_a ∷ []) } } ∷ []; sessions = 4294967295; record_to = None; starter = None; replaces = false })
 unfolding line_of talk_T see_a is_utf8 chars encode_utf8
 one_block = refl
 
 -- each block has its own options, and the last --sessions counts
 two_blocks : line_of (codes "unix:path=/a" ∷ codes "/p" ∷ codes "--filter" ∷ codes "--sessions=2" ∷ codes "unix:path=/b" ∷ codes "/q" ∷ codes "--talk=org.a.T" ∷ codes "--sessions=3" ∷ [])
-    ≡ Ok (record { blocks = record { address = codes "/a"; path = codes "/p"; options = record { filter = true; log = false; policy = policy_of [] } } ∷ record { address = codes "/b"; path = codes "/q"; options = record { filter = false; log = false; policy = policy_of (talk_T ∷ []) } } ∷ []; sessions = 3; record_to = None })
+    ≡ Ok (record { blocks = record { address = codes "/a"; path = codes "/p"; options = record { filter = true; log = false; policy = policy_of [] } } ∷ record { address = codes "/b"; path = codes "/q"; options = record { filter = false; log = false; policy = policy_of (talk_T ∷ []) } } ∷ []; sessions = 3; record_to = None; starter = None; replaces = false })
 unfolding line_of talk_T is_utf8 chars encode_utf8
 two_blocks = refl
 
@@ -151,13 +151,51 @@ bad_words = refl
 
 -- --record stands in any block, and the last one counts; its FILE isn't empty, and it is no word of a policy file
 recorded : line_of (after (codes "--record=/a" ∷ codes "unix:path=/b" ∷ codes "/q" ∷ codes "--record=/b=c" ∷ []))
-    ≡ Ok (record { blocks = record { address = codes "/a"; path = codes "/p"; options = record { filter = false; log = false; policy = policy_of [] } } ∷ record { address = codes "/b"; path = codes "/q"; options = record { filter = false; log = false; policy = policy_of [] } } ∷ []; sessions = 4294967295; record_to = Some (codes "/b=c") })
+    ≡ Ok (record { blocks = record { address = codes "/a"; path = codes "/p"; options = record { filter = false; log = false; policy = policy_of [] } } ∷ record { address = codes "/b"; path = codes "/q"; options = record { filter = false; log = false; policy = policy_of [] } } ∷ []; sessions = 4294967295; record_to = Some (codes "/b=c"); starter = None; replaces = false })
 unfolding line_of is_utf8 chars encode_utf8
 recorded = refl
 
 not_recorded : map line_of (after (codes "--record=" ∷ []) ∷ after (codes "--record" ∷ []) ∷ (codes "--record=/a" ∷ []) ∷ []) ≡ bad 2 UnknownOption ∷ bad 2 UnknownOption ∷ bad 0 OptionBeforeAddress ∷ []
 unfolding line_of is_utf8 chars encode_utf8
 not_recorded = refl
+
+-- --fd and --replace stand in any block and before the first, and the last --fd counts
+started : line_of (codes "--fd=35" ∷ codes "--replace" ∷ after (codes "--fd=0" ∷ []))
+    ≡ Ok (record { blocks = record { address = codes "/a"; path = codes "/p"; options = no_options } ∷ []; sessions = 4294967295; record_to = None; starter = Some 0; replaces = true })
+unfolding line_of is_utf8 chars encode_utf8
+started = refl
+
+descriptors : map descriptor_of (codes "0" ∷ codes "7" ∷ codes "99999" ∷ codes "2147483647" ∷ codes "2147483648" ∷ codes "01" ∷ codes "00" ∷ codes "x" ∷ codes "1x" ∷ codes "-1" ∷ [] ∷ [])
+    ≡ Some 0 ∷ Some 7 ∷ Some 99999 ∷ Some 2147483647 ∷ None ∷ None ∷ None ∷ None ∷ None ∷ None ∷ None ∷ []
+descriptors = refl
+
+not_started : map line_of (after (codes "--fd=x" ∷ []) ∷ (codes "--fd=" ∷ []) ∷ after (codes "--fd" ∷ []) ∷ after (codes "--replace=x" ∷ []) ∷ (codes "--replace=x" ∷ []) ∷ [])
+    ≡ bad 2 BadNumber ∷ bad 0 BadNumber ∷ bad 2 UnknownOption ∷ bad 2 UnknownOption ∷ bad 0 OptionBeforeAddress ∷ []
+unfolding line_of is_utf8 chars encode_utf8
+not_started = refl
+
+-- three words before the first ADDRESS hold for every block
+for_all : line_of (codes "--start-called" ∷ codes "--known-fields" ∷ codes "--sloppy-names" ∷ after (codes "--filter" ∷ codes "unix:path=/b" ∷ codes "/q" ∷ codes "--talk=org.a.T" ∷ []))
+    ≡ Ok (record { blocks = record { address = codes "/a"; path = codes "/p"; options = record { filter = true; log = false; policy = policy_with [] true true true } } ∷ record { address = codes "/b"; path = codes "/q"; options = record { filter = false; log = false; policy = policy_with (talk_T ∷ []) true true true } } ∷ []; sessions = 4294967295; record_to = None; starter = None; replaces = false })
+unfolding line_of talk_T is_utf8 chars encode_utf8
+for_all = refl
+
+-- .. and in a block for it alone
+for_one : line_of (codes "--known-fields" ∷ after (codes "--sloppy-names" ∷ codes "unix:path=/b" ∷ codes "/q" ∷ []))
+    ≡ Ok (record { blocks = record { address = codes "/a"; path = codes "/p"; options = record { filter = false; log = false; policy = policy_with [] true true false } } ∷ record { address = codes "/b"; path = codes "/q"; options = record { filter = false; log = false; policy = policy_with [] false true false } } ∷ []; sessions = 4294967295; record_to = None; starter = None; replaces = false })
+unfolding line_of is_utf8 chars encode_utf8
+for_one = refl
+
+not_for_all : map line_of ((codes "--talk=org.a.T" ∷ []) ∷ (codes "--sloppy-names" ∷ codes "--log" ∷ []) ∷ (codes "--sessions=1" ∷ []) ∷ (codes "--sloppy-names" ∷ []) ∷ [])
+    ≡ bad 0 OptionBeforeAddress ∷ bad 1 OptionBeforeAddress ∷ bad 0 OptionBeforeAddress ∷ bad 1 BadAddress ∷ []
+unfolding line_of is_utf8 chars encode_utf8
+not_for_all = refl
+
+-- --args is no option of a line
+no_args : map line_of ((codes "--args=7" ∷ []) ∷ after (codes "--args=7" ∷ []) ∷ (codes "--args=x" ∷ []) ∷ after (codes "--args=07" ∷ []) ∷ [])
+    ≡ bad 0 OptionBeforeAddress ∷ bad 2 UnknownOption ∷ bad 0 BadNumber ∷ bad 2 BadNumber ∷ []
+unfolding line_of is_utf8 chars encode_utf8
+no_args = refl
 
 -- ---- files
 

@@ -1,7 +1,7 @@
--- The words of a proxy line: [ADDRESS PATH [OPTIONS..]]..
-use Rattle.std.specs.Prelude.{ℕ, ◌+◌, ◌-◌, ◌*◌, Bool, false, not, ◌&&◌, ◌||◌, ◌==◌, nat_lt, nat_le, List, [], ◌∷◌, ◌++◌, length, codes, Option, Some, None, Result, Ok, Err, if◌then◌else◌}
+-- The words of a proxy line: [OPTIONS..] [ADDRESS PATH [OPTIONS..]]..
+use Rattle.std.specs.Prelude.{ℕ, ◌+◌, ◌-◌, ◌*◌, Bool, true, false, not, ◌&&◌, ◌||◌, ◌==◌, nat_lt, nat_le, List, [], ◌∷◌, ◌++◌, length, codes, Option, Some, None, is_some, Result, Ok, Err, if◌then◌else◌, bytes_eq}
 use Rattle.std.specs.Char.{is_ascii_digit}
-use Rattle.std.specs.List.{list_all}
+use Rattle.std.specs.List.{list_all, list_any}
 use Rattle.dbus_names.specs.Names.{is_empty}
 use Rattle.dbus_names.specs.Texts.{begins_with, behind}
 use Rattle.policy_args.specs.Addresses.{bus_path}
@@ -31,6 +31,14 @@ count_of n = if nat_lt 0 n && nat_le n 1000000 then Ok n else Err BadNumber
 abbrev pub sessions_of : List ℕ → Result ℕ WordKind
 sessions_of text = or_kind BadNumber (number_of text) >>= count_of
 
+-- the number of a file descriptor, which is an int and so 2,147,483,647 at most
+abbrev pub descriptor_within : Option ℕ → Option ℕ
+descriptor_within None = None
+descriptor_within (Some n) = if nat_le n 2147483647 then Some n else None
+
+abbrev pub descriptor_of : List ℕ → Option ℕ
+descriptor_of text = descriptor_within (number_of text)
+
 -- ---- what contracts see of a proxy line
 
 -- the bus's path, the path of the socket that is listened on, and the options
@@ -39,22 +47,26 @@ pub record BlockValue : Type 0 where
   pub path : List ℕ
   pub options : PolicyOptions
 
--- the blocks, how many sessions are served, and the file that they are recorded in, if there is one
+-- the blocks, how many sessions are served, the file that they are recorded in, the starter's descriptor, if there are these, and whether
+-- sockets are replaced
 pub record LineValue : Type 0 where
   pub blocks : List BlockValue
   pub sessions : ℕ
   pub record_to : Option (List ℕ)
+  pub starter : Option ℕ
+  pub replaces : Bool
 
--- what the words so far give, and the bus's path of a block whose PATH is next
+-- what the words so far give, the options that a block begins with, and the bus's path of a block whose PATH is next
 pub record SoFar : Type 0 where
   pub line : LineValue
+  pub first : PolicyOptions
   pub pending : Option (List ℕ)
 
--- without --sessions as many are served as there may be, and without --record none is recorded
+-- without --sessions as many are served as there may be, without --record none is recorded, and without --fd there is no starter
 abbrev pub no_words : SoFar
-no_words = record { line = record { blocks = []; sessions = 4294967295; record_to = None }; pending = None }
+no_words = record { line = record { blocks = []; sessions = 4294967295; record_to = None; starter = None; replaces = false }; first = no_options; pending = None }
 
--- ---- one more word
+-- ---- options of a block
 
 abbrev pub is_option : List ℕ → Bool
 is_option w = begins_with (codes "--") w
@@ -89,8 +101,50 @@ abbrev pub line_option : SoFar → List ℕ → Option (List ℕ) → Result SoF
 line_option s w (Some text) = with_sessions s text
 line_option s w None = other_option s w
 
+-- ---- options before the first ADDRESS
+
+-- the words that stand there, and then hold for every block
+abbrev pub is_for_all : List ℕ → Bool
+is_for_all w = list_any (bytes_eq w) (codes "--sloppy-names" ∷ codes "--known-fields" ∷ codes "--start-called" ∷ [])
+
+abbrev pub option_for_all : PolicyOptions → List ℕ → Result PolicyOptions WordKind
+option_for_all o w = if is_for_all w then with_option o w else Err OptionBeforeAddress
+
+-- every block begins with what they ask for
+abbrev pub first_option : SoFar → List ℕ → Result SoFar WordKind
+first_option s w = option_for_all s.first w >>= λ o. Ok (record s { first = o })
+
+abbrev pub placed_option : SoFar → List ℕ → Result SoFar WordKind
+placed_option s w = if length s.line.blocks == 0 then first_option s w else line_option s w (behind (codes "--sessions=") w)
+
+-- ---- options before the first ADDRESS and of any block
+
+-- --args=FD is replaced by the words of a file before a line is read. One that still stands is no option, or its FD is no descriptor.
+abbrev pub args_option : SoFar → List ℕ → Option (List ℕ) → Result SoFar WordKind
+args_option s w (Some text) = if is_some (descriptor_of text) then placed_option s w else Err BadNumber
+args_option s w None = placed_option s w
+
+abbrev pub args_word : SoFar → List ℕ → Result SoFar WordKind
+args_word s w = args_option s w (behind (codes "--args=") w)
+
+-- --replace
+abbrev pub replace_option : SoFar → List ℕ → Result SoFar WordKind
+replace_option s w =
+    if bytes_eq w (codes "--replace") then Ok (record s { line = record (s.line) { replaces = true } })
+    else args_word s w
+
+-- --fd=FD, of which the last counts
+abbrev pub with_starter : SoFar → List ℕ → Result SoFar WordKind
+with_starter s text = or_kind BadNumber (descriptor_of text) >>= λ n. Ok (record s { line = record (s.line) { starter = Some n } })
+
+abbrev pub starter_option : SoFar → List ℕ → Option (List ℕ) → Result SoFar WordKind
+starter_option s w (Some text) = with_starter s text
+starter_option s w None = replace_option s w
+
 abbrev pub option_word : SoFar → List ℕ → Result SoFar WordKind
-option_word s w = if length s.line.blocks == 0 then Err OptionBeforeAddress else line_option s w (behind (codes "--sessions=") w)
+option_word s w = starter_option s w (behind (codes "--fd=") w)
+
+-- ---- addresses and paths
 
 -- there are at most 65,535 blocks
 abbrev pub line_address : SoFar → List ℕ → Result SoFar WordKind
@@ -106,7 +160,7 @@ line_word s w =
 abbrev pub line_path : SoFar → List ℕ → List ℕ → Result SoFar WordKind
 line_path s address w =
     if is_empty w || is_option w then Err NoPath
-    else Ok (record { line = record (s.line) { blocks = s.line.blocks ++ record { address = address; path = w; options = no_options } ∷ [] }; pending = None })
+    else Ok (record s { line = record (s.line) { blocks = s.line.blocks ++ record { address = address; path = w; options = s.first } ∷ [] }; pending = None })
 
 abbrev pub line_step_at : SoFar → Option (List ℕ) → List ℕ → Result SoFar WordKind
 line_step_at s None w = line_word s w
@@ -118,7 +172,7 @@ line_step s w = line_step_at s s.pending w
 -- at the end no PATH may be missing, and there is a block
 abbrev pub finished_at : ℕ → LineValue → Option (List ℕ) → Result LineValue BadWord
 finished_at words line (Some address) = Err (record { index = words; kind = NoPath })
-finished_at words line None = if length line.blocks == 0 then Err (record { index = 0; kind = BadAddress }) else Ok line
+finished_at words line None = if length line.blocks == 0 then Err (record { index = words; kind = BadAddress }) else Ok line
 
 abbrev pub finished : ℕ → SoFar → Result LineValue BadWord
 finished words s = finished_at words s.line s.pending

@@ -26,7 +26,7 @@ pub use laws::{
     covering_numbers_find_entries, covering_numbers_have_entries, entries_have_one_word,
     permits_by_entries, within_itself, within_through, words_give_their_entries,
 };
-pub use line::{Block, ProxyLine, read_line};
+pub use line::{Block, ProxyLine, read_descriptor, read_line};
 pub use name_patterns::{Covering, Steps};
 pub use options::{Options, read_options};
 pub use policy::Policy;
@@ -119,7 +119,7 @@ pub enum WordKind {
     /// No path follows a bus address (xdg-dbus-proxy(1), "Synopsis").
     #[error("no path follows the bus address")]
     NoPath,
-    /// An option stands before the first bus address (xdg-dbus-proxy(1), "Synopsis").
+    /// An option of one block stands before the first bus address (xdg-dbus-proxy(1), "Synopsis").
     #[error("an option stands before the first bus address")]
     OptionBeforeAddress,
     /// An option's number is none, or out of its range.
@@ -135,8 +135,7 @@ pub enum WordKind {
 #[derive(Clone, Copy, Debug, PartialEq, Eq, Error)]
 #[error("word {index}: {kind}")]
 pub struct BadWord {
-    /// Its place among the words, from 0. A path that is missing behind the last word stands behind
-    /// it, and an address that is missing since there are no words stands at 0.
+    /// Its place among the words, from 0. A path or an address that is missing has the place after the last word.
     pub index: usize,
     /// What is wrong with it.
     pub kind: WordKind,

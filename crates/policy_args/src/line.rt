@@ -1,7 +1,7 @@
 //! The words of a proxy line: blocks of a bus address, a path, and options.
 ghost use Rattle.std.specs.Prelude.{◌≡◌, OnOk, length, map, string_bytes};
 ghost use Rattle.policy_args.specs.Gives.{Gives, StepGives, refusal_at};
-ghost use Rattle.policy_args.specs.ProxyLine.{finished, line_address, line_of, line_path, line_step, line_word, no_words, option_word, other_option, sessions_of, with_block_option, with_record, with_sessions};
+ghost use Rattle.policy_args.specs.ProxyLine.{args_word, descriptor_of, finished, first_option, has_leading_zero, line_address, line_of, line_path, line_step, line_word, no_words, option_word, other_option, placed_option, replace_option, sessions_of, with_block_option, with_record, with_sessions, with_starter};
 ghost use Rattle.policy_args.specs.Reading.{block_seen, line_seen, with_block, worth_of};
 ghost use Rattle.policy_args.specs.Words.{each_word, or_kind};
 ghost use Rattle.policy_args.specs.declared.WordKind.TheVariants.{BadNumber};
@@ -9,7 +9,7 @@ ghost use Rattle.policy_args.specs.declared.refusals.WordRefusal.TheVariants.{Ba
 
 use crate::address::read_address;
 use crate::entry::behind;
-use crate::options::Options;
+use crate::options::{FirstOptions, Options};
 use crate::refusals::{LineRefusal, WordRefusal};
 use crate::{BadWord, WordKind};
 use std::alloc::{AllocError, Global};
@@ -21,6 +21,9 @@ const MOST_BLOCKS: usize = 65_535;
 
 /// The greatest number that `--sessions` takes.
 const MOST_SESSIONS: u32 = 1_000_000;
+
+/// The greatest number of a file descriptor, which is an `int` (POSIX.1-2024, `open`).
+const MOST_DESCRIPTOR: u32 = 2_147_483_647;
 
 /// How many sessions are served where `--sessions` isn't given.
 const ALL_SESSIONS: u32 = 4_294_967_295;
@@ -47,6 +50,11 @@ pub struct ProxyLine {
     /// The path of the file that the sessions are recorded in, where one is given: that of the last `--record=FILE`. It
     /// isn't empty.
     pub record_to: Option<String>,
+    /// The number of the descriptor of the starter's pipe, at most 2,147,483,647, if one is given: that of the last
+    /// `--fd=FD` (xdg-dbus-proxy(1), `--fd`).
+    pub starter: Option<u32>,
+    /// Whether a socket or an empty file at a block's path is replaced: `--replace` was among the words.
+    pub replaces: bool,
 }
 
 // What the words so far give. The last block stands by itself, since options are added to it.
@@ -56,18 +64,23 @@ struct Reading {
     last: Option<Block>,
     sessions: u32,
     record_to: Option<String>,
+    starter: Option<u32>,
+    replaces: bool,
+    // The options that every block begins with.
+    first: FirstOptions,
     // The bus's path of a block whose own path comes next.
     pending: Option<String>,
 }
 
 impl Model for Reading {
-    ghost use Rattle.std.specs.Prelude.{◌≡◌, None, [], option_map, string_bytes};
+    ghost use Rattle.std.specs.Prelude.{◌≡◌, None, []};
     ghost use Rattle.policy_args.specs.ProxyLine.{SoFar};
-    ghost use Rattle.policy_args.specs.Reading.{so_far};
+    ghost use Rattle.policy_args.specs.Reading.{rest_seen, so_far};
+    ghost use Rattle.policy_args.specs.Seen.{first_seen};
 
     ghost Value = { SoFar };
 
-    ghost view = { λ r. so_far r.blocks.items r.last r.sessions (option_map (λ path. string_bytes path) r.record_to) r.pending };
+    ghost view = { λ r. so_far r.blocks.items r.last (rest_seen r.sessions r.record_to r.starter r.replaces) (first_seen r.first) r.pending };
 
     ghost invariant = { λ r. r.last ≡ None → r.blocks.items ≡ [] };
 }
@@ -82,6 +95,13 @@ impl Reading {
             last: None,
             sessions: ALL_SESSIONS,
             record_to: None,
+            starter: None,
+            replaces: false,
+            first: FirstOptions {
+                sloppy: false,
+                known_fields: false,
+                start_called: false,
+            },
             pending: None,
         }
     }
@@ -110,7 +130,7 @@ impl Reading {
         let block = Block {
             address,
             path,
-            options: Options::new(alloc),
+            options: Options::begin(alloc, self.first),
         };
         match self.begin(block) {
             Ok(()) => Ok(()),
@@ -154,16 +174,72 @@ impl Reading {
         Ok(())
     }
 
-    // Takes one more option of the last block.
+    // Takes one more option.
     fn take_option(&mut self, alloc: Global, word: &str) -> Result<(), WordRefusal>
         ensures { StepGives (λ _. self.new) result (option_word self.old word.now) }
     {
+        match behind("--fd=", word) {
+            Some(text) => self.take_starter(text),
+            None => self.take_replace(alloc, word),
+        }
+    }
+
+    // Takes the descriptor of the starter's pipe.
+    fn take_starter(&mut self, text: &str) -> Result<(), WordRefusal>
+        ensures { StepGives (λ _. self.new) result (with_starter self.old text.now) }
+    {
+        match read_descriptor(text) {
+            Some(starter) => {
+                self.starter = Some(starter);
+                Ok(())
+            }
+            None => Err(WordRefusal::Bad(WordKind::BadNumber)),
+        }
+    }
+
+    // Takes an option other than `--fd`.
+    fn take_replace(&mut self, alloc: Global, word: &str) -> Result<(), WordRefusal>
+        ensures { StepGives (λ _. self.new) result (replace_option self.old word.now) }
+    {
+        if word == "--replace" {
+            self.replaces = true;
+            return Ok(());
+        }
+        self.take_args(alloc, word)
+    }
+
+    // Takes an option other than `--fd` and `--replace`. `--args` is none: what is left of it names no file.
+    fn take_args(&mut self, alloc: Global, word: &str) -> Result<(), WordRefusal>
+        ensures { StepGives (λ _. self.new) result (args_word self.old word.now) }
+    {
+        match behind("--args=", word) {
+            Some(text) if read_descriptor(text).is_none() => {
+                Err(WordRefusal::Bad(WordKind::BadNumber))
+            }
+            _ => self.take_placed_option(alloc, word),
+        }
+    }
+
+    // Takes an option of the last block, or of every block before the first address.
+    fn take_placed_option(&mut self, alloc: Global, word: &str) -> Result<(), WordRefusal>
+        ensures { StepGives (λ _. self.new) result (placed_option self.old word.now) }
+    {
         if self.last.is_none() {
-            return Err(WordRefusal::Bad(WordKind::OptionBeforeAddress));
+            return self.take_first_option(word);
         }
         match behind("--sessions=", word) {
             Some(text) => self.take_sessions(text),
             None => self.take_other_option(alloc, word),
+        }
+    }
+
+    // Takes an option before the first address.
+    fn take_first_option(&mut self, word: &str) -> Result<(), WordRefusal>
+        ensures { StepGives (λ _. self.new) result (first_option self.old word.now) }
+    {
+        match self.first.take(word) {
+            Ok(()) => Ok(()),
+            Err(refusal) => Err(refusal),
         }
     }
 
@@ -244,9 +320,11 @@ impl Reading {
                     blocks: self.blocks,
                     sessions: self.sessions,
                     record_to: self.record_to,
+                    starter: self.starter,
+                    replaces: self.replaces,
                 })
             }
-            None => Err(bad(0, WordKind::BadAddress)),
+            None => Err(bad(words, WordKind::BadAddress)),
         }
     }
 }
@@ -265,24 +343,46 @@ fn read_sessions(text: &str) -> Option<u32>
     if digits.is_empty() || digits[0] == b'0' {
         return None;
     }
-    read_digits(digits)
+    read_digits(digits, MOST_SESSIONS)
 }
 
-// What decimal digits are worth, up to 1,000,000.
-fn read_digits(digits: &[u8]) -> Option<u32>
-    ensures { result ≡ worth_of digits.now }
+/// The number of a file descriptor: a decimal number without leading zeros, at most 2,147,483,647, since a descriptor is
+/// an `int` (POSIX.1-2024, `open`).
+pub fn read_descriptor(text: &str) -> Option<u32>
+    ensures { result ≡ descriptor_of text.now }
 {
-    let mut number = 0;
+    let digits = text.as_bytes();
+    if digits.is_empty() || has_leading_zero(digits) {
+        return None;
+    }
+    read_digits(digits, MOST_DESCRIPTOR)
+}
+
+// Whether digits begin with a zero that more digits follow.
+fn has_leading_zero(digits: &[u8]) -> bool
+    ensures { result ≡ has_leading_zero digits.now }
+{
+    match digits {
+        [first, _, ..] => *first == b'0',
+        _ => false,
+    }
+}
+
+// What decimal digits are worth, up to a greatest number.
+fn read_digits(digits: &[u8], most: u32) -> Option<u32>
+    ensures { result ≡ worth_of most digits.now }
+{
+    let mut number: u64 = 0;
     for digit in digits {
         if !digit.is_ascii_digit() {
             return None;
         }
-        number = number * 10 + (*digit - b'0') as u32;
-        if number > MOST_SESSIONS {
+        number = number * 10 + (*digit - b'0') as u64;
+        if number > most as u64 {
             return None;
         }
     }
-    Some(number)
+    Some(number as u32)
 }
 
 /// The proxy line that the words give, or the first bad word.
@@ -292,12 +392,16 @@ fn read_digits(digits: &[u8]) -> Option<u32>
 /// and `--record=FILE`, which may stand in any block, and of each of which the last counts; N is 1 to
 /// 1,000,000, and FILE isn't empty.
 ///
+/// `--fd=FD`, of which the last counts, and `--replace` may stand in any block and before the first one. There
+/// `--sloppy-names`, `--known-fields` and `--start-called` may stand, too, and then every block has them.
+///
 /// Of an address, the `path` of its first part that begins with `unix:` and has one is taken
 /// (D-Bus Specification, "Server Addresses"). `BadAddress` is an address without such a path, or
 /// whose path is empty, holds NUL, isn't UTF-8 or has `%` without two hexadecimal digits, and, at
-/// index 0, where there are no words. `NoPath` is an empty word, an option or the end where the
-/// path has to stand; `OptionBeforeAddress` is an option before the first block, `BadNumber` a
-/// wrong N, `UnknownOption` an empty FILE, and `TooMany` the address of block 65,536, too.
+/// the index after the last word, one that is missing. `NoPath` is an empty word, an option or the end where the
+/// path has to stand; `OptionBeforeAddress` is any other option before the first block, `BadNumber` a
+/// wrong N, an FD that `read_descriptor` refuses, and `--args=FD` with such an FD, `UnknownOption` an empty FILE, and
+/// `TooMany` the address of block 65,536, too.
 pub fn read_line(alloc: Global, words: &[String]) -> Result<ProxyLine, LineRefusal>
     ensures { Gives line_seen result (line_of (map (λ w. string_bytes w) words.now)) }
 {

@@ -1,9 +1,11 @@
 //! The options that the words of a policy file give.
 ghost use Rattle.std.specs.Prelude.{◌≡◌, map, string_bytes, OnErr};
 ghost use Rattle.policy_args.specs.Gives.{Gives, StepGives};
-ghost use Rattle.policy_args.specs.Seen.{options_seen};
+ghost use Rattle.policy_args.specs.ProxyLine.{option_for_all};
+ghost use Rattle.policy_args.specs.Seen.{first_seen, options_seen};
 ghost use Rattle.policy_args.specs.Words.{no_options, options_of, with_option};
 
+use crate::WordKind;
 use crate::entry::read_entry;
 use crate::policy::Policy;
 use crate::refusals::{LineRefusal, WordRefusal};
@@ -20,7 +22,50 @@ pub struct Options {
     pub policy: Policy,
 }
 
+// What the options before the first address of a line ask for, of every block.
+#[derive(Clone, Copy)]
+pub(crate) struct FirstOptions {
+    // `--sloppy-names` was among them.
+    pub(crate) sloppy: bool,
+    // `--known-fields` was.
+    pub(crate) known_fields: bool,
+    // `--start-called` was.
+    pub(crate) start_called: bool,
+}
+
+impl FirstOptions {
+    // Takes one more word.
+    pub(crate) fn take(&mut self, word: &str) -> Result<(), WordRefusal>
+        ensures { StepGives (λ _. first_seen self.new) result (option_for_all (first_seen self.old) word.now) }
+    {
+        if word == "--sloppy-names" {
+            self.sloppy = true;
+            return Ok(());
+        }
+        if word == "--known-fields" {
+            self.known_fields = true;
+            return Ok(());
+        }
+        if word == "--start-called" {
+            self.start_called = true;
+            return Ok(());
+        }
+        Err(WordRefusal::Bad(WordKind::OptionBeforeAddress))
+    }
+}
+
 impl Options {
+    // The options that a block begins with.
+    pub(crate) fn begin(alloc: Global, first: FirstOptions) -> Options
+        ensures { options_seen result ≡ first_seen first }
+    {
+        let mut options = Options::new(alloc);
+        options
+            .policy
+            .set_first(first.sloppy, first.known_fields, first.start_called);
+        options
+    }
+
     // The options that no words ask for.
     pub(crate) fn new(alloc: Global) -> Options
         ensures { options_seen result ≡ no_options }

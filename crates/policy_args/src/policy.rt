@@ -121,6 +121,15 @@ impl Policy {
         self.start_called = true;
     }
 
+    // Sets what a block's first options ask for.
+    pub(crate) fn set_first(&mut self, sloppy: bool, known_fields: bool, start_called: bool)
+        ensures { self.new ≡ record self.old { sloppy = sloppy; known_fields = known_fields; start_called = start_called } }
+    {
+        self.sloppy = sloppy;
+        self.known_fields = known_fields;
+        self.start_called = start_called;
+    }
+
     /// How many entries the policy has, at most 65,535.
     pub fn len(&self) -> u32
         ensures count { result ≡ length self.now.entries }

@@ -110,6 +110,11 @@ unix:path=/a /p --filter unix:path=/b /q --sloppy-names --sloppy-names --known-f
 unix:path=/a /p --known-fields --talk=org.a.T unix:path=/b /q => false true false;false false false;
 unix:path=/a /p unix:path=/b /q --start-called => false false false;false false true;
 unix:path=/a /p --start-called --known-fields unix:path=/b /q --sloppy-names => false true true;true false false;
+--start-called unix:path=/a /p unix:path=/b /q => false false true;false false true;
+--known-fields unix:path=/a /p --filter unix:path=/b /q --talk=org.a.T => false true false;false true false;
+--sloppy-names unix:path=/a /p --sloppy-names unix:path=/b /q => true false false;true false false;
+--replace --start-called --known-fields --fd=3 unix:path=/a /p unix:path=/b /q --sloppy-names => false true true;true true true;
+--sloppy-names --start-called unix:path=/a /p --known-fields unix:path=/b /q unix:path=/c /r => true true true;true false true;true false true;
 ";
 
 /// A name and the words of a policy file, and the name's level.
@@ -163,7 +168,7 @@ const MANY_BLOCKS: &str = "\
 65535 unix:path=/a => TooMany 131070
 ";
 
-/// Words of a proxy line, and the sessions that are served, the file that they are recorded in, if any, and of each block the address, the path, whether messages are
+/// Words of a proxy line, and the sessions that are served, the file that they are recorded in, the starter's descriptor and whether sockets are replaced, if so, and of each block the address, the path, whether messages are
 /// filtered and whether they are logged, how many entries there are and the level of org.a.T, or the first bad word.
 const LINES: &str = "\
 unix:path=/run/user/1000/bus,guid=00 /tmp/p --filter --talk=org.a.T --talk=org.a.T --see=org.a.* => 4294967295, /run/user/1000/bus /tmp/p true false 2 Talk
@@ -185,6 +190,13 @@ unix:path=/a /p --log unix:path=/b /q --filter => 4294967295, /a /p false true 0
 unix:path=/a /p --sessions=9 --filter --sessions=10 => 10, /a /p true false 0 None
 unix:path=/a /p --filter --talk=org.a.T --sessions=2 unix:path=/b /q unix:path=/c /r --see=org.a.T --own=org.a.T --sessions=3 => 3, /a /p true false 1 Talk, /b /q false false 0 None, /c /r false false 2 Own
 unix:path=/a /p --record=/r => 4294967295 /r, /a /p false false 0 None
+--fd=35 unix:path=/a /p => 4294967295 fd=35, /a /p false false 0 None
+unix:path=/a /p --fd=0 => 4294967295 fd=0, /a /p false false 0 None
+unix:path=/a /p --fd=99999 => 4294967295 fd=99999, /a /p false false 0 None
+--fd=3 unix:path=/a /p --fd=4 unix:path=/b /q --fd=2147483647 => 4294967295 fd=2147483647, /a /p false false 0 None, /b /q false false 0 None
+--replace unix:path=/a /p => 4294967295 replace, /a /p false false 0 None
+unix:path=/a /p --filter unix:path=/b /q --replace --replace --talk=org.a.T => 4294967295 replace, /a /p true false 0 None, /b /q false false 1 Talk
+--fd=3 --replace unix:path=/a /p --sessions=1 --record=/r => 1 /r fd=3 replace, /a /p false false 0 None
 unix:path=/a /p --record=r=s --sessions=2 unix:path=/b /q --record=--log --filter => 2 --log, /a /p false false 0 None, /b /q true false 0 None
  => BadAddress 0
  /p => BadAddress 0
@@ -193,6 +205,20 @@ unix:path=/a /p --record=r=s --sessions=2 unix:path=/b /q --record=--log --filte
 --log => OptionBeforeAddress 0
 --sessions=1 => OptionBeforeAddress 0
 --colour unix:path=/a /p => OptionBeforeAddress 0
+--talk=org.a.T unix:path=/a /p => OptionBeforeAddress 0
+--start-called --talk=org.a.T unix:path=/a /p => OptionBeforeAddress 1
+--start-called= unix:path=/a /p => OptionBeforeAddress 0
+--sloppy-names => BadAddress 1
+--fd=3 --replace => BadAddress 2
+--fd= unix:path=/a /p => BadNumber 0
+--fd=x => BadNumber 0
+--fd unix:path=/a /p => OptionBeforeAddress 0
+--replace=x unix:path=/a /p => OptionBeforeAddress 0
+--args=7 unix:path=/a /p => OptionBeforeAddress 0
+--args=x unix:path=/a /p => BadNumber 0
+unix:path=/a --fd=3 => NoPath 1
+unix:path=/a --replace => NoPath 1
+unix:path=/a --args=x => NoPath 1
 unix:path=/a => NoPath 1
 unix:path=/a --log => NoPath 1
 unix:path=/a --sessions=0 => NoPath 1
@@ -239,6 +265,26 @@ unix:path=/a /p --sessions=+1 => BadNumber 2
 unix:path=/a /p --sessions=1x => BadNumber 2
 unix:path=/a /p --sessions=1000001 => BadNumber 2
 unix:path=/a /p --sessions=99999999999 => BadNumber 2
+unix:path=/a /p --fd= => BadNumber 2
+unix:path=/a /p --fd=x => BadNumber 2
+unix:path=/a /p --fd=01 => BadNumber 2
+unix:path=/a /p --fd=00 => BadNumber 2
+unix:path=/a /p --fd=-1 => BadNumber 2
+unix:path=/a /p --fd=+1 => BadNumber 2
+unix:path=/a /p --fd=1x => BadNumber 2
+unix:path=/a /p --fd=2147483648 => BadNumber 2
+unix:path=/a /p --fd=4294967296 => BadNumber 2
+unix:path=/a /p --fd=18446744073709551616 => BadNumber 2
+unix:path=/a /p --fd=3 --fd= => BadNumber 3
+unix:path=/a /p --args= => BadNumber 2
+unix:path=/a /p --args=x => BadNumber 2
+unix:path=/a /p --args=01 => BadNumber 2
+unix:path=/a /p --args=2147483648 => BadNumber 2
+unix:path=/a /p --args=7 => UnknownOption 2
+unix:path=/a /p --args => UnknownOption 2
+unix:path=/a /p --fd => UnknownOption 2
+unix:path=/a /p --replace= => UnknownOption 2
+unix:path=/a /p --replace=x => UnknownOption 2
 ";
 
 /// The words of a row, which spaces part. A row without a byte has no words.
@@ -312,6 +358,13 @@ fn told_blocks(alloc: Global, line: &ProxyLine) -> Result<String, AllocError> {
     if let Some(path) = &line.record_to {
         told.push(' ')?;
         told.push_str(path)?;
+    }
+    if let Some(starter) = line.starter {
+        let text = format!(in alloc; " fd={starter}")?;
+        told.push_str(&text)?;
+    }
+    if line.replaces {
+        told.push_str(" replace")?;
     }
     for block in &line.blocks {
         let text = told_block(alloc, block)?;

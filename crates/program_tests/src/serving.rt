@@ -36,6 +36,19 @@ unix:path=/a /p --args-file=args | --filter~%FF => 1 error: word 3: UnknownOptio
 --args-file=args --args-file=missing | %FF => 1 error: word 0: UnknownOption
 --args-file=missing --args-file=args | %FF => 4 error: file missing
 --args-file= | => 4 error: file 
+--args=3 | => 4 error: file /dev/fd/3
+--args=2147483647 --args-file=args | => 4 error: file /dev/fd/2147483647
+unix:path=/a /p --args=3 | => 4 error: file /dev/fd/3
+--args=x | => 1 error: word 0: BadNumber
+--args= | => 1 error: word 0: BadNumber
+--args=03 | => 1 error: word 0: BadNumber
+--args=2147483648 | => 1 error: word 0: BadNumber
+--args-file=args | --args=3 => 1 error: word 0: OptionBeforeAddress
+--args-file=args | unix:path=/a~/p~--args=3 => 1 error: word 2: UnknownOption
+--fd=x unix:path=/a /p | => 1 error: word 0: BadNumber
+--args-file=args | --fd=35~--colour => 1 error: word 1: OptionBeforeAddress
+--fd=3 | => 1 error: word 1: BadAddress
+--replace=x unix:path=/a /p | => 1 error: word 0: OptionBeforeAddress
 ";
 
 /// Words, a script of a net, and links; and the status, what was written to these links, and what was written on standard error. The
@@ -52,6 +65,12 @@ unix:path=/bus /p --filter --log --talk=org.a.T --sessions=1; arrival 0, piece c
 unix:path=/bus /p --filter --log --talk=org.a.T unix:path=/bus2 /q --filter --talk=org.a.T --sessions=2; arrival 1, arrival 0, piece c1 ~AUTH EXTERNAL%0D%0ABEGIN%0D%0Al%01~%01~~~~%01~~~@~~~%01%01o~%02~~~/p~~~~~~%02%01s~%07~~~org.a.I~%03%01s~%01~~~A~~~~~~~%06%01s~%07~~~org.a.T~, piece c2 ~AUTH EXTERNAL%0D%0ABEGIN%0D%0Al%01~%01~~~~%01~~~@~~~%01%01o~%02~~~/p~~~~~~%02%01s~%07~~~org.a.I~%03%01s~%01~~~A~~~~~~~%06%01s~%07~~~org.a.T~, end c1, end c2; b1 b2 => 0, b1 ~AUTH EXTERNAL%0D%0ABEGIN%0D%0Al%01~%01~~~~%01~~~@~~~%01%01o~%02~~~/p~~~~~~%02%01s~%07~~~org.a.I~%03%01s~%01~~~A~~~~~~~%06%01s~%07~~~org.a.T~, b2 ~AUTH EXTERNAL%0D%0ABEGIN%0D%0Al%01~%01~~~~%01~~~@~~~%01%01o~%02~~~/p~~~~~~%02%01s~%07~~~org.a.I~%03%01s~%01~~~A~~~~~~~%06%01s~%07~~~org.a.T~, err 2 c 1 call serial=1 reply=- from=- dest=org.a.T path=/p iface=org.a.I member=A pass%0A
 unix:path=/bus /p --filter unix:path=/bus2 /q --filter; ListenFails 2; c1 => 5, c1 , err error: listen%0A
 unix:path=/bus /p --filter unix:path=/bus2 /q --filter; ListenRefused 1; c1 => 8, c1 , err error: memory%0A
+--fd=3 unix:path=/bus /p --filter; PrepareFails 1; c1 => 5, c1 , err error: fd%0A
+--replace unix:path=/bus /p --filter; PrepareFails 1; c1 => 5, c1 , err error: fd%0A
+5 | unix:path=/bus /p --fd=3; PrepareFails 1; c1 => 5, c1 , err error
+unix:path=/bus /p --filter --fd=3; PrepareRefused 1; c1 => 8, c1 , err error: memory%0A
+unix:path=/bus /p --filter; PrepareFails 1; c1 => 0, c1 
+--fd=3 --replace unix:path=/bus /p --filter; PrepareFails 2, ListenFails 1; c1 => 5, c1 , err error: listen%0A
 unix:path=/bus /p --filter --talk=org.a.T; WaitFails 3, arrival 0, piece c1 ~AUTH EXTERNAL%0D%0ABEGIN%0D%0Al%01~%01~~~~%01~~~@~~~%01%01o~%02~~~/p~~~~~~%02%01s~%07~~~org.a.I~%03%01s~%01~~~A~~~~~~~%06%01s~%07~~~org.a.T~, piece b1 OK 00112233445566778899aabbccddeeff%0D%0Al%02%01%01~~~~%09~~~%25~~~%05%01u~%01~~~%06%01s~%05~~~:1.40~~~%07%01s~%04~~~:1.7~~~~; c1 b1 => 5, c1 , b1 ~AUTH EXTERNAL%0D%0ABEGIN%0D%0Al%01~%01~~~~%01~~~@~~~%01%01o~%02~~~/p~~~~~~%02%01s~%07~~~org.a.I~%03%01s~%01~~~A~~~~~~~%06%01s~%07~~~org.a.T~, err error: wait%0A
 ";
 
@@ -59,6 +78,23 @@ unix:path=/bus /p --filter --talk=org.a.T; WaitFails 3, arrival 0, piece c1 ~AUT
 const FROM_FILE: &str = "\
 unix:path=/bus /p --filter --talk=org.a.T --sessions=1; arrival 0, piece c1 ~AUTH EXTERNAL%0D%0ABEGIN%0D, piece c1 %0Al%01~%01~~~~%01~~~@~~~%01%01o~%02~~~/p~~~~~~%02%01s~%07~~~org.a.I~%03%01s~%01~~~A~~~~~~~%06%01s~%07~~~org.a.T~, piece b1 OK 00112233445566778899aabbccddeeff%0D%0Al%02%01%01~~~~%09~~~%25~~~%05%01u~%01~~~%06%01s~%05~~~:1.40~~~%07%01s~%04~~~:1.7~~~~, end c1; c1 b1 => 0, c1 OK 00112233445566778899aabbccddeeff%0D%0Al%02%01%01~~~~%09~~~%25~~~%05%01u~%01~~~%06%01s~%05~~~:1.40~~~%07%01s~%04~~~:1.7~~~~, b1 ~AUTH EXTERNAL%0D%0ABEGIN%0D%0Al%01~%01~~~~%01~~~@~~~%01%01o~%02~~~/p~~~~~~%02%01s~%07~~~org.a.I~%03%01s~%01~~~A~~~~~~~%06%01s~%07~~~org.a.T~
 ";
+
+/// Words of a line, and what its net took of them.
+const SETTINGS: &str = "\
+unix:path=/bus /p --filter --sessions=1 => None
+--fd=3 --replace unix:path=/bus /p => Some(Setting { replaces: true, starter: Some(3) })
+unix:path=/bus /p --fd=0 unix:path=/bus2 /q --fd=35 => Some(Setting { replaces: false, starter: Some(35) })
+unix:path=/bus /p --replace => Some(Setting { replaces: true, starter: None })
+--replace unix:path=/bus /p --record=recorded => Some(Setting { replaces: true, starter: None })
+--fd=x --replace unix:path=/bus /p => None
+--fd=3 --replace unix:path=/bus --args-file=missing => None
+";
+
+fn told_setting<R: Threads + Sync>(rt: &R, alloc: Global, row: &str) -> Result<String, AllocError> {
+    let mut net = net_of(alloc, "")?;
+    run_on_net(rt, alloc, row, Vec::new(alloc), &mut net, (0, 999))?;
+    format!(in alloc; "{:?}", net.setting())
+}
 
 fn told_words<R: Threads + Sync>(rt: &R, alloc: Global, row: &str) -> Result<String, AllocError> {
     let (words, bytes) = row.split_once(" |").unwrap_or((row, ""));
@@ -84,10 +120,13 @@ fn told_served<R: Threads + Sync>(rt: &R, alloc: Global, row: &str) -> Result<St
     told_line(rt, alloc, words, Vec::new(alloc), rest, room)
 }
 
+/// What comes of the words of a row in the file of a path, for the word that names it.
 fn told_from_file<R: Threads + Sync>(
     rt: &R,
     alloc: Global,
     row: &str,
+    path: &str,
+    word: &str,
 ) -> Result<String, AllocError> {
     let (words, rest) = row.split_once("; ").unwrap_or((row, ""));
     let mut bytes = Vec::new(alloc);
@@ -95,8 +134,8 @@ fn told_from_file<R: Threads + Sync>(
         bytes.push(if *byte == b' ' { 0 } else { *byte })?;
     }
     let mut files = Vec::new(alloc);
-    files.push(file(alloc, "args", &bytes)?)?;
-    told_line(rt, alloc, "--args-file=args", files, rest, 999)
+    files.push(file(alloc, path, &bytes)?)?;
+    told_line(rt, alloc, word, files, rest, 999)
 }
 
 /// What comes of a proxy line over the net of a script, behind which stand the links that are asked for.
@@ -136,18 +175,20 @@ fn words_of_a_proxy_line_have_a_status_and_a_line(rt: HostRuntime) -> Result<(),
 
 #[test]
 fn files_of_words_above_the_limit_are_too_long(rt: HostRuntime) -> Result<(), Fail> {
-    let mut files = Vec::new(rt.alloc());
-    files.push(file(
-        rt.alloc(),
-        "args",
-        &vec![in rt.alloc(); b'a'; ARGS_LIMIT + 1]?,
-    )?)?;
-    let ended = run_over(&rt, rt.alloc(), "--args-file=args", files, 0)?;
-    assert_eq!(rt; ended.code, 1);
-    assert_eq!(rt;
-        ended.err.bytes.as_slice(),
-        b"error: args file too long\n".as_slice()
-    );
+    for (path, word) in [("args", "--args-file=args"), ("/dev/fd/3", "--args=3")] {
+        let mut files = Vec::new(rt.alloc());
+        files.push(file(
+            rt.alloc(),
+            path,
+            &vec![in rt.alloc(); b'a'; ARGS_LIMIT + 1]?,
+        )?)?;
+        let ended = run_over(&rt, rt.alloc(), word, files, 0)?;
+        assert_eq!(rt; ended.code, 1);
+        assert_eq!(rt;
+            ended.err.bytes.as_slice(),
+            b"error: args file too long\n".as_slice()
+        );
+    }
     Ok(())
 }
 
@@ -170,7 +211,28 @@ fn a_proxy_line_of_a_file_is_served(rt: HostRuntime) -> Result<(), Fail> {
         wrong_row(
             rt.alloc(),
             FROM_FILE,
-            &|alloc, row| told_from_file(&rt, alloc, row)
+            &|alloc, row| told_from_file(&rt, alloc, row, "args", "--args-file=args")
+        )?,
+        None
+    );
+    assert_eq!(rt;
+        wrong_row(
+            rt.alloc(),
+            FROM_FILE,
+            &|alloc, row| told_from_file(&rt, alloc, row, "/dev/fd/35", "--args=35")
+        )?,
+        None
+    );
+    Ok(())
+}
+
+#[test]
+fn a_net_takes_what_a_line_asks_of_it(rt: HostRuntime) -> Result<(), Fail> {
+    assert_eq!(rt;
+        wrong_row(
+            rt.alloc(),
+            SETTINGS,
+            &|alloc, row| told_setting(&rt, alloc, row)
         )?,
         None
     );

@@ -29,7 +29,14 @@ const OPTIONS: [(&str, &str); 11] = [
 ];
 
 /// Each option that a proxy line alone has, as the help shows it.
-const LINE_OPTIONS: [&str; 3] = ["--sessions=N", "--record=FILE", "--args-file=FILE"];
+const LINE_OPTIONS: [&str; 6] = [
+    "--sessions=N",
+    "--record=FILE",
+    "--fd=FD",
+    "--replace",
+    "--args-file=FILE",
+    "--args=FD",
+];
 
 /// Each tool with its words, and what else the program is asked for.
 const TOOLS: [&str; 13] = [
@@ -156,7 +163,10 @@ fn help_tells_each_tool_and_each_status(rt: HostRuntime) -> Result<(), Fail> {
         let words = split(rt.alloc(), tool)?;
         assert!(rt; is_taken(rt.alloc(), &words)?);
     }
-    assert_eq!(rt; lines_with("  zamtigarn ADDRESS PATH [OPTION]... "), 1);
+    assert_eq!(rt;
+        lines_with("  zamtigarn [OPTION]... ADDRESS PATH [OPTION]..."),
+        1
+    );
     assert_eq!(rt; lines_with("  zamtigarn "), TOOLS.len() + 1);
     for status in STATUSES {
         let start = format!(in rt.alloc(); "  {status}  ")?;

@@ -11,8 +11,18 @@ use Rattle.proxy_main.specs.Words.{Command}
 use Rattle.proxy_main.specs.Answers.{Answer, replayed, explaining, answer_to, IsSettled, Agrees, HasCode, HasOut, IsWork, GivesOutTheSame}
 use Rattle.proxy_main.specs.Lines.{refusal_line, file_line, memory_line}
 use Rattle.proxy_main.specs.Loads.{StopsBy, CausedBy, Keeps, KeepsLog, IsDone, IsWritten, IsFront, IsLogInLines}
-use Rattle.proxy_main.specs.Endings.{Ends, Refuses, NoFile, OutFails, LogFails, NoMemory, Said, Whole, Cut, StopTold}
+use Rattle.proxy_main.specs.Endings.{Ends, Refuses, NoFile, OutFails, LogFails, NoMemory, Said, Whole, Cut, IsTold, IsStopOf, StopTold}
 use Rattle.proxy_main.proofs.Logs.{lines_none}
+
+-- ---- why a run stopped
+
+-- the line of a file that failed was said
+pub file_told : (rose : Type 0) (old new : Option (List ℕ)) (code : ℕ) (path : List ℕ) (why : Stop) → IsStopOf path why → StopTold rose old new code why → IsTold 4 (file_line path) rose old new code
+file_told rose old new code path (stop.Refused refusal) is t = absurd is
+file_told rose old new code path (stop.File shown) is t = subst (λ (p : List ℕ). IsTold 4 (file_line p) rose old new code) is t
+file_told rose old new code path stop.Output is t = absurd is
+file_told rose old new code path stop.Log is t = absurd is
+file_told rose old new code path stop.Memory is t = absurd is
 
 -- ---- an answer that agrees with another
 

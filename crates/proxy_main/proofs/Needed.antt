@@ -1,5 +1,5 @@
 -- Which of the files that words need were read when its run ended.
-use Rattle.std.proofs.Common.{◌≡◌, ◌⊎◌, inl, inr, ℕ, zero, suc, List, [], ◌∷◌, ◌++◌, Option, Some, None, Result, Ok, Err, IfSome, ap, append_assoc, sym, ◌∙◌, subst, refl, take}
+use Rattle.std.proofs.Common.{◌≡◌, ◌⊎◌, inl, inr, ℕ, zero, suc, List, [], ◌∷◌, ◌++◌, Option, Some, None, Result, Ok, Err, IfSome, ap, append_assoc, sym, ◌∙◌, subst, refl, take, string_bytes}
 use Rattle.std.proofs.lemmas.List.{append-nil}
 use Rattle.link_traits.specs.Told.{ReadFront}
 use Rattle.line_words.specs.declared.reading.LineStop.{LineStop}
@@ -14,9 +14,11 @@ use Rattle.proxy_main.specs.declared.Stop.TheVariants.{Refused as Refuses, File,
 use Rattle.proxy_main.specs.Words.{Command}
 use Rattle.proxy_main.specs.Answers.{Answer, IsSettled, checked_policy, checked_recording, then_read, then_load}
 use Rattle.proxy_main.specs.Loads.{LoadStops}
-use Rattle.proxy_main.specs.Endings.{StopTold}
+use Rattle.proxy_main.specs.Endings.{IsTold, StopTold}
+use Rattle.proxy_main.specs.Lines.{file_line}
 use Rattle.proxy_main.specs.LineRuns.{IsToldAs}
 use Rattle.proxy_main.specs.FilesRead.{paths_of, policies_of, needed, up_to_bad, recordings_up_to_bad, behind, unless_refused, NeededUntil, ReadsNeeded}
+use Rattle.proxy_main.proofs.Endings.{file_told}
 use Rattle.proxy_main.proofs.Loading.{read_ok}
 
 -- ---- what is needed behind a file
@@ -170,9 +172,9 @@ module _ (settled : Type 0) (files reads new_reads : List (List ℕ)) where
 
   pub line_needed_exactly : (rose : Type 0) (err new_err : Option (List ℕ)) (code : ℕ) (why : LineStop) (stop : Stop) → LineNeededUntil settled files reads new_reads why → IsToldAs why stop →
       StopTold rose err new_err code stop → settled → (new_reads ≡ reads ++ files) ⊎ ((code ≡ 4) ⊎ (code ≡ 8))
-  line_needed_exactly rose err new_err code (line_stop.File path) stop h same t now = by (subst (λ (s : Stop). StopTold rose err new_err code s) same t)
+  line_needed_exactly rose err new_err code (line_stop.File path) stop h same t now = by (file_told rose err new_err code (string_bytes path) stop same t)
     where
-      by : StopTold rose err new_err code (File path) → (new_reads ≡ reads ++ files) ⊎ ((code ≡ 4) ⊎ (code ≡ 8))
+      by : IsTold 4 (file_line (string_bytes path)) rose err new_err code → (new_reads ≡ reads ++ files) ⊎ ((code ≡ 4) ⊎ (code ≡ 8))
       by (inl told) = inr (inl told.0)
       by (inr told) = inr (inr told.0)
   line_needed_exactly rose err new_err code line_stop.TooLong stop h same t now = inl (h.1 now)

@@ -1,5 +1,5 @@
 -- Which files were read when a run ended.
-use Rattle.std.proofs.Common.{◌≡◌, ◌≤◌, ◌⊎◌, inl, inr, ℕ, suc, ◌+◌, Bool, true, false, List, [], ◌∷◌, ◌++◌, Option, Some, Result, Ok, Err, IfErr, OnOk, ap, sym, ◌∙◌, subst, refl, arith, length, take, append_assoc}
+use Rattle.std.proofs.Common.{◌≡◌, ◌≤◌, ◌⊎◌, inl, inr, ℕ, suc, ◌+◌, Bool, true, false, List, [], ◌∷◌, ◌++◌, Option, Some, Result, Ok, Err, IfErr, OnOk, ap, sym, ◌∙◌, subst, refl, arith, length, take, append_assoc, string_bytes}
 use Rattle.std.proofs.Math.Seq.{take-append-add}
 use Rattle.std.proofs.lemmas.List.{append-nil}
 use Rattle.std.specs.Prelude.{◌==◌, ◌||◌}
@@ -19,7 +19,7 @@ use Rattle.proxy_main.specs.Loads.{KeepsLog}
 use Rattle.proxy_main.specs.Endings.{Said, IsTold, StopTold}
 use Rattle.proxy_main.specs.LineRuns.{IsToldAs}
 use Rattle.proxy_main.specs.FilesRead.{paths_of, EndsAtPolicy, ToolReads, LineReads, IsOfPolicy, IsOfInput, StopsAt, StopsWork, ReadBefore, ReadUntil}
-use Rattle.proxy_main.proofs.Endings.{said_first}
+use Rattle.proxy_main.proofs.Endings.{file_told, said_first}
 use Rattle.proxy_main.proofs.LineEndings.{refused_code}
 
 -- ---- files one after the other
@@ -310,7 +310,7 @@ module _ (named reads new_reads : List (List ℕ)) (rose : Type 0) (err new_err 
       by (inr is) = absurd (omega (arith, t.0, is))
 
   pub line_stop_reads : (why : LineStop) (stop : Stop) → LineReadUntil named reads new_reads why → IsToldAs why stop → StopTold rose err new_err code stop → LineReads named reads new_reads rose err new_err code
-  line_stop_reads (line_stop.File path) stop until same t = line_to path.now until (subst (λ (s : Stop). StopTold rose err new_err code s) same t)
+  line_stop_reads (line_stop.File path) stop until same t = line_to (string_bytes path) until (file_told rose err new_err code (string_bytes path) stop same t)
   line_stop_reads line_stop.TooLong stop until same t = line_refused ArgsTooLong until (subst (λ (s : Stop). StopTold rose err new_err code s) same t)
   line_stop_reads (line_stop.Bad bad) stop until same t = line_refused (LineWord bad) until (subst (λ (s : Stop). StopTold rose err new_err code s) same t)
   line_stop_reads line_stop.Memory stop until same t = let m = subst (λ (s : Stop). StopTold rose err new_err code s) same t in line_memory until m.0

@@ -109,6 +109,14 @@ ExactlyOfWork code this cause = (code ≡ this → cause) × (cause → (code �
 abbrev pub IsTold : ℕ → List ℕ → Type 0 → Option (List ℕ) → Option (List ℕ) → ℕ → Type 0
 IsTold this line rose old new code = ((code ≡ this) × Said rose old new line) ⊎ ((code ≡ 8) × Said rose old new memory_line)
 
+-- a run stops since the file at this path failed
+abbrev pub IsStopOf : List ℕ → Stop → Type 0
+IsStopOf path (stop.Refused refusal) = ⊥
+IsStopOf path (stop.File shown) = shown.now ≡ path
+IsStopOf path stop.Output = ⊥
+IsStopOf path stop.Log = ⊥
+IsStopOf path stop.Memory = ⊥
+
 abbrev pub StopTold : Type 0 → Option (List ℕ) → Option (List ℕ) → ℕ → Stop → Type 0
 StopTold rose old new code (stop.Refused refusal) = IsTold (refusal_code refusal) (refusal_line refusal) rose old new code
 StopTold rose old new code (stop.File path) = IsTold 4 (file_line path.now) rose old new code

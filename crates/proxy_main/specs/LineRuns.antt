@@ -4,11 +4,14 @@
 --     1    a word is bad, or a file of words is above its limit
 --     2    a word is bad as one of a policy file is
 --     4    a file of words could not be read, or the file of a recording could not be made or written
---     5    the net could not listen, or wait
+--     5    the net could not listen, wait, or take the line's setting
 --     8    memory ran out
-use Rattle.std.specs.Prelude.{◌≡◌, ◌≢◌, ◌⊎◌, ◌++◌, ℕ, List, Option, Some, None, Ok, Err}
+use Rattle.std.specs.Prelude.{◌≡◌, ◌≢◌, ◌⊎◌, ◌++◌, ◌||◌, ℕ, Bool, true, false, List, [], Option, Some, None, is_some, Ok, Err, string_bytes}
 use Rattle.link_traits.specs.Told.{ReadFront}
-use Rattle.link_traits.specs.Views.{FilesView, FilesRose, SinkView, SinkRose, NetView, RoseAt}
+use Rattle.link_traits.specs.Views.{FilesView, FilesRose, SinkView, SinkRose, NetView, Adds, KeepsWishes, RoseAt}
+use Rattle.link_traits.specs.declared.links.NetFault.{NetFault}
+use Rattle.link_traits.specs.declared.links.NetFault.TheVariants.{Failed as NotTaken, Memory as NoNetMemory}
+use Rattle.link_traits.specs.declared.links.Setting.{Setting}
 use Rattle.link_traits.specs.declared.links.Count.TheVariants.{Own as OfNet}
 use Rattle.link_traits.specs.declared.outside.FileFault.{FileFault}
 use Rattle.link_traits.specs.declared.outside.FileFault.TheVariants.{Failed, TooLong as NoRoom, Memory as NoFileMemory}
@@ -30,8 +33,8 @@ use Rattle.proxy_main.specs.declared.Stop.TheVariants as run_stop
 use Rattle.proxy_main.specs.declared.Refusal.{Refusal}
 use Rattle.proxy_main.specs.declared.Refusal.TheVariants.{LineWord, ArgsTooLong}
 use Rattle.proxy_main.specs.Answers.{refusal_code}
-use Rattle.proxy_main.specs.Lines.{refusal_line, file_line, memory_line, listen_line, wait_line}
-use Rattle.proxy_main.specs.Endings.{Said, IsTold, ExactlyOfFiles}
+use Rattle.proxy_main.specs.Lines.{refusal_line, file_line, memory_line, listen_line, wait_line, setting_line}
+use Rattle.proxy_main.specs.Endings.{Said, IsTold, IsStopOf, ExactlyOfFiles}
 use Rattle.proxy_main.specs.FilesRead.{LineReads}
 
 -- ---- the words
@@ -57,10 +60,40 @@ words_code line = code_by (refusal_of line)
 
 -- why words give no line is why the run stops
 abbrev pub IsToldAs : LineStop → Stop → Type 0
-IsToldAs (line_stop.File path) stop = stop ≡ run_stop.File path
+IsToldAs (line_stop.File path) stop = IsStopOf (string_bytes path) stop
 IsToldAs line_stop.TooLong stop = stop ≡ run_stop.Refused ArgsTooLong
 IsToldAs (line_stop.Bad bad) stop = stop ≡ run_stop.Refused (LineWord bad)
 IsToldAs line_stop.Memory stop = stop ≡ run_stop.Memory
+
+-- ---- the net's setting
+
+-- what a line asks of its net beside carrying links
+abbrev pub setting_of : ProxyLine → Setting
+setting_of line = record { replaces = line.replaces; starter = line.starter }
+
+-- whether it asks for any of that: --replace or --fd was among its words
+abbrev pub asks_setting : ProxyLine → Bool
+asks_setting line = line.replaces || is_some line.starter
+
+-- a net with a view is what a prepare of another with a setting made of it
+abbrev pub MadeBy : {N : Type 0} → (N → NetView) → (N → Setting → N → Type 0) → N → Setting → NetView → Type 0
+MadeBy {N = N} view takes old setting after = (new : N) × takes old setting new × (view new ≡ after)
+
+-- What was made of the net before anything was recorded or listened at. A line without --replace and --fd left it as it was. For any other
+-- it took the line's setting: nothing was added to its journal, and the wishes of its links are as before.
+pub record Prepared (made : Setting → NetView → Type 0) (line : ProxyLine) (before after : NetView) : Type 0 where
+  pub unasked : asks_setting line ≡ false → after ≡ before
+  pub taken : asks_setting line ≡ true → made (setting_of line) after
+  pub told : Adds before after []
+  pub wishes : KeepsWishes before after
+
+-- The net didn't take the line's setting, and nothing was done over it but that: nothing was added to its journal, and the wishes of its
+-- links are as before. Its own count rose, or memory ran out.
+pub record Unprepared (line : ProxyLine) (err_rose : Type 0) (before after : NetView) (first last : SinkView) (code : ℕ) : Type 0 where
+  pub asked : asks_setting line ≡ true
+  pub told : Adds before after []
+  pub wishes : KeepsWishes before after
+  pub said : ((code ≡ 5) × (RoseAt OfNet before after × Said err_rose first.told last.told setting_line)) ⊎ ((code ≡ 8) × Said err_rose first.told last.told memory_line)
 
 -- ---- the run
 
@@ -82,6 +115,11 @@ EndSaid rose first last code (Ok done) = (code ≡ 0) × (last ≡ first)
 EndSaid rose first last code (Err (Listen k)) = (code ≡ 5) × Said rose first.told last.told listen_line
 EndSaid rose first last code (Err Wait) = (code ≡ 5) × Said rose first.told last.told wait_line
 EndSaid rose first last code (Err Memory) = (code ≡ 8) × Said rose first.told last.told memory_line
+
+-- the status of a net that didn't take a setting, and the line that is said
+abbrev pub SettingSaid : Type 0 → SinkView → SinkView → ℕ → NetFault → Type 0
+SettingSaid rose first last code NotTaken = (code ≡ 5) × Said rose first.told last.told setting_line
+SettingSaid rose first last code NoNetMemory = (code ≡ 8) × Said rose first.told last.told memory_line
 
 -- ---- a recording
 
@@ -138,35 +176,55 @@ pub data LineRan (line : ProxyLine) (new_told : List ℕ → Option (List ℕ)) 
       → RecordRan line.blocks.items line.sessions path new_told files_rose err_rose before after first last code
       → LineRan line new_told files_rose err_rose before after first last code
 
--- the words gave this line, which was run
-pub record LineServed (texts : List (List ℕ)) (files files' : FilesView) (net net' : NetView) (err err' : SinkView) (code : ℕ) : Type 0 where
+-- how a line went over a net: it was run, once the net had taken its setting, or the net didn't take that
+pub data LineWent (made : Setting → NetView → Type 0) (line : ProxyLine) (new_told : List ℕ → Option (List ℕ)) (files_rose err_rose : Type 0) (before after : NetView) (first last : SinkView) (code : ℕ) : Type 0 where
+  Ran : (mid : NetView) → Prepared made line before mid → LineRan line new_told files_rose err_rose mid after first last code
+      → LineWent made line new_told files_rose err_rose before after first last code
+  Untaken : Unprepared line err_rose before after first last code
+      → LineWent made line new_told files_rose err_rose before after first last code
+
+-- the words gave this line, which was run over the net as it was prepared
+pub record LineServed (made : Setting → NetView → Type 0) (texts : List (List ℕ)) (files files' : FilesView) (net net' : NetView) (err err' : SinkView) (code : ℕ) : Type 0 where
   pub line : ProxyLine
   pub read : Agrees (line_in files.told texts) (Reads (line_seen line))
-  pub ran : LineRan line files'.told (FilesRose files files') (SinkRose err err') net net' err err' code
+  pub mid : NetView
+  pub prepared : Prepared made line net mid
+  pub ran : LineRan line files'.told (FilesRose files files') (SinkRose err err') mid net' err err' code
+
+-- the words gave this line, whose setting the net didn't take
+pub record LineUntaken (texts : List (List ℕ)) (files : FilesView) (net net' : NetView) (err err' : SinkView) (code : ℕ) : Type 0 where
+  pub line : ProxyLine
+  pub read : Agrees (line_in files.told texts) (Reads (line_seen line))
+  pub unprepared : Unprepared line (SinkRose err err') net net' err err' code
 
 -- how the run of a proxy line ended, by the files, the net and err before it and, with a prime, after it
-pub data LineEnds (texts : List (List ℕ)) (files files' : FilesView) (net net' : NetView) (err err' : SinkView) (code : ℕ) : Type 0 where
+pub data LineEnds (made : Setting → NetView → Type 0) (texts : List (List ℕ)) (files files' : FilesView) (net net' : NetView) (err err' : SinkView) (code : ℕ) : Type 0 where
   -- the words were refused, and nothing was done
   Refuses : (refusal : Refusal) → code ≡ refusal_code refusal → RefusedBy (line_in files.told texts) refusal
       → net' ≡ net → Said (SinkRose err err') err.told err'.told (refusal_line refusal)
-      → LineEnds texts files files' net net' err err' code
+      → LineEnds made texts files files' net net' err err' code
   -- a file failed without which nothing is settled, and nothing was done
   NoFile : (path : List ℕ) → code ≡ 4 → FilesRose files files' → line_in (without path files.told) texts ≡ Untold
       → net' ≡ net → Said (SinkRose err err') err.told err'.told (file_line path)
-      → LineEnds texts files files' net net' err err' code
+      → LineEnds made texts files files' net net' err err' code
   -- memory ran out before anything was done
   NoMemory : code ≡ 8 → net' ≡ net → Said (SinkRose err err') err.told err'.told memory_line
-      → LineEnds texts files files' net net' err err' code
+      → LineEnds made texts files files' net net' err err' code
+  -- the net didn't take the line's setting
+  Refrains : LineUntaken texts files net net' err err' code
+      → LineEnds made texts files files' net net' err err' code
   -- the line was run
-  Serves : LineServed texts files files' net net' err err' code
-      → LineEnds texts files files' net net' err err' code
+  Serves : LineServed made texts files files' net net' err err' code
+      → LineEnds made texts files files' net net' err err' code
 
 -- the words gave a line that was served to its end and, if it is to be recorded, recorded whole
-pub record LineDone (texts : List (List ℕ)) (files files' : FilesView) (net net' : NetView) (err err' : SinkView) : Type 0 where
+pub record LineDone (made : Setting → NetView → Type 0) (texts : List (List ℕ)) (files files' : FilesView) (net net' : NetView) (err err' : SinkView) : Type 0 where
   pub line : ProxyLine
   pub read : Agrees (line_in files.told texts) (Reads (line_seen line))
-  pub served : Served line net net' err err' (Ok tt)
-  pub recorded : (path : List ℕ) → record_path line ≡ Some path → FileRecorded line.blocks.items net net' (files'.told path) None
+  pub mid : NetView
+  pub prepared : Prepared made line net mid
+  pub served : Served line mid net' err err' (Ok tt)
+  pub recorded : (path : List ℕ) → record_path line ≡ Some path → FileRecorded line.blocks.items mid net' (files'.told path) None
 
 -- the words give no line that is recorded in the file of this path
 abbrev pub NotRecordedIn : Line → List ℕ → Type 0
@@ -177,10 +235,10 @@ abbrev pub IsLineFree : ℕ → Type 0
 IsLineFree code = (code ≡ 4) ⊎ ((code ≡ 5) ⊎ (code ≡ 8))
 
 -- Of a run of the words of these texts: by the files, the net and err before the run and, with a prime, after it, and
--- by the status.
-pub record LineRun (texts : List (List ℕ)) (files files' : FilesView) (net net' : NetView) (err err' : SinkView) (code : ℕ) : Type 0 where
-  -- It ends in one of four ways, each with its cause and with what the net did and err got.
-  pub ends : LineEnds texts files files' net net' err err' code
+-- by the status. What a prepare with a setting makes of the net is given.
+pub record LineRun (made : Setting → NetView → Type 0) (texts : List (List ℕ)) (files files' : FilesView) (net net' : NetView) (err err' : SinkView) (code : ℕ) : Type 0 where
+  -- It ends in one of five ways, each with its cause and with what the net did and err got.
+  pub ends : LineEnds made texts files files' net net' err err' code
   -- 1 and 2 come exactly where the words are refused so.
   pub words_refused : IsSettled (line_in files.told texts) → ExactlyOfFiles code 1 (words_code (line_in files.told texts) ≡ 1)
   pub policy_refused : IsSettled (line_in files.told texts) → ExactlyOfFiles code 2 (words_code (line_in files.told texts) ≡ 2)
@@ -191,11 +249,11 @@ pub record LineRun (texts : List (List ℕ)) (files files' : FilesView) (net net
   pub complete : IsSettled (line_in files.told texts) → words_code (line_in files.told texts) ≡ 0 → (code ≡ 0) ⊎ IsLineFree code
   -- With 0 the line was served until nothing was left to be done, or as many turns were taken as may be; err got the log
   -- alone; and the file of a recording is that of the whole run.
-  pub done : code ≡ 0 → LineDone texts files files' net net' err err'
-  -- Unless a line was served, nothing was done over the net.
-  pub unserved : (net' ≡ net) ⊎ LineServed texts files files' net net' err err' code
-  -- No file was read beside those that the words name by --args-file: a front of these, each once and in their order; and nothing was done
-  -- over the net unless all were.
+  pub done : code ≡ 0 → LineDone made texts files files' net net' err err'
+  -- Unless a line was served, nothing was done over the net, but that it may have refused the setting of a line with --replace or --fd.
+  pub unserved : (net' ≡ net) ⊎ (LineServed made texts files files' net net' err err' code ⊎ LineUntaken texts files net net' err err' code)
+  -- Only files that the words name by --args-file and --args were read: the first of them, each once and in their order. Nothing was
+  -- done over the net unless all were.
   pub reads_named : LineReads (paths_in texts) files.reads files'.reads (SinkRose err err') err.told err'.told code
   pub reads_first : (net' ≡ net) ⊎ (files'.reads ≡ files.reads ++ paths_in texts)
   -- No file was read behind one that is bad, by what is told of the files. Where that settles what the words come to, exactly those were

@@ -2,7 +2,7 @@
 //!
 //! `ADDRESS PATH [OPTION..]` and further such blocks are a proxy line: the program listens at each PATH, and serves each client that comes
 //! between it and the bus at ADDRESS, by the block's options. With the option `--record=FILE` it records what the links of its
-//! sessions give.
+//! sessions give. With `--fd=FD` and `--replace` the net is asked to tell its starter that it listens, and to replace sockets.
 //!
 //! The tools work on files. `replay POLICY RECORDING` plays a recorded session under a policy, and writes what its
 //! sides get on the standard output; where the policy asks for a log, that is written first, on the standard error.
@@ -119,9 +119,10 @@ pub(crate) enum Stop<'a> {
 ///
 /// 0: the whole log and the whole output were written, or nothing is left to be served. 1: the words are refused, or a
 /// file of them is too long. 2: a word of a policy, or its NAME or RULE in a proxy line, is refused, or the policy file
-/// is too long. 3: a recording, or the file of a message or of a text, is refused. 4: a file was not read, or the file of a recording could not be made or written. 5: the net could not listen, or wait. 6: the output
-/// or the log of a tool was not written. 7: the parts differ that the policy leaves of two recordings, or a policy is
-/// not within another. 8: memory ran out. 9: the recording has no message, or no session, of the number.
+/// is too long. 3: a recording, or the file of a message or of a text, is refused. 4: a file was not read, or the file of
+/// a recording could not be made or written. 5: the net could not listen or wait, or didn't take the line's setting. 6:
+/// the output or the log of a tool was not written. 7: the parts differ that the policy leaves of two recordings, or a
+/// policy is not within another. 8: memory ran out. 9: the recording has no message, or no session, of the number.
 #[derive(Clone, Copy, Debug, PartialEq, Eq)]
 pub struct Status {
     /// The number that the process ends with.

@@ -3,7 +3,7 @@ ghost use Rattle.std.specs.Prelude.{◌≡◌, true, false};
 ghost use Rattle.link_traits.specs.Texts.{texts_of};
 ghost use Rattle.proxy_main.specs.Words.{names_tool};
 ghost use Rattle.proxy_main.specs.ToolRuns.{ToolRun};
-ghost use Rattle.proxy_main.specs.LineRuns.{LineRun};
+ghost use Rattle.proxy_main.specs.LineRuns.{LineRun, MadeBy};
 
 use crate::Status;
 use crate::serving::serve_words;
@@ -29,7 +29,7 @@ pub fn run<R: Threads + Sync, F: Files, N: Net, O: Sink, E: Sink>(
     ensures net { names_tool (texts_of words.now) ≡ true → net.new ≡ net.old }
 
     // A proxy line: each part of `LineRun` is a promise. What `out` has is as before.
-    ensures line { names_tool (texts_of words.now) ≡ false → LineRun (texts_of words.now) (F.view files.old) (F.view files.new) (N.view net.old) (N.view net.new) (E.view err.old) (E.view err.new) result.code }
+    ensures line { names_tool (texts_of words.now) ≡ false → LineRun (MadeBy N.view N.takes net.old) (texts_of words.now) (F.view files.old) (F.view files.new) (N.view net.old) (N.view net.new) (E.view err.old) (E.view err.new) result.code }
     ensures out { names_tool (texts_of words.now) ≡ false → out.new ≡ out.old }
 {
     match tool(rt, &OpenGate, alloc, words, files, out, err) {

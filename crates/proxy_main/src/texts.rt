@@ -6,7 +6,8 @@ pub const VERSION: &str = "0.1.0";
 /// What `--help` writes: the proxy line, each tool, each option, and each status.
 pub const HELP: &str = "\
 Usage:
-  zamtigarn ADDRESS PATH [OPTION]...    listens at PATH, and stands between each client that comes and the bus at ADDRESS
+  zamtigarn [OPTION]... ADDRESS PATH [OPTION]...
+                                        listens at PATH, and stands between each client that comes and the bus at ADDRESS
   zamtigarn replay POLICY RECORDING     plays a recording under a policy, and writes what each side gets
   zamtigarn explain POLICY RECORDING N  tells what was decided on its message of number N, and by which entry
   zamtigarn twin POLICY A B             tells whether two recordings are the same to a policy, or where they first differ
@@ -39,7 +40,13 @@ and PROP is INTERFACE.PROPERTY[@PATH].
 Among the words of blocks alone:
   --sessions=N           N clients are served in all, and then the program ends
   --record=FILE          what the links of all sessions give is recorded in FILE, which replay plays
+  --fd=FD                FD is a pipe: one byte is written there once clients can connect, and when its reader is gone
+                         the program ends
+  --replace              a socket or an empty file at a PATH is removed before the program listens there
   --args-file=FILE       stands for the words of FILE, each ended by a NUL
+  --args=FD              stands for the words of /dev/fd/FD
+The last four may stand before the first ADDRESS, too, and so may --sloppy-names, --known-fields and --start-called, which
+every block then has.
 
 Status:
   0  the output was written, or nothing is left to be served
@@ -47,7 +54,7 @@ Status:
   2  a policy is refused
   3  a recording, or the file of a message or of a text, is refused
   4  a file could not be read, or the file of a recording could not be written
-  5  the proxy could not listen, or wait
+  5  the proxy could not listen, or wait, or FD is no pipe that can be written
   6  the output or the log of a tool could not be written
   7  the two recordings differ to the policy, the policy is not within the other, or the policy
      that is asked for would have more than 65,535 entries

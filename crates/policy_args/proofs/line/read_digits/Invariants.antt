@@ -6,6 +6,6 @@ use Rattle.policy_args.proofs.line.read_digits.Given as goal
 
 abbrev pub invariant-loop-digit : goal.invariant-loop-digit
 invariant-loop-digit l =
-    (l.number ≤ 1000000)
+    (l.number ≤ l.most)
     × (digits_worth l.number (drop l.digit-index l.digits) ≡ digits_worth 0 l.digits)
     × (list_all is_ascii_digit (drop l.digit-index l.digits) ≡ list_all is_ascii_digit l.digits)

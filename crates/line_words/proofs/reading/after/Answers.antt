@@ -1,0 +1,5 @@
+use Rattle.policy_args.proofs.Fronts.{stripped}
+use Rattle.line_words.proofs.reading.after.Goals as goal
+
+pub returns : goal.returns
+returns c = stripped c.args.front.now c.args.word.now c.strip_prefix.result c.strip_prefix.ensures.cases
