@@ -2,10 +2,14 @@
 ghost use Rattle.std.specs.Prelude.{◌≡◌, ◌≤◌, ◌++◌, ℕ, List, [], OnErr, OnOk, IsTrue, false, length};
 ghost use Rattle.link_traits.specs.Told.{added};
 ghost use Rattle.link_traits.specs.Views.{SinkRose};
+ghost use Rattle.dbus_header.specs.Contents.{contents_of};
+ghost use Rattle.dbus_header.specs.Read.{message_seen};
+ghost use Rattle.policy_view.specs.Notes.{message_in};
 ghost use Rattle.explain_log.specs.Buffers.{GoesOut};
 ghost use Rattle.explain_log.specs.Lines.{log_line};
 
 use crate::pieces::{Numbers, pieces};
+use dbus_header::Message;
 use link_traits::{Sink, SinkFault, write_all};
 use policy_view::Note;
 use std::alloc::Global;
@@ -70,14 +74,17 @@ impl LineBuffer {
         write_all(sink, bytes)
     }
 
-    /// Puts the line of a note after what waits, with the number of its session. If more than `LONG` bytes would wait, or memory is
-    /// refused for more, what waits is written first. On an error, a prefix of what waited and of the line was written.
+    /// Puts the line of a note, whose message was read, after what waits, with the number of its session. If more than `LONG`
+    /// bytes would wait, or memory is refused for more, what waits is written first. On an error, a prefix of what waited and
+    /// of the line was written.
     pub fn put_line<S: Sink>(
         &mut self,
         sink: &mut S,
         session: u32,
         note: &Note,
+        message: &Message<'_>,
     ) -> Result<(), SinkFault>
+        requires { message_seen message.now ≡ contents_of (message_in note.now.frame) }
         ensures ok { OnOk result (GoesOut (self.old ++ log_line session note.now) self.new (S.view sink.old).told (S.view sink.new).told) }
         ensures most { OnOk result (length self.new ≤ LONG) }
         ensures err { OnErr result ((rest : List ℕ) × GoesOut (self.old ++ log_line session note.now) rest (S.view sink.old).told (S.view sink.new).told) }
@@ -85,7 +92,7 @@ impl LineBuffer {
         ensures count { (S.view sink.old).faults ≤ (S.view sink.new).faults }
     {
         let mut numbers = Numbers::new();
-        for piece in pieces(&mut numbers, session, note) {
+        for piece in pieces(&mut numbers, session, note, message) {
             self.put(sink, piece.as_bytes())?;
         }
         Ok(())

@@ -25,8 +25,9 @@ fn length_of(pieces: &[&str]) -> usize {
 pub fn line(alloc: Global, session: u32, note: &Note) -> Result<String, AllocError>
     ensures { IfOk result (λ line. string_bytes line ≡ log_line session note.now) }
 {
+    let message = note.message();
     let mut numbers = Numbers::new();
-    let pieces = pieces(&mut numbers, session, note);
+    let pieces = pieces(&mut numbers, session, note, &message);
     let mut line = String::with_capacity(alloc, length_of(&pieces))?;
     for piece in pieces {
         line.push_str(piece)?;

@@ -1,11 +1,14 @@
 //! The pieces of a line in order: its fixed words, its printed numbers and its texts.
 ghost use Rattle.std.specs.Prelude.{◌≡◌, ◌++◌, codes, flat_map};
+ghost use Rattle.dbus_header.specs.Contents.{contents_of};
 ghost use Rattle.dbus_header.specs.Kinds.{kind_by};
+ghost use Rattle.dbus_header.specs.Read.{message_seen};
 ghost use Rattle.dbus_header.specs.Seen.{text_seen};
+ghost use Rattle.policy_view.specs.Notes.{message_in};
 ghost use Rattle.explain_log.specs.Lines.{log_line, number_word as word_of_number, side_word as word_of_side, text_word as word_of_text, type_word};
 
 use crate::decisions::decision_pieces;
-use dbus_header::{ERROR, METHOD_CALL, METHOD_RETURN, SIGNAL};
+use dbus_header::{ERROR, METHOD_CALL, METHOD_RETURN, Message, SIGNAL};
 use itoa::Buffer;
 use policy_view::{Note, Side};
 
@@ -77,15 +80,16 @@ fn text_word<'a>(text: Option<&'a str>) -> &'a str
     text.unwrap_or("-")
 }
 
-/// The pieces of a note's line. A piece that the line hasn't is empty.
+/// The pieces of a note's line, whose message was read. A piece that the line hasn't is empty.
 pub(crate) fn pieces<'a>(
     numbers: &'a mut Numbers,
     session: u32,
     note: &'a Note,
+    message: &'a Message<'a>,
 ) -> [&'a str; PIECES]
+    requires { message_seen message.now ≡ contents_of (message_in note.now.frame) }
     ensures { flat_map (λ piece. piece.now) result ≡ log_line session note.now }
 {
-    let message = note.message();
     let side: &'a str = side_word(note.side());
     let [kind, code] = kind_pieces(&mut numbers.kind, message.kind);
     let sender = text_word(message.sender);

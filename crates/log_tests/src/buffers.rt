@@ -28,6 +28,11 @@ fn note(alloc: Global) -> Result<Note, AllocError> {
     )
 }
 
+/// Puts the line of a note of session 3.
+fn put(lines: &mut LineBuffer, sink: &mut MemSink, note: &Note) -> Result<(), SinkFault> {
+    lines.put_line(sink, 3, note, &note.message())
+}
+
 /// A path of one long element.
 fn long_path(alloc: Global) -> Result<String, AllocError> {
     let mut path = String::from_str(alloc, "/")?;
@@ -58,8 +63,8 @@ fn long_note(alloc: Global, path: &str) -> Result<Note, AllocError> {
 fn lines_wait_until_they_are_written(rt: HostRuntime) -> Result<(), Fail> {
     let mut sink = MemSink::new(rt.alloc(), 999)?;
     let mut lines = LineBuffer::new(rt.alloc());
-    assert_eq!(rt; lines.put_line(&mut sink, 3, &note(rt.alloc())?), Ok(()));
-    assert_eq!(rt; lines.put_line(&mut sink, 3, &note(rt.alloc())?), Ok(()));
+    assert_eq!(rt; put(&mut lines, &mut sink, &note(rt.alloc())?), Ok(()));
+    assert_eq!(rt; put(&mut lines, &mut sink, &note(rt.alloc())?), Ok(()));
     assert!(rt; sink.bytes.is_empty());
     assert_eq!(rt; lines.write_out(&mut sink), Ok(()));
     assert_eq!(rt; lines.write_out(&mut sink), Ok(()));
@@ -74,7 +79,7 @@ fn many_lines_are_written_before_all_wait(rt: HostRuntime) -> Result<(), Fail> {
     let mut lines = LineBuffer::new(rt.alloc());
     let note = note(rt.alloc())?;
     for _ in 0..MANY {
-        assert_eq!(rt; lines.put_line(&mut sink, 3, &note), Ok(()));
+        assert_eq!(rt; put(&mut lines, &mut sink, &note), Ok(()));
     }
     assert!(rt; sink.bytes.len() > 60_000 && sink.bytes.len() <= 65_536);
     assert_eq!(rt; lines.write_out(&mut sink), Ok(()));
@@ -90,12 +95,12 @@ fn a_line_longer_than_a_buffer_is_written(rt: HostRuntime) -> Result<(), Fail> {
     let mut sink = MemSink::new(rt.alloc(), 99_999)?;
     let mut lines = LineBuffer::new(rt.alloc());
     let path = long_path(rt.alloc())?;
-    assert_eq!(rt; lines.put_line(&mut sink, 3, &note(rt.alloc())?), Ok(()));
+    assert_eq!(rt; put(&mut lines, &mut sink, &note(rt.alloc())?), Ok(()));
     assert_eq!(rt;
-        lines.put_line(&mut sink, 3, &long_note(rt.alloc(), &path)?),
+        put(&mut lines, &mut sink, &long_note(rt.alloc(), &path)?),
         Ok(())
     );
-    assert_eq!(rt; lines.put_line(&mut sink, 3, &note(rt.alloc())?), Ok(()));
+    assert_eq!(rt; put(&mut lines, &mut sink, &note(rt.alloc())?), Ok(()));
     assert_eq!(rt; lines.write_out(&mut sink), Ok(()));
     let long = format!(in rt.alloc();
         "{LINE}3 c 1 call serial=1 reply=- from=- dest=- path={path} iface=- member=A pass\n{LINE}"
@@ -108,13 +113,13 @@ fn a_line_longer_than_a_buffer_is_written(rt: HostRuntime) -> Result<(), Fail> {
 fn a_full_sink_has_a_prefix_of_the_lines(rt: HostRuntime) -> Result<(), Fail> {
     let mut sink = MemSink::new(rt.alloc(), 10)?;
     let mut lines = LineBuffer::new(rt.alloc());
-    assert_eq!(rt; lines.put_line(&mut sink, 3, &note(rt.alloc())?), Ok(()));
+    assert_eq!(rt; put(&mut lines, &mut sink, &note(rt.alloc())?), Ok(()));
     assert_eq!(rt; lines.write_out(&mut sink), Err(SinkFault));
     assert!(rt; sink.bytes.as_slice() == b"3 c 1 type".as_slice());
     let mut sink = MemSink::new(rt.alloc(), 99)?;
     let mut lines = LineBuffer::new(rt.alloc());
     let path = long_path(rt.alloc())?;
-    let written = lines.put_line(&mut sink, 3, &long_note(rt.alloc(), &path)?);
+    let written = put(&mut lines, &mut sink, &long_note(rt.alloc(), &path)?);
     assert_eq!(rt; written, Err(SinkFault));
     assert!(rt; sink.bytes.len() == 99);
     Ok(())

@@ -24,7 +24,7 @@ spelled_message bytes m valid e =
 abbrev pub HasMessage : List ℕ → Type 0
 HasMessage bytes = (m : Message) × Valid m × (bytes ≡ spell m)
 
-has_message : (bytes : List ℕ) → HasMessage bytes → IsSome (message_of bytes)
+pub has_message : (bytes : List ℕ) → HasMessage bytes → IsSome (message_of bytes)
 has_message bytes h = subst IsSome (sym (spelled_message bytes h.0 h.1 h.2)) refl
 
 pub frame_whole : (bytes : List ℕ) → AreBytes bytes → HasMessage bytes → IsWhole bytes

@@ -7,7 +7,7 @@ ghost use Rattle.policy_view.specs.Notes.{message_in};
 
 use crate::{Decision, Side};
 use bytes::Bytes;
-use dbus_header::{Message, decode};
+use dbus_header::{KnownTexts, Message, read_valid};
 use std::marker::Model;
 
 /// The message that a frame is, which is valid.
@@ -16,10 +16,16 @@ pub fn message_of(frame: &[u8]) -> Message<'_>
     ensures bytes { result.bytes.now ≡ frame.now }
     ensures contents { (m : MessageTree) → Valid m → frame.now ≡ spell m → message_seen result ≡ contents_of m }
 {
-    match decode(frame) {
-        Ok(message) => message,
-        Err(_) => unreachable!(),
-    }
+    message_by(frame, &KnownTexts::none())
+}
+
+/// The same, if headers and texts of other messages are known.
+fn message_by<'a>(frame: &'a [u8], known: &KnownTexts) -> Message<'a>
+    requires { (m : MessageTree) × Valid m × (frame.now ≡ spell m) }
+    ensures bytes { result.bytes.now ≡ frame.now }
+    ensures contents { (m : MessageTree) → Valid m → frame.now ≡ spell m → message_seen result ≡ contents_of m }
+{
+    read_valid(frame, known)
 }
 
 /// What was decided on a message of a session: on the client's whether it goes to the bus, and on the bus's what the client
@@ -87,6 +93,15 @@ impl Note {
         ensures valid { Valid (message_in self.now.frame) × (self.now.frame ≡ spell (message_in self.now.frame)) }
     {
         message_of(self.frame.as_slice())
+    }
+
+    /// The same, if headers and texts of other messages are known, as those of the stream in which it came.
+    pub fn message_knowing(&self, known: &KnownTexts) -> Message<'_>
+        ensures bytes { result.bytes.now ≡ self.now.frame }
+        ensures contents { message_seen result ≡ contents_of (message_in self.now.frame) }
+        ensures valid { Valid (message_in self.now.frame) × (self.now.frame ≡ spell (message_in self.now.frame)) }
+    {
+        message_by(self.frame.as_slice(), known)
     }
 
     /// What was decided on the message.

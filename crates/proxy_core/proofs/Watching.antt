@@ -73,14 +73,14 @@ module _ (policy : Policy) (side : Side) (m : Message) (old : SessionView) where
 pub stays_unless : (before es mid new : List Element) (o : Option End) (all : Bool) (n : ℕ) → all ≡ is_none o → mid ≡ before ++ es → n ≡ length before → new ≡ cond all mid (take n mid) → new ≡ before ++ unless_ended o es
 stays_unless before es mid new None all n runs mid_is n_is is = is ∙ ap (λ (b : Bool). cond b mid (take n mid)) runs ∙ mid_is
 stays_unless before es mid new (Some end) all n runs mid_is n_is is =
-    is ∙ ap (λ (b : Bool). cond b mid (take n mid)) runs ∙ ap₂ (λ (k : ℕ) (xs : List Element). take k xs) n_is mid_is ∙ take_first before es ∙ sym (append-nil before)
+    is ∙ ap (λ (b : Bool). cond b mid (take n mid)) runs ∙ ap₂ (λ (k : ℕ) (xs : List Element). take k xs) n_is mid_is ∙ process_first before es ∙ sym (append-nil before)
   where
-    take_first : (xs ys : List Element) → take (length xs) (xs ++ ys) ≡ xs
-    take_first [] ys = none ys
+    process_first : (xs ys : List Element) → take (length xs) (xs ++ ys) ≡ xs
+    process_first [] ys = none ys
       where
         none : (zs : List Element) → take 0 zs ≡ []
         none zs = refl
-    take_first (x ∷ xs) ys = ap (λ (zs : List Element). x ∷ zs) (take_first xs ys)
+    process_first (x ∷ xs) ys = ap (λ (zs : List Element). x ∷ zs) (process_first xs ys)
 
 -- ---- what the session holds then
 

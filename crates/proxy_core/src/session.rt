@@ -2,7 +2,9 @@
 //! they are where messages aren't filtered.
 ghost use Rattle.std.specs.Prelude.{◌≡◌, ◌≤◌, ◌<◌, ◌+◌, ◌^◌, ◌∷◌, ◌++◌, ℕ, List, [], Some, None, true, false, IfOk, IfNone, IfSome, OnOk, OnErr, length, take, drop, option_to_list};
 ghost use Rattle.policy_view.specs.History.{Event, Bytes, Finished, Stopped, finished as finished_by, malformed as malformed_by, longest_stream, most_sent};
-ghost use Rattle.policy_view.specs.Notes.{Note as NoteValue};
+ghost use Rattle.dbus_header.specs.Contents.{contents_of};
+ghost use Rattle.dbus_header.specs.Read.{message_seen};
+ghost use Rattle.policy_view.specs.Notes.{Note as NoteValue, message_in};
 ghost use Rattle.policy_view.specs.declared.End.{End as SessionEnd};
 ghost use Rattle.policy_view.specs.declared.visible.Visible.{Visible as Element};
 ghost use Rattle.policy_view.specs.declared.End.TheVariants.{ClientEnd, BusEnd};
@@ -23,6 +25,7 @@ mod watching;
 
 use crate::stream::Stream;
 use crate::watch::{Watch, next_of};
+use dbus_header::Message;
 use out_queue::OutQueue;
 use own_calls::after_hello_is_short;
 use policy_args::Policy;
@@ -273,6 +276,17 @@ impl Session {
         self.notes.pop_front()
     }
 
+    /// The message of a note of this session. Its header isn't read again if its stream still knows it.
+    pub fn message_of<'a>(&self, note: &'a Note) -> Message<'a>
+        ensures bytes { result.bytes.now ≡ note.now.frame }
+        ensures contents { message_seen result ≡ contents_of (message_in note.now.frame) }
+    {
+        match note.side() {
+            Side::Client => self.client.message_of(note),
+            Side::Bus => self.bus.message_of(note),
+        }
+    }
+
     /// The next element of the visible part, where one waits, in the order of the history. Only a session that was made by `watching` has
     /// any; its End is no such element.
     pub fn next_visible(&mut self) -> Option<Visible>
@@ -314,9 +328,9 @@ impl Session {
         }
     }
 
-    /// Takes the line in front of a side's stream, or all that is left where messages come that aren't filtered; or ends the
+    /// Processes the line in front of a side's stream, or all that is left if messages come that aren't filtered; or ends the
     /// session where a fault stands there. Tells whether more may follow.
-    fn take_front(&mut self, policy: &Policy, side: Side) -> bool
+    fn process_front(&mut self, policy: &Policy, side: Side) -> bool
         requires running { self.old.ended ≡ None }
         requires unfiltered { in_lines (stream_of side self.old).phase ≡ false → self.old.mode.filter ≡ false }
         ensures step { Stepped (step_of policy.now side self.old) self.old self.new result }
@@ -326,12 +340,12 @@ impl Session {
             return self.pass_raw(policy, side);
         }
         match side {
-            Side::Client => self.take_client_line(policy),
-            Side::Bus => self.take_bus_line(policy),
+            Side::Client => self.process_client_line(policy),
+            Side::Bus => self.process_bus_line(policy),
         }
     }
 
-    /// Takes lines and messages from the front of a side's stream, at most so many.
+    /// Processes lines and messages from the front of a side's stream, `most` of them at most.
     fn drain(&mut self, policy: &Policy, side: Side, most: usize)
         requires { self.old.ended ≡ None }
         ensures took { Took policy.now side (drained policy.now side most self.old) self.old self.new }
@@ -343,7 +357,7 @@ impl Session {
                 self.drain_messages(policy, side, left);
                 return;
             }
-            if !self.take_front(policy, side) {
+            if !self.process_front(policy, side) {
                 return;
             }
             left -= 1;
@@ -373,8 +387,8 @@ impl Session {
         }
     }
 
-    /// Takes bytes that come behind what is left of a side's stream.
-    fn take_bytes(&mut self, policy: &Policy, side: Side, bytes: &[u8])
+    /// Appends bytes to what is left of a side's stream, and processes what is whole then.
+    fn receive_bytes(&mut self, policy: &Policy, side: Side, bytes: &[u8])
         requires running { self.old.ended ≡ None }
         requires room { (stream_of side self.old).came + length bytes.now ≤ longest_stream }
         ensures took { Took policy.now side (with_bytes policy.now side bytes.now self.old) (with_pushed side bytes.now self.old) self.new }
@@ -403,20 +417,20 @@ impl Session {
         }
     }
 
-    /// Takes a piece of a side's stream, as far as the stream's limit.
-    fn take_piece(&mut self, policy: &Policy, side: Side, piece: &[u8])
+    /// Receives a piece of a side's stream, up to the stream's limit.
+    fn receive(&mut self, policy: &Policy, side: Side, piece: &[u8])
         requires { self.old.ended ≡ None }
         ensures took { Took policy.now side (with_piece policy.now side piece.now self.old) (with_pushed side (take (room_of side self.old) piece.now) self.old) self.new }
         ensures light { IsLight policy.now (length piece.now) self.old self.new }
     {
         let room = LONGEST_STREAM - self.came(side);
-        self.take_bytes(policy, side, front_of(room, piece));
+        self.receive_bytes(policy, side, front_of(room, piece));
         if piece.len() as u64 > room && self.ended.is_none() {
             self.end_with(finished(side));
         }
     }
 
-    /// Takes a piece that came of a side.
+    /// Receives a piece of a side's stream, and answers the End of a session that has ended.
     fn feed(&mut self, policy: &Policy, side: Side, piece: &[u8]) -> Result<(), End>
         ensures stands { (events : List Event) (taken : Taken) → StandsFor policy.now self.old events taken → StandsFor policy.now self.new (Bytes side piece.now ∷ events) taken }
         ensures closes { Closes policy.now (Bytes side piece.now) self.old self.new }
@@ -429,7 +443,7 @@ impl Session {
             return Err(end);
         }
         policy.covers_no_unique_name();
-        self.take_piece(policy, side, piece);
+        self.receive(policy, side, piece);
         match self.ended {
             None => Ok(()),
             Some(end) => Err(end),

@@ -2,15 +2,19 @@
 ghost use Rattle.std.specs.Prelude.{◌≡◌, ◌≤◌, ◌<◌, ◌+◌, ◌^◌, [], true, Some, IsTrue, IfOk, IfErr, OnOk, OnErr, length, take, drop};
 ghost use Rattle.dbus_framing.specs.Framing.{Takes};
 ghost use Rattle.dbus_framing.specs.Knows.{IsWhole};
+ghost use Rattle.dbus_header.specs.Contents.{contents_of};
 ghost use Rattle.dbus_header.specs.Malformed.{fault};
 ghost use Rattle.dbus_header.specs.Message.{Message as MessageTree};
+ghost use Rattle.dbus_header.specs.Read.{message_seen};
 ghost use Rattle.sasl_watch.specs.Watching.{BusGives, ClientGives};
 ghost use Rattle.policy_view.specs.History.{longest_stream};
+ghost use Rattle.policy_view.specs.Notes.{message_in};
 ghost use Rattle.proxy_core.specs.Streams.{InMessages, GaveLine, is_in_lines as in_lines, new_stream, pushed};
 
 use bytes::Bytes;
 use dbus_framing::Framer;
 use dbus_header::{KnownTexts, Malformed, Message};
+use policy_view::Note;
 use sasl_watch::{Lines, NextLine};
 use std::alloc::{AllocError, Global};
 use std::marker::Model;
@@ -200,6 +204,14 @@ impl Stream {
         ensures stays { self.new ≡ self.old }
     {
         lent.message(len, &mut self.known)
+    }
+
+    /// The message of a note on one that came in this stream. Its header isn't read again if it is still known.
+    pub(crate) fn message_of<'a>(&self, note: &'a Note) -> Message<'a>
+        ensures bytes { result.bytes.now ≡ note.now.frame }
+        ensures contents { message_seen result ≡ contents_of (message_in note.now.frame) }
+    {
+        note.message_knowing(&self.known)
     }
 
     /// Puts back what is left of what was lent.

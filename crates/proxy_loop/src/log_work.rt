@@ -15,7 +15,8 @@ pub fn log_new<S: Sink>(sink: &mut S, alloc: Global, number: u32, session: &mut 
 {
     let mut lines = LineBuffer::new(alloc);
     while let Some(note) = session.next_note() {
-        if lines.put_line(sink, number, &note).is_err() {
+        let message = session.message_of(&note);
+        if lines.put_line(sink, number, &note, &message).is_err() {
             session.stop(End::LogFault);
             return;
         }

@@ -71,8 +71,9 @@ impl Session {
         false
     }
 
-    /// Takes the message of as many bytes as its head states, or ends the session where it is malformed. Tells whether more may follow.
-    fn take_stated(
+    /// Processes the message in front, whose head states its length, or ends the session if it is malformed. Answers whether
+    /// more may follow.
+    fn process_stated(
         &mut self,
         policy: &Policy,
         side: Side,
@@ -87,7 +88,7 @@ impl Session {
         match self.read_message(side, messages, len) {
             Ok(message) => {
                 let incoming = Incoming::new(&message, shared.as_ref());
-                self.take_whole(policy, side, &incoming);
+                self.process_message(policy, side, &incoming);
                 messages.take(len);
                 self.ended.is_none()
             }
@@ -95,20 +96,22 @@ impl Session {
         }
     }
 
-    /// Takes the first of a side's messages, or ends the session where a fault stands in front. Tells whether more may follow.
-    fn take_first(&mut self, policy: &Policy, side: Side, messages: &mut Framer) -> bool
+    /// Processes the first of a side's messages, or ends the session if its head is wrong. Answers whether more messages may
+    /// follow.
+    fn process_first(&mut self, policy: &Policy, side: Side, messages: &mut Framer) -> bool
         requires { self.old.ended ≡ None }
         ensures { TookFirst policy.now side messages.old messages.new self.old self.new result }
     {
         match messages.front() {
-            Front::Whole(len) => self.take_stated(policy, side, messages, len),
+            Front::Whole(len) => self.process_stated(policy, side, messages, len),
             Front::Rest => false,
             Front::Bad(fault) => self.end_malformed(side, fault),
         }
     }
 
-    /// Takes messages from the front of those of a side's stream, at most so many, until none is whole or the session has ended.
-    fn take_messages(&mut self, policy: &Policy, side: Side, messages: &mut Framer, most: usize)
+    /// Processes messages from the front of those of a side's stream, `most` of them at most, until none is whole or the
+    /// session has ended.
+    fn process_messages(&mut self, policy: &Policy, side: Side, messages: &mut Framer, most: usize)
         requires running { self.old.ended ≡ None }
         requires lent { IsLent side self.old }
         requires filtered { self.old.mode.filter ≡ true }
@@ -118,14 +121,15 @@ impl Session {
     {
         let mut left = most;
         while left > 0 {
-            if !self.take_first(policy, side, messages) {
+            if !self.process_first(policy, side, messages) {
                 return;
             }
             left -= 1;
         }
     }
 
-    /// Takes messages from the front of a side's stream, at most so many, until none is whole or the session has ended.
+    /// Processes messages from the front of a side's stream, `most` of them at most, until none is whole or the session has
+    /// ended.
     pub(super) fn drain_messages(&mut self, policy: &Policy, side: Side, most: usize)
         requires running { self.old.ended ≡ None }
         requires messages { (stream_of side self.old).phase ≡ InMessages }
@@ -134,7 +138,7 @@ impl Session {
         ensures light { IsLight policy.now 0 self.old self.new }
     {
         let mut messages = self.lend_messages(side);
-        self.take_messages(policy, side, &mut messages, most);
+        self.process_messages(policy, side, &mut messages, most);
         self.put_messages(side, messages);
     }
 }

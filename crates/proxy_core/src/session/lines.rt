@@ -144,9 +144,9 @@ impl Session {
         !self.client.is_in_lines()
     }
 
-    /// Takes the line in front of the client's stream, or ends the session where a fault stands there. Tells whether more
+    /// Processes the line in front of the client's stream, or ends the session where a fault stands there. Tells whether more
     /// may follow.
-    pub(super) fn take_client_line(&mut self, policy: &Policy) -> bool
+    pub(super) fn process_client_line(&mut self, policy: &Policy) -> bool
         requires running { self.old.ended ≡ None }
         requires lines { in_lines self.old.client.phase ≡ true }
         ensures step { Stepped (step_of policy.now Side.Client self.old) self.old self.new result }
@@ -170,9 +170,9 @@ impl Session {
         }
     }
 
-    /// Takes the line in front of the bus's stream, or the end of its lines, or ends the session where a fault stands there.
+    /// Processes the line in front of the bus's stream, or the end of its lines, or ends the session where a fault stands there.
     /// Tells whether more may follow.
-    pub(super) fn take_bus_line(&mut self, policy: &Policy) -> bool
+    pub(super) fn process_bus_line(&mut self, policy: &Policy) -> bool
         requires running { self.old.ended ≡ None }
         requires lines { in_lines self.old.bus.phase ≡ true }
         ensures step { Stepped (step_of policy.now Side.Bus self.old) self.old self.new result }

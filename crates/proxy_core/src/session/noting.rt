@@ -1,4 +1,4 @@
-//! A message that is taken, and the note on it. The note's memory is taken first, so that a note and what its message does stand
+//! A message and the note on it. The note's memory is taken first, so that a note and what its message does stand
 //! or fall together.
 ghost use Rattle.std.specs.Prelude.{◌≡◌, ◌<◌, ◌∷◌, ◌++◌, [], true, None, IfOk, OnOk, OnErr};
 ghost use Rattle.std.specs.VecDeque.{deque_capacity, deque_len};
@@ -16,15 +16,20 @@ use std::collections::VecDeque;
 use std::mem;
 
 impl Session {
-    /// Takes a message of a side. Answers what was decided on it.
-    fn take_message(&mut self, policy: &Policy, side: Side, incoming: &Incoming<'_, '_>) -> Decision
+    /// Processes a message of a side. Answers what was decided on it.
+    fn process_of_side(
+        &mut self,
+        policy: &Policy,
+        side: Side,
+        incoming: &Incoming<'_, '_>,
+    ) -> Decision
         requires running { self.old.ended ≡ None }
         ensures took { TookMessage (with_message policy.now side (incoming_message incoming.now) self.old) self.old self.new }
         ensures decision { result ≡ decision_in policy.now side (incoming_message incoming.now) self.old }
     {
         match side {
-            Side::Client => Decision::Judged(self.take_client_message(policy, incoming)),
-            Side::Bus => Decision::Shown(self.take_bus_message(policy, incoming)),
+            Side::Client => Decision::Judged(self.process_client_message(policy, incoming)),
+            Side::Bus => Decision::Shown(self.process_bus_message(policy, incoming)),
         }
     }
 
@@ -50,8 +55,8 @@ impl Session {
         self.notes = queue;
     }
 
-    /// Takes a message of a side and makes a note of it. One in whose place the session ended has none.
-    fn take_noted(&mut self, policy: &Policy, side: Side, incoming: &Incoming<'_, '_>)
+    /// Processes a message of a side and makes a note of it. One in whose place the session ended has none.
+    fn process_noted(&mut self, policy: &Policy, side: Side, incoming: &Incoming<'_, '_>)
         requires running { self.old.ended ≡ None }
         requires notes { self.old.mode.notes ≡ true }
         ensures { TookMessage (with_noted_message policy.now side (incoming_message incoming.now) self.old) self.old self.new }
@@ -66,7 +71,7 @@ impl Session {
         let Ok(queue) = self.reserved_notes() else {
             return self.end_with(End::Memory);
         };
-        let decision = self.take_message(policy, side, incoming);
+        let decision = self.process_of_side(policy, side, incoming);
         if self.ended.is_some() {
             self.notes = queue;
             return;
@@ -74,8 +79,8 @@ impl Session {
         self.put_note(queue, Note::new(number, side, frame, decision));
     }
 
-    /// Takes a message of a side, and makes a note of it where the session makes notes.
-    pub(super) fn take_unwatched(
+    /// Processes a message of a side, and makes a note of it if the session makes notes.
+    pub(super) fn process_unwatched(
         &mut self,
         policy: &Policy,
         side: Side,
@@ -85,8 +90,8 @@ impl Session {
         ensures { TookMessage (with_noted_message policy.now side (incoming_message incoming.now) self.old) self.old self.new }
     {
         if self.mode.notes {
-            return self.take_noted(policy, side, incoming);
+            return self.process_noted(policy, side, incoming);
         }
-        let _decision = self.take_message(policy, side, incoming);
+        let _decision = self.process_of_side(policy, side, incoming);
     }
 }

@@ -245,8 +245,8 @@ impl Session {
         }
     }
 
-    /// Takes the answer to the proxy's own question for the list of names.
-    fn take_names(&mut self, policy: &Policy, message: &Message<'_>)
+    /// Processes the answer to the proxy's own ListNames: the owners of its names are asked for.
+    fn process_names(&mut self, policy: &Policy, message: &Message<'_>)
         requires { self.old.ended ≡ None }
         ensures { TookMessage (with_role policy.now (message_in message.now.bytes.now) NamesAnswer self.old) self.old self.new }
     {
@@ -256,7 +256,7 @@ impl Session {
     }
 
     /// What a message of the bus tells is learned, and what is shown of it comes to the client.
-    fn take_told(
+    fn learn_and_show(
         &mut self,
         policy: &Policy,
         incoming: &Incoming<'_, '_>,
@@ -271,8 +271,8 @@ impl Session {
         self.show_as(policy, incoming, showing)
     }
 
-    /// Takes a message of the bus by what it answers and by what is shown of it.
-    fn take_role(
+    /// Applies what is to be shown of a message of the bus, by what it answers.
+    fn apply_showing(
         &mut self,
         policy: &Policy,
         incoming: &Incoming<'_, '_>,
@@ -286,14 +286,14 @@ impl Session {
         ensures { TookMessage (with_role policy.now (incoming_message incoming.now) (bus_role answered.now (incoming_message incoming.now)) self.old) self.old self.new }
     {
         if is_own_names(answered) {
-            return self.take_names(policy, incoming.message);
+            return self.process_names(policy, incoming.message);
         }
-        let done = self.take_told(policy, incoming, answered, showing);
+        let done = self.learn_and_show(policy, incoming, answered, showing);
         self.goes_on(done);
     }
 
-    /// Takes a message of the bus. Answers what the client is shown of it.
-    pub(super) fn take_bus_message(
+    /// Processes a message of the bus. Answers what the client is shown of it.
+    pub(super) fn process_bus_message(
         &mut self,
         policy: &Policy,
         incoming: &Incoming<'_, '_>,
@@ -304,12 +304,12 @@ impl Session {
     {
         let answered = self.take_answer(incoming.message);
         let showing = show(policy, &self.tracker, answered.as_ref(), incoming.message);
-        self.take_role(policy, incoming, &answered, showing);
+        self.apply_showing(policy, incoming, &answered, showing);
         showing
     }
 }
 
-/// Whether it is what the answer to the proxy's own question for the list of names is for.
+/// Whether this answers the proxy's own ListNames.
 fn is_own_names(answered: &Option<Kind>) -> bool
     ensures { result ≡ own_names answered.now }
 {

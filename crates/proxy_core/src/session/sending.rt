@@ -166,8 +166,8 @@ impl Session {
         }
     }
 
-    /// Takes a message of the client by its verdict: it passes, or a ping takes its place, or it is dropped.
-    fn take_verdict(&mut self, policy: &Policy, incoming: &Incoming<'_, '_>, verdict: Verdict)
+    /// Applies the verdict on a message of the client: it passes, or a ping takes its place, or it is dropped.
+    fn apply_verdict(&mut self, policy: &Policy, incoming: &Incoming<'_, '_>, verdict: Verdict)
         requires { self.old.ended ≡ None }
         ensures { TookMessage (with_verdict policy.now (incoming_message incoming.now) verdict self.old) self.old self.new }
     {
@@ -178,8 +178,8 @@ impl Session {
         }
     }
 
-    /// Takes a message of the client. Answers the verdict on it.
-    pub(super) fn take_client_message(
+    /// Judges a message of the client, and applies the verdict, which is the answer.
+    pub(super) fn process_client_message(
         &mut self,
         policy: &Policy,
         incoming: &Incoming<'_, '_>,
@@ -189,7 +189,7 @@ impl Session {
         ensures decision { result ≡ verdict_on policy.now (known policy.now self.old) (incoming_message incoming.now) }
     {
         let verdict = judge(policy, &self.tracker, &self.ledger, incoming.message);
-        self.take_verdict(policy, incoming, verdict);
+        self.apply_verdict(policy, incoming, verdict);
         verdict
     }
 }

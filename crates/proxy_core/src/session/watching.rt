@@ -70,9 +70,9 @@ impl Session {
         }
     }
 
-    /// Takes a message of a side, and keeps what is left of it. The memory for that is taken first, so that it and what the
+    /// Processes a message of a side, and keeps what is left of it. The memory for that is taken first, so that it and what the
     /// message does stand or fall together; one in whose place the session ended leaves nothing.
-    fn take_watched(
+    fn process_watched(
         &mut self,
         policy: &Policy,
         side: Side,
@@ -87,7 +87,7 @@ impl Session {
         let Ok(()) = self.keep_message(policy, side, incoming.message, watch) else {
             return self.end_with(End::Memory);
         };
-        self.take_unwatched(policy, side, incoming);
+        self.process_unwatched(policy, side, incoming);
         watch.truncate_unless(self.ended.is_none(), earlier);
     }
 
@@ -98,16 +98,21 @@ impl Session {
         self.watch = Some(watch);
     }
 
-    /// Takes a message of a side, makes a note of it where the session makes notes, and keeps what is left of it where the session
-    /// watches. What is kept stands outside meanwhile.
-    pub(super) fn take_whole(&mut self, policy: &Policy, side: Side, incoming: &Incoming<'_, '_>)
+    /// Processes a message of a side, makes a note of it if the session makes notes, and keeps what is left of it if the
+    /// session watches. What is kept stands outside meanwhile.
+    pub(super) fn process_message(
+        &mut self,
+        policy: &Policy,
+        side: Side,
+        incoming: &Incoming<'_, '_>,
+    )
         requires { self.old.ended ≡ None }
         ensures { TookMessage (with_watched_message policy.now side (incoming_message incoming.now) self.old) self.old self.new }
     {
         match self.watch.take() {
-            None => self.take_unwatched(policy, side, incoming),
+            None => self.process_unwatched(policy, side, incoming),
             Some(mut watch) => {
-                self.take_watched(policy, side, incoming, &mut watch);
+                self.process_watched(policy, side, incoming, &mut watch);
                 self.put_watch(watch);
             }
         }

@@ -7,7 +7,7 @@ returns c =
     let two : length c.kind_pieces.result ≡ 2 = search rules in
     let four : length c.decision_pieces.result ≡ 4 = search rules in
     line_of_pieces c.args.session c.args.note.now c.side.result c.number.result _ c.decision.result c.kind_pieces.result c.decision_pieces.result _ _ _ _ _ _ _ _ _ _ _
-    c.side.ensures c.number.ensures c.message-message.ensures.contents c.decision.ensures
+    c.side.ensures c.number.ensures c.requires c.decision.ensures
     two c.kind_pieces.ensures four c.decision_pieces.ensures
     c.format.ensures.text c.side_word-side.ensures c.format-2.ensures.text c.format-3.ensures.text c.number_word.ensures
     c.text_word-sender.ensures c.text_word-destination.ensures c.text_word-path.ensures c.text_word-interface.ensures c.text_word-member.ensures

@@ -13,11 +13,11 @@ returns-in-Some-clause-stands c = λ events taken s.
 pub returns-clause-stands : goal.returns-clause-stands
 returns-clause-stands c = λ events taken s.
     let e : c.args.self.now.ended ≡ None = ap (λ (v : SessionView). v.ended) (sym c.self.view_is) ∙ c.in_default.is in
-    feed_stands c.args.policy.now c.covers_no_unique_name.ensures c.args.self.now c.take_piece.new.self events taken c.args.side c.args.piece.now e (λ i. omega (arith, c.type_inv.piece i)) c.take_piece.ensures.took s
+    feed_stands c.args.policy.now c.covers_no_unique_name.ensures c.args.self.now c.receive.new.self events taken c.args.side c.args.piece.now e (λ i. omega (arith, c.type_inv.piece i)) c.receive.ensures.took s
 
 pub returns-clause-closes : goal.returns-clause-closes
 returns-clause-closes c =
-    closes c.args.policy.now (Bytes c.args.side c.args.piece.now) c.args.self.now c.take_piece.new.self c.take_piece.ensures.light.mode (returns-clause-stands c)
+    closes c.args.policy.now (Bytes c.args.side c.args.piece.now) c.args.self.now c.receive.new.self c.receive.ensures.light.mode (returns-clause-stands c)
 
 pub returns-clause-grows : goal.returns-clause-grows
-returns-clause-grows c = piece_grows c.args.policy.now c.args.side c.args.piece.now c.args.self.now c.take_piece.new.self c.take_piece.ensures.took
+returns-clause-grows c = piece_grows c.args.policy.now c.args.side c.args.piece.now c.args.self.now c.receive.new.self c.receive.ensures.took

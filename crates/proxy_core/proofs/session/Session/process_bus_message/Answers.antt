@@ -6,15 +6,15 @@ use Rattle.proxy_core.specs.Messages.{with_role}
 use Rattle.proxy_core.specs.Sessions.{SessionView}
 use Rattle.proxy_core.proofs.ReceivingSteps.{role_as, showing_as, shown_by, shown_now, took_used}
 use Rattle.proxy_core.proofs.Taking.{read, tree}
-use Rattle.proxy_core.proofs.session.Session.take_bus_message.Goals as goal
+use Rattle.proxy_core.proofs.session.Session.process_bus_message.Goals as goal
 
-pub take_role-requires-clause-shown : goal.take_role-requires-clause-shown
-take_role-requires-clause-shown c =
+pub apply_showing-requires-clause-shown : goal.apply_showing-requires-clause-shown
+apply_showing-requires-clause-shown c =
     shown_by c.args.policy.now _ c.args.self.now.ledger.expected c.args.incoming.now.message.now c.take_answer-answered.result c.show-showing.result c.take_answer-answered.ensures.role
     (shown_now c.args.policy.now _ c.take_answer-answered.new.self c.args.incoming.now.message.now _ c.take_answer-answered.result c.show-showing.result c.self.view_is c.as_ref.ensures.value (c.show-showing.ensures.kept _ _ (read c.args.incoming.now.message.now)))
 
-pub take_role-requires-clause-role : goal.take_role-requires-clause-role
-take_role-requires-clause-role c =
+pub apply_showing-requires-clause-role : goal.apply_showing-requires-clause-role
+apply_showing-requires-clause-role c =
     role_as c.args.policy.now _ c.args.incoming.now.message.now c.take_answer-answered.result c.show-showing.result (shown_now c.args.policy.now _ c.take_answer-answered.new.self c.args.incoming.now.message.now _ c.take_answer-answered.result c.show-showing.result c.self.view_is c.as_ref.ensures.value (c.show-showing.ensures.kept _ _ (read c.args.incoming.now.message.now)))
 
 pub returns-clause-decision : goal.returns-clause-decision
@@ -28,4 +28,4 @@ returns-clause-took c =
     let mid : SessionView = c.take_answer-answered.new.self in
     let same = ap (λ (r : BusRole). with_role c.args.policy.now m r mid) c.take_answer-answered.ensures.role
     ∙ ap (λ (v : SessionView). with_role c.args.policy.now m (bus_role (expected_at c.args.self.now.ledger.expected (reply_serial m)) m) v) c.take_answer-answered.ensures.left in
-    took_used m _ _ c.args.self.now mid c.take_role.new.self c.take_answer-answered.ensures.left same c.take_role.ensures
+    took_used m _ _ c.args.self.now mid c.apply_showing.new.self c.take_answer-answered.ensures.left same c.apply_showing.ensures

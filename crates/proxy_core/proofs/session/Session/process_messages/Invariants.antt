@@ -1,7 +1,7 @@
 use Rattle.std.proofs.Common.{◌≡◌, ℕ, None, true}
 use Rattle.proxy_core.specs.Seen.{IsLent}
 use Rattle.proxy_core.specs.Steps.{drained, with_left, WentOn, IsLight}
-use Rattle.proxy_core.proofs.session.Session.take_messages.Given as goal
+use Rattle.proxy_core.proofs.session.Session.process_messages.Given as goal
 
 abbrev pub invariant-loop-left : goal.invariant-loop-left
 invariant-loop-left l = record {

@@ -1,12 +1,12 @@
 use Rattle.std.proofs.Common.{List, ℕ, subst}
 use Rattle.proxy_core.specs.Seen.{TookFirst}
 use Rattle.proxy_core.proofs.Lent.{bad_first}
-use Rattle.proxy_core.proofs.session.Session.take_first.Goals as goal
+use Rattle.proxy_core.proofs.session.Session.process_first.Goals as goal
 
 pub returns-in-Whole : goal.returns-in-Whole
 returns-in-Whole c =
-    subst (λ (left : List ℕ). TookFirst c.args.policy.now c.args.side left c.take_stated.new.messages c.args.self.now c.take_stated.new.self c.take_stated.result) c.in-Whole.ensures.stays
-    c.take_stated.ensures
+    subst (λ (left : List ℕ). TookFirst c.args.policy.now c.args.side left c.process_stated.new.messages c.args.self.now c.process_stated.new.self c.process_stated.result) c.in-Whole.ensures.stays
+    c.process_stated.ensures
 
 pub returns-in-Bad : goal.returns-in-Bad
 returns-in-Bad c =

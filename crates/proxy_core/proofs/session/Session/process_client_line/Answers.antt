@@ -1,6 +1,6 @@
 use Rattle.std.proofs.Common.{refl, inl, inr}
 use Rattle.proxy_core.proofs.LineSteps.{client_light, client_left_behind}
-use Rattle.proxy_core.proofs.session.Session.take_client_line.Goals as goal
+use Rattle.proxy_core.proofs.session.Session.process_client_line.Goals as goal
 
 pub returns-in-Ok-Line-clause-light : goal.returns-in-Ok-Line-clause-light
 returns-in-Ok-Line-clause-light c =

@@ -1,6 +1,6 @@
 use Rattle.std.proofs.Common.{refl}
 use Rattle.proxy_core.proofs.LineSteps.{bus_light, bus_left_behind}
-use Rattle.proxy_core.proofs.session.Session.take_bus_line.Goals as goal
+use Rattle.proxy_core.proofs.session.Session.process_bus_line.Goals as goal
 
 pub returns-in-Ok-Line-clause-light : goal.returns-in-Ok-Line-clause-light
 returns-in-Ok-Line-clause-light c =
