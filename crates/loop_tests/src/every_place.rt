@@ -1,5 +1,5 @@
-//! A fault at each place: the k-th read, write, accept or connect of a run fails or isn't ready, for each k; a link or the log has
-//! room for n bytes, for each n. All runs are of the session in `rich_session`.
+//! A fault at each place: the k-th read, write, accept or connect of a run fails or isn't ready, for each k; a link or
+//! the log has room for n bytes, for each n. All runs are of the session in `rich_session`.
 //!
 //! Of the numbers of bytes, each up to 8 is tried, each multiple of 97, and the greatest.
 use crate::rich_session::{
@@ -56,7 +56,8 @@ fn is_tried(bytes: usize, most: usize) -> bool {
     bytes <= EACH_UP_TO || bytes % 97 == 0 || bytes == most
 }
 
-/// What the one session of a run is sent whose first pieces come; exceptions precede the script. `None` if the server doesn't stop.
+/// What the one session of a run is sent whose first pieces come; exceptions precede the script. `None` if the server
+/// doesn't stop.
 fn one(
     alloc: Global,
     exceptions: &str,
@@ -101,7 +102,8 @@ fn prefix_fault(sent: &Option<Sent>, expected: &Sent) -> Option<&'static str> {
     }
 }
 
-/// The first read whose failure changes something else than that the later pieces don't come. Each piece is read by one read.
+/// The first read whose failure changes something else than that the later pieces don't come. Each piece is read by one
+/// read.
 fn wrong_failed_read(alloc: Global, ends: [&str; 2]) -> Result<Option<String>, AllocError> {
     let whole = whole(alloc)?;
     for pieces in 0..MOST_CALLS {
@@ -118,7 +120,8 @@ fn wrong_failed_read(alloc: Global, ends: [&str; 2]) -> Result<Option<String>, A
     Ok(None)
 }
 
-/// The first write whose failure leaves no prefix of what the run without it sends, or not more than the failure of the write before.
+/// The first write whose failure leaves no prefix of what the run without it sends, or not more than the failure of the
+/// write before.
 fn wrong_failed_write(alloc: Global, ends: [&str; 2]) -> Result<Option<String>, AllocError> {
     let whole = whole(alloc)?;
     let mut before = None;
@@ -183,7 +186,8 @@ fn half_fault(sent: &Option<Sent>, expected: &Sent, lost: &str) -> Option<&'stat
     }
 }
 
-/// The first writes that aren't ready before the first end, after which not all that waits for the other side is written.
+/// The first writes that aren't ready before the first end, after which not all that waits for the other side is
+/// written.
 fn wrong_pause_before_end(alloc: Global, ends: [&str; 2]) -> Result<Option<String>, AllocError> {
     let whole = whole(alloc)?;
     let [first, _] = ends;
@@ -197,8 +201,8 @@ fn wrong_pause_before_end(alloc: Global, ends: [&str; 2]) -> Result<Option<Strin
     Ok(None)
 }
 
-/// The first writes that aren't ready before a read that fails, from each fourth write on, after which not all that waits for the other
-/// side is written.
+/// The first writes that aren't ready before a read that fails, from each fourth write on, after which not all that
+/// waits for the other side is written.
 fn wrong_pause_before_failed_read(
     alloc: Global,
     pieces: usize,
@@ -309,7 +313,8 @@ fn room_fault(run: &Run, cuts: &[Run], room: usize) -> Option<&'static str> {
     }
 }
 
-/// The first room of a log that leaves another log than the first bytes of the whole one, or with which another message is the last.
+/// The first room of a log that leaves another log than the first bytes of the whole one, or with which another message
+/// is the last.
 fn wrong_log_room(alloc: Global) -> Result<Option<String>, AllocError> {
     let [ends, _] = ENDS;
     let cuts = cuts(alloc, ends)?;
@@ -361,7 +366,8 @@ fn fault_of_two(run: &Run, whole: &Sent, least: usize) -> Option<&'static str> {
     }
 }
 
-/// The first failing call that changes more than one of two sessions. The last one is beyond all calls, and changes none.
+/// The first failing call that changes more than one of two sessions. The last one is beyond all calls, and changes
+/// none.
 fn wrong_failure_of_two(alloc: Global, ends: [&str; 2]) -> Result<Option<String>, AllocError> {
     let whole = whole(alloc)?;
     for (kind, most) in FAILS {
@@ -412,7 +418,8 @@ fn log_fault_of_two(run: &Run, whole: &Sent) -> Option<&'static str> {
     differing_link(second, whole)
 }
 
-/// The first room of one session's log, each multiple of 97 being tried, that changes what another session is sent, which has no log.
+/// The first room of one session's log, each multiple of 97 being tried, that changes what another session is sent,
+/// which has no log.
 fn wrong_log_room_of_two(alloc: Global) -> Result<Option<String>, AllocError> {
     let whole = whole(alloc)?;
     let [ends, _] = ENDS;

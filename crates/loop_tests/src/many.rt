@@ -1,10 +1,10 @@
 //! A hundred sessions side by side.
-use crate::served::{line_of, serve};
 use link_traits::{Link, Side};
 use memory_links::{MemNet, MemSink, Script};
 use proxy_loop::{Server, Turn};
 use std::alloc::{AllocError, Global};
 use std::test::Fail;
+use test_servers::{line_of, serve};
 use test_tables::plain;
 
 /// Two blocks: the first talks to org.a.T, and the second knows no name.
@@ -117,8 +117,8 @@ fn written(alloc: Global, net: &MemNet, session: u32, side: Side) -> Result<Vec<
     net.written(alloc, Link { session, side })
 }
 
-/// The first session to one of whose sides something else was written than it is to get. Those of the second block get an error of
-/// the proxy's behind the bus's line, which isn't looked at here.
+/// The first session to one of whose sides something else was written than it is to get. Those of the second block get
+/// an error of the proxy's behind the bus's line, which isn't looked at here.
 fn wrong_session(alloc: Global, net: &MemNet) -> Result<Option<u32>, AllocError> {
     let (client, bus) = (plain(alloc, CLIENT)?, plain(alloc, BUS)?);
     let pinged = plain(alloc, PINGED)?;

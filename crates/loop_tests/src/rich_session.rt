@@ -1,10 +1,11 @@
-//! A session that does much, as the server of a proxy line has it: what comes on its links, what is written to them, and its log.
-use crate::served::{line_of, serve};
+//! A session that does much, as the server of a proxy line has it: what comes on its links, what is written to them,
+//! and its log.
 use memory_links::MemSink;
 use proxy_loop::{Server, ServerEnd, Turn};
 use std::alloc::{AllocError, Global};
 use std::str;
 use test_nets::{link_of, net_of};
+use test_servers::{line_of, serve};
 use test_tables::plain;
 
 /// What comes on the links, in order: on the client's (`c`) and on the bus's (`b`). Under `--filter --talk=org.a.T`.
@@ -64,8 +65,8 @@ pub const PIECES: &[(&str, &str)] = &[
     ),
 ];
 
-/// What the bus is sent: the lines of authentication, Hello and the proxy's own AddMatch and GetNameOwner, the call, a ping in the place
-/// of the refused call, ListNames and the signal.
+/// What the bus is sent: the lines of authentication, Hello and the proxy's own AddMatch and GetNameOwner, the call, a
+/// ping in the place of the refused call, ListNames and the signal.
 const TO_BUS: &[&str] = &[
     "~AUTH EXTERNAL%0D%0ABEGIN%0D%0A",
     "l%01~%01~~~~%01~~~m~~~%01%01o~%15~~~/org/freedesktop/DBus~~~%02%01s~%14~~~org.freedesktop.DBus~~~~%03%01s~%05~~~Hello~~~%06%01s~%14~~~org.freedesktop.DBus~~~~",
@@ -77,8 +78,8 @@ const TO_BUS: &[&str] = &[
     "l%04%01%01~~~~%07~~~@~~~%01%01o~%02~~~/p~~~~~~%02%01s~%07~~~org.a.I~%03%01s~%01~~~S~~~~~~~%06%01s~%07~~~org.a.T~",
 ];
 
-/// What the client is shown: the bus's line, the answers to Hello and to the call, an error in the place of the answer to the ping, a
-/// signal, the list without the names that the client doesn't see, and another signal.
+/// What the client is shown: the bus's line, the answers to Hello and to the call, an error in the place of the answer
+/// to the ping, a signal, the list without the names that the client doesn't see, and another signal.
 const TO_CLIENT: &[&str] = &[
     "OK 00112233445566778899aabbccddeeff%0D%0A",
     "l%02%01%01%0A~~~%01~~~?~~~%05%01u~%01~~~%06%01s~%05~~~:1.40~~~%07%01s~%14~~~org.freedesktop.DBus~~~~%08%01g~%01s~~%05~~~:1.40~",
@@ -146,8 +147,8 @@ fn joined(alloc: Global, texts: &[&str]) -> Result<Vec<u8>, AllocError> {
     Ok(bytes)
 }
 
-/// The steps of sessions that run side by side: the arrivals, each of the first pieces on the links of each session in turn, and
-/// the ends of both sides in an order.
+/// The steps of sessions that run side by side: the arrivals, each of the first pieces on the links of each session in
+/// turn, and the ends of both sides in an order.
 pub fn steps(
     alloc: Global,
     arrivals: &[u32],

@@ -21,8 +21,8 @@ pub fn net_over(alloc: Global, words: &str) -> Result<NetInMemory, AllocError> {
 /// A system of a script that is written in words. What happens: `arrival /p`, `nobody /p`, `piece c1 bytes`, `end c1`,
 /// `hangup c1`, `reset c1`, `room c1` and `spurious c1 rw`; a `+` in front has it happen in the wait of the word before
 /// it. What goes otherwise: `trickle c1 2`, `pace c1 2`, `limit c1 9`, and a call with its place and its error as `Read
-/// 2 WouldBlock`, or with its first and its last place as `Connect 1-9 WouldBlock`. A file that is there from the start is written as
-/// `file /p EmptyFile`.
+/// 2 WouldBlock`, or with its first and its last place as `Connect 1-9 WouldBlock`. A file that is there from the start
+/// is written as `file /p EmptyFile`.
 fn system_of(alloc: Global, words: &str) -> Result<SocketsInMemory, AllocError>
     ensures { IfOk result (λ system. told_in system.notes ≡ Some []) }
 {

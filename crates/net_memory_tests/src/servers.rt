@@ -1,57 +1,19 @@
-//! The server of a proxy line over sockets in memory and over a net in memory. Each row has the words of a proxy line,
-//! a script of the net and the links that are asked for: what is written to these is the same.
-use crate::scripted::net_over;
-use link_traits::Net;
+//! Servers over sockets in memory: they serve the sessions of `test_servers` as over a net in memory, and calls that
+//! would wait, are interrupted or fail for a time change nothing of what is written.
+use crate::scripted::{NetInMemory, net_over};
 use link_traits::tables::number_of;
 use memory_links::MemSink;
-use policy_args::{LineRefusal, ProxyLine, read_line};
-use proxy_loop::{Server, ServerEnd, Turn};
 use std::alloc::{AllocError, Global};
 use std::test::Fail;
-use test_nets::{add_written, link_of, net_of};
-use test_tables::{text_of, wrong_row};
-
-/// A server takes at most so many turns here.
-const MOST_TURNS: u32 = 9_999;
-
-/// How many bytes the log has room for.
-const LOG_ROOM: usize = 999;
-
-/// Sessions with a call and its answer.
-const PLAYED: &str = "\
-unix:path=/bus /p --filter --talk=org.a.T --sessions=1; arrival 0, piece c1 ~AUTH EXTERNAL%0D%0ABEGIN%0D, piece c1 %0Al%01~%01~~~~%01~~~@~~~%01%01o~%02~~~/p~~~~~~%02%01s~%07~~~org.a.I~%03%01s~%01~~~A~~~~~~~%06%01s~%07~~~org.a.T~, piece b1 OK 00112233445566778899aabbccddeeff%0D%0Al%02%01%01~~~~%09~~~%25~~~%05%01u~%01~~~%06%01s~%05~~~:1.40~~~%07%01s~%04~~~:1.7~~~~, end c1; c1 b1 => same
-unix:path=/bus /p --filter --talk=org.a.T --sessions=1; pace c1 1, pace b1 1, arrival 0, piece c1 ~AUTH EXTERNAL%0D%0ABEGIN%0D, piece c1 %0Al%01~%01~~~~%01~~~@~~~%01%01o~%02~~~/p~~~~~~%02%01s~%07~~~org.a.I~%03%01s~%01~~~A~~~~~~~%06%01s~%07~~~org.a.T~, piece b1 OK 00112233445566778899aabbccddeeff%0D%0Al%02%01%01~~~~%09~~~%25~~~%05%01u~%01~~~%06%01s~%05~~~:1.40~~~%07%01s~%04~~~:1.7~~~~, end c1; c1 b1 => same
-unix:path=/bus /p --filter --talk=org.a.T --sessions=1; ReadNotReady 1, ReadNotReady 3, WriteNotReady 1, WriteNotReady 2, AcceptNotReady 1, arrival 0, piece c1 ~AUTH EXTERNAL%0D%0ABEGIN%0D, piece c1 %0Al%01~%01~~~~%01~~~@~~~%01%01o~%02~~~/p~~~~~~%02%01s~%07~~~org.a.I~%03%01s~%01~~~A~~~~~~~%06%01s~%07~~~org.a.T~, piece b1 OK 00112233445566778899aabbccddeeff%0D%0Al%02%01%01~~~~%09~~~%25~~~%05%01u~%01~~~%06%01s~%05~~~:1.40~~~%07%01s~%04~~~:1.7~~~~, end c1; c1 b1 => same
-unix:path=/bus /p --filter --talk=org.a.T; arrival 0, piece c1 ~AUTH EXTERNAL%0D%0ABEGIN%0D, piece c1 %0Al%01~%01~~~~%01~~~@~~~%01%01o~%02~~~/p~~~~~~%02%01s~%07~~~org.a.I~%03%01s~%01~~~A~~~~~~~%06%01s~%07~~~org.a.T~, piece b1 OK 00112233445566778899aabbccddeeff%0D%0Al%02%01%01~~~~%09~~~%25~~~%05%01u~%01~~~%06%01s~%05~~~:1.40~~~%07%01s~%04~~~:1.7~~~~, end b1; c1 b1 => same
-unix:path=/bus /p --filter --talk=org.a.T; arrival 0, piece c1 ~AUTH EXTERNAL%0D%0ABEGIN%0D%0Al%01~%01~~~~%01~~~@~~~%01%01o~%02~~~/p~~~~~~%02%01s~%07~~~org.a.I~%03%01s~%01~~~A~~~~~~~%06%01s~%07~~~org.a.T~, piece b1 OK 00112233445566778899aabbccddeeff%0D%0Al%02%01%01~~~~%09~~~%25~~~%05%01u~%01~~~%06%01s~%05~~~:1.40~~~%07%01s~%04~~~:1.7~~~~; c1 b1 => same
-unix:path=/bus /p --filter --talk=org.a.T; ; c1 b1 => same
-";
-
-/// Sessions that end alone, and servers that end.
-const ENDED: &str = "\
-unix:path=/bus /p --filter --talk=a.b --talk=org.a.T --sessions=2; limit b1 13, arrival 0, arrival 0, piece c1 ~BEGIN%0D%0AB%01~%01~~~~%01%02%03%04~~~,%01%01o~~~~%01/~~~~~~~%03%01s~~~~%01M~~~~~~~%06%01s~~~~%03a.b~~~~~, piece c2 ~AUTH EXTERNAL%0D%0ABEGIN%0D%0Al%01~%01~~~~%01~~~@~~~%01%01o~%02~~~/p~~~~~~%02%01s~%07~~~org.a.I~%03%01s~%01~~~A~~~~~~~%06%01s~%07~~~org.a.T~, piece b2 OK 00112233445566778899aabbccddeeff%0D%0Al%02%01%01~~~~%09~~~%25~~~%05%01u~%01~~~%06%01s~%05~~~:1.40~~~%07%01s~%04~~~:1.7~~~~, piece c1 l%01~%01~~~~%01~~~@~~~%01%01o~%02~~~/p~~~~~~%02%01s~%07~~~org.a.I~%03%01s~%01~~~A~~~~~~~%06%01s~%07~~~org.a.T~, end c2; b1 c1 c2 b2 => same
-unix:path=/bus /p --filter --talk=org.a.T --sessions=2; arrival 0, arrival 0, piece c1 A, piece c2 ~AUTH EXTERNAL%0D%0ABEGIN%0D, piece c2 %0Al%01~%01~~~~%01~~~@~~~%01%01o~%02~~~/p~~~~~~%02%01s~%07~~~org.a.I~%03%01s~%01~~~A~~~~~~~%06%01s~%07~~~org.a.T~, piece b2 OK 00112233445566778899aabbccddeeff%0D%0Al%02%01%01~~~~%09~~~%25~~~%05%01u~%01~~~%06%01s~%05~~~:1.40~~~%07%01s~%04~~~:1.7~~~~, end c2; c1 b1 c2 b2 => same
-unix:path=/bus /p --filter --talk=org.a.T --sessions=1; ReadFails 1, arrival 0, piece c1 ~AUTH EXTERNAL%0D%0ABEGIN%0D%0Al%01~%01~~~~%01~~~@~~~%01%01o~%02~~~/p~~~~~~%02%01s~%07~~~org.a.I~%03%01s~%01~~~A~~~~~~~%06%01s~%07~~~org.a.T~; c1 b1 => same
-unix:path=/bus /p --filter --talk=org.a.T --sessions=1; ReadFails 2, arrival 0, piece c1 ~AUTH EXTERNAL%0D%0ABEGIN%0D%0Al%01~%01~~~~%01~~~@~~~%01%01o~%02~~~/p~~~~~~%02%01s~%07~~~org.a.I~%03%01s~%01~~~A~~~~~~~%06%01s~%07~~~org.a.T~, piece b1 OK 00112233445566778899aabbccddeeff%0D%0Al%02%01%01~~~~%09~~~%25~~~%05%01u~%01~~~%06%01s~%05~~~:1.40~~~%07%01s~%04~~~:1.7~~~~; c1 b1 => same
-unix:path=/bus /p --filter --talk=org.a.T --sessions=1; WriteFails 2, arrival 0, piece c1 ~AUTH EXTERNAL%0D%0ABEGIN%0D%0Al%01~%01~~~~%01~~~@~~~%01%01o~%02~~~/p~~~~~~%02%01s~%07~~~org.a.I~%03%01s~%01~~~A~~~~~~~%06%01s~%07~~~org.a.T~, piece b1 OK 00112233445566778899aabbccddeeff%0D%0Al%02%01%01~~~~%09~~~%25~~~%05%01u~%01~~~%06%01s~%05~~~:1.40~~~%07%01s~%04~~~:1.7~~~~, piece c1 l%01~%01~~~~%01~~~@~~~%01%01o~%02~~~/p~~~~~~%02%01s~%07~~~org.a.I~%03%01s~%01~~~A~~~~~~~%06%01s~%07~~~org.a.T~; c1 b1 => same
-unix:path=/bus /p --filter --talk=org.a.T --sessions=1; pace b1 1, WriteNotReady 1, arrival 0, piece c1 ~AUTH EXTERNAL%0D%0ABEGIN%0D%0Al%01~%01~~~~%01~~~@~~~%01%01o~%02~~~/p~~~~~~%02%01s~%07~~~org.a.I~%03%01s~%01~~~A~~~~~~~%06%01s~%07~~~org.a.T~, end c1; c1 b1 => same
-unix:path=/bus /p --filter --talk=org.a.T --sessions=1; pace b1 0, arrival 0, piece c1 ~AUTH EXTERNAL%0D%0ABEGIN%0D%0Al%01~%01~~~~%01~~~@~~~%01%01o~%02~~~/p~~~~~~%02%01s~%07~~~org.a.I~%03%01s~%01~~~A~~~~~~~%06%01s~%07~~~org.a.T~, end c1; c1 b1 => same
-unix:path=/bus /p --filter --talk=org.a.T --sessions=2; ConnectFails 1, arrival 0, arrival 0, piece c1 ~AUTH EXTERNAL%0D%0ABEGIN%0D%0Al%01~%01~~~~%01~~~@~~~%01%01o~%02~~~/p~~~~~~%02%01s~%07~~~org.a.I~%03%01s~%01~~~A~~~~~~~%06%01s~%07~~~org.a.T~, piece c2 ~AUTH EXTERNAL%0D%0ABEGIN%0D%0Al%01~%01~~~~%01~~~@~~~%01%01o~%02~~~/p~~~~~~%02%01s~%07~~~org.a.I~%03%01s~%01~~~A~~~~~~~%06%01s~%07~~~org.a.T~, end c2; c1 b1 c2 b2 => same
-unix:path=/bus /p --filter --talk=org.a.T --sessions=2; ConnectRefused 1, arrival 0, arrival 0, piece c1 ~AUTH EXTERNAL%0D%0ABEGIN%0D%0Al%01~%01~~~~%01~~~@~~~%01%01o~%02~~~/p~~~~~~%02%01s~%07~~~org.a.I~%03%01s~%01~~~A~~~~~~~%06%01s~%07~~~org.a.T~, piece c2 ~AUTH EXTERNAL%0D%0ABEGIN%0D%0Al%01~%01~~~~%01~~~@~~~%01%01o~%02~~~/p~~~~~~%02%01s~%07~~~org.a.I~%03%01s~%01~~~A~~~~~~~%06%01s~%07~~~org.a.T~, end c2; c1 b1 c2 b2 => same
-unix:path=/bus /p --filter --talk=org.a.T --sessions=1; AcceptFails 1, arrival 0, arrival 0, piece c1 ~AUTH EXTERNAL%0D%0ABEGIN%0D%0Al%01~%01~~~~%01~~~@~~~%01%01o~%02~~~/p~~~~~~%02%01s~%07~~~org.a.I~%03%01s~%01~~~A~~~~~~~%06%01s~%07~~~org.a.T~, end c1; c1 b1 c2 => same
-unix:path=/bus /p --filter --talk=org.a.T --sessions=1; AcceptRefused 1, arrival 0, arrival 0, piece c1 ~AUTH EXTERNAL%0D%0ABEGIN%0D%0Al%01~%01~~~~%01~~~@~~~%01%01o~%02~~~/p~~~~~~%02%01s~%07~~~org.a.I~%03%01s~%01~~~A~~~~~~~%06%01s~%07~~~org.a.T~, end c1; c1 b1 c2 => same
-unix:path=/bus /p --filter --talk=org.a.T --sessions=1; arrival 0, arrival 0, piece c1 ~AUTH EXTERNAL%0D%0ABEGIN%0D%0Al%01~%01~~~~%01~~~@~~~%01%01o~%02~~~/p~~~~~~%02%01s~%07~~~org.a.I~%03%01s~%01~~~A~~~~~~~%06%01s~%07~~~org.a.T~, piece c2 ~AUTH EXTERNAL%0D%0ABEGIN%0D%0Al%01~%01~~~~%01~~~@~~~%01%01o~%02~~~/p~~~~~~%02%01s~%07~~~org.a.I~%03%01s~%01~~~A~~~~~~~%06%01s~%07~~~org.a.T~, end c1; c1 b1 c2 b2 => same
-unix:path=/bus /p --filter unix:path=/bus2 /q --filter; ListenFails 2; c1 => same
-unix:path=/bus /p --filter unix:path=/bus2 /q --filter; ListenRefused 1; c1 => same
-unix:path=/bus /p --filter --talk=org.a.T; WaitFails 3, arrival 0, piece c1 ~AUTH EXTERNAL%0D%0ABEGIN%0D%0Al%01~%01~~~~%01~~~@~~~%01%01o~%02~~~/p~~~~~~%02%01s~%07~~~org.a.I~%03%01s~%01~~~A~~~~~~~%06%01s~%07~~~org.a.T~, piece b1 OK 00112233445566778899aabbccddeeff%0D%0Al%02%01%01~~~~%09~~~%25~~~%05%01u~%01~~~%06%01s~%05~~~:1.40~~~%07%01s~%04~~~:1.7~~~~; c1 b1 => same
-unix:path=/bus /p --filter --talk=org.a.T unix:path=/bus2 /q --filter --sessions=2; arrival 1, arrival 0, piece c1 ~AUTH EXTERNAL%0D%0ABEGIN%0D%0Al%01~%01~~~~%01~~~@~~~%01%01o~%02~~~/p~~~~~~%02%01s~%07~~~org.a.I~%03%01s~%01~~~A~~~~~~~%06%01s~%07~~~org.a.T~, piece c2 ~AUTH EXTERNAL%0D%0ABEGIN%0D%0Al%01~%01~~~~%01~~~@~~~%01%01o~%02~~~/p~~~~~~%02%01s~%07~~~org.a.I~%03%01s~%01~~~A~~~~~~~%06%01s~%07~~~org.a.T~, end c1, end c2; c1 b1 c2 b2 => same
-";
+use test_nets::link_of;
+use test_servers::{ENDED, PLAYED, add_log, row_of, told_end};
+use test_tables::{SESSION, spelled, text_of, wrong_named_row};
 
 /// A session of which each call is tried that would wait, is interrupted, or fails for a time.
 const WORDS: &str = "unix:path=/bus /p --filter --talk=org.a.T --sessions=1";
 
-const SESSION: &str = "\
-arrival /p, piece c1 ~AUTH EXTERNAL%0D%0ABEGIN%0D, piece c1 %0Al%01~%01~~~~%01~~~@~~~%01%01o~%02~~~/p~~~~~~%02%01s~%07~~~org.a.I~%03%01s~%01~~~A~~~~~~~%06%01s~%07~~~org.a.T~, piece b1 OK 00112233445566778899aabbccddeeff%0D%0Al%02%01%01~~~~%09~~~%25~~~%05%01u~%01~~~%06%01s~%05~~~:1.40~~~%07%01s~%04~~~:1.7~~~~";
+const SESSION_SCRIPT: &str = "\
+arrival /p, piece c1 {auth}BEGIN%0D, piece c1 %0A{call}, piece b1 {ok}{return}";
 
 /// Calls that change nothing of what is written, at whatever place they are, with a number greater than how often they
 /// are made.
@@ -66,44 +28,46 @@ const HARMLESS: [(&str, &str, u32); 8] = [
     ("Connect", "Interrupted", 3),
 ];
 
-/// What is written to the links of a row: `same`, or what else is written over sockets.
-fn told_both(alloc: Global, row: &str) -> Result<String, AllocError> {
-    let (words, rest) = row.split_once("; ").unwrap_or((row, ""));
-    let (script, links) = rest.split_once("; ").unwrap_or((rest, ""));
-    let mut net = net_of(alloc, script)?;
-    serve(alloc, words, &mut net)?;
-    let mut expected = String::new(alloc);
-    add_written(alloc, &mut expected, &net, links)?;
-    let over_sockets = told_sockets(alloc, words, &socket_words(alloc, words, script)?, links)?;
-    if over_sockets.as_str() == expected.as_str() {
-        String::from_str(alloc, "same")
-    } else {
-        format!(in alloc; "over sockets{over_sockets}")
-    }
+/// How the server of a row ends over the sockets of a system, what was written to each link that the row asks for, and
+/// the log.
+fn told_server(alloc: Global, row: &str) -> Result<String, AllocError> {
+    let row = row_of(row);
+    let mut net = net_over(alloc, &socket_words(alloc, row.words, row.script)?)?;
+    let mut log = MemSink::new(alloc, row.room)?;
+    let mut told = told_end(alloc, row.words, &mut net, &mut log)?;
+    add_written(alloc, &mut told, &net, row.links)?;
+    add_log(alloc, &mut told, &log)?;
+    Ok(told)
 }
 
-/// What is written to each link of a list over sockets.
-fn told_sockets(
+/// Adds what was written to each link of a list, as a text.
+fn add_written(
     alloc: Global,
-    words: &str,
-    script: &str,
+    told: &mut String,
+    net: &NetInMemory,
     links: &str,
-) -> Result<String, AllocError> {
-    let mut net = net_over(alloc, script)?;
-    serve(alloc, words, &mut net)?;
-    let mut told = String::new(alloc);
+) -> Result<(), AllocError> {
     for name in links.split(' ') {
         let written = net.system().written(number_of(link_of(name)));
         told.push_str(&format!(in alloc; ", {name} {}", text_of(alloc, written)?)?)?;
     }
+    Ok(())
+}
+
+/// What is written to either link of the session over the sockets of a script. Names in braces are those of `SESSION`.
+fn told_session(alloc: Global, script: &str) -> Result<String, AllocError> {
+    let mut net = net_over(alloc, &spelled(alloc, SESSION, script)?)?;
+    let mut log = MemSink::new(alloc, 999)?;
+    told_end(alloc, WORDS, &mut net, &mut log)?;
+    let mut told = String::new(alloc);
+    add_written(alloc, &mut told, &net, "c1 b1")?;
     Ok(told)
 }
 
-/// The first words in front of the session with which something else is written than without them.
+/// What is written with words in front of the session's script, if that is something else than without them.
 fn wrong_words(alloc: Global, words: &str) -> Result<Option<String>, AllocError> {
-    let whole = told_sockets(alloc, WORDS, SESSION, "c1 b1")?;
-    let script = format!(in alloc; "{words}, {SESSION}")?;
-    let told = told_sockets(alloc, WORDS, &script, "c1 b1")?;
+    let whole = told_session(alloc, SESSION_SCRIPT)?;
+    let told = told_session(alloc, &format!(in alloc; "{words}, {SESSION_SCRIPT}")?)?;
     if told.as_str() == whole.as_str() {
         return Ok(None);
     }
@@ -134,41 +98,6 @@ fn wrong_part(alloc: Global) -> Result<Option<String>, AllocError> {
         }
     }
     Ok(None)
-}
-
-/// Serves the clients of a net under the words of a proxy line.
-fn serve<N: Net>(alloc: Global, words: &str, net: &mut N) -> Result<(), AllocError> {
-    let mut log = MemSink::new(alloc, LOG_ROOM)?;
-    let mut server = Server::new(alloc, line_of(alloc, words)?)?;
-    let _ = serve_turns(&mut server, net, &mut log);
-    Ok(())
-}
-
-/// Listens, and takes turns until one is the last.
-fn serve_turns<N: Net>(
-    server: &mut Server,
-    net: &mut N,
-    log: &mut MemSink,
-) -> Result<Turn, ServerEnd> {
-    server.listen(net)?;
-    for _ in 0..MOST_TURNS {
-        if let Turn::Stopped = server.turn(net, log)? {
-            return Ok(Turn::Stopped);
-        }
-    }
-    Ok(Turn::Went)
-}
-
-/// The proxy line of words. Bad words are told as if memory had run out.
-fn line_of(alloc: Global, text: &str) -> Result<ProxyLine, AllocError> {
-    let mut words = Vec::new(alloc);
-    for word in text.split(' ') {
-        words.push(String::from_str(alloc, word)?)?;
-    }
-    match read_line(alloc, &words) {
-        Ok(line) => Ok(line),
-        Err(LineRefusal::Bad(_) | LineRefusal::Memory) => Err(AllocError),
-    }
 }
 
 /// The script of a net in the words for its system: a client arrives at the path of its listener, and a call that isn't
@@ -226,19 +155,25 @@ fn path_of(words: &str, listener: usize) -> &str {
 
 #[test]
 fn sessions_are_served_the_same(rt: HostRuntime) -> Result<(), Fail> {
-    assert_eq!(rt; wrong_row(rt.alloc(), PLAYED, &told_both)?, None);
+    assert_eq!(rt;
+        wrong_named_row(rt.alloc(), SESSION, PLAYED, &told_server)?,
+        None
+    );
     Ok(())
 }
 
 #[test]
 fn sessions_end_the_same(rt: HostRuntime) -> Result<(), Fail> {
-    assert_eq!(rt; wrong_row(rt.alloc(), ENDED, &told_both)?, None);
+    assert_eq!(rt;
+        wrong_named_row(rt.alloc(), SESSION, ENDED, &told_server)?,
+        None
+    );
     Ok(())
 }
 
 #[test]
 fn the_session_is_written(rt: HostRuntime) -> Result<(), Fail> {
-    let told = told_sockets(rt.alloc(), WORDS, SESSION, "c1 b1")?;
+    let told = told_session(rt.alloc(), SESSION_SCRIPT)?;
     assert!(rt; told.as_str().split_once("c1 OK 0011").is_some());
     assert!(rt; told.as_str().split_once("org.a.T").is_some());
     assert!(rt; wrong_words(rt.alloc(), "Read 2 Other")?.is_some());

@@ -57,7 +57,8 @@ x => 1 0 error: usage
  => 1 0 error: usage
 ";
 
-/// A policy file and a recording, and what the explanation of number 0 ends with: files are checked before the number is.
+/// A policy file and a recording, and what the explanation of number 0 ends with: files are checked before the number
+/// is.
 const FILES: &str = "\
 --colour DBP => 2 0 error: policy word 0: UnknownOption
 --filter DBP => 3 0 error: recording: Cut at 3

@@ -65,7 +65,8 @@ sessions recording 1 => 1 0 error: usage
 sessions missing => 4 0 error: file missing
 ";
 
-/// Words with dashes, and the same: a word that begins with a dash is no word of a tool, unless it is a dash alone or stands behind `--`.
+/// Words with dashes, and the same: a word that begins with a dash is no word of a tool, unless it is a dash alone or
+/// stands behind `--`.
 const DASHES: &str = "\
 replay --policy recording => 1 0 error: usage
 replay -policy recording => 1 0 error: usage

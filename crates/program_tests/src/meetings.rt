@@ -44,8 +44,8 @@ impl Gate for Meeting {
     }
 }
 
-/// A run of a tool over a policy and a recording, at a gate. It gives the output where the status is 0 and both jobs
-/// met, and nothing else.
+/// A run of a tool over a policy and a recording, at a gate. It gives the output if the status is 0 and both jobs met,
+/// and nothing else.
 fn met<R: Threads + Sync>(rt: &R, alloc: Global, words: &[&str]) -> Result<Vec<u8>, AllocError> {
     let gate = Meeting {
         first: AtomicBool::new(false),

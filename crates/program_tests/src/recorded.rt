@@ -6,29 +6,53 @@ use std::str;
 use std::test::Fail;
 use std::thread::Threads;
 use test_nets::{add_written, net_of};
-use test_tables::{add_text, plain, text_of, wrong_row};
+use test_tables::{SESSION, add_text, plain, text_of, wrong_named_row, wrong_row};
 
-/// Two sessions, of which one is malformed from its first byte and one calls org.a.T and is answered. A row has the words, what
-/// appends answer and the net's script, and then the status, what was written to the links, what the file holds, and the line.
+/// Two sessions, of which one is malformed from its first byte and one calls org.a.T and is answered. A row has the
+/// words, what appends answer and the net's script, and then the status, what was written to the links, what the file
+/// holds, and the line.
 const RECORDED: &str = "\
-unix:path=/bus /p --filter --talk=org.a.T --record=/r --sessions=2; ; arrival 0, arrival 0, piece c1 A, piece c2 ~AUTH EXTERNAL%0D%0ABEGIN%0D, piece c2 %0Al%01~%01~~~~%01~~~@~~~%01%01o~%02~~~/p~~~~~~%02%01s~%07~~~org.a.I~%03%01s~%01~~~A~~~~~~~%06%01s~%07~~~org.a.T~, piece b2 OK 00112233445566778899aabbccddeeff%0D%0Al%02%01%01~~~~%09~~~%25~~~%05%01u~%01~~~%06%01s~%05~~~:1.40~~~%07%01s~%04~~~:1.7~~~~, end c2 => 0, c1 , b1 , c2 OK 00112233445566778899aabbccddeeff%0D%0Al%02%01%01~~~~%09~~~%25~~~%05%01u~%01~~~%06%01s~%05~~~:1.40~~~%07%01s~%04~~~:1.7~~~~, b2 ~AUTH EXTERNAL%0D%0ABEGIN%0D%0Al%01~%01~~~~%01~~~@~~~%01%01o~%02~~~/p~~~~~~%02%01s~%07~~~org.a.I~%03%01s~%01~~~A~~~~~~~%06%01s~%07~~~org.a.T~, DBPR%02%01~%01~~~%01~~~A~%02~~~%16~~~~AUTH EXTERNAL%0D%0ABEGIN%0D~%02~~~Q~~~%0Al%01~%01~~~~%01~~~@~~~%01%01o~%02~~~/p~~~~~~%02%01s~%07~~~org.a.I~%03%01s~%01~~~A~~~~~~~%06%01s~%07~~~org.a.T~%01%02~~~]~~~OK 00112233445566778899aabbccddeeff%0D%0Al%02%01%01~~~~%09~~~%25~~~%05%01u~%01~~~%06%01s~%05~~~:1.40~~~%07%01s~%04~~~:1.7~~~~%02%02~~~~~~~
-unix:path=/bus /p --filter --talk=org.a.T --record=/r --sessions=2; most 1; arrival 0, arrival 0, piece c1 A, piece c2 ~AUTH EXTERNAL%0D%0ABEGIN%0D, piece c2 %0Al%01~%01~~~~%01~~~@~~~%01%01o~%02~~~/p~~~~~~%02%01s~%07~~~org.a.I~%03%01s~%01~~~A~~~~~~~%06%01s~%07~~~org.a.T~, piece b2 OK 00112233445566778899aabbccddeeff%0D%0Al%02%01%01~~~~%09~~~%25~~~%05%01u~%01~~~%06%01s~%05~~~:1.40~~~%07%01s~%04~~~:1.7~~~~, end c2 => 0, c1 , b1 , c2 OK 00112233445566778899aabbccddeeff%0D%0Al%02%01%01~~~~%09~~~%25~~~%05%01u~%01~~~%06%01s~%05~~~:1.40~~~%07%01s~%04~~~:1.7~~~~, b2 ~AUTH EXTERNAL%0D%0ABEGIN%0D%0Al%01~%01~~~~%01~~~@~~~%01%01o~%02~~~/p~~~~~~%02%01s~%07~~~org.a.I~%03%01s~%01~~~A~~~~~~~%06%01s~%07~~~org.a.T~, DBPR%02%01~%01~~~%01~~~A~%02~~~%16~~~~AUTH EXTERNAL%0D%0ABEGIN%0D~%02~~~Q~~~%0Al%01~%01~~~~%01~~~@~~~%01%01o~%02~~~/p~~~~~~%02%01s~%07~~~org.a.I~%03%01s~%01~~~A~~~~~~~%06%01s~%07~~~org.a.T~%01%02~~~]~~~OK 00112233445566778899aabbccddeeff%0D%0Al%02%01%01~~~~%09~~~%25~~~%05%01u~%01~~~%06%01s~%05~~~:1.40~~~%07%01s~%04~~~:1.7~~~~%02%02~~~~~~~
-unix:path=/bus /p --filter --talk=org.a.T --record=/r --sessions=2; fails 1; arrival 0, arrival 0, piece c1 A, piece c2 ~AUTH EXTERNAL%0D%0ABEGIN%0D, piece c2 %0Al%01~%01~~~~%01~~~@~~~%01%01o~%02~~~/p~~~~~~%02%01s~%07~~~org.a.I~%03%01s~%01~~~A~~~~~~~%06%01s~%07~~~org.a.T~, piece b2 OK 00112233445566778899aabbccddeeff%0D%0Al%02%01%01~~~~%09~~~%25~~~%05%01u~%01~~~%06%01s~%05~~~:1.40~~~%07%01s~%04~~~:1.7~~~~, end c2 => 4, c1 , b1 , c2 , b2 , , err error: file /r%0A
-unix:path=/bus /p --filter --talk=org.a.T --record=/r --sessions=2; refused 1; arrival 0, arrival 0, piece c1 A, piece c2 ~AUTH EXTERNAL%0D%0ABEGIN%0D, piece c2 %0Al%01~%01~~~~%01~~~@~~~%01%01o~%02~~~/p~~~~~~%02%01s~%07~~~org.a.I~%03%01s~%01~~~A~~~~~~~%06%01s~%07~~~org.a.T~, piece b2 OK 00112233445566778899aabbccddeeff%0D%0Al%02%01%01~~~~%09~~~%25~~~%05%01u~%01~~~%06%01s~%05~~~:1.40~~~%07%01s~%04~~~:1.7~~~~, end c2 => 8, c1 , b1 , c2 , b2 , , err error: memory%0A
-unix:path=/bus /p --filter --talk=org.a.T --record=/r --sessions=2; fails 2; arrival 0, arrival 0, piece c1 A, piece c2 ~AUTH EXTERNAL%0D%0ABEGIN%0D, piece c2 %0Al%01~%01~~~~%01~~~@~~~%01%01o~%02~~~/p~~~~~~%02%01s~%07~~~org.a.I~%03%01s~%01~~~A~~~~~~~%06%01s~%07~~~org.a.T~, piece b2 OK 00112233445566778899aabbccddeeff%0D%0Al%02%01%01~~~~%09~~~%25~~~%05%01u~%01~~~%06%01s~%05~~~:1.40~~~%07%01s~%04~~~:1.7~~~~, end c2 => 4, c1 , b1 , c2 OK 00112233445566778899aabbccddeeff%0D%0Al%02%01%01~~~~%09~~~%25~~~%05%01u~%01~~~%06%01s~%05~~~:1.40~~~%07%01s~%04~~~:1.7~~~~, b2 ~AUTH EXTERNAL%0D%0ABEGIN%0D%0Al%01~%01~~~~%01~~~@~~~%01%01o~%02~~~/p~~~~~~%02%01s~%07~~~org.a.I~%03%01s~%01~~~A~~~~~~~%06%01s~%07~~~org.a.T~, DBPR%02%01, err error: file /r%0A
-unix:path=/bus /p --filter --talk=org.a.T --record=/r --sessions=2; refused 2; arrival 0, arrival 0, piece c1 A, piece c2 ~AUTH EXTERNAL%0D%0ABEGIN%0D, piece c2 %0Al%01~%01~~~~%01~~~@~~~%01%01o~%02~~~/p~~~~~~%02%01s~%07~~~org.a.I~%03%01s~%01~~~A~~~~~~~%06%01s~%07~~~org.a.T~, piece b2 OK 00112233445566778899aabbccddeeff%0D%0Al%02%01%01~~~~%09~~~%25~~~%05%01u~%01~~~%06%01s~%05~~~:1.40~~~%07%01s~%04~~~:1.7~~~~, end c2 => 8, c1 , b1 , c2 OK 00112233445566778899aabbccddeeff%0D%0Al%02%01%01~~~~%09~~~%25~~~%05%01u~%01~~~%06%01s~%05~~~:1.40~~~%07%01s~%04~~~:1.7~~~~, b2 ~AUTH EXTERNAL%0D%0ABEGIN%0D%0Al%01~%01~~~~%01~~~@~~~%01%01o~%02~~~/p~~~~~~%02%01s~%07~~~org.a.I~%03%01s~%01~~~A~~~~~~~%06%01s~%07~~~org.a.T~, DBPR%02%01, err error: memory%0A
-unix:path=/bus /p --filter --talk=org.a.T --record=/r --sessions=2; ; ListenFails 1 => 5, c1 , b1 , c2 , b2 , DBPR%02%01, err error: listen%0A
-unix:path=/bus /p --filter --talk=org.a.T --record=/r --sessions=2; fails 2; ListenFails 1 => 5, c1 , b1 , c2 , b2 , DBPR%02%01, err error: listen%0A
-unix:path=/bus /p --filter --record=/q unix:path=/bus2 /p2 --record=/r --sessions=1; ; ConnectFails 1, arrival 0 => 0, c1 , b1 , c2 , b2 , DBPR%02%01%04%01~~~%01~~~%0B
+unix:path=/bus /p --filter --talk=org.a.T --record=/r --sessions=2; ; \
+    arrival 0, arrival 0, piece c1 A, piece c2 {auth}BEGIN%0D, piece c2 %0A{call}, piece b2 {ok}{return}, end c2 \
+    => 0, c1 , b1 , c2 {ok}{return}, b2 {auth}{begin}{call}, \
+    DBPR%02%01~%01~~~%01~~~A~%02~~~%16~~~{auth}BEGIN%0D~%02~~~Q~~~%0A{call}%01%02~~~]~~~{ok}{return}%02%02~~~~~~~
+unix:path=/bus /p --filter --talk=org.a.T --record=/r --sessions=2; most 1; \
+    arrival 0, arrival 0, piece c1 A, piece c2 {auth}BEGIN%0D, piece c2 %0A{call}, piece b2 {ok}{return}, end c2 \
+    => 0, c1 , b1 , c2 {ok}{return}, b2 {auth}{begin}{call}, \
+    DBPR%02%01~%01~~~%01~~~A~%02~~~%16~~~{auth}BEGIN%0D~%02~~~Q~~~%0A{call}%01%02~~~]~~~{ok}{return}%02%02~~~~~~~
+unix:path=/bus /p --filter --talk=org.a.T --record=/r --sessions=2; fails 1; \
+    arrival 0, arrival 0, piece c1 A, piece c2 {auth}BEGIN%0D, piece c2 %0A{call}, piece b2 {ok}{return}, end c2 \
+    => 4, c1 , b1 , c2 , b2 , , err error: file /r%0A
+unix:path=/bus /p --filter --talk=org.a.T --record=/r --sessions=2; refused 1; \
+    arrival 0, arrival 0, piece c1 A, piece c2 {auth}BEGIN%0D, piece c2 %0A{call}, piece b2 {ok}{return}, end c2 \
+    => 8, c1 , b1 , c2 , b2 , , err error: memory%0A
+unix:path=/bus /p --filter --talk=org.a.T --record=/r --sessions=2; fails 2; \
+    arrival 0, arrival 0, piece c1 A, piece c2 {auth}BEGIN%0D, piece c2 %0A{call}, piece b2 {ok}{return}, end c2 \
+    => 4, c1 , b1 , c2 {ok}{return}, b2 {auth}{begin}{call}, DBPR%02%01, err error: file /r%0A
+unix:path=/bus /p --filter --talk=org.a.T --record=/r --sessions=2; refused 2; \
+    arrival 0, arrival 0, piece c1 A, piece c2 {auth}BEGIN%0D, piece c2 %0A{call}, piece b2 {ok}{return}, end c2 \
+    => 8, c1 , b1 , c2 {ok}{return}, b2 {auth}{begin}{call}, DBPR%02%01, err error: memory%0A
+unix:path=/bus /p --filter --talk=org.a.T --record=/r --sessions=2; ; \
+    ListenFails 1 \
+    => 5, c1 , b1 , c2 , b2 , DBPR%02%01, err error: listen%0A
+unix:path=/bus /p --filter --talk=org.a.T --record=/r --sessions=2; fails 2; \
+    ListenFails 1 \
+    => 5, c1 , b1 , c2 , b2 , DBPR%02%01, err error: listen%0A
+unix:path=/bus /p --filter --record=/q unix:path=/bus2 /p2 --record=/r --sessions=1; ; \
+    ConnectFails 1, arrival 0 \
+    => 0, c1 , b1 , c2 , b2 , DBPR%02%01%04%01~~~%01~~~%0B
 ";
 
 /// The policy of the sessions, as the words of a file.
 pub const POLICY: &[u8] = b"--filter\0--talk=org.a.T\0";
 
-/// A line, the appends, and a script, and what a replay of the file that it makes writes: of session 1 that its first byte is not
-/// the one that a client has to send, and of session 2 what went to either side and that the client's end came.
+/// A line, the appends, and a script, and what a replay of the file that it makes writes: of session 1 that its first
+/// byte is not the one that a client has to send, and of session 2 what went to either side and that the client's end
+/// came.
 const REPLAYED: &str = "\
-unix:path=/bus /p --filter --talk=org.a.T --record=/r --sessions=2; ; arrival 0, arrival 0, piece c1 A, piece c2 ~AUTH EXTERNAL%0D%0ABEGIN%0D, piece c2 %0Al%01~%01~~~~%01~~~@~~~%01%01o~%02~~~/p~~~~~~%02%01s~%07~~~org.a.I~%03%01s~%01~~~A~~~~~~~%06%01s~%07~~~org.a.T~, piece b2 OK 00112233445566778899aabbccddeeff%0D%0Al%02%01%01~~~~%09~~~%25~~~%05%01u~%01~~~%06%01s~%05~~~:1.40~~~%07%01s~%04~~~:1.7~~~~, end c2 => %12%01~~~%0B~~~%01~%01~~~~~~~~%10%02~~~g~~~~AUTH EXTERNAL%0D%0ABEGIN%0D%0Al%01~%01~~~~%01~~~@~~~%01%01o~%02~~~/p~~~~~~%02%01s~%07~~~org.a.I~%03%01s~%01~~~A~~~~~~~%06%01s~%07~~~org.a.T~%11%02~~~]~~~OK 00112233445566778899aabbccddeeff%0D%0Al%02%01%01~~~~%09~~~%25~~~%05%01u~%01~~~%06%01s~%05~~~:1.40~~~%07%01s~%04~~~:1.7~~~~%12%02~~~%01~~~%03
+unix:path=/bus /p --filter --talk=org.a.T --record=/r --sessions=2; ; \
+    arrival 0, arrival 0, piece c1 A, piece c2 {auth}BEGIN%0D, piece c2 %0A{call}, piece b2 {ok}{return}, end c2 \
+    => %12%01~~~%0B~~~%01~%01~~~~~~~~%10%02~~~g~~~{auth}{begin}{call}%11%02~~~]~~~{ok}{return}%12%02~~~%01~~~%03
 ";
 
 /// What a run over no files and the net of a script ended with.
@@ -90,8 +114,9 @@ fn told_recorded<R: Threads + Sync>(
 #[test]
 fn line_is_recorded_as_it_is_served(rt: HostRuntime) -> Result<(), Fail> {
     assert_eq!(rt;
-        wrong_row(
+        wrong_named_row(
             rt.alloc(),
+            SESSION,
             RECORDED,
             &|alloc, row| told_recorded(&rt, alloc, row)
         )?,
@@ -116,8 +141,9 @@ fn told_replayed<R: Threads + Sync>(
 #[test]
 fn recording_of_a_line_is_replayed(rt: HostRuntime) -> Result<(), Fail> {
     assert_eq!(rt;
-        wrong_row(
+        wrong_named_row(
             rt.alloc(),
+            SESSION,
             REPLAYED,
             &|alloc, row| told_replayed(&rt, alloc, row)
         )?,
@@ -126,8 +152,8 @@ fn recording_of_a_line_is_replayed(rt: HostRuntime) -> Result<(), Fail> {
     Ok(())
 }
 
-/// Bytes of a recording of many sessions, and what each tool that takes a recording says of them: a replay under no words, and
-/// the tools that take recordings of one session alone.
+/// Bytes of a recording of many sessions, and what each tool that takes a recording says of them: a replay under no
+/// words, and the tools that take recordings of one session alone.
 const MANY: &str = "\
 DBPR%02~~%03~~~%03~~~%FF%FF%FF%02%03~~~~~~~ => 0 %10%03~~~%03~~~%FF%FF%FF%12%03~~~%01~~~%03, 3 error: recording: BadVersion at 4
 DBPR%02~~~~~~%03~~~%FF%FF%FF => 3 error: recording: BadSession at 7, 3 error: recording: BadVersion at 4

@@ -7,9 +7,10 @@ use std::str;
 use std::test::Fail;
 use std::thread::Threads;
 use test_nets::{add_written, net_of};
-use test_tables::{plain, text_of, wrong_row};
+use test_tables::{SESSION, plain, text_of, wrong_named_row, wrong_row};
 
-/// Words, the bytes of the file `args` behind a bar, and the status and the line. Nothing is written on standard output.
+/// Words, the bytes of the file `args` behind a bar, and the status and the line. Nothing is written on standard
+/// output.
 const WORDS: &str = "\
 --filter | => 1 error: word 0: OptionBeforeAddress
 unix:path=/a | => 1 error: word 1: NoPath
@@ -51,32 +52,56 @@ unix:path=/a /p --args=3 | => 4 error: file /dev/fd/3
 --replace=x unix:path=/a /p | => 1 error: word 0: OptionBeforeAddress
 ";
 
-/// Words, a script of a net, and links; and the status, what was written to these links, and what was written on standard error. The
-/// room of standard error stands in front of the words, behind a bar, where it isn't ample.
+/// Words, a script of a net, and links; and the status, what was written to these links, and what was written on
+/// standard error. The room of standard error stands in front of the words, behind a bar, if it isn't ample.
 const SERVED: &str = "\
-unix:path=/bus /p --filter --talk=org.a.T --sessions=1; arrival 0, piece c1 ~AUTH EXTERNAL%0D%0ABEGIN%0D, piece c1 %0Al%01~%01~~~~%01~~~@~~~%01%01o~%02~~~/p~~~~~~%02%01s~%07~~~org.a.I~%03%01s~%01~~~A~~~~~~~%06%01s~%07~~~org.a.T~, piece b1 OK 00112233445566778899aabbccddeeff%0D%0Al%02%01%01~~~~%09~~~%25~~~%05%01u~%01~~~%06%01s~%05~~~:1.40~~~%07%01s~%04~~~:1.7~~~~, end c1; c1 b1 => 0, c1 OK 00112233445566778899aabbccddeeff%0D%0Al%02%01%01~~~~%09~~~%25~~~%05%01u~%01~~~%06%01s~%05~~~:1.40~~~%07%01s~%04~~~:1.7~~~~, b1 ~AUTH EXTERNAL%0D%0ABEGIN%0D%0Al%01~%01~~~~%01~~~@~~~%01%01o~%02~~~/p~~~~~~%02%01s~%07~~~org.a.I~%03%01s~%01~~~A~~~~~~~%06%01s~%07~~~org.a.T~
-unix:path=/bus /p --filter --talk=org.a.T; ; c1 b1 => 0, c1 , b1 
-unix:path=/bus /p --filter --talk=a.b --talk=org.a.T --sessions=2; limit b1 13, arrival 0, arrival 0, piece c1 ~BEGIN%0D%0AB%01~%01~~~~%01%02%03%04~~~,%01%01o~~~~%01/~~~~~~~%03%01s~~~~%01M~~~~~~~%06%01s~~~~%03a.b~~~~~, piece c2 ~AUTH EXTERNAL%0D%0ABEGIN%0D%0Al%01~%01~~~~%01~~~@~~~%01%01o~%02~~~/p~~~~~~%02%01s~%07~~~org.a.I~%03%01s~%01~~~A~~~~~~~%06%01s~%07~~~org.a.T~, piece b2 OK 00112233445566778899aabbccddeeff%0D%0Al%02%01%01~~~~%09~~~%25~~~%05%01u~%01~~~%06%01s~%05~~~:1.40~~~%07%01s~%04~~~:1.7~~~~, piece c1 l%01~%01~~~~%01~~~@~~~%01%01o~%02~~~/p~~~~~~%02%01s~%07~~~org.a.I~%03%01s~%01~~~A~~~~~~~%06%01s~%07~~~org.a.T~, end c2; b1 c1 c2 b2 => 0, b1 ~BEGIN%0D%0AB%01~%01~, c1 , c2 OK 00112233445566778899aabbccddeeff%0D%0Al%02%01%01~~~~%09~~~%25~~~%05%01u~%01~~~%06%01s~%05~~~:1.40~~~%07%01s~%04~~~:1.7~~~~, b2 ~AUTH EXTERNAL%0D%0ABEGIN%0D%0Al%01~%01~~~~%01~~~@~~~%01%01o~%02~~~/p~~~~~~%02%01s~%07~~~org.a.I~%03%01s~%01~~~A~~~~~~~%06%01s~%07~~~org.a.T~
-unix:path=/bus /p --filter --talk=org.a.T --sessions=2; ConnectFails 1, arrival 0, arrival 0, piece c1 ~AUTH EXTERNAL%0D%0ABEGIN%0D%0Al%01~%01~~~~%01~~~@~~~%01%01o~%02~~~/p~~~~~~%02%01s~%07~~~org.a.I~%03%01s~%01~~~A~~~~~~~%06%01s~%07~~~org.a.T~, piece c2 ~AUTH EXTERNAL%0D%0ABEGIN%0D%0Al%01~%01~~~~%01~~~@~~~%01%01o~%02~~~/p~~~~~~%02%01s~%07~~~org.a.I~%03%01s~%01~~~A~~~~~~~%06%01s~%07~~~org.a.T~, end c2; c1 b1 c2 b2 => 0, c1 , b1 , c2 , b2 ~AUTH EXTERNAL%0D%0ABEGIN%0D%0Al%01~%01~~~~%01~~~@~~~%01%01o~%02~~~/p~~~~~~%02%01s~%07~~~org.a.I~%03%01s~%01~~~A~~~~~~~%06%01s~%07~~~org.a.T~
-unix:path=/bus /p --filter --talk=org.a.T unix:path=/bus2 /q --filter --sessions=2; arrival 1, arrival 0, piece c1 ~AUTH EXTERNAL%0D%0ABEGIN%0D%0Al%01~%01~~~~%01~~~@~~~%01%01o~%02~~~/p~~~~~~%02%01s~%07~~~org.a.I~%03%01s~%01~~~A~~~~~~~%06%01s~%07~~~org.a.T~, piece c2 ~AUTH EXTERNAL%0D%0ABEGIN%0D%0Al%01~%01~~~~%01~~~@~~~%01%01o~%02~~~/p~~~~~~%02%01s~%07~~~org.a.I~%03%01s~%01~~~A~~~~~~~%06%01s~%07~~~org.a.T~, end c1, end c2; c1 b1 c2 b2 => 0, c1 , b1 ~AUTH EXTERNAL%0D%0ABEGIN%0D%0Al%01~%01~~~~%01~~~e~~~%01%01o~%01~~~/~~~~~~~%02%01s~%19~~~org.freedesktop.DBus.Peer~~~~~~~%03%01s~%04~~~Ping~~~~%06%01s~%14~~~org.freedesktop.DBus~~~~, c2 , b2 ~AUTH EXTERNAL%0D%0ABEGIN%0D%0Al%01~%01~~~~%01~~~@~~~%01%01o~%02~~~/p~~~~~~%02%01s~%07~~~org.a.I~%03%01s~%01~~~A~~~~~~~%06%01s~%07~~~org.a.T~
-unix:path=/bus /p --filter --log --talk=org.a.T --sessions=1; arrival 0, piece c1 ~AUTH EXTERNAL%0D%0ABEGIN%0D, piece c1 %0Al%01~%01~~~~%01~~~@~~~%01%01o~%02~~~/p~~~~~~%02%01s~%07~~~org.a.I~%03%01s~%01~~~A~~~~~~~%06%01s~%07~~~org.a.T~, piece b1 OK 00112233445566778899aabbccddeeff%0D%0Al%02%01%01~~~~%09~~~%25~~~%05%01u~%01~~~%06%01s~%05~~~:1.40~~~%07%01s~%04~~~:1.7~~~~, end c1; c1 b1 => 0, c1 OK 00112233445566778899aabbccddeeff%0D%0Al%02%01%01~~~~%09~~~%25~~~%05%01u~%01~~~%06%01s~%05~~~:1.40~~~%07%01s~%04~~~:1.7~~~~, b1 ~AUTH EXTERNAL%0D%0ABEGIN%0D%0Al%01~%01~~~~%01~~~@~~~%01%01o~%02~~~/p~~~~~~%02%01s~%07~~~org.a.I~%03%01s~%01~~~A~~~~~~~%06%01s~%07~~~org.a.T~, err 1 c 1 call serial=1 reply=- from=- dest=org.a.T path=/p iface=org.a.I member=A pass%0A1 b 2 return serial=9 reply=1 from=:1.7 dest=:1.40 path=- iface=- member=- show%0A
-30 | unix:path=/bus /p --filter --log --talk=org.a.T --sessions=1; arrival 0, piece c1 ~AUTH EXTERNAL%0D%0ABEGIN%0D, piece c1 %0Al%01~%01~~~~%01~~~@~~~%01%01o~%02~~~/p~~~~~~%02%01s~%07~~~org.a.I~%03%01s~%01~~~A~~~~~~~%06%01s~%07~~~org.a.T~, piece b1 OK 00112233445566778899aabbccddeeff%0D%0Al%02%01%01~~~~%09~~~%25~~~%05%01u~%01~~~%06%01s~%05~~~:1.40~~~%07%01s~%04~~~:1.7~~~~, end c1; c1 b1 => 0, c1 , b1 ~AUTH EXTERNAL%0D%0ABEGIN%0D%0Al%01~%01~~~~%01~~~@~~~%01%01o~%02~~~/p~~~~~~%02%01s~%07~~~org.a.I~%03%01s~%01~~~A~~~~~~~%06%01s~%07~~~org.a.T~, err 1 c 1 call serial=1 reply=- fr
-84 | unix:path=/bus /p --filter --log --talk=org.a.T --sessions=1; arrival 0, piece c1 ~AUTH EXTERNAL%0D%0ABEGIN%0D, piece c1 %0Al%01~%01~~~~%01~~~@~~~%01%01o~%02~~~/p~~~~~~%02%01s~%07~~~org.a.I~%03%01s~%01~~~A~~~~~~~%06%01s~%07~~~org.a.T~, piece b1 OK 00112233445566778899aabbccddeeff%0D%0Al%02%01%01~~~~%09~~~%25~~~%05%01u~%01~~~%06%01s~%05~~~:1.40~~~%07%01s~%04~~~:1.7~~~~, end c1; c1 b1 => 0, c1 OK 00112233445566778899aabbccddeeff%0D%0Al%02%01%01~~~~%09~~~%25~~~%05%01u~%01~~~%06%01s~%05~~~:1.40~~~%07%01s~%04~~~:1.7~~~~, b1 ~AUTH EXTERNAL%0D%0ABEGIN%0D%0Al%01~%01~~~~%01~~~@~~~%01%01o~%02~~~/p~~~~~~%02%01s~%07~~~org.a.I~%03%01s~%01~~~A~~~~~~~%06%01s~%07~~~org.a.T~, err 1 c 1 call serial=1 reply=- from=- dest=org.a.T path=/p iface=org.a.I member=A pass%0A
-unix:path=/bus /p --filter --log --talk=org.a.T unix:path=/bus2 /q --filter --talk=org.a.T --sessions=2; arrival 1, arrival 0, piece c1 ~AUTH EXTERNAL%0D%0ABEGIN%0D%0Al%01~%01~~~~%01~~~@~~~%01%01o~%02~~~/p~~~~~~%02%01s~%07~~~org.a.I~%03%01s~%01~~~A~~~~~~~%06%01s~%07~~~org.a.T~, piece c2 ~AUTH EXTERNAL%0D%0ABEGIN%0D%0Al%01~%01~~~~%01~~~@~~~%01%01o~%02~~~/p~~~~~~%02%01s~%07~~~org.a.I~%03%01s~%01~~~A~~~~~~~%06%01s~%07~~~org.a.T~, end c1, end c2; b1 b2 => 0, b1 ~AUTH EXTERNAL%0D%0ABEGIN%0D%0Al%01~%01~~~~%01~~~@~~~%01%01o~%02~~~/p~~~~~~%02%01s~%07~~~org.a.I~%03%01s~%01~~~A~~~~~~~%06%01s~%07~~~org.a.T~, b2 ~AUTH EXTERNAL%0D%0ABEGIN%0D%0Al%01~%01~~~~%01~~~@~~~%01%01o~%02~~~/p~~~~~~%02%01s~%07~~~org.a.I~%03%01s~%01~~~A~~~~~~~%06%01s~%07~~~org.a.T~, err 2 c 1 call serial=1 reply=- from=- dest=org.a.T path=/p iface=org.a.I member=A pass%0A
+unix:path=/bus /p --filter --talk=org.a.T --sessions=1; \
+    arrival 0, piece c1 {auth}BEGIN%0D, piece c1 %0A{call}, piece b1 {ok}{return}, end c1; \
+    c1 b1 => 0, c1 {ok}{return}, b1 {auth}{begin}{call}
+unix:path=/bus /p --filter --talk=org.a.T; ; c1 b1 => 0, c1 , b1 \n\
+unix:path=/bus /p --filter --talk=a.b --talk=org.a.T --sessions=2; \
+    limit b1 13, arrival 0, arrival 0, piece c1 ~{begin}{big}, piece c2 {auth}{begin}{call}, piece b2 {ok}{return}, \
+    piece c1 {call}, end c2; \
+    b1 c1 c2 b2 => 0, b1 ~{begin}B%01~%01~, c1 , c2 {ok}{return}, b2 {auth}{begin}{call}
+unix:path=/bus /p --filter --talk=org.a.T --sessions=2; \
+    ConnectFails 1, arrival 0, arrival 0, piece c1 {auth}{begin}{call}, piece c2 {auth}{begin}{call}, end c2; \
+    c1 b1 c2 b2 => 0, c1 , b1 , c2 , b2 {auth}{begin}{call}
+unix:path=/bus /p --filter --talk=org.a.T unix:path=/bus2 /q --filter --sessions=2; \
+    arrival 1, arrival 0, piece c1 {auth}{begin}{call}, piece c2 {auth}{begin}{call}, end c1, end c2; \
+    c1 b1 c2 b2 => 0, c1 , b1 {auth}{begin}{ping}, c2 , b2 {auth}{begin}{call}
+unix:path=/bus /p --filter --log --talk=org.a.T --sessions=1; \
+    arrival 0, piece c1 {auth}BEGIN%0D, piece c1 %0A{call}, piece b1 {ok}{return}, end c1; \
+    c1 b1 => 0, c1 {ok}{return}, b1 {auth}{begin}{call}, \
+    err 1 c 1 call serial=1 reply=- from=- dest=org.a.T path=/p iface=org.a.I member=A pass%0A1 b 2 return serial=9 reply=1 from=:1.7 dest=:1.40 path=- iface=- member=- show%0A
+30 | unix:path=/bus /p --filter --log --talk=org.a.T --sessions=1; \
+    arrival 0, piece c1 {auth}BEGIN%0D, piece c1 %0A{call}, piece b1 {ok}{return}, end c1; \
+    c1 b1 => 0, c1 , b1 {auth}{begin}{call}, err 1 c 1 call serial=1 reply=- fr
+84 | unix:path=/bus /p --filter --log --talk=org.a.T --sessions=1; \
+    arrival 0, piece c1 {auth}BEGIN%0D, piece c1 %0A{call}, piece b1 {ok}{return}, end c1; \
+    c1 b1 => 0, c1 {ok}{return}, b1 {auth}{begin}{call}, \
+    err 1 c 1 call serial=1 reply=- from=- dest=org.a.T path=/p iface=org.a.I member=A pass%0A
+unix:path=/bus /p --filter --log --talk=org.a.T unix:path=/bus2 /q --filter --talk=org.a.T --sessions=2; \
+    arrival 1, arrival 0, piece c1 {auth}{begin}{call}, piece c2 {auth}{begin}{call}, end c1, end c2; \
+    b1 b2 => 0, b1 {auth}{begin}{call}, b2 {auth}{begin}{call}, \
+    err 2 c 1 call serial=1 reply=- from=- dest=org.a.T path=/p iface=org.a.I member=A pass%0A
 unix:path=/bus /p --filter unix:path=/bus2 /q --filter; ListenFails 2; c1 => 5, c1 , err error: listen%0A
 unix:path=/bus /p --filter unix:path=/bus2 /q --filter; ListenRefused 1; c1 => 8, c1 , err error: memory%0A
 --fd=3 unix:path=/bus /p --filter; PrepareFails 1; c1 => 5, c1 , err error: fd%0A
 --replace unix:path=/bus /p --filter; PrepareFails 1; c1 => 5, c1 , err error: fd%0A
 5 | unix:path=/bus /p --fd=3; PrepareFails 1; c1 => 5, c1 , err error
 unix:path=/bus /p --filter --fd=3; PrepareRefused 1; c1 => 8, c1 , err error: memory%0A
-unix:path=/bus /p --filter; PrepareFails 1; c1 => 0, c1 
+unix:path=/bus /p --filter; PrepareFails 1; c1 => 0, c1 \n\
 --fd=3 --replace unix:path=/bus /p --filter; PrepareFails 2, ListenFails 1; c1 => 5, c1 , err error: listen%0A
-unix:path=/bus /p --filter --talk=org.a.T; WaitFails 3, arrival 0, piece c1 ~AUTH EXTERNAL%0D%0ABEGIN%0D%0Al%01~%01~~~~%01~~~@~~~%01%01o~%02~~~/p~~~~~~%02%01s~%07~~~org.a.I~%03%01s~%01~~~A~~~~~~~%06%01s~%07~~~org.a.T~, piece b1 OK 00112233445566778899aabbccddeeff%0D%0Al%02%01%01~~~~%09~~~%25~~~%05%01u~%01~~~%06%01s~%05~~~:1.40~~~%07%01s~%04~~~:1.7~~~~; c1 b1 => 5, c1 , b1 ~AUTH EXTERNAL%0D%0ABEGIN%0D%0Al%01~%01~~~~%01~~~@~~~%01%01o~%02~~~/p~~~~~~%02%01s~%07~~~org.a.I~%03%01s~%01~~~A~~~~~~~%06%01s~%07~~~org.a.T~, err error: wait%0A
+unix:path=/bus /p --filter --talk=org.a.T; \
+    WaitFails 3, arrival 0, piece c1 {auth}{begin}{call}, piece b1 {ok}{return}; \
+    c1 b1 => 5, c1 , b1 {auth}{begin}{call}, err error: wait%0A
 ";
 
 /// The words of a file, a script and links, and the same: the only word names the file.
 const FROM_FILE: &str = "\
-unix:path=/bus /p --filter --talk=org.a.T --sessions=1; arrival 0, piece c1 ~AUTH EXTERNAL%0D%0ABEGIN%0D, piece c1 %0Al%01~%01~~~~%01~~~@~~~%01%01o~%02~~~/p~~~~~~%02%01s~%07~~~org.a.I~%03%01s~%01~~~A~~~~~~~%06%01s~%07~~~org.a.T~, piece b1 OK 00112233445566778899aabbccddeeff%0D%0Al%02%01%01~~~~%09~~~%25~~~%05%01u~%01~~~%06%01s~%05~~~:1.40~~~%07%01s~%04~~~:1.7~~~~, end c1; c1 b1 => 0, c1 OK 00112233445566778899aabbccddeeff%0D%0Al%02%01%01~~~~%09~~~%25~~~%05%01u~%01~~~%06%01s~%05~~~:1.40~~~%07%01s~%04~~~:1.7~~~~, b1 ~AUTH EXTERNAL%0D%0ABEGIN%0D%0Al%01~%01~~~~%01~~~@~~~%01%01o~%02~~~/p~~~~~~%02%01s~%07~~~org.a.I~%03%01s~%01~~~A~~~~~~~%06%01s~%07~~~org.a.T~
+unix:path=/bus /p --filter --talk=org.a.T --sessions=1; \
+    arrival 0, piece c1 {auth}BEGIN%0D, piece c1 %0A{call}, piece b1 {ok}{return}, end c1; \
+    c1 b1 => 0, c1 {ok}{return}, b1 {auth}{begin}{call}
 ";
 
 /// Words of a line, and what its net took of them.
@@ -195,8 +220,9 @@ fn files_of_words_above_the_limit_are_too_long(rt: HostRuntime) -> Result<(), Fa
 #[test]
 fn a_proxy_line_is_served(rt: HostRuntime) -> Result<(), Fail> {
     assert_eq!(rt;
-        wrong_row(
+        wrong_named_row(
             rt.alloc(),
+            SESSION,
             SERVED,
             &|alloc, row| told_served(&rt, alloc, row)
         )?,
@@ -208,16 +234,18 @@ fn a_proxy_line_is_served(rt: HostRuntime) -> Result<(), Fail> {
 #[test]
 fn a_proxy_line_of_a_file_is_served(rt: HostRuntime) -> Result<(), Fail> {
     assert_eq!(rt;
-        wrong_row(
+        wrong_named_row(
             rt.alloc(),
+            SESSION,
             FROM_FILE,
             &|alloc, row| told_from_file(&rt, alloc, row, "args", "--args-file=args")
         )?,
         None
     );
     assert_eq!(rt;
-        wrong_row(
+        wrong_named_row(
             rt.alloc(),
+            SESSION,
             FROM_FILE,
             &|alloc, row| told_from_file(&rt, alloc, row, "/dev/fd/35", "--args=35")
         )?,

@@ -4,11 +4,12 @@ use crate::runs::{file, run_over};
 use std::alloc::{AllocError, Global};
 use std::test::Fail;
 use std::thread::Threads;
-use test_tables::{plain, text_of, wrong_row};
+use test_tables::{SESSION, plain, text_of, wrong_named_row, wrong_row};
 
-/// The number of a session and a recording, and the status with the recording of that session or the line. A failed call ends
-/// session 7, and the bytes that came after it are not written. The number 4294967298 is 2^32 + 2, which is not session 2.
-const SESSION: &str = "\
+/// The number of a session and a recording, and the status with the recording of that session or the line. A failed
+/// call ends session 7, and the bytes that came after it are not written. The number 4294967298 is 2^32 + 2, which is
+/// not session 2.
+const ONE: &str = "\
 2 DBPR%02%01~%02~~~%02~~~ab%01%07~~~%01~~~c%02%02~~~~~~~%04%07~~~%01~~~%09%01%07~~~%01~~~d~%FF%FF%FF%FF%01~~~z => 0 DBPR%01%01~%02~~~ab%02~~~~
 7 DBPR%02%01~%02~~~%02~~~ab%01%07~~~%01~~~c%02%02~~~~~~~%04%07~~~%01~~~%09%01%07~~~%01~~~d~%FF%FF%FF%FF%01~~~z => 0 DBPR%01%01%01%01~~~c
 4294967295 DBPR%02%01~%02~~~%02~~~ab%01%07~~~%01~~~c%02%02~~~~~~~%04%07~~~%01~~~%09%01%07~~~%01~~~d~%FF%FF%FF%FF%01~~~z => 0 DBPR%01%01~%01~~~z
@@ -48,7 +49,9 @@ DBPR%02~%05%01~~~~~~~ => 3 error: recording: BadKind at 6
 
 /// A line, the appends, and a script, and what a replay of each session of the file that it makes writes.
 const REPLAYED: &str = "\
-unix:path=/bus /p --filter --talk=org.a.T --record=/r --sessions=2; ; arrival 0, arrival 0, piece c1 A, piece c2 ~AUTH EXTERNAL%0D%0ABEGIN%0D, piece c2 %0Al%01~%01~~~~%01~~~@~~~%01%01o~%02~~~/p~~~~~~%02%01s~%07~~~org.a.I~%03%01s~%01~~~A~~~~~~~%06%01s~%07~~~org.a.T~, piece b2 OK 00112233445566778899aabbccddeeff%0D%0Al%02%01%01~~~~%09~~~%25~~~%05%01u~%01~~~%06%01s~%05~~~:1.40~~~%07%01s~%04~~~:1.7~~~~, end c2 => %12%0B~~~%01~%01~~~~~~~~, %10g~~~~AUTH EXTERNAL%0D%0ABEGIN%0D%0Al%01~%01~~~~%01~~~@~~~%01%01o~%02~~~/p~~~~~~%02%01s~%07~~~org.a.I~%03%01s~%01~~~A~~~~~~~%06%01s~%07~~~org.a.T~%11]~~~OK 00112233445566778899aabbccddeeff%0D%0Al%02%01%01~~~~%09~~~%25~~~%05%01u~%01~~~%06%01s~%05~~~:1.40~~~%07%01s~%04~~~:1.7~~~~%12%01~~~%03
+unix:path=/bus /p --filter --talk=org.a.T --record=/r --sessions=2; ; \
+    arrival 0, arrival 0, piece c1 A, piece c2 {auth}BEGIN%0D, piece c2 %0A{call}, piece b2 {ok}{return}, end c2 \
+    => %12%0B~~~%01~%01~~~~~~~~, %10g~~~{auth}{begin}{call}%11]~~~{ok}{return}%12%01~~~%03
 ";
 
 /// A recording of two sessions.
@@ -63,11 +66,7 @@ fn told_session<R: Threads + Sync>(rt: &R, alloc: Global, row: &str) -> Result<S
 #[test]
 fn session_is_written_as_its_recording(rt: HostRuntime) -> Result<(), Fail> {
     assert_eq!(rt;
-        wrong_row(
-            rt.alloc(),
-            SESSION,
-            &|alloc, row| told_session(&rt, alloc, row)
-        )?,
+        wrong_row(rt.alloc(), ONE, &|alloc, row| told_session(&rt, alloc, row))?,
         None
     );
     Ok(())
@@ -115,8 +114,9 @@ fn told_alone<R: Threads + Sync>(rt: &R, alloc: Global, row: &str) -> Result<Str
 #[test]
 fn session_of_a_recorded_line_is_replayed_alone(rt: HostRuntime) -> Result<(), Fail> {
     assert_eq!(rt;
-        wrong_row(
+        wrong_named_row(
             rt.alloc(),
+            SESSION,
             REPLAYED,
             &|alloc, row| told_alone(&rt, alloc, row)
         )?,

@@ -96,7 +96,7 @@ fn is_taken(alloc: Global, words: &[String]) -> Result<bool, AllocError> {
     })
 }
 
-/// Whether these words write the text, and a front of it with status 6 where out has room for no more.
+/// Whether these words write the text, and a front of it with status 6 if out has room for no more.
 fn is_written<R: Threads + Sync>(
     rt: &R,
     alloc: Global,

@@ -7,8 +7,8 @@ use std::test::Fail;
 use std::thread::Threads;
 use test_tables::{plain, wrong_row};
 
-/// A policy file and two recordings, and the status, what is written, and the line. The policy file is read and checked first, and the
-/// first recording before the second.
+/// A policy file and two recordings, and the status, what is written, and the line. The policy file is read and checked
+/// first, and the first recording before the second.
 const FILES: &str = "\
 --filter DBPR%01~ DBPR%01~ => 0 same;
 --filter DBPR%01~%02~~~~ DBPR%01~%02~~~~ => 0 same;
@@ -27,7 +27,8 @@ const FILES: &str = "\
 --filter DBPR%09~ DBP => 3 error: recording: BadVersion at 4;
 ";
 
-/// Which of the files is none, and the status and the line where one recording is bad: it is refused before the other is read.
+/// Which of the files is none, and the status and the line if one recording is bad: it is refused before the other is
+/// read.
 const MISSING: &str = "\
 twin missing bad good => 4 error: file missing;
 twin policy bad missing => 3 error: recording: Cut at 3;

@@ -6,7 +6,8 @@ use std::test::Fail;
 use std::thread::Threads;
 use test_tables::wrong_row;
 
-/// The words of a policy file and of another, and the status and what is printed, in which `;` stands for the end of a line.
+/// The words of a policy file and of another, and the status and what is printed, in which `;` stands for the end of a
+/// line.
 const POLICIES: &str = "\
 --call=org.a.C=org.a.I.*@/p/* | --talk=org.a.* => 0 within;entry 1 by 1;
 --talk=org.a.* | --call=org.a.C=org.a.I.*@/p/* => 7 not within: signal org.a.z0;
@@ -58,7 +59,8 @@ const GRANTS: [(&str, &str); 6] = [
     ("--property=", "=org.a.I.M@/p"),
 ];
 
-/// Whether an entry of each grant, in rows, is within one of each other, in columns, where the names of the first are names of the other.
+/// Whether an entry of each grant, in rows, is within one of each other, in columns, if the names of the first are
+/// names of the other.
 const IS_WITHIN: [&str; 6] = ["111111", "011000", "001000", "011100", "011010", "011001"];
 
 /// The names of a first and of another entry, and whether those of the first are names of the other.

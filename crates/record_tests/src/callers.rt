@@ -39,7 +39,7 @@ fn wait_tracked<'a, N: Net, F: Files, K: RecordingStart>(
     tracked.recorder
 }
 
-/// Records what a net does at one wait. Where no append failed, the file is the recording of the entries that the net
+/// Records what a net does at one wait. If no append failed, the file is the recording of the entries that the net
 /// added.
 pub fn record_wait<N: Net, F: Files>(
     alloc: Global,

@@ -1,5 +1,5 @@
-//! Tests of recorders and of recorded runs over nets and files in memory, and a caller that records what code over any net
-//! does.
+//! Tests of recorders and of recorded runs over nets and files in memory, and a caller that records what code over any
+//! net does.
 #![tactic(auto)]
 
 pub mod callers;

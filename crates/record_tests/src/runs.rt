@@ -1,29 +1,50 @@
-//! What comes of a proxy line that is served while its net is recorded. A row has the line's words, what appends answer and
-//! the net's script, and then how the server ends, the first error of an append, what was written to the links and what the file
-//! holds. Where the file can't be made, the error is told, and what the net answers to its first listen then.
+//! What comes of a proxy line that is served while its net is recorded. A row has the line's words, what appends answer
+//! and the net's script, and then how the server ends, the first error of an append, what was written to the links and
+//! what the file holds. If the file can't be made, the error is told, and what the net answers to its first listen
+//! then.
 use crate::recordings::{files, held};
 use link_traits::{Net, NetFault};
 use memory_links::{MemNet, MemSink};
-use policy_args::{LineRefusal, ProxyLine, read_line};
 use recorded_run::serve_recorded;
 use std::alloc::{AllocError, Global};
 use std::test::Fail;
 use test_nets::{add_written, net_of};
-use test_tables::wrong_row;
+use test_servers::line_of;
+use test_tables::{SESSION, wrong_named_row};
 
-/// Two sessions, of which one is malformed from its first byte and one calls org.a.T and is answered: over files that take all, a
-/// byte at each append, and that fail at an append. Files that can't be made. A line that can't be listened for, and a connect that
-/// fails.
+/// Two sessions, of which one is malformed from its first byte and one calls org.a.T and is answered: over files that
+/// take all, a byte at each append, and that fail at an append. Files that can't be made. A line that can't be listened
+/// for, and a connect that fails.
 const RUNS: &str = "\
-unix:path=/bus /p --filter --talk=org.a.T --sessions=2; ; arrival 0, arrival 0, piece c1 A, piece c2 ~AUTH EXTERNAL%0D%0ABEGIN%0D, piece c2 %0Al%01~%01~~~~%01~~~@~~~%01%01o~%02~~~/p~~~~~~%02%01s~%07~~~org.a.I~%03%01s~%01~~~A~~~~~~~%06%01s~%07~~~org.a.T~, piece b2 OK 00112233445566778899aabbccddeeff%0D%0Al%02%01%01~~~~%09~~~%25~~~%05%01u~%01~~~%06%01s~%05~~~:1.40~~~%07%01s~%04~~~:1.7~~~~, end c2 => Ok(()), None, c1 , b1 , c2 OK 00112233445566778899aabbccddeeff%0D%0Al%02%01%01~~~~%09~~~%25~~~%05%01u~%01~~~%06%01s~%05~~~:1.40~~~%07%01s~%04~~~:1.7~~~~, b2 ~AUTH EXTERNAL%0D%0ABEGIN%0D%0Al%01~%01~~~~%01~~~@~~~%01%01o~%02~~~/p~~~~~~%02%01s~%07~~~org.a.I~%03%01s~%01~~~A~~~~~~~%06%01s~%07~~~org.a.T~, DBPR%02%01~%01~~~%01~~~A~%02~~~%16~~~~AUTH EXTERNAL%0D%0ABEGIN%0D~%02~~~Q~~~%0Al%01~%01~~~~%01~~~@~~~%01%01o~%02~~~/p~~~~~~%02%01s~%07~~~org.a.I~%03%01s~%01~~~A~~~~~~~%06%01s~%07~~~org.a.T~%01%02~~~]~~~OK 00112233445566778899aabbccddeeff%0D%0Al%02%01%01~~~~%09~~~%25~~~%05%01u~%01~~~%06%01s~%05~~~:1.40~~~%07%01s~%04~~~:1.7~~~~%02%02~~~~~~~
-unix:path=/bus /p --filter --talk=org.a.T --sessions=2; most 1; arrival 0, arrival 0, piece c1 A, piece c2 ~AUTH EXTERNAL%0D%0ABEGIN%0D, piece c2 %0Al%01~%01~~~~%01~~~@~~~%01%01o~%02~~~/p~~~~~~%02%01s~%07~~~org.a.I~%03%01s~%01~~~A~~~~~~~%06%01s~%07~~~org.a.T~, piece b2 OK 00112233445566778899aabbccddeeff%0D%0Al%02%01%01~~~~%09~~~%25~~~%05%01u~%01~~~%06%01s~%05~~~:1.40~~~%07%01s~%04~~~:1.7~~~~, end c2 => Ok(()), None, c1 , b1 , c2 OK 00112233445566778899aabbccddeeff%0D%0Al%02%01%01~~~~%09~~~%25~~~%05%01u~%01~~~%06%01s~%05~~~:1.40~~~%07%01s~%04~~~:1.7~~~~, b2 ~AUTH EXTERNAL%0D%0ABEGIN%0D%0Al%01~%01~~~~%01~~~@~~~%01%01o~%02~~~/p~~~~~~%02%01s~%07~~~org.a.I~%03%01s~%01~~~A~~~~~~~%06%01s~%07~~~org.a.T~, DBPR%02%01~%01~~~%01~~~A~%02~~~%16~~~~AUTH EXTERNAL%0D%0ABEGIN%0D~%02~~~Q~~~%0Al%01~%01~~~~%01~~~@~~~%01%01o~%02~~~/p~~~~~~%02%01s~%07~~~org.a.I~%03%01s~%01~~~A~~~~~~~%06%01s~%07~~~org.a.T~%01%02~~~]~~~OK 00112233445566778899aabbccddeeff%0D%0Al%02%01%01~~~~%09~~~%25~~~%05%01u~%01~~~%06%01s~%05~~~:1.40~~~%07%01s~%04~~~:1.7~~~~%02%02~~~~~~~
-unix:path=/bus /p --filter --talk=org.a.T --sessions=2; fails 3; arrival 0, arrival 0, piece c1 A, piece c2 ~AUTH EXTERNAL%0D%0ABEGIN%0D, piece c2 %0Al%01~%01~~~~%01~~~@~~~%01%01o~%02~~~/p~~~~~~%02%01s~%07~~~org.a.I~%03%01s~%01~~~A~~~~~~~%06%01s~%07~~~org.a.T~, piece b2 OK 00112233445566778899aabbccddeeff%0D%0Al%02%01%01~~~~%09~~~%25~~~%05%01u~%01~~~%06%01s~%05~~~:1.40~~~%07%01s~%04~~~:1.7~~~~, end c2 => Ok(()), Some(Failed), c1 , b1 , c2 OK 00112233445566778899aabbccddeeff%0D%0Al%02%01%01~~~~%09~~~%25~~~%05%01u~%01~~~%06%01s~%05~~~:1.40~~~%07%01s~%04~~~:1.7~~~~, b2 ~AUTH EXTERNAL%0D%0ABEGIN%0D%0Al%01~%01~~~~%01~~~@~~~%01%01o~%02~~~/p~~~~~~%02%01s~%07~~~org.a.I~%03%01s~%01~~~A~~~~~~~%06%01s~%07~~~org.a.T~, DBPR%02%01~%01~~~%01~~~A
-unix:path=/bus /p --filter --talk=org.a.T --sessions=2; most 8, fails 3; arrival 0, arrival 0, piece c1 A, piece c2 ~AUTH EXTERNAL%0D%0ABEGIN%0D, piece c2 %0Al%01~%01~~~~%01~~~@~~~%01%01o~%02~~~/p~~~~~~%02%01s~%07~~~org.a.I~%03%01s~%01~~~A~~~~~~~%06%01s~%07~~~org.a.T~, piece b2 OK 00112233445566778899aabbccddeeff%0D%0Al%02%01%01~~~~%09~~~%25~~~%05%01u~%01~~~%06%01s~%05~~~:1.40~~~%07%01s~%04~~~:1.7~~~~, end c2 => Ok(()), Some(Failed), c1 , b1 , c2 OK 00112233445566778899aabbccddeeff%0D%0Al%02%01%01~~~~%09~~~%25~~~%05%01u~%01~~~%06%01s~%05~~~:1.40~~~%07%01s~%04~~~:1.7~~~~, b2 ~AUTH EXTERNAL%0D%0ABEGIN%0D%0Al%01~%01~~~~%01~~~@~~~%01%01o~%02~~~/p~~~~~~%02%01s~%07~~~org.a.I~%03%01s~%01~~~A~~~~~~~%06%01s~%07~~~org.a.T~, DBPR%02%01~%01~~~%01~~
-unix:path=/bus /p --filter --talk=org.a.T --sessions=2; refused 2; arrival 0, arrival 0, piece c1 A, piece c2 ~AUTH EXTERNAL%0D%0ABEGIN%0D, piece c2 %0Al%01~%01~~~~%01~~~@~~~%01%01o~%02~~~/p~~~~~~%02%01s~%07~~~org.a.I~%03%01s~%01~~~A~~~~~~~%06%01s~%07~~~org.a.T~, piece b2 OK 00112233445566778899aabbccddeeff%0D%0Al%02%01%01~~~~%09~~~%25~~~%05%01u~%01~~~%06%01s~%05~~~:1.40~~~%07%01s~%04~~~:1.7~~~~, end c2 => Ok(()), Some(Memory), c1 , b1 , c2 OK 00112233445566778899aabbccddeeff%0D%0Al%02%01%01~~~~%09~~~%25~~~%05%01u~%01~~~%06%01s~%05~~~:1.40~~~%07%01s~%04~~~:1.7~~~~, b2 ~AUTH EXTERNAL%0D%0ABEGIN%0D%0Al%01~%01~~~~%01~~~@~~~%01%01o~%02~~~/p~~~~~~%02%01s~%07~~~org.a.I~%03%01s~%01~~~A~~~~~~~%06%01s~%07~~~org.a.T~, DBPR%02%01
-unix:path=/bus /p --filter --talk=org.a.T --sessions=2; fails 1; arrival 0, arrival 0, piece c1 A, piece c2 ~AUTH EXTERNAL%0D%0ABEGIN%0D, piece c2 %0Al%01~%01~~~~%01~~~@~~~%01%01o~%02~~~/p~~~~~~%02%01s~%07~~~org.a.I~%03%01s~%01~~~A~~~~~~~%06%01s~%07~~~org.a.T~, piece b2 OK 00112233445566778899aabbccddeeff%0D%0Al%02%01%01~~~~%09~~~%25~~~%05%01u~%01~~~%06%01s~%05~~~:1.40~~~%07%01s~%04~~~:1.7~~~~, end c2 => Failed, then Ok(0)
-unix:path=/bus /p --filter --talk=org.a.T --sessions=2; refused 1; arrival 0, arrival 0, piece c1 A, piece c2 ~AUTH EXTERNAL%0D%0ABEGIN%0D, piece c2 %0Al%01~%01~~~~%01~~~@~~~%01%01o~%02~~~/p~~~~~~%02%01s~%07~~~org.a.I~%03%01s~%01~~~A~~~~~~~%06%01s~%07~~~org.a.T~, piece b2 OK 00112233445566778899aabbccddeeff%0D%0Al%02%01%01~~~~%09~~~%25~~~%05%01u~%01~~~%06%01s~%05~~~:1.40~~~%07%01s~%04~~~:1.7~~~~, end c2 => Memory, then Ok(0)
-unix:path=/bus /p --filter --talk=org.a.T --sessions=2; ; ListenFails 1 => Err(Listen(0)), None, c1 , b1 , c2 , b2 , DBPR%02%01
-unix:path=/bus /p --filter --talk=org.a.T --sessions=1; ; ConnectFails 1, arrival 0 => Ok(()), None, c1 , b1 , c2 , b2 , DBPR%02%01%04%01~~~%01~~~%0B
+unix:path=/bus /p --filter --talk=org.a.T --sessions=2; ; \
+    arrival 0, arrival 0, piece c1 A, piece c2 {auth}BEGIN%0D, piece c2 %0A{call}, piece b2 {ok}{return}, end c2 \
+    => Ok(()), None, c1 , b1 , c2 {ok}{return}, b2 {auth}{begin}{call}, \
+    DBPR%02%01~%01~~~%01~~~A~%02~~~%16~~~{auth}BEGIN%0D~%02~~~Q~~~%0A{call}%01%02~~~]~~~{ok}{return}%02%02~~~~~~~
+unix:path=/bus /p --filter --talk=org.a.T --sessions=2; most 1; \
+    arrival 0, arrival 0, piece c1 A, piece c2 {auth}BEGIN%0D, piece c2 %0A{call}, piece b2 {ok}{return}, end c2 \
+    => Ok(()), None, c1 , b1 , c2 {ok}{return}, b2 {auth}{begin}{call}, \
+    DBPR%02%01~%01~~~%01~~~A~%02~~~%16~~~{auth}BEGIN%0D~%02~~~Q~~~%0A{call}%01%02~~~]~~~{ok}{return}%02%02~~~~~~~
+unix:path=/bus /p --filter --talk=org.a.T --sessions=2; fails 3; \
+    arrival 0, arrival 0, piece c1 A, piece c2 {auth}BEGIN%0D, piece c2 %0A{call}, piece b2 {ok}{return}, end c2 \
+    => Ok(()), Some(Failed), c1 , b1 , c2 {ok}{return}, b2 {auth}{begin}{call}, DBPR%02%01~%01~~~%01~~~A
+unix:path=/bus /p --filter --talk=org.a.T --sessions=2; most 8, fails 3; \
+    arrival 0, arrival 0, piece c1 A, piece c2 {auth}BEGIN%0D, piece c2 %0A{call}, piece b2 {ok}{return}, end c2 \
+    => Ok(()), Some(Failed), c1 , b1 , c2 {ok}{return}, b2 {auth}{begin}{call}, DBPR%02%01~%01~~~%01~~
+unix:path=/bus /p --filter --talk=org.a.T --sessions=2; refused 2; \
+    arrival 0, arrival 0, piece c1 A, piece c2 {auth}BEGIN%0D, piece c2 %0A{call}, piece b2 {ok}{return}, end c2 \
+    => Ok(()), Some(Memory), c1 , b1 , c2 {ok}{return}, b2 {auth}{begin}{call}, DBPR%02%01
+unix:path=/bus /p --filter --talk=org.a.T --sessions=2; fails 1; \
+    arrival 0, arrival 0, piece c1 A, piece c2 {auth}BEGIN%0D, piece c2 %0A{call}, piece b2 {ok}{return}, end c2 \
+    => Failed, then Ok(0)
+unix:path=/bus /p --filter --talk=org.a.T --sessions=2; refused 1; \
+    arrival 0, arrival 0, piece c1 A, piece c2 {auth}BEGIN%0D, piece c2 %0A{call}, piece b2 {ok}{return}, end c2 \
+    => Memory, then Ok(0)
+unix:path=/bus /p --filter --talk=org.a.T --sessions=2; ; \
+    ListenFails 1 \
+    => Err(Listen(0)), None, c1 , b1 , c2 , b2 , DBPR%02%01
+unix:path=/bus /p --filter --talk=org.a.T --sessions=1; ; \
+    ConnectFails 1, arrival 0 \
+    => Ok(()), None, c1 , b1 , c2 , b2 , DBPR%02%01%04%01~~~%01~~~%0B
 ";
 
 fn told_run(alloc: Global, row: &str) -> Result<String, AllocError> {
@@ -52,20 +73,11 @@ fn first_listen(net: &mut MemNet) -> Result<u32, NetFault> {
     net.listen("/q")
 }
 
-/// The proxy line of words. Bad words are told as if memory had run out.
-fn line_of(alloc: Global, text: &str) -> Result<ProxyLine, AllocError> {
-    let mut words = Vec::new(alloc);
-    for word in text.split(' ') {
-        words.push(String::from_str(alloc, word)?)?;
-    }
-    match read_line(alloc, &words) {
-        Ok(line) => Ok(line),
-        Err(LineRefusal::Bad(_) | LineRefusal::Memory) => Err(AllocError),
-    }
-}
-
 #[test]
 fn a_line_is_served_as_it_is_recorded(rt: HostRuntime) -> Result<(), Fail> {
-    assert_eq!(rt; wrong_row(rt.alloc(), RUNS, &told_run)?, None);
+    assert_eq!(rt;
+        wrong_named_row(rt.alloc(), SESSION, RUNS, &told_run)?,
+        None
+    );
     Ok(())
 }
