@@ -21,7 +21,7 @@ impl Model for Counters {
 }
 
 impl Counters {
-    /// A row of this length, where nothing is counted yet.
+    /// A row of this length, in which nothing is counted yet.
     pub fn new(alloc: Global, len: usize) -> Result<Counters, AllocError>
         ensures { IfOk result (λ counters. Counts len (λ place. 0) counters) }
     {

@@ -27,7 +27,7 @@ use tally::Count;
 /// The denials that recordings meet under the options, counted, and the entries that no item of a recording names: a
 /// line for each recording, for each reason and each entry with denials, and for each entry that isn't named. Each
 /// recording is played by a job, which enters the gate with the number of the recording, from 1, before it begins.
-/// Refused where memory is; also where a session ended so, or a count is too large.
+/// Refused if memory is refused, also to a session, or if a count is too large.
 pub fn audit<R: Threads + Sync, G: Gate + Sync>(
     rt: &R,
     gate: &G,

@@ -36,7 +36,7 @@ impl Marks {
         })
     }
 
-    /// Whether the entry at a place is marked, where 0 is the place of the first.
+    /// Whether the entry at a place is marked, the place of the first being 0.
     pub fn is_marked(&self, place: usize) -> bool
         ensures { result ≡ get_or self.now.marks.items place false }
     {

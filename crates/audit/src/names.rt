@@ -34,7 +34,7 @@ fn is_bus_call(message: &Message<'_>) -> bool
         && is_bus_or_absent(message.interface)
 }
 
-/// Whether a text stands, and is this one.
+/// Whether there is a text, and it is this one.
 fn is_text(text: Option<&str>, wanted: &str) -> bool
     ensures { result ≡ has_text (text_seen text.entry) wanted.now }
 {

@@ -91,7 +91,7 @@ impl Sums {
         self.entries.raise(reason_entry_number(reason) as usize)
     }
 
-    /// Counts a note. Its message is read only where it may name an entry.
+    /// Counts a note. Its message is read only if it may name an entry.
     pub fn count(&mut self, alloc: Global, policy: &Policy, note: &Note) -> Result<(), AllocError>
         ensures { (notes : List NoteValue) → SumsOf policy.now notes self.old → OnOk result (SumsOf policy.now (notes ++ note.now ∷ []) self.new) }
     {

@@ -50,7 +50,7 @@ impl Tally {
     }
 }
 
-/// The sum of two numbers. Refused where it is too large.
+/// The sum of two numbers. Refused if it is too large.
 fn sum_of(count: u64, more: u64) -> Result<u64, AllocError>
     ensures { IfOk result (λ sum. sum ≡ count + more) }
 {

@@ -15,15 +15,16 @@ use policy_view::Note;
 use std::alloc::Global;
 use std::marker::Model;
 
-/// The most bytes that wait in a buffer: 64 KiB, the capacity of a pipe on Linux. Longer writes would save few calls, and the
-/// lines of a session wait in no more bytes than this, however many they are.
+/// The most bytes that wait in a buffer: 64 KiB, the capacity of a pipe on Linux. Longer writes would save few calls,
+/// and the lines of a session wait in no more bytes than this, however many they are.
 pub const LONG: usize = 65_536;
 
 /// Lines that are joined before they are written, so that one write carries many.
 ///
-/// It joins as many bytes as it gets memory for, at most `LONG`. Bytes for which it gets none go to the sink at once, so no line
-/// is lost for want of memory. `put_line` puts a line after those that wait, and `write_out` writes what waits. A write may end
-/// within a line. After an error the buffer is of no more use, since it isn't known which of its bytes were written.
+/// It joins as many bytes as it gets memory for, at most `LONG`. Bytes for which it gets none go to the sink at once,
+/// so no line is lost for want of memory. `put_line` puts a line after those that wait, and `write_out` writes what
+/// waits. A write may end within a line. After an error the buffer is of no more use, since it isn't known which of its
+/// bytes were written.
 #[derive(Drop)]
 pub struct LineBuffer {
     bytes: Vec<u8>,
@@ -45,7 +46,8 @@ impl LineBuffer {
         }
     }
 
-    /// Puts bytes after what waits, unless more than `LONG` bytes would wait or memory is refused. Answers whether it did.
+    /// Puts bytes after what waits, unless more than `LONG` bytes would wait or memory is refused. Answers whether it
+    /// did.
     fn keep(&mut self, bytes: &[u8]) -> bool
         ensures kept { IsTrue result → self.new ≡ self.old ++ bytes.now }
         ensures left { result ≡ false → self.new ≡ self.old }
@@ -55,8 +57,8 @@ impl LineBuffer {
             && self.bytes.extend_from_slice(bytes).is_ok()
     }
 
-    /// Puts bytes after what waits. If they can't be joined what waits is written first, and if they can't be kept then either,
-    /// they are written too.
+    /// Puts bytes after what waits. If they can't be joined what waits is written first, and if they can't be kept then
+    /// either, they are written too.
     fn put<S: Sink>(&mut self, sink: &mut S, bytes: &[u8]) -> Result<(), SinkFault>
         ensures ok { OnOk result (GoesOut (self.old ++ bytes.now) self.new (S.view sink.old).told (S.view sink.new).told) }
         ensures most { OnOk result (length self.new ≤ LONG) }
@@ -74,9 +76,9 @@ impl LineBuffer {
         write_all(sink, bytes)
     }
 
-    /// Puts the line of a note, whose message was read, after what waits, with the number of its session. If more than `LONG`
-    /// bytes would wait, or memory is refused for more, what waits is written first. On an error, a prefix of what waited and
-    /// of the line was written.
+    /// Puts the line of a note, whose message was read, after what waits, with the number of its session. If more than
+    /// `LONG` bytes would wait, or memory is refused for more, what waits is written first. On an error, a prefix of
+    /// what waited and of the line was written.
     pub fn put_line<S: Sink>(
         &mut self,
         sink: &mut S,

@@ -6,7 +6,7 @@ use dbus_header::Instead;
 use itoa::Buffer;
 use policy_view::{Decision, Reason, Showing, Verdict};
 
-/// The number of the entry on which a decision rests, 0 where it rests on none.
+/// The number of the entry on which a decision rests, 0 if it rests on none.
 pub(crate) fn entry_number(decision: Decision) -> u32
     ensures { result ≡ decision_entry decision }
 {
@@ -18,7 +18,7 @@ pub(crate) fn entry_number(decision: Decision) -> u32
     }
 }
 
-/// The number of the entry on which a reason rests, 0 where it rests on none.
+/// The number of the entry on which a reason rests, 0 if it rests on none.
 pub fn reason_entry_number(reason: Reason) -> u32
     ensures { result ≡ reason_entry reason }
 {
@@ -112,8 +112,8 @@ fn showing_pieces<'a>(number: &'a mut Buffer, showing: Showing) -> [&'a str; 4]
     }
 }
 
-/// A space and the decision on a message: its word, its reason, the number of the reason's entry, and what a refused call is
-/// answered with. A piece that the decision hasn't is empty.
+/// A space and the decision on a message: its word, its reason, the number of the reason's entry, and what a refused
+/// call is answered with. A piece that the decision hasn't is empty.
 pub(crate) fn decision_pieces<'a>(number: &'a mut Buffer, decision: Decision) -> [&'a str; 4]
     ensures { flat_map (λ piece. piece.now) result ≡ codes " " ++ decision_words decision }
 {

@@ -1,7 +1,8 @@
-//! The lines of the log: what was decided on each message of a session, and the entry of the policy on which that rests.
+//! The lines of the log: what was decided on each message of a session, and the entry of the policy on which that
+//! rests.
 //!
-//! `LineBuffer` writes the line of each note of a session to a sink, and loses none for want of memory. `line` is the line of one
-//! note, `push_line` puts it after others in a string, and `entry_line` is the line of the entry.
+//! `LineBuffer` writes the line of each note of a session to a sink, and loses none for want of memory. `line` is the
+//! line of one note, `push_line` puts it after others in a string, and `entry_line` is the line of the entry.
 #![tactic(auto)]
 
 mod buffer;

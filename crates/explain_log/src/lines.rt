@@ -49,8 +49,8 @@ pub fn push_line(
     lines.push_str(&text)
 }
 
-/// The line of the entry on which the decision of a note rests, where it rests on one of the policy's. Its memory is
-/// taken at once; refused where memory is.
+/// The line of the entry on which the decision of a note rests, if it rests on one of the policy's. Its memory is taken
+/// at once; refused if memory is refused.
 pub fn entry_line(alloc: Global, policy: &Policy, note: &Note) -> Result<Option<String>, AllocError>
     ensures { IfOk result (λ line. option_map (λ text. string_bytes text) line ≡ line_of_entry policy.now note.now) }
 {

@@ -34,9 +34,9 @@ pub enum LineStop {
 }
 
 /// The proxy line of words. `--args-file=FILE` means the words in FILE, each ended by a NUL as in a policy file, and
-/// `--args=FD` those in `/dev/fd/FD`, FD being a number that `policy_args::read_descriptor` takes. These two options can't be
-/// used in such a file. The files are read first, in the order of the words, and each is cut into words before the next is
-/// read.
+/// `--args=FD` those in `/dev/fd/FD`, FD being a number that `policy_args::read_descriptor` takes. These two options
+/// can't be used in such a file. The files are read first, in the order of the words, and each is cut into words before
+/// the next is read.
 pub fn read_words<F: Files>(
     alloc: Global,
     files: &mut F,
@@ -48,13 +48,13 @@ pub fn read_words<F: Files>(
     ensures count { (F.view files.old).faults ≤ (F.view files.new).faults }
     ensures kept { (p : List ℕ) → (F.view files.new).told p ≡ (F.view files.old).told p }
 
-    // Each file that the words name was read once, in the order of the words, and no other. Where they
-    // stop, a front of these was, up to the one that could not be.
+    // Each file that the words name was read once, in the order of the words, and no other. If they stop, a prefix of
+    // these was, up to the one that could not be.
     ensures read { OnOk result ((F.view files.new).reads ≡ (F.view files.old).reads ++ paths_in (texts_of words.now)) }
     ensures until { IfErr result (λ stop. ReadUntil (paths_in (texts_of words.now)) (F.view files.old).reads (F.view files.new).reads stop) }
 
-    // None was read behind one that is bad, by what is told of the files. Where that settles what the
-    // words come to, they are refused only once all were read up to that one.
+    // None was read after one that is bad, by what is told of the files. If that settles what the words come to, they
+    // are refused only once all were read up to that one.
     ensures needed { ReadsNeeded (IsSettled (line_in (F.view files.old).told (texts_of words.now))) (needed_by (F.view files.old).told (texts_of words.now)) (F.view files.old).reads (F.view files.new).reads result }
 {
     match expand(alloc, files, words) {
@@ -157,7 +157,7 @@ fn path_of(alloc: Global, text: &str) -> Result<Option<String>, AllocError>
     }
 }
 
-/// Why words stop, where a file's words stand behind so many others. An index beyond all numbers is told as want of memory.
+/// Why words stop, if a file's words follow this many others. An index beyond all numbers is told as want of memory.
 fn behind(count: usize, stop: LineStop) -> LineStop
     ensures { IsBehind count stop result }
 {
@@ -173,7 +173,7 @@ fn behind(count: usize, stop: LineStop) -> LineStop
     }
 }
 
-/// Puts a copy of a word behind these.
+/// Puts a copy of a word after these.
 fn add_copy(alloc: Global, word: &str, all: &mut Vec<String>) -> Result<(), AllocError>
     ensures { OnOk result (texts_of all.new.items ≡ texts_of all.old.items ++ word.now ∷ []) }
 {

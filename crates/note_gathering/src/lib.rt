@@ -118,8 +118,8 @@ fn jobs_of<'a, T: Gate + Sync, G: Gatherer + Sync>(
 }
 
 /// What is gathered from the notes of each recording under the options, in the order of the recordings. Each is played
-/// by a job, which enters the gate with the number of the recording, from 1, before it begins. Refused where memory is;
-/// also where a session ended so.
+/// by a job, which enters the gate with the number of the recording, from 1, before it begins. Refused if memory is
+/// refused, also to a session.
 pub fn gather<R: Threads + Sync, T: Gate + Sync, G: Gatherer + Sync>(
     rt: &R,
     gate: &T,

@@ -66,10 +66,11 @@ fn is_standard(number: RawFd) -> bool
     number <= GREATEST_STANDARD
 }
 
-/// Opens the null device as each of the three standard descriptors that is closed. These stay open as long as the result is kept.
+/// Opens the null device as each of the three standard descriptors that is closed. These stay open as long as the
+/// result is kept.
 ///
-/// The system gives the lowest number that is free, so all three are open once it gives a greater one, which is closed again. If the
-/// null device cannot be opened, each of the three is tested by a duplicate of it.
+/// The system gives the lowest number that is free, so all three are open once it gives a greater one, which is closed
+/// again. If the null device cannot be opened, each of the three is tested by a duplicate of it.
 pub fn fill_closed<D: Descriptors>(
     alloc: Global,
     descriptors: &mut D,
@@ -151,8 +152,8 @@ impl<'a> Descriptors for SystemDescriptors<'a> {
     }
 }
 
-/// Whether a descriptor is closed. A second descriptor of it, which the system makes for any that is open, has a number above 2 and is
-/// closed at once.
+/// Whether a descriptor is closed. A second descriptor of it, which the system makes for any that is open, has a number
+/// above 2 and is closed at once.
 fn is_closed<S: AsFd>(stream: &S) -> bool {
     match stream.as_fd().try_clone_to_owned() {
         Ok(_) => false,

@@ -1,7 +1,8 @@
 //! The standard streams and the words of a process.
 //!
-//! A program calls `fill_closed` before it opens anything else, so that no file or socket of its own becomes a standard stream.
-//! `StdSink` writes to a standard stream, and waits while that takes nothing. `words_of_process` reads the words after the program's name.
+//! A program calls `fill_closed` before it opens anything else, so that no file or socket of its own becomes a standard
+//! stream. `StdSink` writes to a standard stream, and waits while that takes nothing. `words_of_process` reads the
+//! words after the program's name.
 #![tactic(auto)]
 
 mod descriptors;

@@ -15,7 +15,8 @@ const FIRST_PAUSE: u64 = 1;
 /// The longest pause, in milliseconds.
 const LONGEST_PAUSE: u64 = 32;
 
-/// Whether a write that failed in this way is tried again: the stream takes nothing at this time, or a signal came first.
+/// Whether a write that failed in this way is tried again: the stream takes nothing at this time, or a signal came
+/// first.
 pub fn is_retried(kind: ErrorKind) -> bool
     ensures { result ≡ is_tried_again kind }
 {
@@ -29,8 +30,8 @@ fn next_pause(pause: u64) -> u64
     pause.saturating_mul(2).min(LONGEST_PAUSE)
 }
 
-/// Writes a piece, and tries again while the stream takes nothing, as a blocking stream would wait. The answer is the first one that
-/// isn't tried again.
+/// Writes a piece, and tries again while the stream takes nothing, as a blocking stream would wait. The answer is the
+/// first one that isn't tried again.
 pub fn write_waiting<W: Write, C: Clock>(
     writer: &mut W,
     clock: &C,

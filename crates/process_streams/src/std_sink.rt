@@ -9,8 +9,8 @@ use std::io::Write;
 use std::os::fd::{AsRawFd, RawFd};
 use std::time::Clock;
 
-/// A standard stream that bytes are written to. A write waits as long as the stream takes nothing, also if the stream is
-/// non-blocking. The clock is the one that it waits by.
+/// A standard stream that bytes are written to. A write waits as long as the stream takes nothing, also if the stream
+/// is non-blocking. The clock is the one that it waits by.
 #[derive(Drop)]
 pub struct StdSink<W: Write + Drop, C: Clock + Drop> {
     writer: W,

@@ -15,8 +15,8 @@ use std::collections::HashMap;
 /// How many bytes a link is read into at once.
 const READ_ROOM: usize = 65_536;
 
-/// A server of a proxy line: it listens at the path of each block, and connects each client that comes to that block's bus.
-/// It is driven by `turn`, once `listen` was called.
+/// A server of a proxy line: it listens at the path of each block, and connects each client that comes to that block's
+/// bus. It is driven by `turn`, once `listen` was called.
 #[derive(Drop)]
 pub struct Server {
     alloc: Global,
@@ -43,8 +43,8 @@ impl Server {
     ghost use Rattle.proxy_loop.specs.Listening.{ListenDid};
     ghost use Rattle.proxy_loop.specs.LineServers.{blocks_of, limit_of, sessions_of};
 
-    /// A server that has served nothing. Refused where memory is, and where the line has more blocks than there are numbers
-    /// for listeners.
+    /// A server that has served nothing. Refused if memory is refused, and if the line has more blocks than there are
+    /// numbers for listeners.
     pub fn new(alloc: Global, line: ProxyLine) -> Result<Server, AllocError>
         ensures blocks { IfOk result (λ s. blocks_of s ≡ line.blocks.items) }
         ensures limit { IfOk result (λ s. limit_of s ≡ line.sessions) }
@@ -69,8 +69,8 @@ impl Server {
         })
     }
 
-    /// Listens at the path of each block in the order of the blocks, and stops at the first one that is refused; the listeners
-    /// before it stand. It is called once.
+    /// Listens at the path of each block in the order of the blocks, and stops at the first one that is refused; the
+    /// listeners before it stand. It is called once.
     pub fn listen<N: Net>(&mut self, net: &mut N) -> Result<(), ServerEnd>
         ensures did { ListenDid (blocks_of self.old) (N.view net.old) (N.view net.new) result }
         ensures same { self.new ≡ self.old }
@@ -80,9 +80,10 @@ impl Server {
         listen(net, &self.blocks)
     }
 
-    /// One turn: waits once until something is ready, and does the work for it. A client that waits is accepted, unless as
-    /// many sessions as are served were accepted before. For a session on one of whose links something is ready, what waits
-    /// is written, that link is read once, the lines of the new notes are logged, and what waits then is written.
+    /// One turn: waits once until something is ready, and does the work for it. A client that waits is accepted, unless
+    /// as many sessions as are served were accepted before. For a session on one of whose links something is ready,
+    /// what waits is written, that link is read once, the lines of the new notes are logged, and what waits then is
+    /// written.
     pub fn turn<N: Net, S: Sink>(&mut self, net: &mut N, sink: &mut S) -> Result<Turn, ServerEnd>
         ensures did { TurnDid (blocks_of self.old) (limit_of self.old) (sessions_of self.old) (sessions_of self.new) (N.view net.old) (N.view net.new) (S.view sink.old) (S.view sink.new) result }
         ensures blocks { blocks_of self.new ≡ blocks_of self.old }

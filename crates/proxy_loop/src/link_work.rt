@@ -24,8 +24,8 @@ pub struct LinkState {
     pub shut: bool,
 }
 
-/// So many bytes for the other side keep a side from being read, so that a peer that doesn't read holds up the one that
-/// writes to it, and memory doesn't grow.
+/// This many bytes that wait for the other side keep a side from being read, so that a peer that doesn't read holds up
+/// the one that writes to it, and memory doesn't grow.
 const MOST_WAITING: u64 = 1_048_576;
 
 /// The front of what waits for a side.
@@ -240,7 +240,7 @@ fn is_to_shut(session: &Session, state: LinkState, side: Side) -> bool
     state.gone || is_idle(session, side)
 }
 
-/// Shuts a link, where an End stands and nothing is to be written to it any more.
+/// Shuts a link, if the session has ended and nothing is to be written to it any more.
 pub fn shut_done<N: Net>(net: &mut N, session: &Session, state: LinkState, link: Link) -> LinkState
     ensures goes { Goes Any link.session session.now session.now (N.view net.old) (N.view net.new) (ShutWhere link (not state.shut && shuts_now link.side session.now state.gone)) }
     ensures shut { result.shut ≡ (state.shut || shuts_now link.side session.now state.gone) }

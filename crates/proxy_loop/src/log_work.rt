@@ -8,8 +8,8 @@ use policy_view::End;
 use proxy_core::Session;
 use std::alloc::Global;
 
-/// Writes the lines of all notes of a session that weren't taken. If the sink fails, the session is told to stop. It needs no memory:
-/// lines for whose joining memory is refused are written at once.
+/// Writes the lines of all notes of a session that weren't taken. If the sink fails, the session is told to stop. It
+/// needs no memory: lines for whose joining memory is refused are written at once.
 pub fn log_new<S: Sink>(sink: &mut S, alloc: Global, number: u32, session: &mut Session)
     ensures logs { Logs number session.old session.new (S.view sink.old) (S.view sink.new) }
 {

@@ -100,7 +100,7 @@ fn read_named<N: Net>(
     }
 }
 
-/// Logs a session's new notes, where there is a log.
+/// Logs a session's new notes, if there is a log.
 fn log_if<S: Sink>(sink: &mut S, alloc: Global, log: bool, number: u32, session: &mut Session)
     ensures { LogsIf log number session.old session.new (S.view sink.old) (S.view sink.new) }
 {
@@ -179,9 +179,9 @@ pub fn wish_both<N: Net>(net: &mut N, running: &Running)
     state_wishes(net, &running.session, running.bus, bus_link(running.number));
 }
 
-/// What a turn does for a session on one of whose links something is ready: what waits for either link is written; the named
-/// link is read once, and the new notes are logged; what waits then is written; links are shut, and the wishes of the others
-/// are stated.
+/// What a turn does for a session on one of whose links something is ready: what waits for either link is written; the
+/// named link is read once, and the new notes are logged; what waits then is written; links are shut, and the wishes of
+/// the others are stated.
 pub fn serve<N: Net, S: Sink>(
     net: &mut N,
     sink: &mut S,

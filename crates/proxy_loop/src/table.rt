@@ -17,7 +17,7 @@ use std::collections::HashMap;
 #[derive(Drop)]
 pub struct Sessions {
     pub accepted: u32,
-    // Each stands in a place of its own, so that the table is small, and little is moved where it grows.
+    // Each stands in a place of its own, so that the table is small, and little is moved when it grows.
     pub running: HashMap<u32, Box<Running>>,
 }
 
@@ -83,7 +83,7 @@ fn serve_with<N: Net, S: Sink>(
     running.session.give_room(spare);
 }
 
-/// What a turn does where a link is named.
+/// What a turn does for a link that is named.
 pub fn serve_named<N: Net, S: Sink>(
     net: &mut N,
     sink: &mut S,

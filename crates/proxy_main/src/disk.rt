@@ -11,7 +11,7 @@ pub trait Disk {
     /// What an opened file is read by.
     type Opened: Read + Drop;
 
-    /// The bytes that a path holds, where that is told.
+    /// The bytes that a path holds, if that is told.
     ghost held: { Self → List ℕ → Option (List ℕ) };
 
     /// The paths that were opened, in order: each call is in it once, whatever it answered.
@@ -23,7 +23,7 @@ pub trait Disk {
         ensures kept { (p : List ℕ) → held self.new p ≡ held self.old p }
         ensures path { opened self.new ≡ opened self.old ++ path.now ∷ [] };
 
-    /// Makes the file of a path, or empties the one that is there. Where it fails, each path holds what it held.
+    /// Makes the file of a path, or empties the one that is there. If it fails, each path holds what it held.
     fn create(&mut self, path: &str) -> io::Result<()>
         ensures empty { OnOk result (IfSome (held self.new path.now) (λ bytes. bytes ≡ [])) }
         ensures tells { IsSome (held self.old path.now) → IsSome (held self.new path.now) }
@@ -32,7 +32,7 @@ pub trait Disk {
         ensures unopened { opened self.new ≡ opened self.old };
 
     /// Puts a prefix of the piece at the end of a file that was made, at least a byte if the piece has one, and answers
-    /// how many bytes it put there. Where it fails, each path holds what it held.
+    /// how many bytes it put there. If it fails, each path holds what it held.
     fn append(&mut self, path: &str, piece: &[u8]) -> io::Result<usize>
         ensures added { IfOk result (λ n. held self.new path.now ≡ added (take n piece.now) (held self.old path.now)) }
         ensures within { IfOk result (λ n. n ≤ length piece.now) }

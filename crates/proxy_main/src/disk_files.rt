@@ -74,7 +74,7 @@ impl<D: Disk + Drop> Files for DiskFiles<D> {
     }
 }
 
-/// Puts what a file holds behind what `into` holds, where it could be opened and has at most this many bytes.
+/// Puts what a file holds after what `into` holds, if it could be opened and has at most this many bytes.
 fn read_opened<R: Read + Drop>(
     opened: io::Result<R>,
     limit: usize,
@@ -92,8 +92,8 @@ fn read_opened<R: Read + Drop>(
     }
 }
 
-/// Puts all bytes up to the file's end behind what `into` holds, where they are at most this many. One byte more is
-/// read, to tell that.
+/// Puts all bytes up to the file's end after what `into` holds, if they are at most this many. One byte more is read,
+/// to tell that.
 fn read_limited<R: Read + Drop>(file: R, limit: usize, into: &mut Vec<u8>) -> Result<(), FileFault>
     ensures given { OnOk result (Given limit (R.remaining file) into.old.items into.new.items) }
     ensures too_long { IsErrOf result FileFault.TooLong → IfSome (R.remaining file) (λ bytes. limit < length bytes) }

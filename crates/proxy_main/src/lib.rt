@@ -1,22 +1,22 @@
 //! The program behind its command line.
 //!
-//! `ADDRESS PATH [OPTION..]` and further such blocks are a proxy line: the program listens at each PATH, and serves each client that comes
-//! between it and the bus at ADDRESS, by the block's options. With the option `--record=FILE` it records what the links of its
-//! sessions give. With `--fd=FD` and `--replace` the net is asked to tell its starter that it listens, and to replace sockets.
+//! `ADDRESS PATH [OPTION..]` and further such blocks are a proxy line: the program listens at each PATH, and serves
+//! each client that comes between it and the bus at ADDRESS, by the block's options. With the option `--record=FILE` it
+//! records what the links of its sessions give. With `--fd=FD` and `--replace` the net is asked to tell its starter
+//! that it listens, and to replace sockets.
 //!
 //! The tools work on files. `replay POLICY RECORDING` plays a recorded session under a policy, and writes what its
-//! sides get on the standard output; where the policy asks for a log, that is written first, on the standard error.
+//! sides get on the standard output; if the policy asks for a log, that is written first, on the standard error.
 //! `explain POLICY RECORDING N` plays it, too, and writes what was decided on its message of number N, and the entry of
 //! the policy on which that rests. `twin POLICY A B` plays two, and writes whether they are the same to the policy, or
 //! where they first differ. `sample N SEED` plays a generated session, and sums it up. `audit POLICY RECORDING..` plays
 //! up to 16, and writes what the policy denies of them. `within A B` writes whether the policy A permits nothing that B
 //! doesn't. `suggest RECORDING..` plays up to 16, and writes the least policy that permits what their clients asked.
-//! `show FILE` writes the text of the message that a file holds, and `compose FILE` the message whose text a file holds.
-//! `session RECORDING N` writes one session of a recording of many as a recording of its own, and `sessions RECORDING` lists
-//! the sessions that it has.
-//! `--help` and `--version` write what they say.
+//! `show FILE` writes the text of the message that a file holds, and `compose FILE` the message whose text a file
+//! holds. `session RECORDING N` writes one session of a recording of many as a recording of its own, and `sessions
+//! RECORDING` lists the sessions that it has. `--help` and `--version` write what they say.
 //!
-//! A run ends with a status, and with a line on the standard error where the status says that something is wrong.
+//! A run ends with a status, and with a line on the standard error if the status says that something is wrong.
 #![tactic(auto)]
 
 mod containment;
@@ -104,10 +104,10 @@ pub(crate) enum Stop<'a> {
     /// The file at this path, which the words name, was not read, or not made or written.
     #[error("the file {0} failed")]
     File(&'a str),
-    /// The output was not written; a front of it may have been. The whole log was written before.
+    /// The output was not written; a prefix of it may have been. The whole log was written before.
     #[error("the output could not be written")]
     Output,
-    /// The log was not written; a front of it may have been. Only a replay whose options ask for a log has one.
+    /// The log was not written; a prefix of it may have been. Only a replay whose options ask for a log has one.
     #[error("the log could not be written")]
     Log,
     /// Memory was refused.
@@ -119,10 +119,10 @@ pub(crate) enum Stop<'a> {
 ///
 /// 0: the whole log and the whole output were written, or nothing is left to be served. 1: the words are refused, or a
 /// file of them is too long. 2: a word of a policy, or its NAME or RULE in a proxy line, is refused, or the policy file
-/// is too long. 3: a recording, or the file of a message or of a text, is refused. 4: a file was not read, or the file of
-/// a recording could not be made or written. 5: the net could not listen or wait, or didn't take the line's setting. 6:
-/// the output or the log of a tool was not written. 7: the parts differ that the policy leaves of two recordings, or a
-/// policy is not within another. 8: memory ran out. 9: the recording has no message, or no session, of the number.
+/// is too long. 3: a recording, or the file of a message or of a text, is refused. 4: a file was not read, or the file
+/// of a recording could not be made or written. 5: the net could not listen or wait, or didn't take the line's setting.
+/// 6: the output or the log of a tool was not written. 7: the parts differ that the policy leaves of two recordings, or
+/// a policy is not within another. 8: memory ran out. 9: the recording has no message, or no session, of the number.
 #[derive(Clone, Copy, Debug, PartialEq, Eq)]
 pub struct Status {
     /// The number that the process ends with.

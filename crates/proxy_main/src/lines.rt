@@ -40,7 +40,7 @@ pub fn file_text(alloc: Global, path: &str) -> Result<String, AllocError>
     format!(in alloc; "error: file {path}\n")
 }
 
-/// Says a line. Where the sink fails it got a front of it.
+/// Says a line. If the sink fails, it got a prefix of it.
 pub fn say<E: Sink>(err: &mut E, line: &str)
     ensures said { Said (SinkRose (E.view err.old) (E.view err.new)) (E.view err.old).told (E.view err.new).told line.now }
     ensures count { (E.view err.old).faults ≤ (E.view err.new).faults }

@@ -22,8 +22,8 @@ pub enum Start {
     Line(Vec<String>),
 }
 
-/// Runs the tool that the words of the process name. If they are a proxy line they are given back, and nothing is read or written.
-/// `out` is standard output, and `err` is standard error.
+/// Runs the tool that the words of the process name. If they are a proxy line they are given back, and nothing is read
+/// or written. `out` is standard output, and `err` is standard error.
 pub fn start_process<
     R: Threads + Sync,
     A: Arguments,

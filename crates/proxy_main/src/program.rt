@@ -12,9 +12,9 @@ use link_traits::{Files, Net, OpenGate, Sink};
 use std::alloc::Global;
 use std::thread::Threads;
 
-/// The program. The words are those after the program's name: a tool's, or a proxy line. A tool works on the files, and has no part
-/// of the net. A proxy line is served over the net until nothing is left to be served; its log goes to `err`, and `out` gets nothing.
-/// `rt` is the runtime by which a tool's jobs are joined.
+/// The program. The words are those after the program's name: a tool's, or a proxy line. A tool works on the files, and
+/// has no part of the net. A proxy line is served over the net until nothing is left to be served; its log goes to
+/// `err`, and `out` gets nothing. `rt` is the runtime by which a tool's jobs are joined.
 pub fn run<R: Threads + Sync, F: Files, N: Net, O: Sink, E: Sink>(
     rt: &R,
     alloc: Global,

@@ -11,8 +11,8 @@ use policy_args::ProxyLine;
 use recorded_run::{Recorded, serve_recorded};
 use std::alloc::Global;
 
-/// Serves a line while what its net gives is recorded in the file of a path. The file is made before anything is listened
-/// at.
+/// Serves a line while what its net gives is recorded in the file of a path. The file is made before anything is
+/// listened at.
 pub fn record_line<F: Files, N: Net, E: Sink>(
     alloc: Global,
     line: ProxyLine,
@@ -33,7 +33,7 @@ pub fn record_line<F: Files, N: Net, E: Sink>(
     }
 }
 
-/// The same, where the path is at hand twice: for the recording, and to be told if the file fails.
+/// Serves a recorded line whose path is at hand twice: for the recording, and to be told if the file fails.
 fn record_in<F: Files, N: Net, E: Sink>(
     alloc: Global,
     line: ProxyLine,

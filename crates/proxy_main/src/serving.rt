@@ -123,7 +123,7 @@ fn told_as(stop: &LineStop) -> Stop<'_>
     }
 }
 
-/// Says how a server ended, where something is wrong, and gives the status.
+/// Says how a server ended, if something is wrong, and gives the status.
 pub fn tell_end<E: Sink>(end: Result<(), ServerEnd>, err: &mut E) -> Status
     ensures told { EndSaid (SinkRose (E.view err.old) (E.view err.new)) (E.view err.old) (E.view err.new) result.code end }
     ensures count { (E.view err.old).faults ≤ (E.view err.new).faults }

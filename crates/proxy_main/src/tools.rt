@@ -17,8 +17,8 @@ use std::thread::Threads;
 /// `gate` is entered by each job, which has the number of its recording from 1, before its work.
 ///
 /// The tool reads its words, then each file that they name, and does its work. What it gives out goes to `out`. Before
-/// that the log goes to `err`, where one is asked for, and a line on what went wrong follows it there. Memory grows
-/// with the bytes of the files.
+/// that the log goes to `err`, if one is asked for, and a line on what went wrong follows it there. Memory grows with
+/// the bytes of the files.
 pub fn tool<R: Threads + Sync, G: Gate + Sync, F: Files, O: Sink, E: Sink>(
     rt: &R,
     gate: &G,

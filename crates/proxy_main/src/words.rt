@@ -98,7 +98,7 @@ fn asks_alone(words: &[String]) -> bool
     }
 }
 
-/// The words' reading, where they name a command.
+/// The words' reading, if they name a command.
 pub fn read_words(alloc: Global, words: &[String]) -> Result<Option<CommandWords<'_>>, AllocError>
     ensures words { IfOk result (λ r. option_map command_of r ≡ reading (texts_of words.now)) }
     ensures few { IfOk result (λ r. IfSome r HasFewDraws) }
@@ -281,7 +281,7 @@ fn read_sessions<'a>(words: Option<SessionsWords<'a>>) -> Option<CommandWords<'a
     })
 }
 
-/// The reading of a word that stands alone.
+/// The reading of a word that is the only one.
 fn read_alone<'a>(words: &[String]) -> Option<CommandWords<'a>>
     ensures words { option_map command_of result ≡ alone_of (map (λ w. string_bytes w) words.now) }
     ensures few { IfSome result HasFewDraws }
@@ -306,7 +306,7 @@ fn read_text<'a>(word: &str) -> Option<CommandWords<'a>>
     None
 }
 
-/// The decimal number of a word, where it is so much at most. Zeros in front are refused.
+/// The decimal number of a word, if it is at most this much. Leading zeros are refused.
 fn read_number(word: &str, most: u64) -> Option<u64>
     ensures number { result ≡ number_within most word.now }
     ensures most { IfSome result (λ n. n ≤ most) }
@@ -321,7 +321,7 @@ fn read_number(word: &str, most: u64) -> Option<u64>
     read_digits(digits, most)
 }
 
-/// Whether a zero stands in front of something.
+/// Whether there is a leading zero.
 fn has_leading_zero(digits: &[u8]) -> bool
     ensures { result ≡ begins_with_zero digits.now }
 {
@@ -331,7 +331,7 @@ fn has_leading_zero(digits: &[u8]) -> bool
     }
 }
 
-/// What decimal digits are worth, where that is so much at most.
+/// What decimal digits are worth, if that is at most this much.
 fn read_digits(digits: &[u8], most: u64) -> Option<u64>
     ensures number { result ≡ worth_within most digits.now }
     ensures most { IfSome result (λ n. n ≤ most) }

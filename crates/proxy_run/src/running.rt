@@ -12,8 +12,9 @@ use policy_args::ProxyLine;
 use proxy_loop::{Server, ServerEnd, Turn};
 use std::alloc::Global;
 
-/// Serves a proxy line over a net: listens at the path of each block, and takes turns until a turn has nothing left to do or ends
-/// the server, at most 18,446,744,073,709,551,615 of them. The lines of the messages of sessions whose block has `--log` go to `log`.
+/// Serves a proxy line over a net: listens at the path of each block, and takes turns until a turn has nothing left to
+/// do or ends the server, at most 18,446,744,073,709,551,615 of them. The lines of the messages of sessions whose block
+/// has `--log` go to `log`.
 pub fn serve<N: Net, S: Sink>(
     alloc: Global,
     line: ProxyLine,
@@ -27,7 +28,7 @@ pub fn serve<N: Net, S: Sink>(
     ensures links { RunLinks line.blocks.items (N.view net.old) (N.view net.new) }
     ensures log { RunLogs line.blocks.items (N.view net.old) (N.view net.new) (S.view log.old) (S.view log.new) }
 
-    // Listening or waiting fails only where the net's own count of faults rose.
+    // Listening or waiting fails only if the net's own count of faults rose.
     ensures listen { (k : ℕ) → IsErrOf result (ServerEnd.Listen k) → RoseAt OfNet (N.view net.old) (N.view net.new) }
     ensures wait { IsErrOf result ServerEnd.Wait → RoseAt OfNet (N.view net.old) (N.view net.new) }
     ensures count { (S.view log.old).faults ≤ (S.view log.new).faults }
@@ -35,7 +36,7 @@ pub fn serve<N: Net, S: Sink>(
     listen_and_serve(alloc, line, net, log)
 }
 
-/// Listens, and takes turns where all paths are listened at.
+/// Listens, and takes turns once all paths are listened at.
 fn listen_and_serve<N: Net, S: Sink>(
     alloc: Global,
     line: ProxyLine,
@@ -70,7 +71,7 @@ fn take_turns<N: Net, S: Sink>(
     Ok(())
 }
 
-/// How a run ends with the answer of a turn, where it does.
+/// How a run ends with the answer of a turn, if it does.
 fn end_of(answer: Result<Turn, ServerEnd>) -> Option<Result<(), ServerEnd>>
     ensures { result ≡ end_at answer }
 {

@@ -16,8 +16,8 @@ pub fn records_tell_each_session()
     ensures sessions { (n : ℕ) (journal : Journal) → events_in n (items_of journal) ≡ reverse (session_events n journal) }
 {}
 
-/// A recording of a journal is the file of version 2 of the journal's events. Where a file can have these events, and
-/// it is not longer than a file may be, a reader finds them in it, in their order, and no others.
+/// A recording of a journal is the file of version 2 of the journal's events. If a file can have these events, and it
+/// is not longer than a file may be, a reader finds them in it, in their order, and no others.
 pub fn recorded_is_read()
     ensures spelled { (journal : Journal) → recorded journal ≡ spelled_sessions (record { version = 2; auth = true; events = items_of journal }) }
     ensures read { (journal : Journal) → EventsFit (items_of journal)

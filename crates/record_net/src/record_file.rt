@@ -87,7 +87,7 @@ impl RecordFile {
     }
 }
 
-/// Makes the file of a path with the first bytes of a recording, where a recording can start.
+/// Makes the file of a path with the first bytes of a recording, if a recording can start.
 fn begin<F: Files>(files: &mut F, path: &str) -> Result<(), FileFault>
     ensures starts { OnOk result ((journal : Option Journal) → IsRecording (start_of journal (F.view files.new) path.now) journal (tape_of (F.view files.new) None)) }
     ensures head { OnOk result (IfSome ((F.view files.new).told path.now) (λ bytes. bytes ≡ head)) }
@@ -132,8 +132,8 @@ fn append_unless_failed<F: Files>(
     }
 }
 
-/// Appends all bytes, in as many pieces as the files take. Where it fails, the file got a prefix that lacks at least
-/// one byte.
+/// Appends all bytes, in as many pieces as the files take. If it fails, the file got a prefix that lacks at least one
+/// byte.
 fn append_all<F: Files>(files: &mut F, path: &str, bytes: &[u8]) -> Result<(), FileFault>
     ensures { Appended path.now bytes.now result (F.view files.old) (F.view files.new) }
 {

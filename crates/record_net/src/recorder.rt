@@ -159,7 +159,7 @@ impl<N: Net, F: Files> Net for Recorder<'_, N, F> {
         ensures files_name { self.new.files.ghost_name ≡ self.old.files.ghost_name }
         ensures file_name { self.new.file.ghost_name ≡ self.old.file.ghost_name }
 
-        // No more than the limit comes at once, and the buffer behind it stays as it is.
+        // No more than the limit comes at once, and the buffer after it stays as it is.
         ensures limit { (n : ℕ) → result ≡ Got.Bytes n → n ≤ READ_LIMIT }
         ensures rest { drop READ_LIMIT into.new ≡ drop READ_LIMIT into.old }
 

@@ -17,8 +17,8 @@ ghost use Rattle.recorded_run.specs.Events.{recorded_history};
 
 use record_net::{recorded_is_read, records_tell_each_session};
 
-/// A file can have what is recorded of a proxy's net: a server calls links of sessions that were accepted, so their numbers
-/// are above 0. Within a reader's limits the file is read back.
+/// A file can have what is recorded of a proxy's net: a server calls links of sessions that were accepted, so their
+/// numbers are above 0. Within a reader's limits the file is read back.
 pub fn what_a_server_records_fits()
     ensures fits { (blocks : List Block) (was since : Journal) → WithoutSessions was → LinksStand blocks (since ++ was)
         → list_all entry_fits since ≡ true → FitsFormat since }
@@ -28,7 +28,8 @@ pub fn what_a_server_records_fits()
     recorded_is_read();
 }
 
-/// The history of a session's recorded events is that of its events in the journal, unless its connect was refused memory.
+/// The history of a session's recorded events is that of its events in the journal, unless its connect was refused
+/// memory.
 pub fn recorded_events_have_the_histories()
     ensures { (was since : Journal) → WithoutSessions was → TellsHistories was since }
 {
@@ -43,8 +44,8 @@ pub fn recorded_links_stand()
     recorded_events_have_the_histories();
 }
 
-/// A replay of a recording of a proxy's net writes of each session the bytes of the history of its recorded events, which are those
-/// that the links of the session got, or more.
+/// A replay of a recording of a proxy's net writes of each session the bytes of the history of its recorded events,
+/// which are those that the links of the session got, or more.
 pub fn recorded_histories_are_replayed()
     ensures { (options : Options) (since : Journal) → output_of_sessions (options_seen options) (recording_of since) ≡ flat_map (λ n. session_output options.policy n (recorded_history options n (items_of since))) (sessions_named [] (items_of since)) }
 {}

@@ -1,8 +1,8 @@
 //! A proxy line that is served while what its links give is recorded.
 //!
-//! `serve_recorded` makes the file of the recording, and then serves the line over the net. What is served is the same as
-//! without the recording. The file has the events of each session, so a replay under the options of a session's block gives the
-//! bytes that the proxy had for that session's links.
+//! `serve_recorded` makes the file of the recording, and then serves the line over the net. What is served is the same
+//! as without the recording. The file has the events of each session, so a replay under the options of a session's
+//! block gives the bytes that the proxy had for that session's links.
 #![tactic(auto)]
 
 mod laws;

@@ -25,17 +25,17 @@ use std::marker::{Brand, PhantomData};
 pub struct Recorded {
     /// How the server ended.
     pub end: Result<(), ServerEnd>,
-    /// The first error that an append to the file answered. From it on nothing more was recorded. `Failed` is answered only
-    /// if the files' count of faults rose, and `Memory` if memory was refused.
+    /// The first error that an append to the file answered. From it on nothing more was recorded. `Failed` is answered
+    /// only if the files' count of faults rose, and `Memory` if memory was refused.
     pub failed: Option<FileFault>,
 }
 
-/// Makes the file of a recording, and then serves a proxy line over a net as `serve` does. Each read that gives bytes, each end
-/// and each failed call of a link is appended to the file as a record of version 2. The first append that fails ends the
-/// recording, and the line is served on.
+/// Makes the file of a recording, and then serves a proxy line over a net as `serve` does. Each read that gives bytes,
+/// each end and each failed call of a link is appended to the file as a record of version 2. The first append that
+/// fails ends the recording, and the line is served on.
 ///
-/// An error means that the file could not be made, and that nothing was listened at. `Failed` comes only if the files' count of
-/// faults rose, and `Memory` if memory was refused.
+/// An error means that the file could not be made, and that nothing was listened at. `Failed` comes only if the files'
+/// count of faults rose, and `Memory` if memory was refused.
 pub fn serve_recorded<F: Files, N: Net, E: Sink>(
     alloc: Global,
     line: ProxyLine,

@@ -102,7 +102,7 @@ pub enum RecordingKind {
     /// The file does not begin with `DBPR`.
     #[error("no recording")]
     BadMagic,
-    /// The version is not 1, nor 2 where files of version 2 are read too.
+    /// The version is not 1, nor 2 if files of version 2 are read too.
     #[error("unknown version")]
     BadVersion,
     /// The kind of a record is above 3, and in version 2 above 4.

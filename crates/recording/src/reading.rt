@@ -64,7 +64,7 @@ pub(crate) fn fault(kind: RecordingKind, at: usize) -> BadRecording
     }
 }
 
-/// The version byte, where the bytes up to it have no fault.
+/// The version byte, if the bytes up to it have no fault.
 pub(crate) fn version(bytes: &[u8]) -> Result<u8, BadRecording>
     ensures { result ≡ version_of bytes.now }
 {
@@ -80,7 +80,7 @@ pub(crate) fn version(bytes: &[u8]) -> Result<u8, BadRecording>
     Ok(bytes[4])
 }
 
-/// The auth byte, where the first five bytes have no fault.
+/// The auth byte, if the first five bytes have no fault.
 pub(crate) fn auth(bytes: &[u8]) -> Result<bool, BadRecording>
     ensures { result ≡ auth_of bytes.now }
 {
@@ -93,7 +93,7 @@ pub(crate) fn auth(bytes: &[u8]) -> Result<bool, BadRecording>
     Ok(bytes[5] == 1)
 }
 
-/// The auth byte, where the first six bytes have no fault.
+/// The auth byte, if the first six bytes have no fault.
 fn head(bytes: &[u8]) -> Result<bool, BadRecording>
     ensures { result ≡ head_of bytes.now }
 {
@@ -103,7 +103,7 @@ fn head(bytes: &[u8]) -> Result<bool, BadRecording>
     auth(bytes)
 }
 
-/// How many records follow the first six bytes, where none has a fault.
+/// How many records follow the first six bytes, if none has a fault.
 fn record_count(file: &[u8]) -> Result<usize, BadRecording>
     requires long { HEAD_LEN ≤ length file.now }
     requires short { length file.now ≤ RECORDING_LIMIT }
@@ -119,7 +119,7 @@ fn record_count(file: &[u8]) -> Result<usize, BadRecording>
     Ok(count)
 }
 
-/// How many bytes the record in front counts, where it has no fault.
+/// How many bytes the record in front counts, if it has no fault.
 #[tactic(auto, unfolding(crate::specs::Recording::record_len))]
 fn payload_len(place: usize, bytes: &[u8]) -> Result<usize, BadRecording>
     requires some { 0 < length bytes.now }
@@ -142,7 +142,7 @@ fn payload_len(place: usize, bytes: &[u8]) -> Result<usize, BadRecording>
     Ok(len)
 }
 
-/// The length that stands in the record in front.
+/// The length in the record in front.
 fn length_field(bytes: &[u8]) -> usize
     requires { RECORD_HEAD_LEN ≤ length bytes.now }
     ensures value { result ≡ from_le_bytes w32 (take 4 (drop 1 bytes.now)) }
@@ -177,7 +177,7 @@ fn events(alloc: Global, file: &Bytes, count: usize) -> Result<Vec<Event>, Alloc
     Ok(events)
 }
 
-/// The event of the record that stands from one place to another.
+/// The event of the record that lies from one place to another.
 fn event(file: &Bytes, at: usize, end: usize) -> Result<Event, AllocError>
     requires long { at + RECORD_HEAD_LEN ≤ end }
     requires within { end ≤ length file.now }

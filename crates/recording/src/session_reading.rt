@@ -18,20 +18,21 @@ use bytes::Bytes;
 use std::alloc::{AllocError, Global};
 use std::collections::BTreeSet;
 
-/// What stands before the first record.
+/// What comes before the first record.
 #[derive(Clone, Copy)]
 struct FileHead {
     version: u8,
     auth: bool,
 }
 
-/// The recording that the bytes of a file of either version spell, or the file's first fault. A file of version 1 gives what
-/// `migrate` makes of what `read` gives. The events share one copy of the bytes. Time grows with the length of the file, and
-/// memory with that and with the number of records; looking for faults takes no more memory than `SESSION_LIMIT` sessions do.
+/// The recording that the bytes of a file of either version spell, or the file's first fault. A file of version 1 gives
+/// what `migrate` makes of what `read` gives. The events share one copy of the bytes. Time grows with the length of the
+/// file, and memory with that and with the number of records; looking for faults takes no more memory than
+/// `SESSION_LIMIT` sessions do.
 pub fn read_any(alloc: Global, bytes: &[u8]) -> Result<Sessions, RecordingRefusal>
     ensures exact { GivesUnlessMemory sessions_seen result (sessions_of bytes.now) }
 
-    // Memory runs out only where the first six bytes have no fault.
+    // Memory runs out only if the first six bytes have no fault.
     ensures memory { IsErrOf result RecordingRefusal.Memory → (length bytes.now ≤ RECORDING_LIMIT) × IsOk (file_head_of bytes.now) }
 
     // What was read can be played, and one of version 2 is spelled by the file alone.
@@ -61,7 +62,7 @@ fn read_one_session(alloc: Global, bytes: &[u8]) -> Result<Sessions, RecordingRe
     Ok(migrate(alloc, &recording)?)
 }
 
-/// The version and the auth byte, where the first six bytes have no fault.
+/// The version and the auth byte, if the first six bytes have no fault.
 fn file_head(bytes: &[u8]) -> Result<FileHead, BadRecording>
     ensures ok { IfOk result (λ h. file_head_of bytes.now ≡ Ok (record { version = h.version; auth = h.auth })) }
     ensures fault { IfErr result (λ f. file_head_of bytes.now ≡ Err f) }
@@ -85,7 +86,7 @@ fn read_session_events(alloc: Global, bytes: &[u8]) -> Result<Vec<SessionEvent>,
     Ok(session_events(alloc, &file, count)?)
 }
 
-/// The first pass: how many records follow the first six bytes, where none has a fault.
+/// The first pass: how many records follow the first six bytes, if none has a fault.
 fn session_record_count(alloc: Global, file: &[u8]) -> Result<usize, RecordingRefusal>
     requires long { HEAD_LEN ≤ length file.now }
     requires short { length file.now ≤ RECORDING_LIMIT }
@@ -103,7 +104,7 @@ fn session_record_count(alloc: Global, file: &[u8]) -> Result<usize, RecordingRe
     Ok(count)
 }
 
-/// Takes the session of the record in front among those of the records before, where its kind and its session have no
+/// Takes the session of the record in front among those of the records before, if its kind and its session have no
 /// fault.
 #[tactic(auto, unfolding(crate::specs::Sessions::record_session))]
 fn meet_session(
@@ -135,7 +136,7 @@ fn meet_session(
     Ok(session)
 }
 
-/// How many bytes the record in front counts, where they and their number have no fault.
+/// How many bytes the record in front counts, if they and their number have no fault.
 #[tactic(auto, unfolding(crate::specs::Sessions::session_record_len))]
 fn payload_len(place: usize, bytes: &[u8]) -> Result<usize, BadRecording>
     requires some { 0 < length bytes.now }
@@ -200,7 +201,7 @@ fn session_events(
     Ok(events)
 }
 
-/// The event of the record that stands from one place to another.
+/// The event of the record that lies from one place to another.
 fn session_event(file: &Bytes, at: usize, end: usize) -> Result<SessionEvent, AllocError>
     requires long { at + SESSION_RECORD_HEAD_LEN ≤ end }
     requires within { end ≤ length file.now }
@@ -212,7 +213,7 @@ fn session_event(file: &Bytes, at: usize, end: usize) -> Result<SessionEvent, Al
     Ok(SessionEvent { session, what })
 }
 
-/// What happened by the record that stands from one place to another.
+/// What happened by the record that lies from one place to another.
 fn what(file: &Bytes, at: usize, end: usize) -> Result<What, AllocError>
     requires long { at + SESSION_RECORD_HEAD_LEN ≤ end }
     requires within { end ≤ length file.now }

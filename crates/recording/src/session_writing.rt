@@ -39,7 +39,7 @@ pub fn finished_record(session: u32, side: Side) -> [u8; SESSION_RECORD_HEAD_LEN
 }
 
 /// The record of a failed call of a link of a session. `end` is the number of the End that the session has by it; a
-/// file is read only where that is 7 to 11.
+/// file is read only if that is 7 to 11.
 pub fn stopped_record(session: u32, end: u8) -> [u8; 10]
     ensures { result ≡ spelled_session_event (record { session = session; what = Stopped end }) }
 {

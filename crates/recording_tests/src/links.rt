@@ -5,8 +5,8 @@ use std::alloc::{AllocError, Global};
 use std::test::Fail;
 use test_tables::{text_of, wrong_row};
 
-/// Paths and limits of reads of the same files, one after the other, and the answer of each, what a buffer holds that held
-/// `kept ` before, and how many reads have failed.
+/// Paths and limits of reads of the same files, one after the other, and the answer of each, what a buffer holds that
+/// held `kept ` before, and how many reads have failed.
 const READS: &str = "\
 a 5, a 4, b 9,  9, aa 0, a 9 => Ok(()) kept first 0, Err(TooLong) kept  0, Err(Failed) kept  1, Err(Failed) kept  2, Err(Failed) kept  3, Ok(()) kept first 3, 
 ";
@@ -19,13 +19,14 @@ b 4 => Failed 1
 c 4 => Failed 1
 ";
 
-/// Pieces that are written to a sink with room for five bytes, one after the other, and the answer of each, what the sink
-/// has then, and how many writes have failed.
+/// Pieces that are written to a sink with room for five bytes, one after the other, and the answer of each, what the
+/// sink has then, and how many writes have failed.
 const WRITES: &str = "\
 abc, defg, , h => Ok(3) abc 0, Ok(2) abcde 0, Ok(0) abcde 0, Err(SinkFault) abcde 1, 
 ";
 
-/// The room of a sink and bytes that are all written, and the answer, what the sink has then, and how many writes have failed.
+/// The room of a sink and bytes that are all written, and the answer, what the sink has then, and how many writes have
+/// failed.
 const WRITTEN: &str = "\
 9 abcdef => Ok(()) abcdef 0
 6 abcdef => Ok(()) abcdef 0

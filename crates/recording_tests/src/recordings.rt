@@ -69,7 +69,7 @@ fn told_bytes(alloc: Global, bytes: &[u8]) -> Result<String, AllocError> {
     }
 }
 
-/// What a recording has, where it is written as it was read.
+/// What a recording has, if it is written as it was read.
 fn told_recording(alloc: Global, recording: &Recording, same: bool) -> Result<String, AllocError> {
     if same {
         told_events(alloc, recording)

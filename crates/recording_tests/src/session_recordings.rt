@@ -76,7 +76,7 @@ fn told_refusal(alloc: Global, refusal: RecordingRefusal) -> Result<String, Allo
     }
 }
 
-/// What was read of a file, where it is what the pieces of the file say.
+/// What was read of a file, if it is what the pieces of the file say.
 fn told_read(alloc: Global, bytes: &[u8], sessions: &Sessions) -> Result<String, AllocError> {
     if is_written_so(alloc, bytes, sessions)? {
         told_sessions(alloc, sessions)

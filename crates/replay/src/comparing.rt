@@ -34,7 +34,7 @@ fn are_same(one: &Option<Visible>, other: &Option<Visible>) -> bool
     }
 }
 
-/// Compares the Ends, which stand at this place behind equal elements.
+/// Compares the Ends, whose place is this one, after equal elements.
 fn compare_ends(one: Option<End>, other: Option<End>, place: u64) -> TwinAnswer
     ensures { ComparesEnds one other place result }
 {
@@ -45,7 +45,8 @@ fn compare_ends(one: Option<End>, other: Option<End>, place: u64) -> TwinAnswer
     }
 }
 
-/// Compares the elements as they come, and then the Ends. Neither recording is ahead by more than what an event of it brought.
+/// Compares the elements as they come, and then the Ends. Neither recording is ahead by more than what an event of it
+/// brought.
 fn compare_watched(
     policy: &Policy,
     one: &Recording,
@@ -87,9 +88,9 @@ fn compare(
     compare_watched(policy, one, other, &mut first, &mut second)
 }
 
-/// Plays two recordings under a policy, always filtering, and compares the policy-visible parts of their histories, element by
-/// element as they come, and then their Ends. Where the parts are equal, both recordings have the same output, whatever the policy
-/// hides in either. Refused where memory is; also where a session ended so.
+/// Plays two recordings under a policy, always filtering, and compares the policy-visible parts of their histories,
+/// element by element as they come, and then their Ends. If the parts are equal, both recordings have the same output,
+/// whatever the policy hides in either. Refused if memory is refused, also to a session.
 pub fn twin(
     alloc: Global,
     policy: &Policy,

@@ -53,7 +53,7 @@ pub fn write_explanation<O: Sink>(
     Ok(())
 }
 
-/// Writes a line, and another behind it where there is one.
+/// Writes a line, and another after it if there is one.
 #[tactic(auto, using(link_traits::proofs::Parts::part_first, link_traits::proofs::Parts::part_second, link_traits::proofs::Parts::then_all))]
 fn write_lines<O: Sink>(first: String, second: Option<String>, out: &mut O) -> Result<(), SinkFault>
     ensures ok { OnOk result ((O.view out.new).told ≡ added (string_bytes first ++ unwrap_or (option_map (λ text. string_bytes text) second) []) (O.view out.old).told) }
@@ -65,7 +65,7 @@ fn write_lines<O: Sink>(first: String, second: Option<String>, out: &mut O) -> R
     write_second(second, out)
 }
 
-/// Writes a line where there is one.
+/// Writes a line if there is one.
 #[tactic(auto, using(link_traits::proofs::Parts::part_none))]
 fn write_second<O: Sink>(second: Option<String>, out: &mut O) -> Result<(), SinkFault>
     ensures ok { OnOk result ((O.view out.new).told ≡ added (unwrap_or (option_map (λ text. string_bytes text) second) []) (O.view out.old).told) }

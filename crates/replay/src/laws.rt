@@ -11,8 +11,8 @@ ghost use Rattle.replay.specs.SessionsOutput.{log_of_sessions, output_of_session
 
 use policy_view::bytes_only_grow;
 
-/// A session that is alone in a recording of version 2 is replayed as in a recording of version 1. Its history is the same, and so
-/// are its records and the lines of its log, apart from its number.
+/// A session that is alone in a recording of version 2 is replayed as in a recording of version 1. Its history is the
+/// same, and so are its records and the lines of its log, apart from its number.
 pub fn one_session_replays_alike()
     ensures output { (options : PolicyOptions) (recording : Recording) (session : ℕ) → output_of_sessions options (as_version_2 session recording) ≡ session_output options.policy session (history_of options recording) }
     ensures log { (options : PolicyOptions) (recording : Recording) (session : ℕ) → log_of_sessions options (as_version_2 session recording) ≡ (if options.log then log session (notes options.policy (history_of options recording)) else []) }

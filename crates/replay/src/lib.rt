@@ -1,20 +1,19 @@
 //! Replaying a recorded session against a policy.
 //!
-//! The events of a recording are given to a session, and then what that has for either side is
-//! written, as records. A record is a kind byte, a length of four bytes with the lowest first, and
-//! that many bytes. Kind 16 has all bytes for the bus, kind 17 all bytes for the client, and kind
-//! 18 says why the session ended; each is left out where there is nothing to say.
+//! The events of a recording are given to a session, and then what that has for either side is written, as records. A
+//! record is a kind byte, a length of four bytes with the lowest first, and that many bytes. Kind 16 has all bytes for
+//! the bus, kind 17 all bytes for the client, and kind 18 says why the session ended; each is left out if there is
+//! nothing to say.
 //!
-//! Where the policy's words ask for a log, a line for each message of the session is written first,
-//! to a sink of its own. One message alone can be explained: its line, and the entry of the policy
-//! on which its decision rests.
+//! If the policy's words ask for a log, a line for each message of the session is written first, to a sink of its own.
+//! One message alone can be explained: its line, and the entry of the policy on which its decision rests.
 //!
-//! A recording may have many sessions. Each is played by its own events. The output has the records
-//! of one session after those of another, in the ascending order of their numbers, and each record
-//! has the session's number, four bytes with the lowest first, between its kind and its length.
+//! A recording may have many sessions. Each is played by its own events. The output has the records of one session
+//! after those of another, in the ascending order of their numbers, and each record has the session's number, four
+//! bytes with the lowest first, between its kind and its length.
 //!
-//! Two recordings can be compared: whether what the policy lets be seen of either is the same, and
-//! else where it first differs.
+//! Two recordings can be compared: whether what the policy lets be seen of either is the same, and else if it first
+//! differs.
 #![tactic(auto)]
 
 mod comparing;
@@ -64,14 +63,15 @@ use writing::write_output;
 /// Why a replay stopped.
 #[derive(Clone, Copy, Debug, PartialEq, Eq, Error)]
 pub enum ReplayFault {
-    /// The output could not be written; a front of it may have been. The whole log was written before.
+    /// The output could not be written; a prefix of it may have been. The whole log was written before.
     #[error("the output could not be written")]
     Out,
-    /// The log could not be written; a front of it may have been. Nothing of the output was. Comes only where the options ask for a log.
+    /// The log could not be written; a prefix of it may have been. Nothing of the output was. Comes only if the options
+    /// ask for a log.
     #[error("the log could not be written")]
     Err,
-    /// Memory was refused; also where the session ended so. Nothing of the output was written, and of the log whole lines, from the
-    /// first on.
+    /// Memory was refused, perhaps to the session. Nothing of the output was written, and of the log whole lines, from
+    /// the first on.
     #[error("out of memory")]
     Memory,
 }
@@ -87,9 +87,9 @@ impl From<AllocError> for ReplayFault {
     }
 }
 
-/// Plays a recording under the policy of the options, writes the log to `err` where the options ask
-/// for one, and then what its session gives out to `out`. Both are written once all events were
-/// played, so memory grows with the bytes of the recording.
+/// Plays a recording under the policy of the options, writes the log to `err` if the options ask for one, and then what
+/// its session gives out to `out`. Both are written once all events were played, so memory grows with the bytes of the
+/// recording.
 #[tactic(auto, using(link_traits::proofs::Parts::part_none))]
 pub fn replay<O: Sink, E: Sink>(
     alloc: Global,
@@ -100,7 +100,7 @@ pub fn replay<O: Sink, E: Sink>(
 ) -> Result<(), ReplayFault>
     requires size { size (recording_seen recording.now).events ≤ RECORDING_LIMIT }
 
-    // out gets the output and err the log: all of it, or a front where the replay stops.
+    // out gets the output and err the log: all of it, or a prefix if the replay stops.
     ensures out { OnOk result ((O.view out.new).told ≡ added (output_of_recording (options_seen options.now) (recording_seen recording.now)) (O.view out.old).told) }
     ensures log { OnOk result ((E.view err.new).told ≡ added (log_of_recording (options_seen options.now) (recording_seen recording.now)) (E.view err.old).told) }
     ensures part { Part (O.view out.old).told (O.view out.new).told (output_of_recording (options_seen options.now) (recording_seen recording.now)) }
@@ -112,7 +112,7 @@ pub fn replay<O: Sink, E: Sink>(
     ensures memory { IsErrOf result ReplayFault.Memory → (O.view out.new).told ≡ (O.view out.old).told }
     ensures whole { IsErrOf result ReplayFault.Memory → WholeLines (E.view err.old).told (E.view err.new).told (log_of_recording (options_seen options.now) (recording_seen recording.now)) }
 
-    // A sink is named only where it failed, and err only where a log is asked for.
+    // A sink is named only if it failed, and err only if a log is asked for.
     ensures cause { IsErrOf result ReplayFault.Out → SinkRose (O.view out.old) (O.view out.new) }
     ensures log_cause { IsErrOf result ReplayFault.Err → SinkRose (E.view err.old) (E.view err.new) }
     ensures asked { IsErrOf result ReplayFault.Err → options.now.log ≡ true }
@@ -130,10 +130,11 @@ pub fn replay<O: Sink, E: Sink>(
 /// The version of a recording of one session.
 const ONE_SESSION: u8 = 1;
 
-/// Plays a recording of many sessions under the policy of the options, each session by its own events. If the options ask for a
-/// log, its lines are written to `err` first, in the order of the events that brought them. Then the output of each session is
-/// written to `out`, in the ascending order of their numbers. Both are written after all events were played, so memory grows with
-/// the bytes of the recording. A recording of version 1 is replayed as by `replay`, and its records have no session.
+/// Plays a recording of many sessions under the policy of the options, each session by its own events. If the options
+/// ask for a log, its lines are written to `err` first, in the order of the events that brought them. Then the output
+/// of each session is written to `out`, in the ascending order of their numbers. Both are written after all events were
+/// played, so memory grows with the bytes of the recording. A recording of version 1 is replayed as by `replay`, and
+/// its records have no session.
 ///
 /// The errors are those of `replay`. `Memory` also means that one of the sessions ended for want of memory.
 #[tactic(auto, using(link_traits::proofs::Parts::part_none))]
@@ -159,7 +160,7 @@ pub fn replay_sessions<O: Sink, E: Sink>(
     ensures memory { IsErrOf result ReplayFault.Memory → (O.view out.new).told ≡ (O.view out.old).told }
     ensures whole { IsErrOf result ReplayFault.Memory → WholeSessionLines (E.view err.old).told (E.view err.new).told (noted_in (options_seen options.now) (sessions_seen sessions.now)) }
 
-    // A sink is named only where it failed, and err only where a log is asked for.
+    // A sink is named only if it failed, and err only if a log is asked for.
     ensures cause { IsErrOf result ReplayFault.Out → SinkRose (O.view out.old) (O.view out.new) }
     ensures log_cause { IsErrOf result ReplayFault.Err → SinkRose (E.view err.old) (E.view err.new) }
     ensures asked { IsErrOf result ReplayFault.Err → options.now.log ≡ true }
@@ -190,9 +191,9 @@ fn replay_result(written: Result<(), SinkFault>) -> Result<(), ReplayFault>
     }
 }
 
-/// What was decided on each message of a recording under the policy of the options, in the order of the messages, whether the
-/// options ask for a log or not. Without the filter there are no messages. Refused where memory is; also where the session
-/// ended so.
+/// What was decided on each message of a recording under the policy of the options, in the order of the messages,
+/// whether the options ask for a log or not. Without the filter there are no messages. Refused if memory is refused,
+/// also to the session.
 pub fn notes(
     alloc: Global,
     options: &Options,
@@ -211,10 +212,10 @@ pub enum ExplainFault {
     /// No message of the recording has the number: it is 0, or above that of the last message. Nothing was written.
     #[error("the recording has no message of the number")]
     NoSuchMessage,
-    /// The explanation could not be written; a front of it may have been.
+    /// The explanation could not be written; a prefix of it may have been.
     #[error("the explanation could not be written")]
     Out,
-    /// Memory was refused; also where the session ended so. Nothing was written.
+    /// Memory was refused, perhaps to the session. Nothing was written.
     #[error("out of memory")]
     Memory,
 }
@@ -230,10 +231,9 @@ impl From<AllocError> for ExplainFault {
     }
 }
 
-/// Plays a recording under the policy of the options, and writes what is to be said of its message
-/// of a number to `out`: the line of the message, as a log has it, and the line of the entry on
-/// which its decision rests, where it rests on one. The messages of both sides are counted together,
-/// from 1; the options need not ask for a log.
+/// Plays a recording under the policy of the options, and writes what is to be said of its message of a number to
+/// `out`: the line of the message, as a log has it, and the line of the entry on which its decision rests, if it rests
+/// on one. The messages of both sides are counted together, from 1; the options need not ask for a log.
 #[tactic(auto, using(link_traits::proofs::Parts::part_none))]
 pub fn explain<O: Sink>(
     alloc: Global,
@@ -244,11 +244,11 @@ pub fn explain<O: Sink>(
 ) -> Result<(), ExplainFault>
     requires size { size (recording_seen recording.now).events ≤ RECORDING_LIMIT }
 
-    // out gets the explanation: all of it, or a front where out fails.
+    // out gets the explanation: all of it, or a prefix if out fails.
     ensures ok { OnOk result ((bytes : List ℕ) × (explained (options_seen options.now) (recording_seen recording.now) number ≡ Some bytes) × ((O.view out.new).told ≡ added bytes (O.view out.old).told)) }
     ensures part { IfSome (explained (options_seen options.now) (recording_seen recording.now) number) (λ bytes. Part (O.view out.old).told (O.view out.new).told bytes) }
 
-    // There is no such message exactly where nothing is explained of the number, unless memory is refused.
+    // There is no such message exactly if nothing is explained of the number, unless memory is refused.
     ensures missing { IsErrOf result ExplainFault.NoSuchMessage → explained (options_seen options.now) (recording_seen recording.now) number ≡ None }
     ensures none { explained (options_seen options.now) (recording_seen recording.now) number ≡ None → IsErrOf result ExplainFault.NoSuchMessage ⊎ IsErrOf result ExplainFault.Memory }
 
@@ -256,7 +256,7 @@ pub fn explain<O: Sink>(
     ensures unwritten { IsErrOf result ExplainFault.NoSuchMessage → (O.view out.new).told ≡ (O.view out.old).told }
     ensures memory { IsErrOf result ExplainFault.Memory → (O.view out.new).told ≡ (O.view out.old).told }
 
-    // out is named only where it failed.
+    // out is named only if it failed.
     ensures cause { IsErrOf result ExplainFault.Out → SinkRose (O.view out.old) (O.view out.new) }
     ensures count { (O.view out.old).faults ≤ (O.view out.new).faults }
 {

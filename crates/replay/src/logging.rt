@@ -15,7 +15,7 @@ use std::alloc::Global;
 /// The number of a recording's session in its log.
 pub const SESSION: u32 = 1;
 
-/// Once so many bytes of lines are joined they are written, so that many notes take no more memory.
+/// Once this many bytes of lines are joined they are written, so that many notes take no more memory.
 const LONG: usize = 65_536;
 
 /// Writes the lines that are joined.
@@ -36,8 +36,8 @@ pub fn write_lines<E: Sink>(lines: &mut String, err: &mut E) -> Result<(), Repla
     Ok(())
 }
 
-/// Joins the line of a note to the others, and writes them where they are long. Where memory is refused for the line the others are
-/// written.
+/// Joins the line of a note to the others, and writes them if they are long. If memory is refused for the line the
+/// others are written.
 #[tactic(auto, using(link_traits::proofs::Parts::part_none))]
 pub fn put_line<E: Sink>(
     alloc: Global,
@@ -64,7 +64,7 @@ pub fn put_line<E: Sink>(
     write_lines(lines, err)
 }
 
-/// Writes the lines of all notes that wait. Where memory is refused for a line, those before it are written.
+/// Writes the lines of all notes that wait. If memory is refused for a line, those before it are written.
 pub fn write_log<E: Sink>(
     alloc: Global,
     session: &mut Session,

@@ -18,11 +18,11 @@ use proxy_core::Session;
 use recording::{Event, Recording, Side};
 use std::alloc::{AllocError, Global};
 
-/// The most bytes that are played at once. The notes of so many bytes are held at a time, and no more.
+/// The most bytes that are played at once. No more than their notes are held at a time.
 const PIECE: usize = 65_536;
 
-/// The notes of a recording, one by one. `next_note` plays the events as far as the next note, so that neither the notes nor the
-/// bytes that wait for either side grow with the recording.
+/// The notes of a recording, one by one. `next_note` plays the events as far as the next note, so that neither the
+/// notes nor the bytes that wait for either side grow with the recording.
 #[derive(Drop)]
 pub struct PlayedNotes {
     session: Session,
@@ -32,7 +32,7 @@ pub struct PlayedNotes {
     begun: usize,
 }
 
-/// The place of the first event that is played, of so many.
+/// The place of the first event that is played, of this many events.
 fn first_event(filter: bool, events: usize) -> usize
     ensures all { filter ≡ true → result ≡ 0 }
     ensures none { filter ≡ false → result ≡ events }
@@ -40,7 +40,7 @@ fn first_event(filter: bool, events: usize) -> usize
     if filter { 0 } else { events }
 }
 
-/// The first bytes, at most so many.
+/// The first bytes, at most this many.
 fn front_of(most: usize, bytes: &[u8]) -> &[u8]
     ensures { result.now ≡ take most bytes.now }
 {
@@ -51,7 +51,7 @@ fn front_of(most: usize, bytes: &[u8]) -> &[u8]
     }
 }
 
-/// What follows the first bytes, of so many.
+/// What follows this many of the first bytes.
 fn behind(bytes: &[u8], begun: usize) -> &[u8]
     ensures { result.now ≡ drop begun bytes.now }
 {
@@ -145,7 +145,7 @@ impl PlayedNotes {
         self.session.next_note()
     }
 
-    /// The next note of the recording, or none where there are no more. Refused where memory is; also where the session ended so.
+    /// The next note of the recording, or none if there are no more. Refused if memory is refused, also to the session.
     pub fn next_note(
         &mut self,
         options: &Options,

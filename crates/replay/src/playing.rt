@@ -19,7 +19,8 @@ use proxy_core::Session;
 use recording::{Event, RECORDING_LIMIT, Recording, Side};
 use std::alloc::{AllocError, Global};
 
-/// How many bytes the largest recording gives to both sides at most: nineteen for each of its own, and the proxy's own calls.
+/// How many bytes the largest recording gives to both sides at most: nineteen for each of its own, and the proxy's own
+/// calls.
 pub const MOST_BYTES: u64 = 1_335_229_682;
 
 /// A piece of a side's stream came.
@@ -100,8 +101,8 @@ pub fn none_unless_memory<T>(ended: Option<End>) -> Result<Option<T>, AllocError
     Ok(None)
 }
 
-/// The session of a recording, once all of its events were played; it makes notes where it is asked to, whatever the options say.
-/// It is refused where memory is, in its midst too.
+/// The session of a recording, once all of its events were played; it makes notes if it is asked to, whatever the
+/// options say. It is refused if memory is refused, also to the session.
 pub fn play(
     alloc: Global,
     options: &Options,

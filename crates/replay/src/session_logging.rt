@@ -11,8 +11,8 @@ use crate::session_notes::SessionNote;
 use link_traits::Sink;
 use std::alloc::Global;
 
-/// Writes the lines of all notes, each with the number of its session. If memory is refused for a line, the lines before it are
-/// written.
+/// Writes the lines of all notes, each with the number of its session. If memory is refused for a line, the lines
+/// before it are written.
 pub fn write_session_log<E: Sink>(
     alloc: Global,
     notes: &[SessionNote],

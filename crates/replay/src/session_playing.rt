@@ -138,8 +138,8 @@ fn play_all(
     Ok(players)
 }
 
-/// The sessions of a recording of version 2 after all of its events were played, each session by its own. Refused if memory is
-/// refused, also to a session.
+/// The sessions of a recording of version 2 after all of its events were played, each session by its own. Refused if
+/// memory is refused, also to a session.
 pub fn play_sessions(
     alloc: Global,
     options: &Options,
@@ -171,7 +171,8 @@ fn play_each(session: &mut Session, policy: &Policy, events: &[SessionEvent])
     }
 }
 
-/// The session of a recording of version 1 after all of its events were played. Refused if memory is refused, also to the session.
+/// The session of a recording of version 1 after all of its events were played. Refused if memory is refused, also to
+/// the session.
 pub fn play_only(
     alloc: Global,
     options: &Options,

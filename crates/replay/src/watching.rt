@@ -13,8 +13,8 @@ use proxy_core::Session;
 use recording::Recording;
 use std::alloc::{AllocError, Global};
 
-/// The session of a recording, and how many of its events were played. Between two events it has nothing that waits for either side,
-/// and of the visible part no more than what the last event brought.
+/// The session of a recording, and how many of its events were played. Between two events it has nothing that waits for
+/// either side, and of the visible part no more than what the last event brought.
 #[derive(Drop)]
 pub struct Watched {
     session: Session,
@@ -54,8 +54,8 @@ impl Watched {
         self.session.next_visible()
     }
 
-    /// The next element of the visible part, or none where there are no more. Refused where memory is; also where the session ended
-    /// so.
+    /// The next element of the visible part, or none if there are no more. Refused if memory is refused, also to the
+    /// session.
     pub fn next_element(
         &mut self,
         policy: &Policy,

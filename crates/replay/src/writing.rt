@@ -1,5 +1,5 @@
-//! Writing what a session gives out, piece by piece as it lies in the session. If the session has a number, each record has it
-//! between its kind and its length.
+//! Writing what a session gives out, piece by piece as it lies in the session. If the session has a number, each record
+//! has it between its kind and its length.
 ghost use Rattle.std.specs.Prelude.{◌≡◌, ◌≤◌, ◌<◌, ◌^◌, ◌∷◌, ◌++◌, [], length, drop, OnOk, OnErr};
 ghost use Rattle.std.specs.Int.{w64, to_le_bytes};
 ghost use Rattle.link_traits.specs.Told.{added, Part};
@@ -124,7 +124,7 @@ fn write_record<O: Sink>(
     write_waiting(session, side, out)
 }
 
-/// Writes the record of what waits for a side, where something does.
+/// Writes the record of what waits for a side, if something does.
 #[tactic(auto, using(link_traits::proofs::Parts::part_none))]
 fn write_side<O: Sink>(
     named: Option<u32>,
@@ -243,7 +243,7 @@ fn write_malformed<O: Sink>(
     write_all(out, &malformed_bytes(number, fault))
 }
 
-/// Writes the record of the End, where the session ended.
+/// Writes the record of the End, if the session ended.
 #[tactic(auto, using(link_traits::proofs::Parts::part_none))]
 fn write_end<O: Sink>(named: Option<u32>, ended: Option<End>, out: &mut O) -> Result<(), SinkFault>
     ensures ok { OnOk result ((O.view out.new).told ≡ added (named_end named ended) (O.view out.old).told) }

@@ -15,7 +15,7 @@ to_bus bus 2 ListNames
 to_client ret 30 7 | as [org.freedesktop.DBus,org.a.A,org.a.B]
 to_client bytes l%02%01%01%04~~~%1F~~~@~~~%05%01u~%02~~~%06%01s~%05~~~:1.40~~~%07%01s~%14~~~org.freedesktop.DBus~~~~%08%01g~%02as~~~~~
 ",
-    // Unique names are kept where they are known, and a list that may be started is cut too.
+    // Unique names are kept if they are known, and a list that may be started is cut too.
     "\
 policy --filter --talk=org.a.T
 bus call 9 path=/o interface=org.c.I member=M destination=:1.40 sender=:1.30

@@ -1,7 +1,8 @@
 //! What a policy denies of recordings, counted.
 //!
-//! An audit has a line for each thing. `policy` has the words of the policy file, and `recording` begins a further recording. `lines`,
-//! `client`, `bus` and `client_ends` are as in a case, and of the last recording. `says` has a line of what is printed.
+//! An audit has a line for each thing. `policy` has the words of the policy file, and `recording` begins a further
+//! recording. `lines`, `client`, `bus` and `client_ends` are as in a case, and of the last recording. `says` has a line
+//! of what is printed.
 use crate::cases::{Case, SIZES, add_line, empty_case, recording_of};
 use crate::runs::{Ended, audit};
 use std::alloc::{AllocError, Global};

@@ -175,7 +175,7 @@ to_client false 70 3
 to_client denied 71 2
 to_client ret 72 1 | u 1
 ",
-    // A text has to stand first in the body where one is asked of.
+    // A text has to stand first in the body if one is asked of.
     "\
 policy --filter --own=org.a.Me
 client bus 1 AddMatch

@@ -1,9 +1,9 @@
 //! Cases: what comes of either side of a session, what either side gets, and why the session ended.
 //!
 //! A case has a line for each thing. `policy` has the words of the policy file, and `lines` says that the streams begin
-//! with lines of authentication. `client` and `bus` have what comes of a side, in order, and `client_ends` says that the
-//! client's stream ends. `to_bus` and `to_client` have what goes to a side, `end` the bytes that tell why the session
-//! ended, and `log` a line of the log.
+//! with lines of authentication. `client` and `bus` have what comes of a side, in order, and `client_ends` says that
+//! the client's stream ends. `to_bus` and `to_client` have what goes to a side, `end` the bytes that tell why the
+//! session ended, and `log` a line of the log.
 use crate::messages::named;
 use crate::runs::{Ended, replay};
 use crate::values::length;
@@ -121,7 +121,7 @@ pub fn recording_of(alloc: Global, case: &Case, size: usize) -> Result<Vec<u8>, 
     Ok(recording)
 }
 
-/// The records of what came: one of its own where it has no bytes.
+/// The records of what came: one of its own if it has no bytes.
 fn add_records(into: &mut Vec<u8>, came: &Came, size: usize) -> Result<(), AllocError> {
     if came.bytes.is_empty() {
         return add_record(into, came.kind, &came.bytes);

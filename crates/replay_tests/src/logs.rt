@@ -113,7 +113,7 @@ policy --log
 client call_without_reply 10 path=/x interface=org.h.I member=M destination=org.h.X
 to_bus call_without_reply 10 path=/x interface=org.h.I member=M destination=org.h.X
 ",
-    // Nothing is told where no log is asked for.
+    // Nothing is told if no log is asked for.
     "\
 policy --filter
 client call_without_reply 10 path=/x interface=org.h.I member=M destination=org.h.X

@@ -1,7 +1,8 @@
 //! The bytes of what tables name: D-Bus messages in little order, the program's own messages, and other bytes.
 //!
-//! A message has its kind, its serial and its header fields in ascending order of their codes, and behind ` | ` the signature
-//! and the values of its body, which spaces part. Where nothing stands behind, it has neither a SIGNATURE nor a body.
+//! A message has its kind, its serial and its header fields in ascending order of their codes, and behind ` | ` the
+//! signature and the values of its body, which spaces part. If nothing stands behind, it has neither a SIGNATURE nor a
+//! body.
 use crate::values::{add_number, add_string, add_values, length, number, pad_to_eight};
 use std::alloc::{AllocError, Global};
 use test_tables::plain;
@@ -71,9 +72,9 @@ const FALSE: &[u8] = b"l\x02\x01\x01\x04\0\0\0\x46\0\0\0\x2f\0\0\0\
 \x08\x01g\0\x01b\0\0\
 \0\0\0\0";
 
-/// The bytes that a text names: `bytes` with those that follow, as `plain` has them; the proxy's own calls with a serial,
-/// `ping`, `add_match` with a pattern, `get_owner` with a name, `list_names`; its answers in place with a serial and a reply
-/// serial, `unknown`, `no_owner`, `denied`, `false`; or a message.
+/// The bytes that a text names: `bytes` with those that follow, as `plain` has them; the proxy's own calls with a
+/// serial, `ping`, `add_match` with a pattern, `get_owner` with a name, `list_names`; its answers in place with a
+/// serial and a reply serial, `unknown`, `no_owner`, `denied`, `false`; or a message.
 pub fn named(alloc: Global, text: &str) -> Result<Vec<u8>, AllocError> {
     let (kind, rest) = text.split_once(' ').unwrap_or((text, ""));
     match kind {
@@ -90,9 +91,9 @@ pub fn named(alloc: Global, text: &str) -> Result<Vec<u8>, AllocError> {
     }
 }
 
-/// The short forms of messages to and from the bus: `bus` is a call to it with a serial and a member, `ret` its return to
-/// `:1.40` with a serial and a reply serial, and `owner_change` its signal with a serial, a name, its old owner and its new
-/// one. Any other message is written in full.
+/// The short forms of messages to and from the bus: `bus` is a call to it with a serial and a member, `ret` its return
+/// to `:1.40` with a serial and a reply serial, and `owner_change` its signal with a serial, a name, its old owner and
+/// its new one. Any other message is written in full.
 fn message_of_bus(alloc: Global, kind: &str, text: &str) -> Result<Vec<u8>, AllocError> {
     match kind {
         "bus" => bus_call(alloc, text),

@@ -201,7 +201,7 @@ to_bus get_owner 3 org.a.T
 to_bus ping 4
 to_bus call 5 path=/p interface=org.a.I member=M destination=:1.7
 ",
-    // Owners are asked for as often as a list names them, where a subtree covers and no exact pattern names them.
+    // Owners are asked for as often as a list names them, if a subtree covers and no exact pattern names them.
     "\
 policy --filter --talk=org.a.* --see=org.a.N
 client bus 1 Hello
@@ -290,7 +290,7 @@ bus owner_change 2 org.h.X '' :1.31
 to_client owner_change 1 :1.31 :1.31 ''
 to_client owner_change 2 org.h.X '' :1.31
 ",
-    // A change of a name's owner is shown where the client sees the name, also a unique one that it met.
+    // A change of a name's owner is shown if the client sees the name, also a unique one that it met.
     "\
 policy --filter --talk=org.a.T
 bus owner_change 1 org.h.X '' :1.50

@@ -1,15 +1,16 @@
 //! A session that ends early: after each prefix of what the client sends, and after each prefix of what the bus sends.
 //!
-//! A stream that ends inside a line or inside a message isn't malformed: the session ends with the end of that side. Nothing
-//! of the unfinished line or message goes to the other side, but for the zero that precedes the client's first line.
+//! A stream that ends inside a line or inside a message isn't malformed: the session ends with the end of that side.
+//! Nothing of the unfinished line or message goes to the other side, but for the zero that precedes the client's first
+//! line.
 use crate::cases::{Case, add_record, assert_cases, case_of, empty_recording};
 use crate::runs::replay;
 use std::alloc::{AllocError, Global};
 use std::test::Fail;
 use std::thread::Threads;
 
-/// A sandboxed application opens a file by a portal. It calls a name that it doesn't see, asks for the list of names, and the
-/// bus sends a signal that it isn't shown.
+/// A sandboxed application opens a file by a portal. It calls a name that it doesn't see, asks for the list of names,
+/// and the bus sends a signal that it isn't shown.
 const SESSION: &str = "\
 policy --filter --log --call=org.freedesktop.portal.*=* --broadcast=org.freedesktop.portal.*=@/org/freedesktop/portal/*
 lines
@@ -78,7 +79,8 @@ log 1 b 19 signal serial=26 reply=- from=:1.9 dest=- path=/org/freedesktop/porta
 /// The room for the output of a replay.
 const ROOM: usize = 10_000;
 
-/// A side whose stream is cut: the kinds of its bytes and of its end in a recording, and the number of its end in an output.
+/// A side whose stream is cut: the kinds of its bytes and of its end in a recording, and the number of its end in an
+/// output.
 struct CutSide {
     bytes: u8,
     finished: u8,
@@ -219,7 +221,8 @@ fn fault(given: &Given, shorter: &Given, whole: &Given, side: &CutSide) -> Optio
     }
 }
 
-/// The first prefix of a side's stream for which something wrong is given. All of the stream gives the other side all that it gets.
+/// The first prefix of a side's stream for which something wrong is given. All of the stream gives the other side all
+/// that it gets.
 fn wrong_prefix<R: Threads + Sync>(
     rt: &R,
     alloc: Global,

@@ -8,8 +8,8 @@ policy --talk=org.a.T
 client bytes %FF%FF%FF
 to_bus bytes %FF%FF%FF
 ",
-    // Nothing is looked at: calls to names that no entry covers, answers that nobody asked for, and no messages at all. None
-    // has a line of the log.
+    // Nothing is looked at: calls to names that no entry covers, answers that nobody asked for, and no messages at all.
+    // None has a line of the log.
     "\
 policy --log
 client bytes l%01~

@@ -273,8 +273,8 @@ fn assert_suggested<R: Abort + Threads + Sync>(
     assert_permits(rt, alloc, &ended.out.bytes, &recordings, text)
 }
 
-/// Nothing that was asked of a name is denied under the suggested policy. A name that is asked for is denied where it
-/// is unique or the bus's own, so of those recordings the words of the table ask nothing.
+/// Nothing that was asked of a name is denied under the suggested policy. A name that is asked for is denied if it is
+/// unique or the bus's own, so of those recordings the words of the table ask nothing.
 fn assert_permits<R: Abort + Threads + Sync>(
     rt: &R,
     alloc: Global,

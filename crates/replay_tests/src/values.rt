@@ -30,8 +30,8 @@ fn first_type(types: &str) -> (&str, &str) {
     ("", "")
 }
 
-/// Adds a value of a type. `''` is the text without a byte, `as` has texts between brackets, which commas part, `a{sv}` has
-/// no entry, and `v` has a number.
+/// Adds a value of a type. `''` is the text without a byte, `as` has texts between brackets, which commas part, `a{sv}`
+/// has no entry, and `v` has a number.
 fn add_value(
     alloc: Global,
     body: &mut Vec<u8>,

@@ -79,7 +79,7 @@ pub(crate) fn plus(count: u64, more: u64) -> Result<u64, AllocError>
     count.checked_add(more).ok_or(AllocError)
 }
 
-/// A count with one more where there is one.
+/// A count with one more if there is one.
 fn plus_one_if(count: u64, is_one_more: bool) -> Result<u64, AllocError>
     ensures { IfOk result (λ n. n ≡ count + (if is_one_more then 1 else 0)) }
 {
@@ -130,7 +130,7 @@ impl Counts {
         Ok(())
     }
 
-    /// The line that tells the counts. Its memory is taken at once; refused where memory is.
+    /// The line that tells the counts. Its memory is taken at once; refused if memory is refused.
     pub(crate) fn line(&self, alloc: Global) -> Result<String, AllocError>
         ensures { IfOk result (λ line. string_bytes line ≡ line_of self.now) }
     {

@@ -53,8 +53,8 @@ impl Made {
         }
     }
 
-    /// Makes the bus's message of a draw of a kind, which answers the message at a place among those that the proxy sends, or is a
-    /// signal.
+    /// Makes the bus's message of a draw of a kind, which answers the message at a place among those that the proxy
+    /// sends, or is a signal.
     fn tell(&mut self, kind: u32, place: u32, serial: u32, text: &str) -> Result<(), AllocError>
         requires { length text.now ≤ 40 }
         ensures ok { OnOk result (self.new.bus.items ≡ spell (told kind place serial text.now)) }

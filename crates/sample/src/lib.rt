@@ -1,5 +1,5 @@
-//! A sample: the recording of a session that a stated generator makes, of any length, to measure and to try a proxy with; and
-//! the summary of what becomes of its messages.
+//! A sample: the recording of a session that a stated generator makes, of any length, to measure and to try a proxy
+//! with; and the summary of what becomes of its messages.
 #![tactic(auto)]
 
 mod counts;

@@ -23,7 +23,7 @@ const BODY_LEN_PLACE: usize = 4;
 /// The place of the number of REPLY_SERIAL in a return.
 const REPLY_SERIAL_PLACE: usize = 20;
 
-/// How many bytes a body of a text has beside the text: its length, and the NUL behind it.
+/// How many bytes a body of a text has beside the text: its length, and the NUL after it.
 const BESIDE_TEXT: u32 = 5;
 
 /// A call of Echo up to its text, with 0 for its serial and for the lengths of its body and its text.
@@ -36,7 +36,7 @@ const ECHO_A: [u8; 108] = *b"\
     \x08\x01g\0\x01s\0\0\
     \0\0\0\0";
 
-/// The same to the other peer.
+/// The message to the other peer.
 const ECHO_B: [u8; 108] = *b"\
     l\x01\0\x01\0\0\0\0\0\0\0\0W\0\0\0\
     \x01\x01o\0\x02\0\0\0/s\0\0\0\0\0\0\
@@ -56,7 +56,7 @@ const TICK_A: [u8; 100] = *b"\
     \x08\x01g\0\x01s\0\0\
     \0\0\0\0";
 
-/// The same of the other peer.
+/// The messages of the other peer.
 const TICK_B: [u8; 100] = *b"\
     l\x04\0\x01\0\0\0\0\0\0\0\0O\0\0\0\
     \x01\x01o\0\x02\0\0\0/s\0\0\0\0\0\0\
@@ -94,7 +94,7 @@ fn set_numbers(front: &mut [u8], text_len_place: usize, serial: u32, text_len: u
     write_u32(Order::Little, front, text_len_place, text_len);
 }
 
-/// Puts a message that ends in a text behind the others, in one growth.
+/// Puts a message that ends in a text after the others, in one growth.
 fn put_text(out: &mut BytesMut, front: &[u8], text: &str) -> Result<(), AllocError>
     requires { length front.now + length text.now + 1 < 2 ^ 64 }
     ensures ok { OnOk result (out.new.items ≡ out.old.items ++ (front.now ++ (text.now ++ 0 ∷ []))) }

@@ -136,7 +136,7 @@ impl Play {
         self.feed_bus(policy, &OWNED)
     }
 
-    /// The client's message of a draw comes, where it has one.
+    /// The client's message of a draw comes, if it has one.
     fn feed_asked(&mut self, policy: &Policy, made: &Made) -> Result<(), AllocError>
         ensures { (events : List Event) → Played policy.now events self.old → OnOk result (Played policy.now (events ++ asked_events made.now) self.new) }
     {

@@ -15,7 +15,7 @@ use link_traits::{Sink, SinkFault, write_all};
 use std::alloc::{AllocError, Global};
 use thiserror::Error;
 
-/// Where so many bytes are made, they are written.
+/// Once this many bytes are made, they are written.
 const PIECE_LEN: usize = 65_536;
 
 /// The kind of a record with bytes of the client.
@@ -27,10 +27,10 @@ const BUS_BYTES: u8 = 1;
 /// Why a sample stopped.
 #[derive(Clone, Copy, Debug, PartialEq, Eq, Error)]
 pub enum SampleFault {
-    /// The sample, or its summary, could not be written; a front of it may have been.
+    /// The sample, or its summary, could not be written; a prefix of it may have been.
     #[error("the sample could not be written")]
     Out,
-    /// Memory was refused; in a summary also where the session ended so.
+    /// Memory was refused; in a summary, perhaps to the session.
     #[error("out of memory")]
     Memory,
 }
@@ -57,7 +57,7 @@ impl From<AllocError> for SampleFault {
     }
 }
 
-/// Puts a record behind the others, in one growth.
+/// Puts a record after the others, in one growth.
 fn put_record(out: &mut BytesMut, kind: u8, bytes: &[u8]) -> Result<(), AllocError>
     requires { length bytes.now < 2 ^ 32 }
     ensures { OnOk result (out.new.items ≡ out.old.items ++ spelled_record kind bytes.now) }
@@ -80,7 +80,7 @@ fn put_made(out: &mut BytesMut, made: &Made) -> Result<(), AllocError>
     put_record(out, BUS_BYTES, made.bus.as_slice())
 }
 
-/// What stands in front of the draws.
+/// What comes before the draws.
 fn put_opening(out: &mut BytesMut) -> Result<(), AllocError>
     ensures { OnOk result (out.new.items ≡ out.old.items ++ (magic ++ 1 ∷ 0 ∷ flat_map spelled_event opening)) }
 {
@@ -91,7 +91,7 @@ fn put_opening(out: &mut BytesMut) -> Result<(), AllocError>
     put_record(out, BUS_BYTES, &OWNED)
 }
 
-/// Writes what was made so far, where that is much. Less than a piece is left.
+/// Writes what was made so far, if that is much. Less than a piece is left.
 fn write_much<S: Sink>(out: &mut BytesMut, sink: &mut S) -> Result<(), SinkFault>
     ensures ok { OnOk result (Moved (S.view sink.old).told (S.view sink.new).told out.old.items out.new.items) }
     ensures short { OnOk result (length out.new.items < PIECE_LEN) }
@@ -107,8 +107,8 @@ fn write_much<S: Sink>(out: &mut BytesMut, sink: &mut S) -> Result<(), SinkFault
     Ok(())
 }
 
-/// Writes the sample of so many draws behind a seed as a recording (version 1). It is made piece by piece, so memory doesn't
-/// grow with it.
+/// Writes the sample of a number of draws after a seed as a recording (version 1). It is made piece by piece, so memory
+/// doesn't grow with it.
 pub fn sample<S: Sink>(alloc: Global, n: u32, seed: u64, sink: &mut S) -> Result<(), SampleFault>
     requires { n ≤ MOST_DRAWS }
     ensures ok { OnOk result ((S.view sink.new).told ≡ added (spelled_recording (sample_of n seed)) (S.view sink.old).told) }

@@ -7,8 +7,8 @@ use std::alloc::{AllocError, Global};
 use std::test::Fail;
 use test_tables::{text_of, wrong_row};
 
-/// A number of draws and a seed, and the bytes of the sample: what stands in front of the draws, and a draw of each kind.
-/// Each record begins a new line.
+/// A number of draws and a seed, and the bytes of the sample: what stands in front of the draws, and a draw of each
+/// kind. Each record begins a new line.
 const BYTES: &str = "\
 0 1 => DBPR%01~\
     ~%80~~~l%01~%01~~~~%01~~~m~~~%01%01o~%15~~~/org/freedesktop/DBus~~~%02%01s~%14~~~org.freedesktop.DBus~~~~%03\
@@ -39,8 +39,8 @@ const BYTES: &str = "\
       %01s~%04~~~:1.5~~~~%08%01g~%01s~~%01~~~4~
 ";
 
-/// A number of draws and a seed, and how many bytes the sample has, and the side and the length of each message of its draws.
-/// Seeds that differ by a multiple of 2147483648 have one sample.
+/// A number of draws and a seed, and how many bytes the sample has, and the side and the length of each message of its
+/// draws. Seeds that differ by a multiple of 2147483648 have one sample.
 const EVENTS: &str = "\
 3 1 => 811 bytes: Bus 102, Bus 102, Client 110, Bus 72
 5 0 => 1274 bytes: Client 110, Bus 70, Client 110, Bus 70, Client 110, Bus 70, Client 110, Bus 72, Bus 102
@@ -51,8 +51,8 @@ const EVENTS: &str = "\
 5 18446744073709551615 => 1195 bytes: Client 110, Bus 72, Client 110, Bus 72, Bus 102, Bus 102, Client 110, Bus 72
 ";
 
-/// A number of draws, a seed and the room of a sink, and the answer, how many bytes the sink got, whether they are the first
-/// of the sample's, and how many writes have failed.
+/// A number of draws, a seed and the room of a sink, and the answer, how many bytes the sink got, whether they are the
+/// first of the sample's, and how many writes have failed.
 const ROOMS: &str = "\
 0 1 405 => Ok(()) 405 true 0
 0 1 404 => Err(Out) 404 true 1

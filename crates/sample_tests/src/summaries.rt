@@ -6,7 +6,8 @@ use std::alloc::{AllocError, Global};
 use std::test::Fail;
 use test_tables::{text_of, wrong_row};
 
-/// A number of draws, a seed and the room of a sink, and the answer, what the sink got, and how many writes have failed.
+/// A number of draws, a seed and the room of a sink, and the answer, what the sink got, and how many writes have
+/// failed.
 const SUMMARIES: &str = "\
 0 1 200 => Ok(()) [items 4 passed 1 pings 0 shown 1 instead 0 hidden 2 to-bus 560 to-client 90%0A] 0
 3 1 200 => Ok(()) [items 8 passed 1 pings 1 shown 3 instead 1 hidden 2 to-bus 680 to-client 434%0A] 0

@@ -21,8 +21,8 @@ pub struct Counts {
     pub bus: u64,
     /// The records.
     pub events: u64,
-    /// The number of the End that the first record which brings one brings: 3 for the client's end, 4 for the bus's, and
-    /// for a failed call the number in its record.
+    /// The number of the End that the first record which brings one brings: 3 for the client's end, 4 for the bus's,
+    /// and for a failed call the number in its record.
     pub end: Option<u8>,
 }
 
@@ -108,7 +108,7 @@ fn count_event(counts: &mut BTreeMap<u32, Counts>, event: &SessionEvent) -> Resu
     }
 }
 
-/// The counts before any event. A recording of version 1 has session 1, also where nothing happened in it.
+/// The counts before any event. A recording of version 1 has session 1, also if nothing happened in it.
 fn first_counts(alloc: Global, version: u8) -> Result<BTreeMap<u32, Counts>, AllocError>
     ensures { IfOk result (λ counts. AllCounted [] (only_session version) counts) }
 {

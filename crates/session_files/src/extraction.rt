@@ -52,8 +52,8 @@ fn events_before_stop(
 }
 
 /// The file of version 1 of one session of a recording: its events in their order, up to the first failed call, which a
-/// file of version 1 has no record of. There is none if the recording has no session of the number. The recording was read
-/// from a file, so that this one is no longer than a recording may be.
+/// file of version 1 has no record of. There is none if the recording has no session of the number. The recording was
+/// read from a file, so that this one is no longer than a recording may be.
 pub fn session_file(
     alloc: Global,
     sessions: &Sessions,

@@ -40,8 +40,8 @@ pub fn version_1_is_its_session()
     read_is_spelled();
 }
 
-/// A session's recording has the history that the whole recording gives the session up to its first stop. If there is no
-/// stop, it has the whole history and is replayed as in the whole recording.
+/// A session's recording has the history that the whole recording gives the session up to its first stop. If there is
+/// no stop, it has the whole history and is replayed as in the whole recording.
 pub fn session_is_replayed()
     ensures history { (options : PolicyOptions) (s : Sessions) (session : ℕ) → HasHistoryBeforeStop options s session }
     ensures whole { (options : PolicyOptions) (s : Sessions) (session : ℕ) → RunsWithoutStop s session → history_of options (session_recording s session) ≡ session_history options.policy (session_mode options s.auth) session s.events }

@@ -1,7 +1,7 @@
 //! One session of a recording as a recording of its own, and a list of the sessions that a recording has.
 //!
-//! A proxy that runs is recorded in a file of version 2, with many sessions. The tools that explain, compare and count the
-//! messages of one session read files of version 1. `session_file` gives such a file for a session of a number, and
+//! A proxy that runs is recorded in a file of version 2, with many sessions. The tools that explain, compare and count
+//! the messages of one session read files of version 1. `session_file` gives such a file for a session of a number, and
 //! `listing` tells which numbers there are.
 #![tactic(auto)]
 

@@ -38,8 +38,8 @@ fn push_line(
     )?)
 }
 
-/// A line for each session of a recording, in ascending order: its number, how many bytes came from the client and from the
-/// bus, how many records it has, and the number of the first End that one of them brings, or `-`.
+/// A line for each session of a recording, in ascending order: its number, how many bytes came from the client and from
+/// the bus, how many records it has, and the number of the first End that one of them brings, or `-`.
 pub fn listing(alloc: Global, sessions: &Sessions) -> Result<String, AllocError>
     requires { IsReadable (sessions_seen sessions.now) }
     ensures { IfOk result (λ text. string_bytes text ≡ listing_of (sessions_seen sessions.now)) }

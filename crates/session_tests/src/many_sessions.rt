@@ -12,11 +12,11 @@ use std::alloc::{AllocError, Global};
 use std::test::Fail;
 use test_tables::{plain, text_of, wrong_row};
 
-/// The words of a policy, which commas part, or a dash for none, the room of the output, and the bytes of a recording, and the
-/// answer, what is written, and how many writes have failed.
+/// The words of a policy, which commas part, or a dash for none, the room of the output, and the bytes of a recording,
+/// and the answer, what is written, and how many writes have failed.
 ///
-/// The sessions are named in any order, and their events stand between one another. What comes after a session's end, or after
-/// a failed call of one of its links, has no effect. A malformed stream ends its own session alone.
+/// The sessions are named in any order, and their events stand between one another. What comes after a session's end,
+/// or after a failed call of one of its links, has no effect. A malformed stream ends its own session alone.
 const PLAYED: &str = "\
 - 64 DBPR%02~~%03~~~%03~~~%FF%FF%FF%02%03~~~~~~~ => Ok(()) [%10%03~~~%03~~~%FF%FF%FF%12%03~~~%01~~~%03] 0
 - 64 DBPR%02~ => Ok(()) [] 0
@@ -28,8 +28,8 @@ const PLAYED: &str = "\
 - 20 DBPR%02~~%03~~~%03~~~abc%02%02~~~~~~~ => Err(Out) [%12%02~~~%01~~~%03%10%03~~~%03~~~a] 1
 ";
 
-/// The same with the room of the log and with its text. Two sessions call a hidden name, and a ping stands in the place of each
-/// call. The lines of the log stand in the order of the calls.
+/// The same with the room of the log and with its text. Two sessions call a hidden name, and a ping stands in the place
+/// of each call. The lines of the log stand in the order of the calls.
 const LOGGED: &str = "\
 --filter,--log 1000 DBPR%02~~%02~~~@~~~l%01~%01~~~~%04%03%02%01,~~~%01%01o~%01~~~/~~~~~~~%03%01s~%01~~~M~~~~~~~%06%01s~%03~~~a.b~~~~~~%01~~~@~~~l%01~%01~~~~%04%03%02%01,~~~%01%01o~%01~~~/~~~~~~~%03%01s~%01~~~M~~~~~~~%06%01s~%03~~~a.b~~~~~~%02~~~@~~~l%01~%01~~~~%05%03%02%01,~~~%01%01o~%01~~~/~~~~~~~%03%01s~%01~~~M~~~~~~~%06%01s~%03~~~a.b~~~~~ => Ok(()) [%10%01~~~x~~~l%01~%01~~~~%01~~~e~~~%01%01o~%01~~~/~~~~~~~%02%01s~%19~~~org.freedesktop.DBus.Peer~~~~~~~%03%01s~%04~~~Ping~~~~%06%01s~%14~~~org.freedesktop.DBus~~~~%10%02~~~%F0~~~l%01~%01~~~~%01~~~e~~~%01%01o~%01~~~/~~~~~~~%02%01s~%19~~~org.freedesktop.DBus.Peer~~~~~~~%03%01s~%04~~~Ping~~~~%06%01s~%14~~~org.freedesktop.DBus~~~~l%01~%01~~~~%02~~~e~~~%01%01o~%01~~~/~~~~~~~%02%01s~%19~~~org.freedesktop.DBus.Peer~~~~~~~%03%01s~%04~~~Ping~~~~%06%01s~%14~~~org.freedesktop.DBus~~~~] [2 c 1 call serial=16909060 reply=- from=- dest=a.b path=/ iface=- member=M ping NotVisible 0 ServiceUnknown%0A1 c 1 call serial=16909060 reply=- from=- dest=a.b path=/ iface=- member=M ping NotVisible 0 ServiceUnknown%0A2 c 2 call serial=16909061 reply=- from=- dest=a.b path=/ iface=- member=M ping NotVisible 0 ServiceUnknown%0A] 0
 --filter 1000 DBPR%02~~%02~~~@~~~l%01~%01~~~~%04%03%02%01,~~~%01%01o~%01~~~/~~~~~~~%03%01s~%01~~~M~~~~~~~%06%01s~%03~~~a.b~~~~~~%01~~~@~~~l%01~%01~~~~%04%03%02%01,~~~%01%01o~%01~~~/~~~~~~~%03%01s~%01~~~M~~~~~~~%06%01s~%03~~~a.b~~~~~~%02~~~@~~~l%01~%01~~~~%05%03%02%01,~~~%01%01o~%01~~~/~~~~~~~%03%01s~%01~~~M~~~~~~~%06%01s~%03~~~a.b~~~~~ => Ok(()) [%10%01~~~x~~~l%01~%01~~~~%01~~~e~~~%01%01o~%01~~~/~~~~~~~%02%01s~%19~~~org.freedesktop.DBus.Peer~~~~~~~%03%01s~%04~~~Ping~~~~%06%01s~%14~~~org.freedesktop.DBus~~~~%10%02~~~%F0~~~l%01~%01~~~~%01~~~e~~~%01%01o~%01~~~/~~~~~~~%02%01s~%19~~~org.freedesktop.DBus.Peer~~~~~~~%03%01s~%04~~~Ping~~~~%06%01s~%14~~~org.freedesktop.DBus~~~~l%01~%01~~~~%02~~~e~~~%01%01o~%01~~~/~~~~~~~%02%01s~%19~~~org.freedesktop.DBus.Peer~~~~~~~%03%01s~%04~~~Ping~~~~%06%01s~%14~~~org.freedesktop.DBus~~~~] [] 0

@@ -7,11 +7,12 @@ use std::alloc::{AllocError, Global};
 use std::test::Fail;
 use test_tables::wrong_row;
 
-/// How many serials count as given, the words of a policy, which commas part, and what comes and is told of it, as in the
-/// table of sessions.
+/// How many serials count as given, the words of a policy, which commas part, and what comes and is told of it, as in
+/// the table of sessions.
 ///
-/// A call passes with the last serial and is answered, and the next one has none. Pings need a serial too, dropped messages
-/// don't. A Hello and the calls behind it are sent together or not at all, and so are the calls on a list of names.
+/// A call passes with the last serial and is answered, and the next one has none. Pings need a serial too, dropped
+/// messages don't. A Hello and the calls behind it are sent together or not at all, and so are the calls on a list of
+/// names.
 const SPENT: &str = "\
 4294967294 --filter,--talk=org.a.T; client call; bus_byte 8; bus_byte 9; bus_byte 10; bus_byte 11; bus return 20=255 21=255 22=255 23=255; client call => - 80 0; 255; 255; 255; 255; - 80 56; SerialsSpent 80 56; Some(SerialsSpent)
 4294967294 --filter,--talk=org.a.T; client call 2=1; client call => - 80 0; SerialsSpent 80 0; Some(SerialsSpent)

@@ -11,8 +11,9 @@ use std::alloc::{AllocError, Global};
 use std::test::Fail;
 use test_tables::wrong_row;
 
-/// The words of a policy, which commas part, and what comes and is taken, one after the other; and the answer of each, a `-`
-/// for none, how many bytes wait for the bus and for the client, or the byte that was asked for; and why the session ended.
+/// The words of a policy, which commas part, and what comes and is taken, one after the other; and the answer of each,
+/// a `-` for none, how many bytes wait for the bus and for the client, or the byte that was asked for; and why the
+/// session ended.
 const SESSIONS: &str = "\
 --filter,--talk=org.a.T; client call; bus_byte 8; took_bus 80; bus return; bus return; client_byte 20; took_client 56 => - 80 0; 1; - 0 0; - 0 56; - 0 56; 7; - 0 0; None
 --filter; client call; bus return => - 120 0; - 120 140; None
@@ -38,7 +39,7 @@ pub const FILTERED: Mode = Mode {
     notes: false,
 };
 
-/// A mode, filtered only where the options ask for that.
+/// A mode, filtered only if the options ask for that.
 pub fn asked(options: &Options, mode: Mode) -> Mode {
     Mode {
         auth: mode.auth,
@@ -105,8 +106,8 @@ const BEGIN: &[u8] = b"BEGIN\r\n";
 /// Bytes of which none begins a message.
 const ONES: &[u8] = &[0xff; 16];
 
-/// A message, changed as what follows its name says: `PLACE=BYTE` puts a byte at a place, `cut=LENGTH` leaves so many bytes, and
-/// `fill=COUNT` puts so many of `x` behind the others.
+/// A message, changed as what follows its name says: `PLACE=BYTE` puts a byte at a place, `cut=LENGTH` leaves so many
+/// bytes, and `fill=COUNT` puts so many of `x` behind the others.
 pub fn message(alloc: Global, row: &str) -> Result<Vec<u8>, AllocError> {
     let (name, changes) = row.split_once(' ').unwrap_or((row, ""));
     let mut bytes = Vec::from_slice(alloc, bytes_of(name))?;

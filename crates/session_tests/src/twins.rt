@@ -7,8 +7,8 @@ use std::alloc::{AllocError, Global};
 use std::test::Fail;
 use test_tables::wrong_row;
 
-/// The words of a policy, which commas part, and what comes in either of two sessions, one after the other; and what the comparison
-/// of their recordings answers. Where `lines` stands first, the streams begin with lines of authentication.
+/// The words of a policy, which commas part, and what comes in either of two sessions, one after the other; and what
+/// the comparison of their recordings answers. If `lines` stands first, the streams begin with lines of authentication.
 const TWINS: &str = "\
 --filter,--talk=org.a.T: client call; bus return; client_ended | client call; bus return; client_ended => Same
 --filter,--talk=org.a.T: nothing | nothing => Same

@@ -20,8 +20,8 @@ use std::thread::Threads;
 /// the proxy decided on it: `--filter` and the words of the entries, each ended by NUL. Each recording is played under
 /// `--filter` alone by a job, which enters the gate with the number of the recording, from 1, before it begins.
 ///
-/// It is `TooMany` where the policy would have more than 65,535 entries, and `Memory` where memory is refused, also
-/// where a session ended so.
+/// It is `TooMany` if the policy would have more than 65,535 entries, and `Memory` if memory is refused, also if a
+/// session ended so.
 pub fn suggestion<R: Threads + Sync, T: Gate + Sync>(
     rt: &R,
     gate: &T,

@@ -127,14 +127,14 @@ pub struct SampleWords<'a> {
     pub seed: &'a str,
 }
 
-/// The words of `replay POLICY RECORDING`, the tool's name in front, where its command takes them. It fails where memory
-/// is refused.
+/// The words of `replay POLICY RECORDING` after the tool's name, if its command takes them. It fails if memory is
+/// refused.
 pub fn replay_words(alloc: Global, words: &[String]) -> Result<Option<ReplayWords<'_>>, AllocError>
     // They are what the command finds.
     ensures found { IfOk result (λ r. option_map (λ w. w.policy.now ∷ w.recording.now ∷ []) r ≡ taken (codes "replay") replay_places (map (λ w. string_bytes w) words.now)) }
 
-    // They are all words behind the tool's name but a first `--`, where in front of that no word is
-    // an option, and where they are as many as the places.
+    // They are all words after the tool's name but a first `--`, if no word before that is an option, and if they are
+    // as many as the places.
     ensures plain { IfOk result (λ r. option_map (λ w. w.policy.now ∷ w.recording.now ∷ []) r ≡ of_number 2 (operands (drop 1 (map (λ w. string_bytes w) words.now)))) }
 {
     match matches_of(alloc, "replay", &["POLICY", "RECORDING"], words)? {
@@ -152,8 +152,8 @@ fn replay_places<'a>(matches: &ArgMatches<'a>) -> Option<ReplayWords<'a>>
     Some(ReplayWords { policy, recording })
 }
 
-/// The words of `explain POLICY RECORDING N`, the tool's name in front, where its command takes them. It fails where memory
-/// is refused.
+/// The words of `explain POLICY RECORDING N` after the tool's name, if its command takes them. It fails if memory is
+/// refused.
 pub fn explain_words(
     alloc: Global,
     words: &[String],
@@ -161,8 +161,8 @@ pub fn explain_words(
     // They are what the command finds.
     ensures found { IfOk result (λ r. option_map (λ w. w.policy.now ∷ w.recording.now ∷ w.number.now ∷ []) r ≡ taken (codes "explain") explain_places (map (λ w. string_bytes w) words.now)) }
 
-    // They are all words behind the tool's name but a first `--`, where in front of that no word is
-    // an option, and where they are as many as the places.
+    // They are all words after the tool's name but a first `--`, if no word before that is an option, and if they are
+    // as many as the places.
     ensures plain { IfOk result (λ r. option_map (λ w. w.policy.now ∷ w.recording.now ∷ w.number.now ∷ []) r ≡ of_number 3 (operands (drop 1 (map (λ w. string_bytes w) words.now)))) }
 {
     match matches_of(alloc, "explain", &["POLICY", "RECORDING", "N"], words)? {
@@ -185,14 +185,13 @@ fn explain_places<'a>(matches: &ArgMatches<'a>) -> Option<ExplainWords<'a>>
     })
 }
 
-/// The words of `twin POLICY A B`, the tool's name in front, where its command takes them. It fails where memory
-/// is refused.
+/// The words of `twin POLICY A B` after the tool's name, if its command takes them. It fails if memory is refused.
 pub fn twin_words(alloc: Global, words: &[String]) -> Result<Option<TwinWords<'_>>, AllocError>
     // They are what the command finds.
     ensures found { IfOk result (λ r. option_map (λ w. w.policy.now ∷ w.one.now ∷ w.other.now ∷ []) r ≡ taken (codes "twin") twin_places (map (λ w. string_bytes w) words.now)) }
 
-    // They are all words behind the tool's name but a first `--`, where in front of that no word is
-    // an option, and where they are as many as the places.
+    // They are all words after the tool's name but a first `--`, if no word before that is an option, and if they are
+    // as many as the places.
     ensures plain { IfOk result (λ r. option_map (λ w. w.policy.now ∷ w.one.now ∷ w.other.now ∷ []) r ≡ of_number 3 (operands (drop 1 (map (λ w. string_bytes w) words.now)))) }
 {
     match matches_of(alloc, "twin", &["POLICY", "A", "B"], words)? {
@@ -211,14 +210,13 @@ fn twin_places<'a>(matches: &ArgMatches<'a>) -> Option<TwinWords<'a>>
     Some(TwinWords { policy, one, other })
 }
 
-/// The words of `sample N SEED`, the tool's name in front, where its command takes them. It fails where memory
-/// is refused.
+/// The words of `sample N SEED` after the tool's name, if its command takes them. It fails if memory is refused.
 pub fn sample_words(alloc: Global, words: &[String]) -> Result<Option<SampleWords<'_>>, AllocError>
     // They are what the command finds.
     ensures found { IfOk result (λ r. option_map (λ w. w.draws.now ∷ w.seed.now ∷ []) r ≡ taken (codes "sample") sample_places (map (λ w. string_bytes w) words.now)) }
 
-    // They are all words behind the tool's name but a first `--`, where in front of that no word is
-    // an option, and where they are as many as the places.
+    // They are all words after the tool's name but a first `--`, if no word before that is an option, and if they are
+    // as many as the places.
     ensures plain { IfOk result (λ r. option_map (λ w. w.draws.now ∷ w.seed.now ∷ []) r ≡ of_number 2 (operands (drop 1 (map (λ w. string_bytes w) words.now)))) }
 {
     match matches_of(alloc, "sample", &["N", "SEED"], words)? {
@@ -236,13 +234,13 @@ fn sample_places<'a>(matches: &ArgMatches<'a>) -> Option<SampleWords<'a>>
     Some(SampleWords { draws, seed })
 }
 
-/// The words of `within A B`, the tool's name in front, where its command takes them. It fails where memory is refused.
+/// The words of `within A B` after the tool's name, if its command takes them. It fails if memory is refused.
 pub fn within_words(alloc: Global, words: &[String]) -> Result<Option<WithinWords<'_>>, AllocError>
     // They are what the command finds.
     ensures found { IfOk result (λ r. option_map (λ w. w.one.now ∷ w.other.now ∷ []) r ≡ taken (codes "within") within_places (map (λ w. string_bytes w) words.now)) }
 
-    // They are all words behind the tool's name but a first `--`, where in front of that no word is
-    // an option, and where they are as many as the places.
+    // They are all words after the tool's name but a first `--`, if no word before that is an option, and if they are
+    // as many as the places.
     ensures plain { IfOk result (λ r. option_map (λ w. w.one.now ∷ w.other.now ∷ []) r ≡ of_number 2 (operands (drop 1 (map (λ w. string_bytes w) words.now)))) }
 {
     match matches_of(alloc, "within", &["A", "B"], words)? {
@@ -260,14 +258,14 @@ fn within_places<'a>(matches: &ArgMatches<'a>) -> Option<WithinWords<'a>>
     Some(WithinWords { one, other })
 }
 
-/// The words of `audit POLICY RECORDING..`, the tool's name in front, where its command takes them, with 1 to 16 recordings. It fails where
-/// memory is refused.
+/// The words of `audit POLICY RECORDING..` after the tool's name, if its command takes them, with 1 to 16 recordings.
+/// It fails if memory is refused.
 pub fn audit_words(alloc: Global, words: &[String]) -> Result<Option<AuditWords<'_>>, AllocError>
     // They are what the command finds.
     ensures found { IfOk result (λ r. option_map (λ w. w.policy.now ∷ map (λ path. path.now) w.recordings.items) r ≡ taken_with (codes "audit") audit_places more_recordings (map (λ w. string_bytes w) words.now)) }
 
-    // They are all words behind the tool's name but a first `--`, where in front of that no word is
-    // an option, and where they are 2 to 17.
+    // They are all words after the tool's name but a first `--`, if no word before that is an option, and if they are 2
+    // to 17.
     ensures plain { IfOk result (λ r. option_map (λ w. w.policy.now ∷ map (λ path. path.now) w.recordings.items) r ≡ of_count (is_between 2 17) (operands (drop 1 (map (λ w. string_bytes w) words.now)))) }
 {
     match filled(alloc, "audit", &["POLICY", "RECORDING"], words)? {
@@ -286,8 +284,8 @@ fn first_apart(found: Vec<&str>) -> AuditWords<'_>
     AuditWords { policy, recordings }
 }
 
-/// The words of `suggest RECORDING..`, the tool's name in front, where its command takes them, with 1 to 16 recordings. It fails where
-/// memory is refused.
+/// The words of `suggest RECORDING..` after the tool's name, if its command takes them, with 1 to 16 recordings. It
+/// fails if memory is refused.
 pub fn suggest_words(
     alloc: Global,
     words: &[String],
@@ -295,8 +293,8 @@ pub fn suggest_words(
     // They are what the command finds.
     ensures found { IfOk result (λ r. option_map (λ w. map (λ path. path.now) w.recordings.items) r ≡ taken_with (codes "suggest") suggest_places more_recordings (map (λ w. string_bytes w) words.now)) }
 
-    // They are all words behind the tool's name but a first `--`, where in front of that no word is
-    // an option, and where they are 1 to 16.
+    // They are all words after the tool's name but a first `--`, if no word before that is an option, and if they are 1
+    // to 16.
     ensures plain { IfOk result (λ r. option_map (λ w. map (λ path. path.now) w.recordings.items) r ≡ of_count (is_between 1 16) (operands (drop 1 (map (λ w. string_bytes w) words.now)))) }
 {
     match filled(alloc, "suggest", &["RECORDING"], words)? {
@@ -305,13 +303,13 @@ pub fn suggest_words(
     }
 }
 
-/// The words of `show FILE`, the tool's name in front, where its command takes them. It fails where memory is refused.
+/// The words of `show FILE` after the tool's name, if its command takes them. It fails if memory is refused.
 pub fn show_words(alloc: Global, words: &[String]) -> Result<Option<ShowWords<'_>>, AllocError>
     // They are what the command finds.
     ensures found { IfOk result (λ r. option_map (λ w. w.message.now ∷ []) r ≡ taken (codes "show") show_places (map (λ w. string_bytes w) words.now)) }
 
-    // They are all words behind the tool's name but a first `--`, where in front of that no word is
-    // an option, and where there is one.
+    // They are all words after the tool's name but a first `--`, if no word before that is an option, and if there is
+    // one.
     ensures plain { IfOk result (λ r. option_map (λ w. w.message.now ∷ []) r ≡ of_number 1 (operands (drop 1 (map (λ w. string_bytes w) words.now)))) }
 {
     match matches_of(alloc, "show", &["FILE"], words)? {
@@ -328,7 +326,7 @@ fn show_place<'a>(matches: &ArgMatches<'a>) -> Option<ShowWords<'a>>
     Some(ShowWords { message })
 }
 
-/// The words of `compose FILE`, the tool's name in front, where its command takes them. It fails where memory is refused.
+/// The words of `compose FILE` after the tool's name, if its command takes them. It fails if memory is refused.
 pub fn compose_words(
     alloc: Global,
     words: &[String],
@@ -336,8 +334,8 @@ pub fn compose_words(
     // They are what the command finds.
     ensures found { IfOk result (λ r. option_map (λ w. w.text.now ∷ []) r ≡ taken (codes "compose") compose_places (map (λ w. string_bytes w) words.now)) }
 
-    // They are all words behind the tool's name but a first `--`, where in front of that no word is
-    // an option, and where there is one.
+    // They are all words after the tool's name but a first `--`, if no word before that is an option, and if there is
+    // one.
     ensures plain { IfOk result (λ r. option_map (λ w. w.text.now ∷ []) r ≡ of_number 1 (operands (drop 1 (map (λ w. string_bytes w) words.now)))) }
 {
     match matches_of(alloc, "compose", &["FILE"], words)? {
@@ -354,7 +352,7 @@ fn compose_place<'a>(matches: &ArgMatches<'a>) -> Option<ComposeWords<'a>>
     Some(ComposeWords { text })
 }
 
-/// The words of `session RECORDING N`, the tool's name in front, where its command takes them. It fails where memory is refused.
+/// The words of `session RECORDING N` after the tool's name, if its command takes them. It fails if memory is refused.
 pub fn session_words(
     alloc: Global,
     words: &[String],
@@ -362,8 +360,8 @@ pub fn session_words(
     // They are what the command finds.
     ensures found { IfOk result (λ r. option_map (λ w. w.recording.now ∷ w.number.now ∷ []) r ≡ taken (codes "session") session_places (map (λ w. string_bytes w) words.now)) }
 
-    // They are all words behind the tool's name but a first `--`, where in front of that no word is
-    // an option, and where they are as many as the places.
+    // They are all words after the tool's name but a first `--`, if no word before that is an option, and if they are
+    // as many as the places.
     ensures plain { IfOk result (λ r. option_map (λ w. w.recording.now ∷ w.number.now ∷ []) r ≡ of_number 2 (operands (drop 1 (map (λ w. string_bytes w) words.now)))) }
 {
     match matches_of(alloc, "session", &["RECORDING", "N"], words)? {
@@ -381,7 +379,7 @@ fn session_places<'a>(matches: &ArgMatches<'a>) -> Option<SessionWords<'a>>
     Some(SessionWords { recording, number })
 }
 
-/// The words of `sessions RECORDING`, the tool's name in front, where its command takes them. It fails where memory is refused.
+/// The words of `sessions RECORDING` after the tool's name, if its command takes them. It fails if memory is refused.
 pub fn sessions_words(
     alloc: Global,
     words: &[String],
@@ -389,8 +387,8 @@ pub fn sessions_words(
     // They are what the command finds.
     ensures found { IfOk result (λ r. option_map (λ w. w.recording.now ∷ []) r ≡ taken (codes "sessions") sessions_places (map (λ w. string_bytes w) words.now)) }
 
-    // They are all words behind the tool's name but a first `--`, where in front of that no word is
-    // an option, and where there is one.
+    // They are all words after the tool's name but a first `--`, if no word before that is an option, and if there is
+    // one.
     ensures plain { IfOk result (λ r. option_map (λ w. w.recording.now ∷ []) r ≡ of_number 1 (operands (drop 1 (map (λ w. string_bytes w) words.now)))) }
 {
     match matches_of(alloc, "sessions", &["RECORDING"], words)? {
@@ -407,7 +405,7 @@ fn sessions_place<'a>(matches: &ArgMatches<'a>) -> Option<SessionsWords<'a>>
     Some(SessionsWords { recording })
 }
 
-/// What the command of a tool finds, where it takes the words. It fails where memory is refused.
+/// What the command of a tool finds, if it takes the words. It fails if memory is refused.
 fn matches_of<'a>(
     alloc: Global,
     tool: &'a str,
@@ -421,8 +419,8 @@ fn matches_of<'a>(
     accepted(alloc, tool, places, &[], words)
 }
 
-/// The words in the filled places of the command of a tool that takes recordings, where it takes the words. It fails where memory is
-/// refused.
+/// The words in the filled places of the command of a tool that takes recordings, if it takes the words. It fails if
+/// memory is refused.
 fn filled<'a>(
     alloc: Global,
     tool: &'a str,
@@ -467,7 +465,7 @@ fn push_filled<'a>(
     Ok(())
 }
 
-/// Puts a word after others, where there is one.
+/// Puts a word after others, if there is one.
 fn push_some<'a>(word: Option<&'a str>, found: &mut Vec<&'a str>) -> Result<(), AllocError>
     ensures { OnOk result (map (λ word. word.now) found.new.items ≡ map (λ word. word.now) found.old.items ++ option_to_list (option_map (λ word. word.now) word.entry)) }
 {
@@ -477,7 +475,7 @@ fn push_some<'a>(word: Option<&'a str>, found: &mut Vec<&'a str>) -> Result<(), 
     Ok(())
 }
 
-/// What the command of a tool finds, where it takes the words. It fails where memory is refused.
+/// What the command of a tool finds, if it takes the words. It fails if memory is refused.
 fn accepted<'a>(
     alloc: Global,
     tool: &'a str,

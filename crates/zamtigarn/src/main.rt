@@ -1,7 +1,8 @@
 //! A filtering D-Bus proxy: its program.
 //!
-//! It fills closed standard streams, and gives the words, the disk's files and the standard streams to `proxy_main::start_process`, which
-//! runs a tool. A proxy line is served by `proxy_main::run` over Unix sockets. The program ends with the status that these answer.
+//! It fills closed standard streams, and gives the words, the disk's files and the standard streams to
+//! `proxy_main::start_process`, which runs a tool. A proxy line is served by `proxy_main::run` over Unix sockets. The
+//! program ends with the status that these answer.
 #![tactic(auto)]
 
 ghost use Rattle.std.specs.Prelude.{◌≡◌, ◌≢◌};

@@ -82,7 +82,8 @@ fn scripted(
     Ok(StdSink::new(ScriptedWriter::new(alloc, steps)?, clock))
 }
 
-/// A stream that takes nothing for a time is waited for, after 1, 2, 4 and up to 32 milliseconds, and none of that is a fault.
+/// A stream that takes nothing for a time is waited for, after 1, 2, 4 and up to 32 milliseconds, and none of that is a
+/// fault.
 #[test]
 fn waits(rt: HostRuntime) -> Result<(), Fail> {
     for (kind, times, slept) in [
