@@ -34,10 +34,20 @@ fn told_server(alloc: Global, row: &str) -> Result<String, AllocError> {
     let row = row_of(row);
     let mut net = net_over(alloc, &socket_words(alloc, row.words, row.script)?)?;
     let mut log = MemSink::new(alloc, row.room)?;
-    let mut told = told_end(alloc, row.words, &mut net, &mut log)?;
+    let end = told_end(alloc, row.words, &mut net, &mut log)?;
+    let mut told = String::from_str(alloc, net_end(row.script, &end))?;
     add_written(alloc, &mut told, &net, row.links)?;
     add_log(alloc, &mut told, &log)?;
     Ok(told)
+}
+
+/// How a server ends over a net in memory that ends so over sockets. A net whose script is over is quiet, and a system's wait fails.
+fn net_end<'a>(script: &str, end: &'a str) -> &'a str {
+    if end == "Wait" && !script.contains("WaitFails") {
+        "Stopped"
+    } else {
+        end
+    }
 }
 
 /// Adds what was written to each link of a list, as a text.

@@ -13,6 +13,7 @@ const MOST_TURNS: u32 = 99_999;
 const LOG_ROOM: usize = 999;
 
 /// What is given in a row: `words; script; links`, or `room | words; script; links`.
+#[derive(Drop)]
 pub struct Row<'a> {
     /// How many bytes the log has room for.
     pub room: usize,
