@@ -134,12 +134,9 @@ impl OutQueue {
         ensures err { OnErr result (self.new ≡ self.old) }
     {
         self.seal_long();
-        self.joined.reserve(bytes.len())?;
-        let (front, _) = bytes.split_at(place);
-        let (_, rest) = bytes.split_at(place + 4);
-        self.joined.extend_reserved(front);
-        self.joined.extend_reserved(&others);
-        self.joined.extend_reserved(rest);
+        let at = self.joined.len() + place;
+        self.joined.extend_from_slice(bytes)?;
+        write_four(self.joined.as_mut_slice(), at, others);
         Ok(())
     }
 
@@ -269,6 +266,15 @@ impl OutQueue {
             self.sealed = all;
         }
     }
+}
+
+/// Writes four bytes in the place of those from a place on.
+fn write_four(bytes: &mut [u8], at: usize, others: [u8; 4])
+    requires { at + 4 ≤ length bytes.old }
+    ensures bytes { bytes.new ≡ take at bytes.old ++ others ++ drop (at + 4) bytes.old }
+    ensures len { length bytes.new ≡ length bytes.old }
+{
+    bytes[at..at + 4].copy_from_slice(&others);
 }
 
 /// Makes a part of what was joined, where it is something, and room for one part more. It answers whether it could.
