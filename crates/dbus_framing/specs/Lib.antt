@@ -1,3 +1,4 @@
+pub mod Coming
 pub mod Framing
 pub mod Knows
 pub mod Lying

@@ -67,10 +67,28 @@ impl Buffer {
             Ok(bytes) => bytes.into_vec()?,
             Err(bytes) => Vec::from_slice(alloc, bytes.as_slice())?,
         };
-        Ok(Buffer {
+        Ok(Buffer::from_vec(alloc, bytes))
+    }
+
+    /// A buffer with the bytes of a vector, in its memory.
+    pub(crate) fn from_vec(alloc: Global, bytes: Vec<u8>) -> Buffer
+        ensures { result ≡ bytes.items }
+    {
+        Buffer {
             content: Content::Open(ByteQueue::from_vec(bytes)),
             alloc,
-        })
+        }
+    }
+
+    /// Its memory, unless others may have parts of it. The bytes are dropped.
+    pub(crate) fn into_room(self) -> Vec<u8>
+        ensures { result.items ≡ [] }
+    {
+        let Buffer { content, alloc } = self;
+        match content {
+            Content::Open(bytes) => bytes.into_room(),
+            Content::Shared(_) => Vec::new(alloc),
+        }
     }
 
     /// The bytes.

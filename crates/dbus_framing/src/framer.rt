@@ -47,7 +47,7 @@ impl Model for Framer {
 }
 
 /// What stands in front, by what its head says.
-fn looked(state: State, left: &[u8]) -> Front
+pub(crate) fn looked(state: State, left: &[u8]) -> Front
     requires known { Knows state left.now }
     requires short { state ≡ AwaitsHead → length left.now < 16 }
     ensures { Looks left.now result }
@@ -65,7 +65,7 @@ fn looked(state: State, left: &[u8]) -> Front
 }
 
 /// The message of that length in front, or what is wrong with it.
-fn message_in_front<'a>(
+pub(crate) fn message_in_front<'a>(
     left: &'a [u8],
     len: usize,
     known: &mut KnownTexts,
@@ -100,6 +100,33 @@ impl Framer {
             state: State::AwaitsHead,
             alloc,
         })
+    }
+
+    /// A framer with the bytes of a vector, in its memory, and with what is known of the message in front.
+    pub(crate) fn with_known(alloc: Global, bytes: Vec<u8>, state: State) -> Framer
+        requires { Knows state bytes.items }
+        ensures { result ≡ bytes.items }
+    {
+        let mut bytes = Buffer::from_vec(alloc, bytes);
+        bytes.release();
+        Framer {
+            bytes,
+            state,
+            alloc,
+        }
+    }
+
+    /// Its memory, without bytes. Those that weren't given are dropped.
+    pub(crate) fn into_room(self) -> Vec<u8>
+        ensures { result.items ≡ [] }
+    {
+        let Framer { bytes, .. } = self;
+        bytes.into_room()
+    }
+
+    /// The allocator for what is pushed.
+    pub(crate) fn alloc(&self) -> Global {
+        self.alloc
     }
 
     /// How many bytes came and weren't given yet.

@@ -1,11 +1,15 @@
 //! The messages of a stream that comes in pieces (D-Bus Specification, "Message Format").
 //!
-//! A `Framer` is driven by `push` with each piece, and then by `front`, `message` and `take` until nothing whole is left.
+//! A `Framer` is driven by `push` with each piece, and then by `front`, `message` and `take` until nothing whole is
+//! left. If nothing is left before a piece, `Messages` reads the messages where the piece lies, and only the rest is
+//! copied.
 #![tactic(auto)]
 
 mod buffer;
 mod framer;
 mod laws;
+mod messages;
+mod passing;
 mod queue;
 mod state;
 
@@ -13,6 +17,7 @@ use bytes::Bytes;
 use dbus_header::Malformed;
 pub use framer::Framer;
 pub use laws::{bad_is_given_again, given_are_messages, more_is_pushed, next_is_given};
+pub use messages::Messages;
 
 /// What stands in front of a stream, by its head.
 #[derive(Clone, Copy, Debug, PartialEq, Eq)]

@@ -56,6 +56,15 @@ impl ByteQueue {
         ByteQueue { bytes, given: 0 }
     }
 
+    /// Its memory. The bytes that wait are dropped.
+    pub(crate) fn into_room(self) -> Vec<u8>
+        ensures { result.items ≡ [] }
+    {
+        let ByteQueue { mut bytes, .. } = self;
+        bytes.clear();
+        bytes
+    }
+
     /// A copy of bytes, in as much memory as they need.
     pub(crate) fn copy_from_slice(alloc: Global, bytes: &[u8]) -> Result<ByteQueue, AllocError>
         ensures { IfOk result (λ queue. queue ≡ bytes.now) }

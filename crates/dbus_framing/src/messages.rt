@@ -1,0 +1,128 @@
+//! The messages of a stream that weren't taken yet, wherever their bytes lie.
+ghost use Rattle.std.specs.Prelude.{◌≡◌, ◌≤◌, [], Some, IfOk, IfErr, IfSome, MatchResult, length, take, drop};
+ghost use Rattle.dbus_header.specs.Message.{Message as MessageTree};
+ghost use Rattle.dbus_header.specs.Malformed.{fault};
+ghost use Rattle.dbus_framing.specs.Framing.{Looks, Takes};
+ghost use Rattle.dbus_framing.specs.Knows.{IsWhole};
+
+use crate::Front;
+use crate::framer::Framer;
+use crate::passing::Passing;
+use bytes::Bytes;
+use dbus_header::{KnownTexts, Malformed, Message};
+use std::marker::Model;
+
+/// Where the bytes of the messages lie.
+#[derive(Drop)]
+pub(crate) enum Source<'a> {
+    /// In a framer, to which they were pushed.
+    Kept(Framer),
+    /// In a piece that came when no bytes were left.
+    Passed(Passing<'a>),
+}
+
+/// The messages of a stream that weren't taken yet: those in a framer, or those in a piece that came with nothing left
+/// before it. They are driven by `front`, `message` and `take`; `into_framer` then gives the framer for the next piece.
+#[derive(Drop)]
+pub struct Messages<'a> {
+    source: Source<'a>,
+}
+
+impl<'a> Model for Messages<'a> {
+    ghost use Rattle.std.specs.Prelude.{List, ℕ};
+    ghost use Rattle.dbus_framing.specs.Coming.{coming_from};
+
+    ghost Value = { List ℕ };
+
+    ghost view = { λ m. coming_from m.source };
+}
+
+impl<'a> Messages<'a> {
+    /// The messages in a framer.
+    pub fn kept(framer: Framer) -> Messages<'a>
+        ensures { result ≡ framer }
+    {
+        Messages {
+            source: Source::Kept(framer),
+        }
+    }
+
+    /// The messages in a piece. They are read where they lie, and `into_framer` copies only the rest, into the framer's
+    /// memory, which is made large enough for the whole piece here. An error says that memory for this ran out, and
+    /// gives the framer back.
+    pub fn passing(framer: Framer, piece: &'a [u8]) -> Result<Messages<'a>, Framer>
+        requires { framer ≡ [] }
+        ensures { MatchResult result (λ messages. messages ≡ piece.now) (λ refused. refused ≡ []) }
+    {
+        match Passing::new(framer, piece) {
+            Ok(passing) => Ok(Messages {
+                source: Source::Passed(passing),
+            }),
+            Err(framer) => Err(framer),
+        }
+    }
+
+    /// What stands in front, of which only the head is looked at, and that once. Nothing changes.
+    pub fn front(&mut self) -> Front
+        ensures looks { Looks self.old result }
+        ensures stays { self.new ≡ self.old }
+    {
+        match &mut self.source {
+            Source::Kept(framer) => framer.front(),
+            Source::Passed(passing) => passing.front(),
+        }
+    }
+
+    /// The message in front, of as many bytes as `front` said, read in place; or what is wrong with it. Known are
+    /// headers and texts of the stream's messages before it.
+    pub fn message<'m>(
+        &'m self,
+        len: usize,
+        known: &mut KnownTexts,
+    ) -> Result<Message<'m>, Malformed>
+        requires { IsWhole self.now len }
+        ensures bytes { IfOk result (λ message. message.bytes.now ≡ take len self.now) }
+        ensures valid { IfOk result (λ message. (m : MessageTree) × Takes self.now message.bytes.now (drop len self.now) m) }
+        ensures bad { IfErr result (λ f. fault self.now ≡ Some f) }
+    {
+        match &self.source {
+            Source::Kept(framer) => framer.message(len, known),
+            Source::Passed(passing) => passing.message(len, known),
+        }
+    }
+
+    /// The bytes of the message in front, of as many as `front` said, if they are many, lie in a framer, and memory for
+    /// sharing them is left. They aren't copied, and stay here too.
+    pub fn shared(&mut self, len: usize) -> Option<Bytes>
+        requires { len ≤ length self.old }
+        ensures front { IfSome result (λ bytes. bytes ≡ take len self.old) }
+        ensures stays { self.new ≡ self.old }
+    {
+        match &mut self.source {
+            Source::Kept(framer) => framer.shared(len),
+            Source::Passed(_) => None,
+        }
+    }
+
+    /// Takes that many bytes from the front.
+    pub fn take(&mut self, len: usize)
+        requires { len ≤ length self.old }
+        ensures { self.new ≡ drop len self.old }
+    {
+        match &mut self.source {
+            Source::Kept(framer) => framer.take(len),
+            Source::Passed(passing) => passing.take(len),
+        }
+    }
+
+    /// The framer with all bytes that weren't taken. Those of a piece are copied, into memory that was reserved for
+    /// them.
+    pub fn into_framer(self) -> Framer
+        ensures { result ≡ self.entry }
+    {
+        match self.source {
+            Source::Kept(framer) => framer,
+            Source::Passed(passing) => passing.into_framer(),
+        }
+    }
+}

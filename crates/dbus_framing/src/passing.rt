@@ -1,0 +1,122 @@
+//! A piece of a stream whose messages are read where they lie.
+ghost use Rattle.std.specs.Prelude.{◌≡◌, ◌≤◌, [], Some, IfOk, IfErr, MatchResult, length, take, drop, vec_capacity};
+ghost use Rattle.dbus_header.specs.Message.{Message as MessageTree};
+ghost use Rattle.dbus_header.specs.Malformed.{fault};
+ghost use Rattle.dbus_framing.specs.Framing.{Looks, Takes};
+ghost use Rattle.dbus_framing.specs.Knows.{IsWhole};
+
+use crate::Front;
+use crate::framer::{Framer, looked, message_in_front};
+use crate::state::State;
+use dbus_header::{KnownTexts, Malformed, Message};
+use std::alloc::Global;
+use std::marker::Model;
+
+/// The part of a piece that wasn't taken yet, and the memory of the stream's framer. That has room for all of the part,
+/// so that to keep the rest can't fail.
+///
+/// ```text
+///   taken      left                     room, empty
+/// +----------+---------------+        +------------------------+
+/// |          |               |  rest  |                        |
+/// +----------+---------------+   to   +------------------------+
+///              ^ take
+/// ```
+#[derive(Drop)]
+pub(crate) struct Passing<'a> {
+    left: &'a [u8],
+    state: State,
+    room: Vec<u8>,
+    alloc: Global,
+}
+
+impl<'a> Model for Passing<'a> {
+    ghost use Rattle.std.specs.Prelude.{◌≡◌, ◌≤◌, List, ℕ, [], length, vec_capacity};
+
+    ghost Value = { List ℕ };
+
+    ghost use Rattle.dbus_framing.specs.Knows.{Knows};
+
+    ghost view = { λ p. p.left.now };
+
+    ghost invariant = { λ p. Knows p.state p.left.now × (p.room.items ≡ []) × (length p.left.now ≤ vec_capacity p.room) };
+}
+
+/// A copy of bytes, in memory that has room for them.
+fn copied_into(mut room: Vec<u8>, bytes: &[u8]) -> Vec<u8>
+    requires empty { room.items ≡ [] }
+    requires room { length bytes.now ≤ vec_capacity room }
+    ensures { result.items ≡ bytes.now }
+{
+    match room.extend_from_slice(bytes) {
+        Ok(()) => room,
+        Err(_) => unreachable!(),
+    }
+}
+
+impl<'a> Passing<'a> {
+    /// A piece, and the memory of a framer that holds no bytes. An error says that memory for the whole piece ran out,
+    /// and gives the framer back.
+    pub(crate) fn new(framer: Framer, piece: &'a [u8]) -> Result<Passing<'a>, Framer>
+        requires { framer ≡ [] }
+        ensures { MatchResult result (λ passing. passing ≡ piece.now) (λ refused. refused ≡ []) }
+    {
+        let alloc = framer.alloc();
+        let mut room = framer.into_room();
+        match room.reserve(piece.len()) {
+            Ok(()) => Ok(Passing {
+                left: piece,
+                state: State::AwaitsHead,
+                room,
+                alloc,
+            }),
+            Err(_) => Err(Framer::with_known(alloc, room, State::AwaitsHead)),
+        }
+    }
+
+    /// What stands in front, of which only the head is looked at, and that once. Nothing changes.
+    pub(crate) fn front(&mut self) -> Front
+        ensures looks { Looks self.old result }
+        ensures stays { self.new ≡ self.old }
+    {
+        let state = self.state.with_head(self.left);
+        self.state = state;
+        looked(state, self.left)
+    }
+
+    /// The message in front, of as many bytes as `front` said, or what is wrong with it.
+    pub(crate) fn message<'m>(
+        &'m self,
+        len: usize,
+        known: &mut KnownTexts,
+    ) -> Result<Message<'m>, Malformed>
+        requires { IsWhole self.now len }
+        ensures bytes { IfOk result (λ message. message.bytes.now ≡ take len self.now) }
+        ensures valid { IfOk result (λ message. (m : MessageTree) × Takes self.now message.bytes.now (drop len self.now) m) }
+        ensures bad { IfErr result (λ f. fault self.now ≡ Some f) }
+    {
+        message_in_front(self.left, len, known)
+    }
+
+    /// Takes that many bytes from the front.
+    pub(crate) fn take(&mut self, len: usize)
+        requires { len ≤ length self.old }
+        ensures { self.new ≡ drop len self.old }
+    {
+        self.left = &self.left[len..];
+        self.state = State::AwaitsHead;
+    }
+
+    /// A framer with the rest, which is copied into the memory that was reserved for it.
+    pub(crate) fn into_framer(self) -> Framer
+        ensures { result ≡ self.entry }
+    {
+        let Passing {
+            left,
+            state,
+            room,
+            alloc,
+        } = self;
+        Framer::with_known(alloc, copied_into(room, left), state)
+    }
+}
