@@ -24,4 +24,5 @@ pub mod Taken
 pub mod Weights
 pub mod Draining
 pub mod Lent
+pub mod InPlace
 pub mod Streams

@@ -1,5 +1,5 @@
 -- What a session does with the first of the messages that are left of a side's stream, while these are lent out of it.
-use Rattle.std.specs.Prelude.{◌≡◌, ◌⊎◌, ℕ, Bool, false, List, [], None, is_none}
+use Rattle.std.specs.Prelude.{◌≡◌, ◌⊎◌, ℕ, ◌+◌, Bool, false, List, [], None, is_none}
 use Rattle.dbus_framing.specs.Framing.{Takes}
 use Rattle.dbus_header.specs.Malformed.{fault, front}
 use Rattle.dbus_header.specs.Message.{Message}
@@ -8,7 +8,7 @@ use Rattle.policy_view.specs.declared.Side.{Side}
 use Rattle.proxy_core.specs.Sessions.{SessionView, stream_of}
 use Rattle.proxy_core.specs.Streams.{InMessages}
 use Rattle.proxy_core.specs.Messages.{with_watched_message}
-use Rattle.proxy_core.specs.Steps.{with_fault, TookMessage}
+use Rattle.proxy_core.specs.Steps.{with_fault, with_stream, TookMessage}
 
 -- the message in front was taken, and the rest is left
 pub record TookWhole (policy : Policy) (side : Side) (left rest : List ℕ) (old new : SessionView) (more : Bool) : Type 0 where
@@ -32,3 +32,7 @@ TookFirst policy side left rest old new more = TookWhole policy side left rest o
 pub record IsLent (side : Side) (view : SessionView) : Type 0 where
   pub phase : (stream_of side view).phase ≡ InMessages
   pub none : (stream_of side view).left ≡ []
+
+-- so many bytes came of a side's stream, and are lent
+abbrev pub with_came : Side → ℕ → SessionView → SessionView
+with_came side n view = with_stream side (record (stream_of side view) { came = (stream_of side view).came + n }) view

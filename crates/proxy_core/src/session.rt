@@ -397,6 +397,10 @@ impl Session {
         if bytes.is_empty() {
             return;
         }
+        if self.processes_in_place(side, bytes) {
+            self.receive_in_place(policy, side, bytes);
+            return;
+        }
         match self.push(side, bytes) {
             Ok(()) => {
                 let most = self.left_len(side) + 2;

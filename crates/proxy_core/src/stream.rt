@@ -12,7 +12,7 @@ ghost use Rattle.policy_view.specs.Notes.{message_in};
 ghost use Rattle.proxy_core.specs.Streams.{InMessages, GaveLine, is_in_lines as in_lines, new_stream, pushed};
 
 use bytes::Bytes;
-use dbus_framing::Framer;
+use dbus_framing::{Framer, Messages};
 use dbus_header::{KnownTexts, Malformed, Message};
 use policy_view::Note;
 use sasl_watch::{Lines, NextLine};
@@ -190,11 +190,33 @@ impl Stream {
         }
     }
 
+    /// Counts a piece of messages as come while none of their bytes are left, and lends it out. It isn't copied.
+    pub(crate) fn lend_piece<'a>(&mut self, piece: &'a [u8]) -> Result<Messages<'a>, AllocError>
+        requires messages { self.old.phase ≡ InMessages }
+        requires none { self.old.left ≡ [] }
+        requires room { self.old.came + length piece.now ≤ longest_stream }
+        ensures piece { IfOk result (λ messages. messages ≡ piece.now) }
+        ensures ok { OnOk result (self.new ≡ record self.old { came = self.old.came + length piece.now }) }
+        ensures err { OnErr result (self.new ≡ self.old) }
+    {
+        let framer = self.lend_messages();
+        match Messages::passing(framer, piece) {
+            Ok(messages) => {
+                self.came += piece.len() as u64;
+                Ok(messages)
+            }
+            Err(framer) => {
+                self.put_messages(framer);
+                Err(AllocError)
+            }
+        }
+    }
+
     /// The message of as many bytes as its head states, in front of what was lent, or what is wrong with it. What is known of its texts
     /// is kept here; nothing else changes.
     pub(crate) fn read_message<'a>(
         &mut self,
-        lent: &'a Framer,
+        lent: &'a Messages<'_>,
         len: usize,
     ) -> Result<Message<'a>, Malformed>
         requires { IsWhole lent.now len }

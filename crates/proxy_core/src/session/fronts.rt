@@ -1,24 +1,29 @@
 //! The message in front of a side's stream. What is left of the stream is lent out of the session meanwhile, so that the message is read
 //! where it stands, once.
-ghost use Rattle.std.specs.Prelude.{◌≡◌, [], false, true, None, Some, IfOk, IfErr, drop};
+ghost use Rattle.std.specs.Prelude.{◌≡◌, ◌==◌, ◌≤◌, ◌+◌, [], false, true, None, Some, IfOk, IfErr, OnOk, OnErr, length, drop};
 ghost use Rattle.dbus_framing.specs.Framing.{Takes};
 ghost use Rattle.dbus_framing.specs.Knows.{IsWhole};
 ghost use Rattle.dbus_header.specs.Malformed.{fault};
 ghost use Rattle.dbus_header.specs.Message.{Message as MessageTree};
-ghost use Rattle.policy_view.specs.History.{malformed as malformed_by};
+ghost use Rattle.policy_view.specs.History.{malformed as malformed_by, longest_stream};
 ghost use Rattle.policy_view.specs.declared.Fault.TheVariants.{Message as OfMessage};
 ghost use Rattle.proxy_core.specs.Messages.{ended_by};
-ghost use Rattle.proxy_core.specs.Seen.{TookFirst, IsLent};
+ghost use Rattle.proxy_core.specs.Seen.{TookFirst, IsLent, with_came};
 ghost use Rattle.proxy_core.specs.Sessions.{stream_of};
-ghost use Rattle.proxy_core.specs.Steps.{with_left, drained, Took, IsLight};
+ghost use Rattle.proxy_core.specs.Steps.{with_left, with_bytes, with_pushed, drained, Took, IsLight};
 ghost use Rattle.proxy_core.specs.Streams.{InMessages};
 
 use super::{Session, malformed};
 use crate::incoming::Incoming;
-use dbus_framing::{Framer, Front};
+use dbus_framing::{Framer, Front, Messages};
 use dbus_header::{Malformed, Message};
 use policy_args::Policy;
-use policy_view::{Fault, Side};
+use policy_view::{End, Fault, Side};
+use std::alloc::AllocError;
+
+/// One read of a link gives no more bytes. A longer piece may hold long messages, whose bytes are shared if a framer
+/// holds them.
+const LONGEST_IN_PLACE: usize = 65_536;
 
 impl Session {
     /// Lends out what is left of the messages of a side's stream. None is left in the session meanwhile.
@@ -33,11 +38,27 @@ impl Session {
         }
     }
 
+    /// Counts a piece of a side's messages as come while none of their bytes are left, and lends it out. It isn't
+    /// copied.
+    fn lend_piece<'a>(&mut self, side: Side, piece: &'a [u8]) -> Result<Messages<'a>, AllocError>
+        requires messages { (stream_of side self.old).phase ≡ InMessages }
+        requires none { (stream_of side self.old).left ≡ [] }
+        requires room { (stream_of side self.old).came + length piece.now ≤ longest_stream }
+        ensures piece { IfOk result (λ messages. messages ≡ piece.now) }
+        ensures ok { OnOk result (self.new ≡ with_came side (length piece.now) self.old) }
+        ensures err { OnErr result (self.new ≡ self.old) }
+    {
+        match side {
+            Side::Client => self.client.lend_piece(piece),
+            Side::Bus => self.bus.lend_piece(piece),
+        }
+    }
+
     /// The message of as many bytes as its head states, in front of what was lent of a side's stream, or what is wrong with it.
     fn read_message<'a>(
         &mut self,
         side: Side,
-        messages: &'a Framer,
+        messages: &'a Messages<'_>,
         len: usize,
     ) -> Result<Message<'a>, Malformed>
         requires { IsWhole messages.now len }
@@ -77,7 +98,7 @@ impl Session {
         &mut self,
         policy: &Policy,
         side: Side,
-        messages: &mut Framer,
+        messages: &mut Messages<'_>,
         len: usize,
     ) -> bool
         requires running { self.old.ended ≡ None }
@@ -98,7 +119,7 @@ impl Session {
 
     /// Processes the first of a side's messages, or ends the session if its head is wrong. Answers whether more messages may
     /// follow.
-    fn process_first(&mut self, policy: &Policy, side: Side, messages: &mut Framer) -> bool
+    fn process_first(&mut self, policy: &Policy, side: Side, messages: &mut Messages<'_>) -> bool
         requires { self.old.ended ≡ None }
         ensures { TookFirst policy.now side messages.old messages.new self.old self.new result }
     {
@@ -111,7 +132,13 @@ impl Session {
 
     /// Processes messages from the front of those of a side's stream, `most` of them at most, until none is whole or the
     /// session has ended.
-    fn process_messages(&mut self, policy: &Policy, side: Side, messages: &mut Framer, most: usize)
+    fn process_messages(
+        &mut self,
+        policy: &Policy,
+        side: Side,
+        messages: &mut Messages<'_>,
+        most: usize,
+    )
         requires running { self.old.ended ≡ None }
         requires lent { IsLent side self.old }
         requires filtered { self.old.mode.filter ≡ true }
@@ -137,8 +164,45 @@ impl Session {
         ensures took { Took policy.now side (drained policy.now side most self.old) self.old self.new }
         ensures light { IsLight policy.now 0 self.old self.new }
     {
-        let mut messages = self.lend_messages(side);
+        let framer = self.lend_messages(side);
+        let mut messages = Messages::kept(framer);
         self.process_messages(policy, side, &mut messages, most);
-        self.put_messages(side, messages);
+        let left = messages.into_framer();
+        self.put_messages(side, left);
+    }
+
+    /// Whether a piece of a side's stream is processed where it lies: messages come that are filtered, and none of
+    /// their bytes are left.
+    pub(super) fn processes_in_place(&self, side: Side, piece: &[u8]) -> bool
+        ensures messages { result ≡ true → (stream_of side self.now).phase ≡ InMessages }
+        ensures none { result ≡ true → (stream_of side self.now).left ≡ [] }
+        ensures filtered { result ≡ true → self.now.mode.filter ≡ true }
+    {
+        self.mode.filter
+            && piece.len() <= LONGEST_IN_PLACE
+            && !self.is_in_lines(side)
+            && self.left_len(side) == 0
+    }
+
+    /// Receives a piece of a side's messages while none of their bytes are left. The messages are processed where the
+    /// piece lies, and only the rest is copied.
+    pub(super) fn receive_in_place(&mut self, policy: &Policy, side: Side, piece: &[u8])
+        requires running { self.old.ended ≡ None }
+        requires some { (length piece.now == 0) ≡ false }
+        requires room { (stream_of side self.old).came + length piece.now ≤ longest_stream }
+        requires messages { (stream_of side self.old).phase ≡ InMessages }
+        requires none { (stream_of side self.old).left ≡ [] }
+        requires filtered { self.old.mode.filter ≡ true }
+        ensures took { Took policy.now side (with_bytes policy.now side piece.now self.old) (with_pushed side piece.now self.old) self.new }
+        ensures light { IsLight policy.now (length piece.now) self.old self.new }
+    {
+        match self.lend_piece(side, piece) {
+            Ok(mut messages) => {
+                self.process_messages(policy, side, &mut messages, piece.len() + 2);
+                let left = messages.into_framer();
+                self.put_messages(side, left);
+            }
+            Err(_) => self.end_with(End::Memory),
+        }
     }
 }
