@@ -21,7 +21,7 @@ use Rattle.std.proofs.lemmas.Slice.Eq.{bytes_eq-Decides}
 use Rattle.proxy_net.specs.Registering.{listeners_from}
 use Rattle.proxy_net.specs.Sockets.{GoesOn, Grows, IsConsistent, AreBound, count_in, path_in, path_at, sessions_after, shown}
 use Rattle.proxy_net.specs.Files.{removal}
-use Rattle.proxy_net.specs.Steps.{Steps, IsSilent, IsAnswered, AreRemovals, IsListen, IsAccept, IsConnect, IsRead, IsWrite, IsShut, IsFileRemoval, IsMadeRemoval, IsClearing, IsBindCall, IsBoundAndAwaited, IsUndone, IsOpened, IsPrepare}
+use Rattle.proxy_net.specs.Steps.{Steps, IsSilent, IsAnswered, AreRemovals, IsListen, IsAccept, IsConnected, IsConnect, IsRead, IsWrite, IsShut, IsFileRemoval, IsMadeRemoval, IsClearing, IsBindCall, IsBoundAndAwaited, IsUndone, IsOpened, IsPrepare}
 use Rattle.proxy_net.specs.SystemCalls.{SystemCall, Tells, bind, await_clients, identify, open_starter, answered, is_bind, was_bound}
 use Rattle.std.specs.declared.io.ErrorKind.{ErrorKind}
 use Rattle.proxy_net.specs.declared.bound_files.BoundFile.{BoundFile}
@@ -124,33 +124,39 @@ pub first_refused : (present : Bool) (descriptor : ℕ) (kind : ErrorKind) → p
 first_refused false descriptor kind same = (kind, refl)
 first_refused true descriptor kind same = absurd cc
 
-pub accept_silent : (listener : ℕ) (answer : Accepted) (calls : List SystemCall) → IsAccept listener answer calls → IsSilent calls
-accept_silent listener (New session) calls is = silent_as is refl
-accept_silent listener AcceptNotReady calls is = silent_as is.2 refl
-accept_silent listener AcceptFailed calls is = elim is [
-  | inl none ↦ silent_as none refl
-  | inr asked ↦ silent_as asked.2 refl
+pub accept_silent : (place listeners sessions : ℕ) (answer : Accepted) (calls : List SystemCall) → IsAccept place listeners sessions answer calls → IsSilent calls
+accept_silent place listeners sessions (New session) calls is = silent_as is refl
+accept_silent place listeners sessions AcceptNotReady calls is = elim is [
+  | inl waits ↦ silent_as waits refl
+  | inr interrupted ↦ silent_as interrupted refl
 ]
-accept_silent listener Memory calls is = elim is [
+accept_silent place listeners sessions AcceptFailed calls is = elim is [
+  | inl none ↦ silent_as none.0 refl
+  | inr asked ↦ silent_as asked.1 refl
+]
+accept_silent place listeners sessions Memory calls is = elim is [
   | inl none ↦ silent_as none refl
-  | inr asked ↦ silent_as asked.2 refl
+  | inr asked ↦ silent_as asked refl
 ]
 
-pub connect_silent : (number : ℕ) (path : List ℕ) (answer : Result (Unit {0}) NetFault) (calls : List SystemCall) → IsConnect number path answer calls → IsSilent calls
-connect_silent number path (Ok done) calls is = elim is [
+connected_silent : (number : ℕ) (path : List ℕ) (calls : List SystemCall) → IsConnected number path calls → IsSilent calls
+connected_silent number path calls is = elim is [
   | inl made ↦ silent_as made refl
   | inr later ↦ elim later [
     | inl waits ↦ silent_as waits refl
     | inr interrupted ↦ silent_as interrupted refl
   ]
 ]
-connect_silent number path (Err FaultFailed) calls is = elim is [
-  | inl none ↦ silent_as none refl
+
+pub connect_silent : (number : ℕ) (path : List ℕ) (taken : Bool) (answer : Result (Unit {0}) NetFault) (calls : List SystemCall) → IsConnect number path taken answer calls → IsSilent calls
+connect_silent number path taken (Ok done) calls is = connected_silent number path calls is
+connect_silent number path taken (Err FaultFailed) calls is = elim is [
+  | inl none ↦ silent_as none.0 refl
   | inr asked ↦ silent_as asked.1 refl
 ]
-connect_silent number path (Err FaultMemory) calls is = elim is [
+connect_silent number path taken (Err FaultMemory) calls is = elim is [
   | inl none ↦ silent_as none refl
-  | inr asked ↦ silent_as asked.1 refl
+  | inr asked ↦ connected_silent number path calls asked
 ]
 
 pub read_silent : (number : ℕ) (into : List ℕ) (got : Got) (calls : List SystemCall) → IsRead number into got calls → IsSilent calls

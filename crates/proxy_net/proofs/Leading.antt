@@ -1,5 +1,6 @@
 -- What calls lead to, by the answer.
-use Rattle.std.proofs.Common.{ℕ, ◌≡◌, ◌≢◌, ◌⊎◌, ◌∙◌, inl, inr, Bool, true, false, List, [], ◌∷◌, ◌++◌, Option, Some, None, Result, Ok, Err, refl, ap, ap₂}
+use Rattle.std.proofs.Common.{ℕ, ◌==◌, length, ◌≡◌, ◌≢◌, ◌⊎◌, ◌∙◌, inl, inr, Bool, true, false, List, [], ◌∷◌, ◌++◌, Option, Some, None, Result, Ok, Err, refl, ap, ap₂, arith}
+use Rattle.std.proofs.lemmas.Bool.Decides.{nat_tests}
 use Rattle.std.specs.declared.io.ErrorKind.{ErrorKind}
 use Rattle.std.specs.declared.io.ErrorKind.TheVariants.{WouldBlock, Interrupted}
 use Rattle.link_traits.specs.declared.links.Took.{Took}
@@ -7,7 +8,7 @@ use Rattle.link_traits.specs.declared.links.Took.TheVariants.{Bytes as TookBytes
 use Rattle.link_traits.specs.declared.links.NetFault.{NetFault}
 use Rattle.link_traits.specs.declared.links.NetFault.TheVariants.{Failed as FaultFailed, Memory as FaultMemory}
 use Rattle.proxy_net.specs.SystemCalls.{SystemCall, connect, write, Tells}
-use Rattle.proxy_net.specs.Steps.{Steps, IsRetryOf, IsWrite, IsLinkWrite, IsConnectionWrite, IsRoomAwaited, IsConnect}
+use Rattle.proxy_net.specs.Steps.{Steps, IsRetryOf, IsWrite, IsLinkWrite, IsConnectionWrite, IsRoomAwaited, IsConnected, IsConnect}
 use Rattle.proxy_net.specs.declared.streams.StreamWrite.TheVariants.{Again, Fault as WriteFault}
 use Rattle.proxy_net.specs.declared.link_sockets.LinkWrite.{LinkWrite}
 use Rattle.proxy_net.specs.declared.link_sockets.LinkWrite.TheVariants.{Bytes as LinkBytes, NotReady as LinkNotReady, PeerClosed as LinkClosed, Failed as LinkFailed}
@@ -37,24 +38,33 @@ closed_took number piece (TookBytes n) none calls is = absurd (none n refl)
 closed_took number piece WriteNotReady none calls is = inr (inl is)
 closed_took number piece WriteFailed none calls is = inr (inr (inl is))
 
+-- a path that is empty
+pub no_bytes : (path : List ℕ) → (length path == 0) ≡ true → path ≡ []
+no_bytes [] none = refl
+no_bytes (byte ∷ path) none = absurd (grind (arith, nat_tests, none))
+
 -- a connect that was made
-pub connected_once : (number : ℕ) (path : List ℕ) (result : Result (Unit {0}) NetFault) → result ≢ Err FaultFailed → (calls : List SystemCall) → calls ≡ connect number path None ∷ [] → IsConnect number path result calls
-connected_once number path (Ok done) kept calls is = inl is
-connected_once number path (Err FaultFailed) kept calls is = absurd (kept refl)
-connected_once number path (Err FaultMemory) kept calls is = inr (None, is)
+pub connected_once : (number : ℕ) (path : List ℕ) (taken : Bool) (result : Result (Unit {0}) NetFault) → result ≢ Err FaultFailed → (calls : List SystemCall) → calls ≡ connect number path None ∷ [] → IsConnect number path taken result calls
+connected_once number path taken (Ok done) kept calls is = inl is
+connected_once number path taken (Err FaultFailed) kept calls is = absurd (kept refl)
+connected_once number path taken (Err FaultMemory) kept calls is = inr (inl is)
 
 -- .. one that was put off
-pub put_off_once : (number : ℕ) (path : List ℕ) (kind : ErrorKind) (result : Result (Unit {0}) NetFault) → (kind ≡ WouldBlock) ⊎ (kind ≡ Interrupted) → (calls : List SystemCall) → calls ≡ connect number path (Some kind) ∷ [] → IsConnect number path result calls
-put_off_once number path kind (Ok done) why calls is = elim why [
+put_off : (number : ℕ) (path : List ℕ) (kind : ErrorKind) → (kind ≡ WouldBlock) ⊎ (kind ≡ Interrupted) → (calls : List SystemCall) → calls ≡ connect number path (Some kind) ∷ [] → IsConnected number path calls
+put_off number path kind why calls is = elim why [
   | inl waits ↦ inr (inl (is ∙ ap (λ (k : ErrorKind). connect number path (Some k) ∷ []) waits))
   | inr interrupted ↦ inr (inr (is ∙ ap (λ (k : ErrorKind). connect number path (Some k) ∷ []) interrupted))
 ]
-put_off_once number path kind (Err FaultFailed) why calls is = inr (kind, is)
-put_off_once number path kind (Err FaultMemory) why calls is = inr (Some kind, is)
+
+pub put_off_once : (number : ℕ) (path : List ℕ) (taken : Bool) (kind : ErrorKind) (result : Result (Unit {0}) NetFault) → (kind ≡ WouldBlock) ⊎ (kind ≡ Interrupted) → (calls : List SystemCall) → calls ≡ connect number path (Some kind) ∷ []
+    → IsConnect number path taken result calls
+put_off_once number path taken kind (Ok done) why calls is = put_off number path kind why calls is
+put_off_once number path taken kind (Err FaultFailed) why calls is = inr (kind, is)
+put_off_once number path taken kind (Err FaultMemory) why calls is = inr (put_off number path kind why calls is)
 
 -- .. and one that was refused
-pub refused_once : (number : ℕ) (path : List ℕ) (kind : ErrorKind) (calls : List SystemCall) → calls ≡ connect number path (Some kind) ∷ [] → IsConnect number path (Err FaultFailed) calls
-refused_once number path kind calls is = inr (kind, is)
+pub refused_once : (number : ℕ) (path : List ℕ) (taken : Bool) (kind : ErrorKind) (calls : List SystemCall) → calls ≡ connect number path (Some kind) ∷ [] → IsConnect number path taken (Err FaultFailed) calls
+refused_once number path taken kind calls is = inr (kind, is)
 
 -- a connect that was tried again
 pub tried_once : (number : ℕ) (path own : List ℕ) (fault : Option ErrorKind) {old new : Option (List SystemCall)} → path ≡ own → Tells old new (connect number path fault ∷ []) → Steps (IsRetryOf number own) old new

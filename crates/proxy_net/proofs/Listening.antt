@@ -1,8 +1,9 @@
 -- What a listen and an accept ask of the system, one call after the other.
-use Rattle.std.proofs.Common.{ℕ, zero, suc, ◌≡◌, ◌≢◌, ◌<◌, ◌+◌, ◌⊎◌, inl, inr, nat_eq, Bool, true, false, append-nil, length, map, take, unwrap_or, List, [], ◌∷◌, ◌++◌, Option, Some, None, Result, Ok, Err, slice_get, refl, sym, ap, ap₂, subst, ◌∙◌, arith}
+use Rattle.std.proofs.Common.{ℕ, zero, suc, ◌≡◌, ◌≢◌, ◌<◌, ◌≤◌, ◌+◌, ◌⊎◌, inl, inr, nat_eq, Bool, true, false, append-nil, length, map, take, unwrap_or, List, [], ◌∷◌, ◌++◌, Option, Some, None, Result, Ok, Err, slice_get, refl, sym, ap, ap₂, subst, ◌∙◌, arith}
 use Rattle.std.specs.Option.{option_map}
 use Rattle.std.specs.String.{string_bytes}
 use Rattle.std.specs.declared.io.ErrorKind.{ErrorKind}
+use Rattle.std.specs.declared.io.ErrorKind.TheVariants.{WouldBlock, Interrupted}
 use Rattle.std.proofs.lemmas.Bool.Decides.{nat_tests}
 use Rattle.link_traits.specs.declared.links.NetFault.{NetFault}
 use Rattle.link_traits.specs.declared.links.NetFault.TheVariants.{Failed as FaultFailed, Memory as FaultMemory}
@@ -11,7 +12,7 @@ use Rattle.link_traits.specs.declared.links.Accepted.TheVariants.{New, NotReady 
 use Rattle.link_traits.specs.Answers.{client_link}
 use Rattle.link_traits.specs.Numbers.{number_of}
 use Rattle.proxy_net.specs.SystemCalls.{SystemCall, bind, await_clients, accept, identify, Tells}
-use Rattle.proxy_net.specs.Steps.{Steps, IsBind, IsBindCall, IsClearing, IsAwait, IsCleanUp, IsListen, IsArrival, IsAccept, IsRemoval, IsFileRemoval, AreRemovals, IsRetryOf, IsRetryIn}
+use Rattle.proxy_net.specs.Steps.{Steps, IsBind, IsBindCall, IsClearing, IsAwait, IsCleanUp, IsListen, IsNobody, IsArrival, IsArrivalAt, IsAccept, next_client, IsRemoval, IsFileRemoval, AreRemovals, IsRetryOf, IsRetryIn}
 use Rattle.proxy_net.specs.Registering.{is_own_listener, listeners_from}
 use Rattle.proxy_net.specs.declared.listeners.Arrival.{Arrival}
 use Rattle.proxy_net.specs.declared.listeners.Arrival.TheVariants.{Client, NotReady as NobodyCame, Failed as ArrivalFailed}
@@ -63,26 +64,40 @@ own_number listeners place socket found own =
     grind (arith, nat_tests, same)
 
 -- a client that was taken, by what came of its session
-pub arrived : (listener number session : ℕ) (answer : Accepted) → number ≡ number_of (client_link session) → answer ≢ AcceptNotReady → ((other : ℕ) → answer ≡ New other → other ≡ session) → (calls : List SystemCall)
-    → calls ≡ accept listener number None ∷ [] → IsAccept listener answer calls
-arrived listener number session (New other) same ready numbered calls is = is ∙ ap (λ n. accept listener n None ∷ []) (same ∙ ap (λ s. number_of (client_link s)) (sym (numbered other refl)))
-arrived listener number session AcceptNotReady same ready numbered calls is = absurd (ready refl)
-arrived listener number session AcceptFailed same ready numbered calls is = inr (number, None, is)
-arrived listener number session Memory same ready numbered calls is = inr (number, None, is)
+pub arrived : (place listeners sessions number session : ℕ) (answer : Accepted) → number ≡ number_of (client_link session) → session ≡ sessions + 1 → answer ≢ AcceptNotReady → answer ≢ AcceptFailed → ((other : ℕ) → answer ≡ New other → other ≡ session) → (calls : List SystemCall)
+    → calls ≡ accept (listeners_from + place) number None ∷ [] → IsAccept place listeners sessions answer calls
+arrived place listeners sessions number session (New other) same next ready kept numbered calls is = is ∙ ap (λ n. accept (listeners_from + place) n None ∷ []) (same ∙ ap (λ s. number_of (client_link s)) (sym (numbered other refl)))
+arrived place listeners sessions number session AcceptNotReady same next ready kept numbered calls is = absurd (ready refl)
+arrived place listeners sessions number session AcceptFailed same next ready kept numbered calls is = absurd (kept refl)
+arrived place listeners sessions number session Memory same next ready kept numbered calls is = inr (is ∙ ap (λ n. accept (listeners_from + place) n None ∷ []) (same ∙ ap (λ s. number_of (client_link s)) next))
+
+-- nobody came to it
+pub nobody_arrived : (place listeners sessions number : ℕ) → number ≡ next_client sessions → (calls : List SystemCall) → IsNobody (listeners_from + place) number calls → IsAccept place listeners sessions AcceptNotReady calls
+nobody_arrived place listeners sessions number same calls is = subst (λ n. IsNobody (listeners_from + place) n calls) same is
 
 -- one that failed
-pub failed_arrival : (listener number : ℕ) (calls : List SystemCall) → (calls ≡ []) ⊎ ((kind : ErrorKind) × (calls ≡ accept listener number (Some kind) ∷ [])) → IsAccept listener AcceptFailed calls
-failed_arrival listener number calls is = elim is [
-  | inl none ↦ inl none
-  | inr refused ↦ inr (number, Some refused.0, refused.1)
+pub failed_arrival : (place listeners known sessions number : ℕ) → listeners ≡ known → number ≡ next_client sessions → (calls : List SystemCall)
+    → ((calls ≡ []) × (listeners ≤ place)) ⊎ ((kind : ErrorKind) × (calls ≡ accept (listeners_from + place) number (Some kind) ∷ [])) → IsAccept place known sessions AcceptFailed calls
+failed_arrival place listeners known sessions number counted same calls is = elim is [
+  | inl none ↦ inl (none.0, inl (subst (λ n. n ≤ place) counted none.1))
+  | inr refused ↦ inr (refused.0, refused.1 ∙ ap (λ n. accept (listeners_from + place) n (Some refused.0) ∷ []) same)
 ]
 
+-- a client is taken at a listener that is there
+pub arrived_at : {T : Type 0} (place listeners number : ℕ) (arrival : Arrival T) (calls : List SystemCall) → IsArrival (listeners_from + place) number arrival calls → IsArrivalAt place listeners number arrival calls
+arrived_at place listeners number (Client stream) calls is = is
+arrived_at place listeners number NobodyCame calls is = is
+arrived_at place listeners number ArrivalFailed calls is = inr is
+
 -- one that was refused
-pub refused_arrival : {T : Type 0} (listener number : ℕ) (kind : ErrorKind) (arrival : Arrival T) → ((stream : Numbered T) → arrival ≡ Client stream → ⊥) → (calls : List SystemCall) → calls ≡ accept listener number (Some kind) ∷ []
-    → IsArrival listener number arrival calls
-refused_arrival listener number kind (Client stream) none calls is = absurd (none stream refl)
-refused_arrival listener number kind NobodyCame none calls is = (kind, is)
-refused_arrival listener number kind ArrivalFailed none calls is = inr (kind, is)
+pub refused_arrival : {T : Type 0} (listener number : ℕ) (kind : ErrorKind) (arrival : Arrival T) → ((stream : Numbered T) → arrival ≡ Client stream → ⊥) → (arrival ≡ NobodyCame → (kind ≡ WouldBlock) ⊎ (kind ≡ Interrupted)) → (calls : List SystemCall)
+    → calls ≡ accept listener number (Some kind) ∷ [] → IsArrival listener number arrival calls
+refused_arrival listener number kind (Client stream) none waits calls is = absurd (none stream refl)
+refused_arrival listener number kind NobodyCame none waits calls is = elim (waits refl) [
+  | inl would ↦ inl (is ∙ ap (λ (k : ErrorKind). accept listener number (Some k) ∷ []) would)
+  | inr interrupted ↦ inr (is ∙ ap (λ (k : ErrorKind). accept listener number (Some k) ∷ []) interrupted)
+]
+refused_arrival listener number kind ArrivalFailed none waits calls is = (kind, is)
 
 -- a file that was removed at its path, which may be known by another name
 pub removed_at : {path own : List ℕ} (made : FileIdentity) {old new : Option (List SystemCall)} → path ≡ own → Steps (IsRemoval path made) old new → Steps (IsRemoval own made) old new

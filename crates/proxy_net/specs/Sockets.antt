@@ -173,8 +173,11 @@ due_in None = None
 due_in (Some socket) = due_of socket.connection
 
 -- there is a link of a number
+abbrev pub has_link_at : {T L : Type 0} → SocketSet T L → ℕ → Bool
+has_link_at sockets number = is_some (tree.get nat_cmp sockets.links number)
+
 abbrev pub HasLink : {T L : Type 0} → SocketSet T L → ℕ → Type 0
-HasLink sockets number = is_some (tree.get nat_cmp sockets.links number) ≡ true
+HasLink sockets number = has_link_at sockets number ≡ true
 
 -- the connect of the link of a number is tried again to a path
 abbrev pub IsTriedTo : {T L : Type 0} → SocketSet T L → ℕ → List ℕ → Type 0

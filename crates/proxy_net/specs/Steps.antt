@@ -97,12 +97,16 @@ IsLinkWrite number piece LinkNotReady calls = IsWrite number piece WriteNotReady
 IsLinkWrite number piece LinkClosed calls = (kind : ErrorKind) × (calls ≡ write number (Err kind) ∷ [])
 IsLinkWrite number piece LinkFailed calls = IsWrite number piece WriteFailed calls
 
--- A connect of the link of a number: to that path, once at most. It is made, or put off if the system would have waited. It fails for
--- an error of the system, or without a call.
-abbrev pub IsConnect : ℕ → List ℕ → Result (Unit {0}) NetFault → List SystemCall → Type 0
-IsConnect number path (Ok _) calls = (calls ≡ connect number path None ∷ []) ⊎ ((calls ≡ connect number path (Some WouldBlock) ∷ []) ⊎ (calls ≡ connect number path (Some Interrupted) ∷ []))
-IsConnect number path (Err FaultFailed) calls = (calls ≡ []) ⊎ ((kind : ErrorKind) × (calls ≡ connect number path (Some kind) ∷ []))
-IsConnect number path (Err FaultMemory) calls = (calls ≡ []) ⊎ ((refused : Option ErrorKind) × (calls ≡ connect number path refused ∷ []))
+-- one connect of the link of a number to a path: it is made, or put off since the system would have waited
+abbrev pub IsConnected : ℕ → List ℕ → List SystemCall → Type 0
+IsConnected number path calls = (calls ≡ connect number path None ∷ []) ⊎ ((calls ≡ connect number path (Some WouldBlock) ∷ []) ⊎ (calls ≡ connect number path (Some Interrupted) ∷ []))
+
+-- A connect of the link of a number: to that path, once at most. It fails for an error of the system, and without a call only if the
+-- path is empty or there is a link of that number (`taken`). Memory is refused before the call, or after one that was made or put off.
+abbrev pub IsConnect : ℕ → List ℕ → Bool → Result (Unit {0}) NetFault → List SystemCall → Type 0
+IsConnect number path taken (Ok _) calls = IsConnected number path calls
+IsConnect number path taken (Err FaultFailed) calls = ((calls ≡ []) × ((path ≡ []) ⊎ (taken ≡ true))) ⊎ ((kind : ErrorKind) × (calls ≡ connect number path (Some kind) ∷ []))
+IsConnect number path taken (Err FaultMemory) calls = (calls ≡ []) ⊎ IsConnected number path calls
 
 -- a link of a number is shut: its socket is closed, if it has one
 abbrev pub IsShut : Bool → ℕ → List SystemCall → Type 0
@@ -314,15 +318,32 @@ IsListen number path replaces (Err FaultFailed) calls = ((calls ≡ []) × ((pat
     ⊎ (((kind : ErrorKind) × IsBindCall number path replaces (Some kind) calls) ⊎ ((kind : ErrorKind) × IsUndone number path replaces (Some kind) calls))
 IsListen number path replaces (Err FaultMemory) calls = (calls ≡ []) ⊎ IsUndone number path replaces None calls
 
+-- nobody waits at the listener of a number: the system would have waited, or a signal interrupted the accept
+abbrev pub IsNobody : ℕ → ℕ → List SystemCall → Type 0
+IsNobody listener number calls = (calls ≡ accept listener number (Some WouldBlock) ∷ []) ⊎ (calls ≡ accept listener number (Some Interrupted) ∷ [])
+
 -- a client is taken at the listener of a number, as the stream of another number
 abbrev pub IsArrival : {T : Type 0} → ℕ → ℕ → Arrival T → List SystemCall → Type 0
 IsArrival listener number (Client _) calls = calls ≡ accept listener number None ∷ []
-IsArrival listener number NobodyCame calls = (kind : ErrorKind) × (calls ≡ accept listener number (Some kind) ∷ [])
-IsArrival listener number ArrivalFailed calls = (calls ≡ []) ⊎ ((kind : ErrorKind) × (calls ≡ accept listener number (Some kind) ∷ []))
+IsArrival listener number NobodyCame calls = IsNobody listener number calls
+IsArrival listener number ArrivalFailed calls = (kind : ErrorKind) × (calls ≡ accept listener number (Some kind) ∷ [])
 
--- An accept at the listener of a number: a client is taken there, as the client link of the session that is answered.
-abbrev pub IsAccept : ℕ → Accepted → List SystemCall → Type 0
-IsAccept listener (New session) calls = calls ≡ accept listener (number_of (client_link session)) None ∷ []
-IsAccept listener AcceptNotReady calls = (number : ℕ) × (kind : ErrorKind) × (calls ≡ accept listener number (Some kind) ∷ [])
-IsAccept listener AcceptFailed calls = (calls ≡ []) ⊎ ((number : ℕ) × (fault : Option ErrorKind) × (calls ≡ accept listener number fault ∷ []))
-IsAccept listener Memory calls = (calls ≡ []) ⊎ ((number : ℕ) × (fault : Option ErrorKind) × (calls ≡ accept listener number fault ∷ []))
+-- .. at the listener of a place, of so many listeners. It fails without a call only if there is none at that place.
+abbrev pub IsArrivalAt : {T : Type 0} → ℕ → ℕ → ℕ → Arrival T → List SystemCall → Type 0
+IsArrivalAt place listeners number (Client stream) calls = IsArrival (listeners_from + place) number (Client stream) calls
+IsArrivalAt place listeners number NobodyCame calls = IsNobody (listeners_from + place) number calls
+IsArrivalAt place listeners number ArrivalFailed calls = ((calls ≡ []) × (listeners ≤ place)) ⊎ ((kind : ErrorKind) × (calls ≡ accept (listeners_from + place) number (Some kind) ∷ []))
+
+-- the number of the client link of the session after so many
+abbrev pub next_client : ℕ → ℕ
+next_client sessions = number_of (client_link (sessions + 1))
+
+-- An accept at the listener of a place, of so many listeners, after so many sessions: a client is taken there, as the client link of
+-- the next session. It fails for an error of the system, and without a call only if there is no such listener or no session number is
+-- left. Memory is refused before the call, or after a client was taken.
+abbrev pub IsAccept : ℕ → ℕ → ℕ → Accepted → List SystemCall → Type 0
+IsAccept place listeners sessions (New session) calls = calls ≡ accept (listeners_from + place) (number_of (client_link session)) None ∷ []
+IsAccept place listeners sessions AcceptNotReady calls = IsNobody (listeners_from + place) (next_client sessions) calls
+IsAccept place listeners sessions AcceptFailed calls = ((calls ≡ []) × ((listeners ≤ place) ⊎ (2 ^ 32 ≤ sessions + 1)))
+    ⊎ ((kind : ErrorKind) × (calls ≡ accept (listeners_from + place) (next_client sessions) (Some kind) ∷ []))
+IsAccept place listeners sessions Memory calls = (calls ≡ []) ⊎ (calls ≡ accept (listeners_from + place) (next_client sessions) None ∷ [])

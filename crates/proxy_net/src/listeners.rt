@@ -1,5 +1,5 @@
 //! The sockets that listen.
-ghost use Rattle.std.specs.Prelude.{◌≡◌, ◌≢◌, ◌≤◌, ◌*◌, ◌&&◌, ◌||◌, not, Some, None, true, false};
+ghost use Rattle.std.specs.Prelude.{◌≡◌, ◌≢◌, ◌≤◌, ◌*◌, ◌&&◌, ◌||◌, ◌⊎◌, not, Some, None, true, false};
 ghost use Rattle.proxy_net.specs.Connecting.{IsLater};
 ghost use Rattle.proxy_net.specs.Delays.{next_delay, is_accept_due, is_accept_early, accept_left, nanos_of};
 ghost use Rattle.proxy_net.specs.Naming.{is_awaited, is_listener_placed};
@@ -121,6 +121,7 @@ impl<L: Drop> ListenerSocket<L> {
         ensures nobody { kind ≡ ErrorKind.WouldBlock → (result ≡ Arrival.NotReady) × (self.new.ready ≡ false) }
         ensures again { kind ≡ ErrorKind.Interrupted → (result ≡ Arrival.NotReady) × (self.new.ready ≡ self.old.ready) }
         ensures fault { kind ≢ ErrorKind.WouldBlock → kind ≢ ErrorKind.Interrupted → result ≡ Arrival.Failed }
+        ensures waits { result ≡ Arrival.NotReady → (kind ≡ ErrorKind.WouldBlock) ⊎ (kind ≡ ErrorKind.Interrupted) }
         ensures ready { result ≢ Arrival.NotReady → self.new.ready ≡ self.old.ready }
         ensures rest { self.new ≡ record self.old { ready = self.new.ready } }
     {

@@ -266,7 +266,7 @@ impl<S: Sockets + Drop> Net for MioNet<S> {
     ghost use Rattle.proxy_net.specs.Steps.{Steps, IsAnswered, IsPrepare, IsWait, IsListen, IsAccept, IsConnect, IsRead, IsPolled, IsWrite, IsShut, is_failed};
     ghost use Rattle.proxy_net.specs.Starters.{after_prepare, is_waiting};
     ghost use Rattle.std.specs.Prelude.{List};
-    ghost use Rattle.proxy_net.specs.Sockets.{path_at, is_put_off_at, delay_at, is_readable_at, StaysUnread, StaysClosed, KeepsReports, HasLink, IsTriedTo};
+    ghost use Rattle.proxy_net.specs.Sockets.{path_at, is_put_off_at, delay_at, is_readable_at, StaysUnread, StaysClosed, KeepsReports, HasLink, IsTriedTo, has_link_at};
     ghost use Rattle.proxy_net.specs.Sockets.{shown, is_open_at, is_pending_in, is_closed_at, is_peer_closed_at, is_stalled_at, IsJudgedAt, IsWished};
 
     ghost view = { λ net. shown net.sockets (S.journal net.system) net.starter };
@@ -385,7 +385,7 @@ impl<S: Sockets + Drop> Net for MioNet<S> {
         ensures unread { StaysUnread self.old.sockets self.new.sockets }
 
         // What the system is asked for it, and told then.
-        ensures asked { Steps (IsAnswered (accept_entry listener result) (IsAccept (listeners_from + listener) result)) (S.journal self.old.system) (S.journal self.new.system) }
+        ensures asked { Steps (IsAnswered (accept_entry listener result) (IsAccept listener (vec_len self.old.sockets.listeners) self.old.sockets.sessions result)) (S.journal self.old.system) (S.journal self.new.system) }
 
         // What the trait says.
         ensures told { Adds (shown self.old.sockets (S.journal self.old.system) self.old.starter) (shown self.new.sockets (S.journal self.new.system) self.new.starter) (accept_entry listener result ∷ []) }
@@ -413,7 +413,7 @@ impl<S: Sockets + Drop> Net for MioNet<S> {
         ensures unread { StaysUnread self.old.sockets self.new.sockets }
 
         // What the system is asked for it, and told then.
-        ensures asked { Steps (IsAnswered (connect_entry session path.now result) (IsConnect (number_of (bus_link session)) path.now result)) (S.journal self.old.system) (S.journal self.new.system) }
+        ensures asked { Steps (IsAnswered (connect_entry session path.now result) (IsConnect (number_of (bus_link session)) path.now (has_link_at self.old.sockets (number_of (bus_link session))) result)) (S.journal self.old.system) (S.journal self.new.system) }
 
         // What the trait says.
         ensures told { Adds (shown self.old.sockets (S.journal self.old.system) self.old.starter) (shown self.new.sockets (S.journal self.new.system) self.new.starter) (connect_entry session path.now result ∷ []) }

@@ -4,7 +4,7 @@ ghost use Rattle.std.specs.VecDeque.{deque_len, deque_capacity};
 ghost use Rattle.std.specs.Option.{option_map};
 ghost use Rattle.std.specs.String.{string_bytes};
 ghost use Rattle.proxy_net.specs.Delays.{next_delay};
-ghost use Rattle.proxy_net.specs.Steps.{Steps, IsConnect, IsListen, IsBind, IsAwait, IsCleanUp, IsMadeRemoval, IsArrival, IsAccept};
+ghost use Rattle.proxy_net.specs.Steps.{Steps, IsConnect, IsListen, IsBind, IsAwait, IsCleanUp, IsMadeRemoval, IsArrivalAt, IsAccept};
 ghost use Rattle.link_traits.specs.Answers.{no_wishes, client_link, bus_link};
 ghost use Rattle.link_traits.specs.Numbers.{number_of as link_number};
 
@@ -263,7 +263,7 @@ impl<T: Drop, L: Drop> SocketSet<T, L> {
         ensures wishes { AfterAcceptIn result self.old self.new }
         ensures put_off { (result ≡ Accepted.Failed) ⊎ (result ≡ Accepted.Memory) → is_put_off_at self.new listener ≡ true }
         ensures served { (session : ℕ) → result ≡ Accepted.New session → delay_at self.new listener ≡ 0 }
-        ensures told { is_listener_registered self.old listener ≡ true → Steps (IsAccept (LISTENERS + listener) result) (S.journal system.old) (S.journal system.new) }
+        ensures told { is_listener_registered self.old listener ≡ true → Steps (IsAccept listener (vec_len self.old.listeners) self.old.sessions result) (S.journal system.old) (S.journal system.new) }
         ensures sessions { self.new.sessions ≡ sessions_after result self.old.sessions }
         ensures number { vec_len self.new.listeners ≡ vec_len self.old.listeners }
         ensures unread { StaysUnread self.old self.new }
@@ -298,7 +298,7 @@ impl<T: Drop, L: Drop> SocketSet<T, L> {
         ensures not_ready { result ≡ Arrival.NotReady → RoseIn Count.Waits self.old self.new }
         ensures missing { vec_len self.old.listeners ≤ listener → result ≡ Arrival.Failed }
         ensures served { (stream : _) → result ≡ Arrival.Client stream → delay_at self.new listener ≡ 0 }
-        ensures told { is_listener_registered self.old listener ≡ true → Steps (IsArrival (LISTENERS + listener) number result) (S.journal system.old) (S.journal system.new) }
+        ensures told { is_listener_registered self.old listener ≡ true → Steps (IsArrivalAt listener (vec_len self.old.listeners) number result) (S.journal system.old) (S.journal system.new) }
         ensures unread { StaysUnread self.old self.new }
         ensures goes { GoesOn self.old self.new }
     {
@@ -321,7 +321,7 @@ impl<T: Drop, L: Drop> SocketSet<T, L> {
         ensures missing { vec_len self.old.listeners ≤ listener → result ≡ Arrival.Failed }
         ensures waits { self.new.waits ≡ self.old.waits }
         ensures served { (stream : _) → result ≡ Arrival.Client stream → delay_at self.new listener ≡ 0 }
-        ensures told { is_listener_registered self.old listener ≡ true → Steps (IsArrival (LISTENERS + listener) number result) (S.journal system.old) (S.journal system.new) }
+        ensures told { is_listener_registered self.old listener ≡ true → Steps (IsArrivalAt listener (vec_len self.old.listeners) number result) (S.journal system.old) (S.journal system.new) }
         ensures unread { StaysUnread self.old self.new }
         ensures goes { GoesOn self.old self.new }
     {
@@ -379,6 +379,7 @@ impl<T: Drop, L: Drop> SocketSet<T, L> {
         ensures numbered { (other : ℕ) → result ≡ Accepted.New other → (other ≡ session) × (self.new.sessions ≡ session) }
         ensures failed { result ≡ Accepted.Failed → RoseIn (Count.Listener listener) self.old self.new }
         ensures ready { result ≢ Accepted.NotReady }
+        ensures fault { result ≢ Accepted.Failed }
         ensures new_wishes { (other : ℕ) → result ≡ Accepted.New other → wishes_in self.new (client_link other) ≡ Some no_wishes }
         ensures wishes { AfterAcceptIn result self.old self.new }
         ensures put_off { (result ≡ Accepted.Failed) ⊎ (result ≡ Accepted.Memory) → is_put_off_at self.new listener ≡ true }
@@ -406,7 +407,7 @@ impl<T: Drop, L: Drop> SocketSet<T, L> {
 }
 
 impl<T: Drop, L: Drop> SocketSet<T, L> {
-    ghost use Rattle.proxy_net.specs.Sockets.{HasRoomFor, wishes_in, RoseIn, Grows, GoesOn, KeepsOthersIn, KeepsWishesIn, StaysUnread};
+    ghost use Rattle.proxy_net.specs.Sockets.{HasRoomFor, wishes_in, RoseIn, Grows, GoesOn, KeepsOthersIn, KeepsWishesIn, StaysUnread, has_link_at};
 
     /// Connects a session to the bus at a path. An empty one is refused, since the system would take a name of its own for it,
     /// and so is a session that has a link to its bus. Where the bus has no room for one more, it is tried again later.
@@ -422,7 +423,7 @@ impl<T: Drop, L: Drop> SocketSet<T, L> {
         ensures err { OnErr result (KeepsWishesIn self.old self.new) }
         ensures failed { IsErrOf result NetFault.Failed → RoseIn (Count.Link (bus_link session)) self.old self.new }
         ensures own { OnOk result (wishes_in self.new (bus_link session) ≡ Some no_wishes) }
-        ensures told { Steps (IsConnect (link_number (bus_link session)) path.now result) (S.journal system.old) (S.journal system.new) }
+        ensures told { Steps (IsConnect (link_number (bus_link session)) path.now (has_link_at self.old (link_number (bus_link session))) result) (S.journal system.old) (S.journal system.new) }
         ensures others { KeepsOthersIn (bus_link session) self.old self.new }
         ensures sessions { self.new.sessions ≡ self.old.sessions }
         ensures number { vec_len self.new.listeners ≡ vec_len self.old.listeners }
@@ -452,7 +453,7 @@ impl<T: Drop, L: Drop> SocketSet<T, L> {
     ) -> Result<(), NetFault>
         ensures path { OnOk result (path.now ≢ []) }
         ensures fresh { OnOk result (wishes_in self.old link ≡ None) }
-        ensures told { Steps (IsConnect (link_number link) path.now result) (S.journal system.old) (S.journal system.new) }
+        ensures told { Steps (IsConnect (link_number link) path.now (has_link_at self.old (link_number link)) result) (S.journal system.old) (S.journal system.new) }
         ensures err { OnErr result (GoesOn self.old self.new) }
         ensures own { OnOk result (wishes_in self.new link ≡ Some no_wishes) }
         ensures others { KeepsOthersIn link self.old self.new }

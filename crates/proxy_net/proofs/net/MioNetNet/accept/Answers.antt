@@ -10,7 +10,7 @@ returns-clause-asked g c = asked_then_told (accept_entry c.args.listener c.accep
 pub returns-clause-told : goal.returns-clause-told
 returns-clause-told g c =
     told_one c.args.self.now.sockets c.accept-answer.new.self c.args.self.now.starter c.args.self.now.starter (accept_entry c.args.listener c.accept-answer.result)
-    (steps_weaker (accept_silent _ c.accept-answer.result) (c.accept-answer.ensures.told (c.args.self.now.consistent.listener_tokens c.args.listener))) c.tell.ensures c.accept-answer.ensures.grows.each
+    (steps_weaker (accept_silent _ _ _ c.accept-answer.result) (c.accept-answer.ensures.told (c.args.self.now.consistent.listener_tokens c.args.listener))) c.tell.ensures c.accept-answer.ensures.grows.each
 
 pub returns-clause-numbered : goal.returns-clause-numbered
 returns-clause-numbered g c = λ session new before told.
@@ -23,7 +23,7 @@ invariant_of-self g c =
       consistent = consistent_grows c.args.self.now.sockets c.accept-answer.new.self c.accept-answer.ensures.grows c.args.self.now.consistent;
       room = c.args.self.now.room;
       counted = counted_one (accept_entry c.args.listener c.accept-answer.result) c.args.self.now.counted
-          (steps_weaker (accept_silent _ c.accept-answer.result) (c.accept-answer.ensures.told (c.args.self.now.consistent.listener_tokens c.args.listener))) c.tell.ensures
+          (steps_weaker (accept_silent _ _ _ c.accept-answer.result) (c.accept-answer.ensures.told (c.args.self.now.consistent.listener_tokens c.args.listener))) c.tell.ensures
           (omega (arith, makes.0, c.accept-answer.ensures.number)) makes.1;
       bound = bound_kept c.args.self.now.sockets c.accept-answer.new.self (asked_then_told (accept_entry c.args.listener c.accept-answer.result) (c.accept-answer.ensures.told (c.args.self.now.consistent.listener_tokens c.args.listener)) c.tell.ensures) c.accept-answer.ensures.number c.accept-answer.ensures.grows.files c.args.self.now.bound;
     }

@@ -2,12 +2,13 @@ use Rattle.std.proofs.Common.{refl, subst, sym}
 use Rattle.proxy_net.specs.Sockets.{AfterAcceptIn}
 use Rattle.link_traits.specs.declared.links.Count.TheVariants.{Listener, Waits}
 use Rattle.proxy_net.proofs.Going.{goes_through, kept_rose, accept_through, keeps_wishes, goes_grows, grows_through}
-use Rattle.std.proofs.Common.{◌+◌, ◌∙◌, inl, ap}
-use Rattle.proxy_net.specs.Registering.{listeners_from}
+use Rattle.std.proofs.Common.{◌+◌, ◌≤◌, ◌^◌, ◌∙◌, inl, inr, ap, arith, vec_len}
+use Rattle.link_traits.specs.Answers.{client_link}
+use Rattle.link_traits.specs.Numbers.{number_of}
 use Rattle.proxy_net.specs.Sockets.{sessions_after}
 use Rattle.proxy_net.specs.Steps.{Steps, IsAccept}
 use Rattle.proxy_net.proofs.Telling.{steps_none, steps_weaker}
-use Rattle.proxy_net.proofs.Listening.{arrived, failed_arrival}
+use Rattle.proxy_net.proofs.Listening.{arrived, nobody_arrived, failed_arrival}
 use Rattle.proxy_net.proofs.sockets.SocketSet.accept.Goals as goal
 
 pub returns-in-Client-clause-failed : goal.returns-in-Client-clause-failed
@@ -53,20 +54,29 @@ returns-in_default-clause-failed g c = λ _. kept_rose _ _ _ (c.reserve.ensures.
 
 pub returns-in_default-clause-told : goal.returns-in_default-clause-told
 returns-in_default-clause-told g c = λ own.
-    subst (λ answer. Steps (IsAccept (listeners_from + c.args.listener) answer) (g.S.Sockets.journal c.args.system.now) (g.S.Sockets.journal c.args.system.now)) (sym c.fail_accept.ensures.failed) (steps_none _ (inl refl))
+    let none : 2 ^ 32 ≤ c.args.self.now.sessions + 1 = grind (arith, c.in_default.ensures, c.reserve.ensures.goes.sessions) in
+    subst (λ answer. Steps (IsAccept c.args.listener (vec_len c.args.self.now.listeners) c.args.self.now.sessions answer) (g.S.Sockets.journal c.args.system.now) (g.S.Sockets.journal c.args.system.now)) (sym c.fail_accept.ensures.failed)
+    (steps_none _ (inl (refl, inr none)))
 
 pub returns-in-Client-clause-told : goal.returns-in-Client-clause-told
 returns-in-Client-clause-told g c = λ own.
-    steps_weaker (arrived (listeners_from + c.args.listener) c.number_of.result _ c.make_session.result c.number_of.ensures.number c.make_session.ensures.ready (λ other e. (c.make_session.ensures.numbered other e).0))
+    let next = c.in-Some.ensures.1 ∙ ap (λ n. n + 1) c.reserve.ensures.goes.sessions in
+    steps_weaker
+    (arrived c.args.listener (vec_len c.args.self.now.listeners) c.args.self.now.sessions c.number_of.result _ c.make_session.result c.number_of.ensures.number next c.make_session.ensures.ready c.make_session.ensures.fault (λ other e. (c.make_session.ensures.numbered other e).0))
     (c.in-Client.ensures.told (c.reserve.ensures.goes.listener_tokens c.args.listener own))
 
 pub returns-in-NotReady-clause-told : goal.returns-in-NotReady-clause-told
-returns-in-NotReady-clause-told g c = λ own. steps_weaker (λ calls is. (c.number_of.result, is.0, is.1)) (c.in-NotReady.ensures.told (c.reserve.ensures.goes.listener_tokens c.args.listener own))
+returns-in-NotReady-clause-told g c = λ own.
+    let next = c.in-Some.ensures.1 ∙ ap (λ n. n + 1) c.reserve.ensures.goes.sessions in
+    steps_weaker (nobody_arrived c.args.listener (vec_len c.args.self.now.listeners) c.args.self.now.sessions c.number_of.result (c.number_of.ensures.number ∙ ap (λ s. number_of (client_link s)) next))
+    (c.in-NotReady.ensures.told (c.reserve.ensures.goes.listener_tokens c.args.listener own))
 
 pub returns-in-Failed-clause-told : goal.returns-in-Failed-clause-told
 returns-in-Failed-clause-told g c = λ own.
-    subst (λ answer. Steps (IsAccept (listeners_from + c.args.listener) answer) (g.S.Sockets.journal c.args.system.now) (g.S.Sockets.journal c.take_client.new.system)) (sym c.fail_accept-in-Failed.ensures.failed)
-    (steps_weaker (failed_arrival (listeners_from + c.args.listener) c.number_of.result) (c.in-Failed.ensures.told (c.reserve.ensures.goes.listener_tokens c.args.listener own)))
+    let next = c.in-Some.ensures.1 ∙ ap (λ n. n + 1) c.reserve.ensures.goes.sessions in
+    subst (λ answer. Steps (IsAccept c.args.listener (vec_len c.args.self.now.listeners) c.args.self.now.sessions answer) (g.S.Sockets.journal c.args.system.now) (g.S.Sockets.journal c.take_client.new.system)) (sym c.fail_accept-in-Failed.ensures.failed)
+    (steps_weaker (failed_arrival c.args.listener (vec_len c.reserve.new.self.listeners) (vec_len c.args.self.now.listeners) c.args.self.now.sessions c.number_of.result c.reserve.ensures.goes.number (c.number_of.ensures.number ∙ ap (λ s. number_of (client_link s)) next))
+    (c.in-Failed.ensures.told (c.reserve.ensures.goes.listener_tokens c.args.listener own)))
 
 pub returns-in_default-clause-sessions : goal.returns-in_default-clause-sessions
 returns-in_default-clause-sessions g c =

@@ -1,4 +1,4 @@
-use Rattle.std.proofs.Common.{◌∙◌, sym, ℕ, ◌+◌, ap, Vec, Global, arith, length, refl}
+use Rattle.std.proofs.Common.{◌∙◌, sym, ℕ, ◌+◌, ap, Vec, Global, arith, length, refl, vec_len}
 use Rattle.std.specs.VecDeque.{deque_len, deque_capacity}
 use Rattle.std.specs.BTreeMap.{BTreeMap}
 use Rattle.proxy_net.specs.Registering.{listeners_from}
@@ -11,7 +11,8 @@ use Rattle.proxy_net.proofs.Written.{listener_goes, still_queued}
 use Rattle.proxy_net.proofs.Room.{listener_fits}
 use Rattle.std.proofs.Common.{subst}
 use Rattle.proxy_net.specs.Steps.{Steps, IsArrival}
-use Rattle.proxy_net.proofs.Listening.{own_number}
+use Rattle.proxy_net.proofs.Listening.{arrived_at, own_number}
+use Rattle.proxy_net.proofs.Telling.{steps_weaker}
 use Rattle.proxy_net.proofs.sockets.SocketSet.accept_at.Goals as goal
 
 pub invariant_of-self : goal.invariant_of-self
@@ -53,5 +54,6 @@ pub returns-in-Some-clause-told : goal.returns-in-Some-clause-told
 returns-in-Some-clause-told g c = λ own.
     let items = c.args.self.now.listeners.items in
     let found = slice_get_read items (length items) _ c.in-Some.socket.now refl c.in-Some.ensures.item.3.0 c.in-Some.ensures.value in
-    subst (λ n. Steps (IsArrival n c.args.number c.accept-arrival.result.0) (g.S.Sockets.journal c.args.system.now) (g.S.Sockets.journal c.accept-arrival.new.system))
-    (own_number items c.args.listener c.in-Some.socket.now found own) c.accept-arrival.ensures.told
+    steps_weaker (arrived_at c.args.listener (vec_len c.args.self.now.listeners) c.args.number c.accept-arrival.result.0)
+    (subst (λ n. Steps (IsArrival n c.args.number c.accept-arrival.result.0) (g.S.Sockets.journal c.args.system.now) (g.S.Sockets.journal c.accept-arrival.new.system))
+    (own_number items c.args.listener c.in-Some.socket.now found own) c.accept-arrival.ensures.told)
