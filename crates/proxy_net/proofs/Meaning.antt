@@ -1,9 +1,9 @@
 -- What the answer of a system's read or write means to a link.
-use Rattle.std.proofs.Common.{ℕ, ◌≡◌, inl, inr, Bool, true, false, is_ok, List, [], ◌∷◌, Option, Some, None, Result, Ok, Err, refl, ap, subst, ◌∙◌, take, sym, arith}
+use Rattle.std.proofs.Common.{ℕ, ◌≡◌, ◌≤◌, ◌++◌, length, length-append, inl, inr, Bool, true, false, is_ok, List, [], ◌∷◌, Option, Some, None, Result, Ok, Err, refl, ap, subst, ◌∙◌, take, sym, arith}
 use Rattle.std.specs.declared.io.ErrorKind.{ErrorKind}
 use Rattle.std.specs.declared.io.ErrorKind.TheVariants.{WouldBlock, Interrupted, ConnectionReset}
 use Rattle.proxy_net.specs.SystemCalls.{SystemCall, close, watch, read, write, fault_of, IsToldRead, IsToldWrite, Tells}
-use Rattle.proxy_net.specs.Steps.{Steps, IsRead, IsStreamRead, IsStreamWrite, IsConnectionWrite, IsWatched, IsShut, got_of}
+use Rattle.proxy_net.specs.Steps.{Steps, IsRead, IsStreamRead, IsStreamWrite, IsConnectionWrite, IsAsked, IsWatched, IsShut, got_of}
 use Rattle.proxy_net.specs.Streams.{IsMeantRead, IsMeantWrite}
 use Rattle.proxy_net.specs.declared.streams.StreamRead.{StreamRead}
 use Rattle.proxy_net.specs.declared.streams.StreamRead.TheVariants.{Bytes, End, Nothing, Fault}
@@ -55,6 +55,21 @@ module _ {E : Type 0} (kind : E → ErrorKind) (number : ℕ) where
   write_told piece (Err error) PeerClosed told meant = steps_one (write number (Err (kind error)) ∷ []) told (kind error, refl)
   write_told piece (Err error) Again told meant = steps_one (write number (Err (kind error)) ∷ []) told (kind error, refl)
   write_told piece (Err error) WriteFault told meant = steps_one (write number (Err (kind error)) ∷ []) told (inr (kind error, refl))
+
+some_asked : {calls later : List SystemCall} {call : SystemCall} → calls ≡ call ∷ later → IsAsked calls
+some_asked {later = later} {call = call} is = let some : 1 ≤ length (call ∷ later) = omega arith in subst (λ (c : List SystemCall). 1 ≤ length c) (sym is) some
+
+-- a stream answers no write without a call
+pub stream_asked : (number : ℕ) (piece : List ℕ) (meaning : StreamWrite) (calls : List SystemCall) → IsStreamWrite number piece meaning calls → IsAsked calls
+stream_asked number piece (WriteBytes n) calls is = some_asked is
+stream_asked number piece Full calls is = some_asked is
+stream_asked number piece PeerClosed calls is = some_asked is.1
+stream_asked number piece Again calls is = some_asked is.1
+stream_asked number piece WriteFault calls is = elim is [ inl nothing ↦ some_asked nothing | inr refused ↦ some_asked refused.1 ]
+
+-- .. nor after more calls
+pub asked_more : (first second : List SystemCall) → IsAsked first → IsAsked (second ++ first)
+asked_more first second asked = omega (arith, length-append second first, asked)
 
 -- what the stream of a link answers to a write is what the link's connection answers
 pub stream_writes : (number : ℕ) (piece : List ℕ) (write : StreamWrite) (calls : List SystemCall) → IsStreamWrite number piece write calls → IsConnectionWrite number piece write calls

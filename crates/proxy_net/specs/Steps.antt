@@ -82,6 +82,10 @@ IsWrite number piece WriteNotReady calls = (calls ≡ []) ⊎ (((kind : ErrorKin
 IsWrite number piece WriteFailed calls = (calls ≡ []) ⊎ ((calls ≡ write number (Ok []) ∷ []) ⊎ (((kind : ErrorKind) × (calls ≡ write number (Err kind) ∷ []))
     ⊎ ((kind : ErrorKind) × (calls ≡ watch number true (Some kind) ∷ write number (Err WouldBlock) ∷ []))))
 
+-- the system was asked at least once
+abbrev pub IsAsked : List SystemCall → Type 0
+IsAsked calls = 1 ≤ length calls
+
 -- what a stream answers to a write
 abbrev pub IsStreamWrite : ℕ → List ℕ → StreamWrite → List SystemCall → Type 0
 IsStreamWrite number piece (WriteBytes n) calls = calls ≡ write number (Ok (take n piece)) ∷ []

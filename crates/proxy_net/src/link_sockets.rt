@@ -8,7 +8,7 @@ ghost use Rattle.proxy_net.specs.Registering.{is_registered_by, is_connected_by}
 ghost use Rattle.proxy_net.specs.Noting.{is_link_noted};
 ghost use Rattle.proxy_net.specs.Connecting.{IsLater, is_open, is_pending, is_given_up as is_failed, due_of, tried_path};
 ghost use Rattle.std.specs.Prelude.{List};
-ghost use Rattle.proxy_net.specs.Steps.{Steps, IsRead, IsPolled, IsLinkWrite, IsConnectionWrite, IsRoomAwaited, IsWatched, IsRetryOf, IsRetryIn, IsShut, IsNoted, got_of};
+ghost use Rattle.proxy_net.specs.Steps.{Steps, IsRead, IsPolled, IsLinkWrite, IsConnectionWrite, IsAsked, IsRoomAwaited, IsWatched, IsRetryOf, IsRetryIn, IsShut, IsNoted, got_of};
 ghost use Rattle.std.specs.String.{string_bytes};
 ghost use Rattle.std.specs.Time.{instant_nanos};
 
@@ -278,6 +278,7 @@ impl<T: Drop> LinkSocket<T> {
         ensures faults { self.old.faults ≤ self.new.faults }
         ensures wishes { self.new.wishes ≡ self.old.wishes }
         ensures told { (number : ℕ) → is_registered_by number self.old.connection ≡ true → Steps (IsLinkWrite number piece.now result) (S.journal system.old) (S.journal system.new) }
+        ensures asked { (number : ℕ) → is_registered_by number self.old.connection ≡ true → is_open self.old.connection ≡ true → Steps IsAsked (S.journal system.old) (S.journal system.new) }
         ensures connection { self.new.connection ≡ self.old.connection }
     {
         match self.write_connection(system, piece) {
@@ -301,6 +302,7 @@ impl<T: Drop> LinkSocket<T> {
         ensures pending { is_pending self.now.connection ≡ true → result ≡ StreamWrite.Again }
         ensures never { is_failed self.now.connection ≡ true → result ≡ StreamWrite.Fault }
         ensures told { (number : ℕ) → is_registered_by number self.now.connection ≡ true → Steps (IsConnectionWrite number piece.now result) (S.journal system.old) (S.journal system.new) }
+        ensures asked { is_open self.now.connection ≡ true → Steps IsAsked (S.journal system.old) (S.journal system.new) }
     {
         match &self.connection {
             Connection::Open(stream) => write_stream(system, stream, piece),

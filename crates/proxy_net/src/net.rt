@@ -263,7 +263,7 @@ impl<S: Sockets + Drop> Net for MioNet<S> {
     ghost use Rattle.std.specs.Option.{option_map};
     ghost use Rattle.proxy_net.specs.Naming.{other_of};
     ghost use Rattle.proxy_net.specs.Registering.{listeners_from};
-    ghost use Rattle.proxy_net.specs.Steps.{Steps, IsAnswered, IsPrepare, IsWait, IsListen, IsAccept, IsConnect, IsRead, IsPolled, IsWrite, IsShut, is_failed};
+    ghost use Rattle.proxy_net.specs.Steps.{Steps, IsAnswered, IsPrepare, IsWait, IsListen, IsAccept, IsConnect, IsRead, IsPolled, IsWrite, IsAsked, IsShut, is_failed};
     ghost use Rattle.proxy_net.specs.Starters.{after_prepare, is_waiting};
     ghost use Rattle.std.specs.Prelude.{List};
     ghost use Rattle.proxy_net.specs.Sockets.{path_at, is_put_off_at, delay_at, is_readable_at, StaysUnread, StaysClosed, KeepsReports, HasLink, IsTriedTo, has_link_at};
@@ -494,6 +494,9 @@ impl<S: Sockets + Drop> Net for MioNet<S> {
 
         // What the system is asked for it, and told then.
         ensures asked { Steps (IsAnswered (write_entry link piece.now result) (IsWrite (number_of link) piece.now result)) (S.journal self.old.system) (S.journal self.new.system) }
+
+        // A link that has a stream isn't answered without a call of the system.
+        ensures reached { is_open_at self.old.sockets (number_of link) ≡ true → Steps (IsAnswered (write_entry link piece.now result) IsAsked) (S.journal self.old.system) (S.journal self.new.system) }
 
         // What the trait says.
         ensures told { Adds (shown self.old.sockets (S.journal self.old.system) self.old.starter) (shown self.new.sockets (S.journal self.new.system) self.new.starter) (write_entry link piece.now result ∷ []) }

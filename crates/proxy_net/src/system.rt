@@ -247,13 +247,22 @@ impl<'a> Sockets for SystemSockets<'a> {
     }
 
     /// The pipe is opened anew by the name of the descriptor: what is opened so is closed again, and the descriptor stays as it is.
+    ///
+    /// An open of a FIFO for writing alone waits until another process opens it for reading. So it is opened for both before, for
+    /// a moment: a FIFO that nobody reads is then reported as one whose reading end is closed, and a FIFO that this process may
+    /// not read is refused.
     fn open_starter(&mut self, descriptor: u32) -> io::Result<()> {
         let path = format!(in self.rt.alloc(); "/dev/fd/{descriptor}")?;
         let metadata = fs::metadata(self.rt, &path)?;
         if !metadata.file_type().is_fifo() {
             return Err(io::Error::from(ErrorKind::InvalidInput));
         }
+        let reader = OpenOptions::new()
+            .read(true)
+            .write(true)
+            .open(self.rt, &path)?;
         let pipe = OpenOptions::new().write(true).open(self.rt, &path)?;
+        drop(reader);
         // A writing end is never readable, so nothing is reported of it but that the reading end is closed.
         self.poll.registry().register(
             &mut SourceFd(&pipe.as_raw_fd()),

@@ -3,7 +3,7 @@ ghost use Rattle.std.specs.Prelude.{◌≡◌, ◌≤◌, ◌<◌, ℕ, None, le
 ghost use Rattle.std.specs.Option.{option_map};
 ghost use Rattle.link_traits.specs.Numbers.{number_of as link_number};
 ghost use Rattle.proxy_net.specs.Naming.{other_of};
-ghost use Rattle.proxy_net.specs.Steps.{Steps, IsRead, IsPolled, IsWrite, IsLinkWrite, IsShut};
+ghost use Rattle.proxy_net.specs.Steps.{Steps, IsRead, IsPolled, IsWrite, IsLinkWrite, IsAsked, IsShut};
 
 use super::{SocketSet, other_number};
 use crate::link_sockets::{LinkWrite, raised};
@@ -110,6 +110,7 @@ impl<T: Drop, L: Drop> SocketSet<T, L> {
         ensures unread { is_peer_closed_at self.new (link_number link) ≡ is_peer_closed_at self.old (link_number link) → StaysUnread self.old self.new }
         ensures closed { StaysClosed self.old self.new }
         ensures told { is_link_registered self.old (link_number link) ≡ true → Steps (IsWrite (link_number link) piece.now result) (S.journal system.old) (S.journal system.new) }
+        ensures asked { is_link_registered self.old (link_number link) ≡ true → is_open_at self.old (link_number link) ≡ true → Steps IsAsked (S.journal system.old) (S.journal system.new) }
         ensures goes { GoesOn self.old self.new }
     {
         match self.write_link(system, link, piece) {
@@ -140,6 +141,7 @@ impl<T: Drop, L: Drop> SocketSet<T, L> {
         ensures peers { StaysClosed self.old self.new }
         ensures waits { self.new.waits ≡ self.old.waits }
         ensures told { is_link_registered self.old (link_number link) ≡ true → Steps (IsLinkWrite (link_number link) piece.now result) (S.journal system.old) (S.journal system.new) }
+        ensures asked { is_link_registered self.old (link_number link) ≡ true → is_open_at self.old (link_number link) ≡ true → Steps IsAsked (S.journal system.old) (S.journal system.new) }
         ensures goes { GoesOn self.old self.new }
     {
         let number = number_of(link);

@@ -1,6 +1,7 @@
 use Rattle.std.proofs.Common.{◌&&◌}
 use Rattle.proxy_net.specs.Connecting.{is_open}
 use Rattle.proxy_net.proofs.Telling.{steps_weaker, steps_through}
+use Rattle.proxy_net.proofs.Meaning.{asked_more}
 use Rattle.proxy_net.proofs.Leading.{room_awaited, again_waits, fault_fails}
 use Rattle.proxy_net.proofs.link_sockets.LinkSocket.write.Goals as goal
 
@@ -14,3 +15,6 @@ returns-in-Again-clause-told g c = λ number own. steps_weaker (again_waits numb
 
 pub returns-in-Fault-clause-told : goal.returns-in-Fault-clause-told
 returns-in-Fault-clause-told g c = λ number own. steps_weaker (fault_fails number c.args.piece.now) (c.in-Fault.ensures.told number own)
+
+pub returns-in-Full-clause-asked : goal.returns-in-Full-clause-asked
+returns-in-Full-clause-asked g c = λ number own connected. steps_through (λ first second f s. asked_more first second f) (c.in-Full.ensures.asked connected) (c.await_room.ensures.told number own)

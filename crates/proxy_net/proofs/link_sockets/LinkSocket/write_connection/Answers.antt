@@ -2,7 +2,7 @@ use Rattle.std.proofs.Common.{refl, inl, subst, ◌≡◌, arith}
 use Rattle.std.proofs.lemmas.Bool.Decides.{nat_tests}
 use Rattle.proxy_net.specs.Steps.{Steps, IsConnectionWrite}
 use Rattle.proxy_net.proofs.Telling.{steps_none, steps_weaker}
-use Rattle.proxy_net.proofs.Meaning.{stream_writes}
+use Rattle.proxy_net.proofs.Meaning.{stream_writes, stream_asked}
 use Rattle.proxy_net.proofs.link_sockets.LinkSocket.write_connection.Goals as goal
 
 pub returns-in-Open-clause-told : goal.returns-in-Open-clause-told
@@ -16,3 +16,6 @@ returns-in-Pending-clause-told g c = λ number own. steps_none _ (inl refl)
 
 pub returns-in-Failed-clause-told : goal.returns-in-Failed-clause-told
 returns-in-Failed-clause-told g c = λ number own. steps_none _ (inl refl)
+
+pub returns-in-Open-clause-asked : goal.returns-in-Open-clause-asked
+returns-in-Open-clause-asked g c = λ connected. steps_weaker (stream_asked _ _ c.write_stream.result) c.write_stream.ensures.told

@@ -21,3 +21,6 @@ invariant_of-self g c = record {
       (write_makes c.args.link c.args.piece.now c.write-took.result) c.write-took.ensures.goes.number c.write-took.ensures.goes.sessions;
   bound = bound_kept c.args.self.now.sockets c.write-took.new.self (asked_then_told (write_entry c.args.link c.args.piece.now c.write-took.result) (c.write-took.ensures.told (c.args.self.now.consistent.link_tokens (number_of c.args.link))) c.tell.ensures) c.write-took.ensures.goes.number c.write-took.ensures.goes.files c.args.self.now.bound;
 }
+
+pub returns-clause-reached : goal.returns-clause-reached
+returns-clause-reached g c = λ connected. asked_then_told (write_entry c.args.link c.args.piece.now c.write-took.result) (c.write-took.ensures.asked (c.args.self.now.consistent.link_tokens (number_of c.args.link)) connected) c.tell.ensures
