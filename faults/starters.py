@@ -121,6 +121,17 @@ def descriptor_of_a_device(case):
         case.ends(["--fd=%d" % device.fileno(), *case.line], 5, REFUSED, [device.fileno()])
 
 
+def a_fifo_that_nobody_reads(case):
+    fifo = os.path.join(case.folder, "fifo")
+    os.mkfifo(fifo)
+    reader = os.open(fifo, os.O_RDONLY | os.O_NONBLOCK)
+    writer = os.open(fifo, os.O_WRONLY)
+    os.close(reader)
+    case.ends(["--fd=%d" % writer, *case.line], 0, "", [writer])
+    os.close(writer)
+    check(kind(case.path) is None, "a socket was left")
+
+
 def one_byte_once_all_paths_are_listened_at(case):
     reader, writer = os.pipe()
     other = os.path.join(case.folder, "q")
@@ -320,7 +331,7 @@ def signals_end_the_process(case):
 
 CASES = [
     bad_numbers, descriptors_that_are_not_open, descriptor_of_a_file, descriptor_of_a_folder, descriptor_of_a_socket,
-    descriptor_of_a_device, one_byte_once_all_paths_are_listened_at, no_byte_where_a_path_is_not_listened_at,
+    descriptor_of_a_device, a_fifo_that_nobody_reads, one_byte_once_all_paths_are_listened_at, no_byte_where_a_path_is_not_listened_at,
     a_starter_that_is_gone_before, a_starter_that_goes_while_a_client_is_served, forty_starts, words_of_a_descriptor,
     words_of_a_pipe, words_that_are_not_there, too_many_words, empty_file_replaced, stale_socket_replaced, folder_left_alone,
     file_with_bytes_left_alone, link_to_a_socket_left_alone, link_to_an_empty_file_left_alone, fifo_left_alone,
