@@ -52,13 +52,15 @@ def blocks():
 
 
 def manual_blocks():
-    """The examples of the manual page, each in the background and then a list of the names that its proxy shows."""
+    """The proxy lines among the examples of the manual page, each in the background and then a list of the names that its proxy
+    shows."""
     document = "docs/zamtigarn.1"
     with open(os.path.join(TOP, document), encoding="utf-8") as file:
         parts = file.read().split(".Sh EXAMPLES", 1)[1].split(".Bd ")[1:]
     for part in parts:
         text = part.split("\n", 1)[1].split("\n.Ed", 1)[0].replace("\\e", "\\")
-        yield document, "./" + text + LIST_NAMES
+        if text.startswith("zamtigarn "):
+            yield document, "./" + text + LIST_NAMES
 
 
 def clean():
