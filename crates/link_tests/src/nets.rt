@@ -12,13 +12,15 @@ const STEPS: &str = "\
 arrival 0; listen, wait, accept 0, accept 0, connect 1, wait => Ok(0), Listener(0), New(1), NotReady, Ok(()), Quiet
 arrival 1, arrival 0; listen, listen, wait, accept 1, wait, accept 0 => Ok(0), Ok(1), Listener(1), New(1), Listener(0), New(2)
 arrival 1; listen, wait, listen, wait => Ok(0), Quiet, Ok(1), Listener(1)
-arrival 0, piece c1 hello, piece c1 you, end c1; open, wait, read c1 4, wait, read c1 4, wait, read c1 4, wait, read c1 4, read c1 4, wait => New(1), c1, Bytes hell, c1, Bytes o, c1, Bytes you, c1, Finished, Finished, Quiet
+arrival 0, piece c1 hello, piece c1 you, end c1; open, wait, read c1 4, wait, read c1 4, wait, read c1 4, wait, \
+    read c1 4, read c1 4, wait => New(1), c1, Bytes hell, c1, Bytes o, c1, Bytes you, c1, Finished, Finished, Quiet
 arrival 0, piece c1 hello, piece c1 you, end c1; open, read c1 9, read c1 9, read c1 9 => New(1), Bytes hello, Bytes you, Finished
 arrival 0, piece b1 ok, piece c1 , end b1; open, wait, read b1 9, wait, read b1 9, wait => New(1), b1, Bytes ok, b1, Finished, Quiet
 arrival 0, piece c1 hello; open, read c1 0, read b1 9, read c1 9, read c1 9 => New(1), Bytes , NotReady, Bytes hello, NotReady
 arrival 0, end c1; open, read c1 0, shut c1, read c1 9, write c1 x => New(1), Finished, Failed, Failed
 ; read c1 9, write c1 x, want c1 rw, shut c1, wait => Failed, Failed, Quiet
-arrival 0, arrival 0, piece c2 two, piece c1 one; listen, accept 0, accept 0, connect 1, connect 2, want c1 r, want c2 r, wait, read c2 9, wait, read c1 9 => Ok(0), New(1), New(2), Ok(()), Ok(()), c2, Bytes two, c1, Bytes one
+arrival 0, arrival 0, piece c2 two, piece c1 one; listen, accept 0, accept 0, connect 1, connect 2, want c1 r, \
+    want c2 r, wait, read c2 9, wait, read c1 9 => Ok(0), New(1), New(2), Ok(()), Ok(()), c2, Bytes two, c1, Bytes one
 ";
 
 /// A link is named for a wish alone.
@@ -32,7 +34,8 @@ arrival 0, piece c1 hello; open, shut c1, want c1 r, wait => New(1), Quiet
 /// Calls that answer otherwise.
 const EXCEPTIONS: &str = "\
 ; setting, prepare true 7, setting, prepare false, setting, wait => None, Ok(()), Some(Setting { replaces: true, starter: Some(7) }), Ok(()), Some(Setting { replaces: false, starter: None }), Quiet
-PrepareFails 2; prepare true, prepare false 7, setting, prepare false, setting => Ok(()), Err(Failed), Some(Setting { replaces: true, starter: None }), Ok(()), Some(Setting { replaces: false, starter: None })
+PrepareFails 2; prepare true, prepare false 7, setting, prepare false, setting => Ok(()), Err(Failed), \
+    Some(Setting { replaces: true, starter: None }), Ok(()), Some(Setting { replaces: false, starter: None })
 PrepareRefused 1, PrepareFails 1; prepare true, setting, listen => Err(Memory), None, Ok(0)
 room 0 0; prepare true, setting, listen => Ok(()), Some(Setting { replaces: true, starter: None }), Err(Memory)
 ListenFails 2; listen, listen, listen => Ok(0), Err(Failed), Ok(1)
@@ -69,7 +72,8 @@ room 0 9; listen, wait, accept 0, connect 1, read c1 9, write c1 x => Err(Memory
 room 9 0; listen, wait, accept 0, connect 1, read c1 9, write c1 x => Err(Memory), Failed, Memory, Err(Memory), Failed, Failed
 room 9 1; listen, wait => Err(Memory), Quiet
 room 9 2; listen, wait => Ok(0), Failed
-room 6 7, arrival 0, piece c1 hello; open, listen, read c1 9, read c1 9, wait, accept 0, listen, connect 2, write b1 x => New(1), Err(Memory), Bytes h, Failed, Failed, Memory, Err(Memory), Err(Memory), Failed
+room 6 7, arrival 0, piece c1 hello; open, listen, read c1 9, read c1 9, wait, accept 0, listen, connect 2, \
+    write b1 x => New(1), Err(Memory), Bytes h, Failed, Failed, Memory, Err(Memory), Err(Memory), Failed
 room 9 8, arrival 0; open, write b1 abc, written b1, write b1 c => New(1), Bytes(2), ab, Failed
 room 5 9, arrival 0; open, shut c1, shut b1, write b1 x => New(1), Failed
 ";

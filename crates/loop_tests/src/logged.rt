@@ -161,7 +161,9 @@ const PLACES: &str = "\
     log {pinged}1 b 2 signal serial=5 reply=- from=:1.7 dest=- path=/ iface=a.b member=M hide SenderNotTalk 0%0A
 {proxy}; WaitFails 4, arrival 0, piece c1 {begin}{call}, piece b1 {ok}{answer 20=1}{signal}{signal 0=b}; \
     b1 => Stopped, b1 {begin}{ping}, \
-    log {pinged}1 b 2 return serial=9 reply=1 from=- dest=- path=- iface=- member=- instead ServiceUnknown%0A1 b 3 signal serial=5 reply=- from=:1.7 dest=- path=/ iface=a.b member=M hide SenderNotTalk 0%0A
+    log {pinged}1 b 2 return serial=9 reply=1 from=- dest=- path=- \
+        iface=- member=- instead ServiceUnknown%0A1 b 3 signal serial=5 \
+        reply=- from=:1.7 dest=- path=/ iface=a.b member=M hide SenderNotTalk 0%0A
 unix:path=/bus /p --filter --log --sessions=2; WaitFails 5, arrival 0, arrival 0, \
     piece c1 {begin}{call}{call 0=b}, piece c2 {begin}{call 2=1}{call 0=b}; \
     b1 b2 => Stopped, b1 {begin}{ping}, b2 {begin}, \

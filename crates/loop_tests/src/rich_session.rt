@@ -24,13 +24,16 @@ pub const PIECES: &[(&str, &str)] = &[
     // The answers to the proxy's own calls.
     (
         "b",
-        "l%02%01%01~~~~%02~~~5~~~%05%01u~%02~~~%06%01s~%05~~~:1.40~~~%07%01s~%14~~~org.freedesktop.DBus~~~~l%02%01%01%09~~~%03~~~?~~~%05%01u~%03~~~%06%01s~%05~~~:1.40~~~%07%01s~%14~~~org.freedesktop.DBus~~~~%08%01g~%01s~~%04~~~:1.7~",
+        "l%02%01%01~~~~%02~~~5~~~%05%01u~%02~~~%06%01s~%05~~~:1.40~~~%07%01s~%14~~~org.freedesktop.DBus~~~~l%02%01%01\
+            %09~~~%03~~~?~~~%05%01u~%03~~~%06%01s~%05~~~:1.40~~~%07%01s~%14~~~org.freedesktop.DBus~~~~%08%01g~%01s~~\
+            %04~~~:1.7~",
     ),
     // A call, in two pieces, and a call to a name that the client doesn't see.
     ("c", "l%01~%01%0D~~~%02~~~G~~~%01%01o~%02~~~/p~~~~"),
     (
         "c",
-        "~~%02%01s~%07~~~org.a.I~%03%01s~%01~~~A~~~~~~~%06%01s~%07~~~org.a.T~%08%01g~%01s~~%08~~~question~l%01~%01~~~~%03~~~@~~~%01%01o~%02~~~/x~~~~~~%02%01s~%07~~~org.h.I~%03%01s~%01~~~M~~~~~~~%06%01s~%07~~~org.h.X~",
+        "~~%02%01s~%07~~~org.a.I~%03%01s~%01~~~A~~~~~~~%06%01s~%07~~~org.a.T~%08%01g~%01s~~%08~~~question~l%01~%01~~~\
+            ~%03~~~@~~~%01%01o~%02~~~/x~~~~~~%02%01s~%07~~~org.h.I~%03%01s~%01~~~M~~~~~~~%06%01s~%07~~~org.h.X~",
     ),
     (
         "c",
@@ -48,12 +51,16 @@ pub const PIECES: &[(&str, &str)] = &[
     // A signal that is hidden, and one that is shown.
     (
         "b",
-        "l%04%01%01~~~~%16~~~>~~~%01%01o~%02~~~/p~~~~~~%02%01s~%07~~~org.a.I~%03%01s~%01~~~H~~~~~~~%07%01s~%05~~~:1.60~~~l%04%01%01%0A~~~%17~~~G~~~%01%01o~%02~~~/p~~~~~~%02%01s~%07~~~org.a.I~%03%01s~%01~~~S~~~~~~~%07%01s~%04~~~:1.7~~~~%08%01g~%01s~~%05~~~shown~",
+        "l%04%01%01~~~~%16~~~>~~~%01%01o~%02~~~/p~~~~~~%02%01s~%07~~~org.a.I~%03%01s~%01~~~H~~~~~~~%07%01s~%05~~~:1.6\
+            0~~~l%04%01%01%0A~~~%17~~~G~~~%01%01o~%02~~~/p~~~~~~%02%01s~%07~~~org.a.I~%03%01s~%01~~~S~~~~~~~%07%01s~\
+            %04~~~:1.7~~~~%08%01g~%01s~~%05~~~shown~",
     ),
     // The list of names.
     (
         "b",
-        "l%02%01%01Z~~~%18~~~@~~~%05%01u~%06~~~%06%01s~%05~~~:1.40~~~%07%01s~%14~~~org.freedesktop.DBus~~~~%08%01g~%02as~V~~~%14~~~org.freedesktop.DBus~~~~%05~~~:1.40~~~%07~~~org.h.X~%07~~~org.a.T~%04~~~:1.7~~~~%05~~~:1.60~",
+        "l%02%01%01Z~~~%18~~~@~~~%05%01u~%06~~~%06%01s~%05~~~:1.40~~~%07%01s~%14~~~org.freedesktop.DBus~~~~%08%01g~\
+            %02as~V~~~%14~~~org.freedesktop.DBus~~~~%05~~~:1.40~~~%07~~~org.h.X~%07~~~org.a.T~%04~~~:1.7~~~~%05~~~:1.\
+            60~",
     ),
     (
         "c",
@@ -70,8 +77,11 @@ pub const PIECES: &[(&str, &str)] = &[
 const TO_BUS: &[&str] = &[
     "~AUTH EXTERNAL%0D%0ABEGIN%0D%0A",
     "l%01~%01~~~~%01~~~m~~~%01%01o~%15~~~/org/freedesktop/DBus~~~%02%01s~%14~~~org.freedesktop.DBus~~~~%03%01s~%05~~~Hello~~~%06%01s~%14~~~org.freedesktop.DBus~~~~",
-    "l%01~%01z~~~%02~~~%7F~~~%01%01o~%15~~~/org/freedesktop/DBus~~~%02%01s~%14~~~org.freedesktop.DBus~~~~%03%01s~%08~~~AddMatch~~~~~~~~%06%01s~%14~~~org.freedesktop.DBus~~~~%08%01g~%01s~~u~~~type='signal',sender='org.freedesktop.DBus',interface='org.freedesktop.DBus',member='NameOwnerChanged',arg0='org.a.T'~",
-    "l%01~%01%0C~~~%03~~~%7F~~~%01%01o~%15~~~/org/freedesktop/DBus~~~%02%01s~%14~~~org.freedesktop.DBus~~~~%03%01s~%0C~~~GetNameOwner~~~~%06%01s~%14~~~org.freedesktop.DBus~~~~%08%01g~%01s~~%07~~~org.a.T~",
+    "l%01~%01z~~~%02~~~%7F~~~%01%01o~%15~~~/org/freedesktop/DBus~~~%02%01s~%14~~~org.freedesktop.DBus~~~~%03%01s~%08~\
+        ~~AddMatch~~~~~~~~%06%01s~%14~~~org.freedesktop.DBus~~~~%08%01g~%01s~~u~~~type='signal',sender='org.freedeskt\
+        op.DBus',interface='org.freedesktop.DBus',member='NameOwnerChanged',arg0='org.a.T'~",
+    "l%01~%01%0C~~~%03~~~%7F~~~%01%01o~%15~~~/org/freedesktop/DBus~~~%02%01s~%14~~~org.freedesktop.DBus~~~~%03%01s~\
+        %0C~~~GetNameOwner~~~~%06%01s~%14~~~org.freedesktop.DBus~~~~%08%01g~%01s~~%07~~~org.a.T~",
     "l%01~%01%0D~~~%04~~~G~~~%01%01o~%02~~~/p~~~~~~%02%01s~%07~~~org.a.I~%03%01s~%01~~~A~~~~~~~%06%01s~%07~~~org.a.T~%08%01g~%01s~~%08~~~question~",
     "l%01~%01~~~~%05~~~e~~~%01%01o~%01~~~/~~~~~~~%02%01s~%19~~~org.freedesktop.DBus.Peer~~~~~~~%03%01s~%04~~~Ping~~~~%06%01s~%14~~~org.freedesktop.DBus~~~~",
     "l%01~%01~~~~%06~~~u~~~%01%01o~%15~~~/org/freedesktop/DBus~~~%02%01s~%14~~~org.freedesktop.DBus~~~~%03%01s~%09~~~ListNames~~~~~~~%06%01s~%14~~~org.freedesktop.DBus~~~~",

@@ -21,7 +21,10 @@ arrival /p; listen /p, remove, listen /p, wait, accept 1 => Ok(0), Ok(1), Listen
 /// as long each time. It isn't put off any more once a link is shut or another client comes.
 const PUT_OFF: &str = "\
 Accept 1 Other, arrival /p; listen /p, wait, milliseconds, accept 0, wait, milliseconds, accept 0 => Ok(0), Listener(0), 0, Failed, Listener(0), 1, New(1)
-Accept 1-7 Other, arrival /p; listen /p, wait, accept 0, wait, accept 0, wait, accept 0, wait, accept 0, wait, accept 0, wait, accept 0, wait, accept 0, wait, milliseconds, accept 0 => Ok(0), Listener(0), Failed, Listener(0), Failed, Listener(0), Failed, Listener(0), Failed, Listener(0), Failed, Listener(0), Failed, Listener(0), Failed, Listener(0), 95, New(1)
+Accept 1-7 Other, arrival /p; listen /p, wait, accept 0, wait, accept 0, wait, accept 0, wait, accept 0, wait, \
+    accept 0, wait, accept 0, wait, accept 0, wait, milliseconds, accept 0 => Ok(0), Listener(0), Failed, \
+    Listener(0), Failed, Listener(0), Failed, Listener(0), Failed, Listener(0), Failed, Listener(0), Failed, \
+    Listener(0), Failed, Listener(0), 95, New(1)
 Accept 3 Other, arrival /p, arrival /p; open, wait, accept 0, shut c1, wait, milliseconds, accept 0 => New(1) Ok(()), Listener(0), Failed, Listener(0), 0, New(2)
 Accept 1 Other, arrival /p, arrival /p; listen /p, wait, accept 0, wait, milliseconds, accept 0, accept 0 => Ok(0), Listener(0), Failed, Listener(0), 0, New(1), New(2)
 ";

@@ -21,14 +21,25 @@ arrival /p; listen /p, wait, accept 0, accept 0, connect 1 => bind l0 /p, look /
 Bind 1 Other; listen /p => bind l0 /p Other
 AwaitClients 1 Other; listen /p => bind l0 /p, look /p Socket, await l0 Other, look /p Socket, remove /p
 none; listen /p, listen /q, remove => bind l0 /p, look /p Socket, await l0, bind l1 /q, look /q Socket, await l1, look /p Socket, remove /p, look /q Socket, remove /q
-Write 1 WouldBlock, arrival /p, piece b1 yes; listen /p, wait, accept 0, accept 0, connect 1, write c1 no, want b1 r, want c1 w, wait, read b1 2, read b1 9, read b1 9, wait, write c1 no, shut c1, shut b1 => bind l0 /p, look /p Socket, await l0, wait l0r, accept l0 c1, accept l0 c2 WouldBlock, connect b1 /bus, write c1 WouldBlock, watch c1 w, wait b1r, read b1 ye, read b1 s, read b1 WouldBlock, wait c1w, watch c1, write c1 no, close c1, close b1
-Connect 1 WouldBlock, arrival /p; listen /p, wait, accept 0, accept 0, connect 1, want b1 w, wait => bind l0 /p, look /p Socket, await l0, wait l0r, accept l0 c1, accept l0 c2 WouldBlock, connect b1 /bus WouldBlock, wait, connect b1 /bus
-arrival /p, piece b1 x, +piece c1 y, Read 1 Interrupted; listen /p, wait, accept 0, accept 0, connect 1, want c1 r, wait, read c1 1, shut b1, wait => bind l0 /p, look /p Socket, await l0, wait l0r, accept l0 c1, accept l0 c2 WouldBlock, connect b1 /bus, wait b1r c1r, read c1 y, close b1
+Write 1 WouldBlock, arrival /p, piece b1 yes; listen /p, wait, accept 0, accept 0, connect 1, write c1 no, \
+    want b1 r, want c1 w, wait, read b1 2, read b1 9, read b1 9, wait, write c1 no, shut c1, shut b1 => bind l0 /p, \
+    look /p Socket, await l0, wait l0r, accept l0 c1, accept l0 c2 WouldBlock, connect b1 /bus, write c1 WouldBlock, \
+    watch c1 w, wait b1r, read b1 ye, read b1 s, read b1 WouldBlock, wait c1w, watch c1, write c1 no, close c1, \
+    close b1
+Connect 1 WouldBlock, arrival /p; listen /p, wait, accept 0, accept 0, connect 1, want b1 w, wait => bind l0 /p, \
+    look /p Socket, await l0, wait l0r, accept l0 c1, accept l0 c2 WouldBlock, connect b1 /bus WouldBlock, wait, \
+    connect b1 /bus
+arrival /p, piece b1 x, +piece c1 y, Read 1 Interrupted; listen /p, wait, accept 0, accept 0, connect 1, want c1 r, \
+    wait, read c1 1, shut b1, wait => bind l0 /p, look /p Socket, await l0, wait l0r, accept l0 c1, \
+    accept l0 c2 WouldBlock, connect b1 /bus, wait b1r c1r, read c1 y, close b1
 none; prepare 7, listen /p, listen /q, wait, wait => open 7, bind l0 /p, look /p Socket, await l0, bind l1 /q, look /q Socket, await l1, notify, wait TimedOut, wait TimedOut
 starter; prepare 7, listen /p, wait, wait, remove => open 7, bind l0 /p, look /p Socket, await l0, notify, wait starter, look /p Socket, remove /p
 NotifyStarter 1 BrokenPipe; prepare 7, listen /p, wait, wait => open 7, bind l0 /p, look /p Socket, await l0, notify BrokenPipe
 OpenStarter 1 Other; prepare 7, prepare replace, listen /p => open 7 Other, look /p nothing, bind l0 /p, look /p Socket, await l0
-file /p EmptyFile, file /q Other, file /r Socket; listen /p, prepare replace, listen /p, listen /q, listen /r, listen /s => bind l0 /p AddrInUse, look /p EmptyFile, remove /p, bind l0 /p, look /p Socket, await l0, look /q Other, bind l1 /q AddrInUse, look /r Socket, remove /r, bind l1 /r, look /r Socket, await l1, look /s nothing, bind l2 /s, look /s Socket, await l2
+file /p EmptyFile, file /q Other, file /r Socket; listen /p, prepare replace, listen /p, listen /q, listen /r, \
+    listen /s => bind l0 /p AddrInUse, look /p EmptyFile, remove /p, bind l0 /p, look /p Socket, await l0, \
+    look /q Other, bind l1 /q AddrInUse, look /r Socket, remove /r, bind l1 /r, look /r Socket, await l1, \
+    look /s nothing, bind l2 /s, look /s Socket, await l2
 ";
 
 /// What the calls of a row ask of the system.

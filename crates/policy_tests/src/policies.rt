@@ -147,10 +147,14 @@ org.p.P --property=org.p.P=org.p.I.V --talk=org.p.P --call=org.p.P=* => Talk
 const ENTRIES: &str = "\
 --filter => 
 --see=org.a.* --talk=org.a.T --see=org.a.* --own=org.o.O => --see=org.a.* org.a false see  See|--talk=org.a.T org.a.T true talk  Talk|--own=org.o.O org.o.O true own  Own|
---call=org.c.C=* --talk=org.a.T --broadcast=org.b.*=org.b.I.S@/p => --call=org.c.C=* org.c.C true call * See|--talk=org.a.T org.a.T true talk  Talk|--broadcast=org.b.*=org.b.I.S@/p org.b false broadcast org.b.I.S@/p See|
+--call=org.c.C=* --talk=org.a.T --broadcast=org.b.*=org.b.I.S@/p => --call=org.c.C=* org.c.C true call * See|\
+    --talk=org.a.T org.a.T true talk  Talk|--broadcast=org.b.*=org.b.I.S@/p org.b false broadcast org.b.I.S@/p See|
 --call=org.c.C= => --call=org.c.C= org.c.C true call  See|
 --property=org.p.*=org.p.I.V@/p/* => --property=org.p.*=org.p.I.V@/p/* org.p false property org.p.I.V@/p/* See|
---property=org.p.P=org.p.I.V --call=org.p.P=org.p.I.V --property=org.p.P=org.p.I.* --property=org.p.P=org.p.I.V => --property=org.p.P=org.p.I.V org.p.P true property org.p.I.V See|--call=org.p.P=org.p.I.V org.p.P true call org.p.I.V See|--property=org.p.P=org.p.I.* org.p.P true property org.p.I.* See|
+--property=org.p.P=org.p.I.V --call=org.p.P=org.p.I.V --property=org.p.P=org.p.I.* --property=org.p.P=org.p.I.V => \
+    --property=org.p.P=org.p.I.V org.p.P true property org.p.I.V See|\
+    --call=org.p.P=org.p.I.V org.p.P true call org.p.I.V See|--property=org.p.P=org.p.I.* \
+    org.p.P true property org.p.I.* See|
 ";
 
 /// How many words of different names, and one word more, and whether messages are filtered, whether they are
@@ -188,7 +192,9 @@ unix:path=/a /p --sessions=1 => 1, /a /p false false 0 None
 unix:path=/a /p --sessions=1000000 => 1000000, /a /p false false 0 None
 unix:path=/a /p --log unix:path=/b /q --filter => 4294967295, /a /p false true 0 None, /b /q true false 0 None
 unix:path=/a /p --sessions=9 --filter --sessions=10 => 10, /a /p true false 0 None
-unix:path=/a /p --filter --talk=org.a.T --sessions=2 unix:path=/b /q unix:path=/c /r --see=org.a.T --own=org.a.T --sessions=3 => 3, /a /p true false 1 Talk, /b /q false false 0 None, /c /r false false 2 Own
+unix:path=/a /p --filter --talk=org.a.T --sessions=2 unix:path=/b \
+    /q unix:path=/c /r --see=org.a.T --own=org.a.T --sessions=3 => 3, /a /p true false 1 Talk, \
+    /b /q false false 0 None, /c /r false false 2 Own
 unix:path=/a /p --record=/r => 4294967295 /r, /a /p false false 0 None
 --fd=35 unix:path=/a /p => 4294967295 fd=35, /a /p false false 0 None
 unix:path=/a /p --fd=0 => 4294967295 fd=0, /a /p false false 0 None

@@ -36,7 +36,9 @@ x DBPR%02%01~%02~~~%02~~~ab => 1 error: usage
 
 /// A recording, and the status with the list of its sessions or the line.
 const SESSIONS: &str = "\
-DBPR%02%01~%02~~~%02~~~ab%01%07~~~%01~~~c%02%02~~~~~~~%04%07~~~%01~~~%09%01%07~~~%01~~~d~%FF%FF%FF%FF%01~~~z => 0 session 2 client 2 bus 0 events 2 end 3%0Asession 7 client 0 bus 2 events 3 end 9%0Asession 4294967295 client 1 bus 0 events 1 end -%0A
+DBPR%02%01~%02~~~%02~~~ab%01%07~~~%01~~~c%02%02~~~~~~~%04%07~~~%01~~~%09%01%07~~~%01~~~d~%FF%FF%FF%FF%01~~~z => \
+    0 session 2 client 2 bus 0 events 2 end 3%0Asession 7 client 0 \
+    bus 2 events 3 end 9%0Asession 4294967295 client 1 bus 0 events 1 end -%0A
 DBPR%02~%03%09~~~~~~~%02%09~~~~~~~~%03~~~~~~~ => 0 session 3 client 0 bus 0 events 1 end -%0Asession 9 client 0 bus 0 events 2 end 4%0A
 DBPR%02~%02%01~~~~~~~%04%01~~~%01~~~%07 => 0 session 1 client 0 bus 0 events 2 end 3%0A
 DBPR%02~%04%01~~~%01~~~%0B%02%01~~~~~~~ => 0 session 1 client 0 bus 0 events 2 end 11%0A

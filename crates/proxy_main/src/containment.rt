@@ -1,7 +1,7 @@
 //! The lines that tell whether one policy is within another.
 ghost use Rattle.std.specs.Prelude.{◌≡◌, ◌∷◌, ◌++◌, [], IfOk, OnOk, codes, decimal, flat_map, map, string_bytes};
 ghost use Rattle.explain_log.specs.Lines.{text_word};
-ghost use Rattle.policy_args.specs.declared.requests.Asked.TheVariants.{Property};
+ghost use Rattle.policy_args.specs.declared.requests.Asked.TheVariants.{Broadcast, Property};
 ghost use Rattle.proxy_main.specs.WithinText.{covered_line, request_words, spaced, within_text};
 
 use dbus_names::Name;
@@ -98,16 +98,7 @@ fn push_request(asked: &Asked, text: &mut String) -> Result<(), AllocError>
             path,
             interface,
             member,
-        } => push_words(
-            &[
-                "broadcast",
-                name.as_str(),
-                path.as_str(),
-                interface.as_str(),
-                member.as_str(),
-            ],
-            text,
-        ),
+        } => push_broadcast(name, path, interface, member, text),
         Asked::Property {
             name,
             path,
@@ -115,6 +106,28 @@ fn push_request(asked: &Asked, text: &mut String) -> Result<(), AllocError>
             access,
         } => push_property(name, path, interface, access, text),
     }
+}
+
+/// Puts the words of a signal for all after a text.
+fn push_broadcast<'a>(
+    name: &'a Name,
+    path: &'a Name,
+    interface: &'a Name,
+    member: &'a Name,
+    text: &mut String,
+) -> Result<(), AllocError>
+    ensures { OnOk result (string_bytes text.new ≡ string_bytes text.old ++ spaced (request_words (Broadcast name.now path.now interface.now member.now))) }
+{
+    push_words(
+        &[
+            "broadcast",
+            name.as_str(),
+            path.as_str(),
+            interface.as_str(),
+            member.as_str(),
+        ],
+        text,
+    )
 }
 
 /// Puts the words of a request of properties after a text.

@@ -11,15 +11,19 @@ use test_tables::{text_of, wrong_row};
 
 /// Reads, ends and calls that fail are recorded, and nothing else.
 const RECORDS: &str = "\
-arrival 0, piece c1 hello, end c1, piece b1 ok, end b1; ; listen, wait, accept 0, connect 1, read c1 9, read c1 9, read b1 9, read b1 9 => Ok(0), Listener(0), New(1), Ok(()), Bytes(5), Finished, Bytes(2), Finished; DBPR%02%01~%01~~~%05~~~hello%02%01~~~~~~~%01%01~~~%02~~~ok%03%01~~~~~~~ None
-arrival 0, arrival 0, piece c2 two, piece c1 one; ; listen, accept 0, accept 0, read c2 2, read c1 9, read c2 2 => Ok(0), New(1), New(2), Bytes(2), Bytes(3), Bytes(1); DBPR%02%01~%02~~~%02~~~tw~%01~~~%03~~~one~%02~~~%01~~~o None
+arrival 0, piece c1 hello, end c1, piece b1 ok, end b1; ; listen, wait, accept 0, connect 1, read c1 9, read c1 9, \
+    read b1 9, read b1 9 => Ok(0), Listener(0), New(1), Ok(()), Bytes(5), Finished, Bytes(2), Finished; \
+    DBPR%02%01~%01~~~%05~~~hello%02%01~~~~~~~%01%01~~~%02~~~ok%03%01~~~~~~~ None
+arrival 0, arrival 0, piece c2 two, piece c1 one; ; listen, accept 0, accept 0, read c2 2, read c1 9, read c2 2 => \
+    Ok(0), New(1), New(2), Bytes(2), Bytes(3), Bytes(1); DBPR%02%01~%02~~~%02~~~tw~%01~~~%03~~~one~%02~~~%01~~~o None
 arrival 0, ReadFails 1, WriteFails 1; ; listen, accept 0, connect 1, read c1 9, write c1 x => Ok(0), New(1), Ok(()), Failed, Failed; DBPR%02%01%04%01~~~%01~~~%07%04%01~~~%01~~~%08 None
 arrival 0, ReadFails 1, WriteFails 1; ; listen, accept 0, connect 1, read b1 9, write b1 x => Ok(0), New(1), Ok(()), Failed, Failed; DBPR%02%01%04%01~~~%01~~~%09%04%01~~~%01~~~%0A None
 arrival 0, ConnectFails 1; ; listen, accept 0, connect 1 => Ok(0), New(1), Err(Failed); DBPR%02%01%04%01~~~%01~~~%0B None
 arrival 0, ConnectRefused 1; ; listen, accept 0, connect 1 => Ok(0), New(1), Err(Memory); DBPR%02%01 None
 ListenFails 1, WaitFails 1, AcceptFails 1; ; listen, wait, accept 0 => Err(Failed), Failed, Failed; DBPR%02%01 None
 PrepareFails 1; ; prepare 7, prepare 7, listen => Err(Failed), Ok(()), Ok(0); DBPR%02%01 None
-arrival 0, ReadNotReady 1, WriteNotReady 1; ; listen, accept 0, connect 1, read c1 9, write b1 x, write b1 yz, want c1, shut c1 => Ok(0), New(1), Ok(()), NotReady, NotReady, Bytes(2), wanted, shut; DBPR%02%01 None
+arrival 0, ReadNotReady 1, WriteNotReady 1; ; listen, accept 0, connect 1, read c1 9, write b1 x, write b1 yz, \
+    want c1, shut c1 => Ok(0), New(1), Ok(()), NotReady, NotReady, Bytes(2), wanted, shut; DBPR%02%01 None
 ";
 
 /// Appends that take a few bytes, fail, or are refused memory. The net goes on.

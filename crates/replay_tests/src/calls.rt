@@ -263,7 +263,8 @@ to_client denied 96 6
     "\
 policy --filter
 client bus 3 NameHasOwner | s org.h.X
-client bytes B%01~%01~~~%0C%01%02%03%04~~~%7F%01%01o~~~~%15/org/freedesktop/DBus~~~%02%01s~~~~%14org.freedesktop.DBus~~~~%03%01s~~~~%0CNameHasOwner~~~~%06%01s~~~~%14org.freedesktop.DBus~~~~%08%01g~%01s~~~~~%07org.h.X~
+client bytes B%01~%01~~~%0C%01%02%03%04~~~%7F%01%01o~~~~%15/org/freedesktop/DBus~~~%02%01s~~~~%14org.freedesktop.DBus\
+    ~~~~%03%01s~~~~%0CNameHasOwner~~~~%06%01s~~~~%14org.freedesktop.DBus~~~~%08%01g~%01s~~~~~%07org.h.X~
 bus ret 70 1
 bus ret 71 2
 to_bus ping 1

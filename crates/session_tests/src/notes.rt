@@ -19,10 +19,17 @@ use test_tables::wrong_row;
 const NOTES: &str = "\
 0 --filter; note => none; None
 0 --filter,--talk=org.a.T; client call; bus return; note; note; note => - 80 0; - 80 56; 1 Client 1 7 80 Judged(Pass); 2 Bus 2 60 56 Shown(Reply(7)); none; None
-0 --filter; client call; bus return; note; note; note => - 120 0; - 120 140; 1 Client 1 7 80 Judged(Ping(ServiceUnknown, NotVisible)); 2 Bus 2 60 56 Shown(Instead { order: Little, reply: 7, what: ServiceUnknown }); none; None
-0 --filter; bus return; note; client call 2=1; note; client return; note; note => - 0 0; 1 Bus 2 60 56 Shown(Hide(NotExpected)); - 0 0; 2 Client 1 7 80 Judged(Drop(NotVisible)); - 0 0; 3 Client 2 60 56 Judged(Drop(NotOutstanding)); none; None
+0 --filter; client call; bus return; note; note; note => - 120 0; - 120 140; \
+    1 Client 1 7 80 Judged(Ping(ServiceUnknown, NotVisible)); 2 Bus 2 60 56 Shown(Instead { order: Little, reply: 7, \
+    what: ServiceUnknown }); none; None
+0 --filter; bus return; note; client call 2=1; note; client return; note; note => - 0 0; \
+    1 Bus 2 60 56 Shown(Hide(NotExpected)); - 0 0; 2 Client 1 7 80 Judged(Drop(NotVisible)); - 0 0; \
+    3 Client 2 60 56 Judged(Drop(NotOutstanding)); none; None
 0 --filter,--talk=org.a.T; bytes call; bus call; note; note; note => - 80 0; - 80 80; 1 Client 1 7 80 Judged(Pass); 2 Bus 1 7 80 Shown(Whole); none; None
-0 --filter,--talk=org.a.T; client call; client ones; bus return; note; note => - 80 0; ClientMalformed(Message(Malformed { kind: ByteOrder, at: 0 })) 80 0; ClientMalformed(Message(Malformed { kind: ByteOrder, at: 0 })) 80 0; 1 Client 1 7 80 Judged(Pass); none; Some(ClientMalformed(Message(Malformed { kind: ByteOrder, at: 0 })))
+0 --filter,--talk=org.a.T; client call; client ones; bus return; note; note => - 80 0; \
+    ClientMalformed(Message(Malformed { kind: ByteOrder, at: 0 })) 80 0; \
+    ClientMalformed(Message(Malformed { kind: ByteOrder, at: 0 })) 80 0; 1 Client 1 7 80 Judged(Pass); none; \
+    Some(ClientMalformed(Message(Malformed { kind: ByteOrder, at: 0 })))
 0 --filter,--talk=org.a.T; client call; client call cut=79; client_ended; note; note => - 80 0; - 80 0; ClientEnd 80 0; 1 Client 1 7 80 Judged(Pass); none; Some(ClientEnd)
 4294967294 --filter,--talk=org.a.T; client call; client call; note; note => - 80 0; SerialsSpent 80 0; 1 Client 1 7 80 Judged(Pass); none; Some(SerialsSpent)
 4294967295 --filter,--talk=org.a.T; client return; client call; note; note => - 0 0; SerialsSpent 0 0; 1 Client 2 60 56 Judged(Drop(NotOutstanding)); none; Some(SerialsSpent)
@@ -33,7 +40,9 @@ const NOTES: &str = "\
 const LINES: &str = "\
 --filter,--talk=org.a.T; client auth; bus ok; note; client begin; client call; note; note => - 19 0; - 19 37; none; - 26 37; - 106 37; 1 Client 1 7 80 Judged(Pass); none; None
 --log; client auth; bus ok; note; client begin; client call; bus ones; note => - 19 0; - 19 37; none; - 26 37; - 106 37; - 106 53; none; None
---log; client auth; bus ok; bus ones; client begin => - 19 0; - 19 37; BusMalformed(Line(LineFault { kind: EarlyBus, at: 37 })) 19 37; BusMalformed(Line(LineFault { kind: EarlyBus, at: 37 })) 19 37; Some(BusMalformed(Line(LineFault { kind: EarlyBus, at: 37 })))
+--log; client auth; bus ok; bus ones; client begin => - 19 0; - 19 37; BusMalformed(Line(LineFault { kind: EarlyBus, \
+    at: 37 })) 19 37; BusMalformed(Line(LineFault { kind: EarlyBus, at: 37 })) 19 37; \
+    Some(BusMalformed(Line(LineFault { kind: EarlyBus, at: 37 })))
 ";
 
 /// Messages that are filtered, with notes.

@@ -14,7 +14,9 @@ use test_tables::wrong_row;
 /// messages don't. A Hello and the calls behind it are sent together or not at all, and so are the calls on a list of
 /// names.
 const SPENT: &str = "\
-4294967294 --filter,--talk=org.a.T; client call; bus_byte 8; bus_byte 9; bus_byte 10; bus_byte 11; bus return 20=255 21=255 22=255 23=255; client call => - 80 0; 255; 255; 255; 255; - 80 56; SerialsSpent 80 56; Some(SerialsSpent)
+4294967294 --filter,--talk=org.a.T; client call; bus_byte 8; bus_byte 9; bus_byte 10; bus_byte 11; \
+    bus return 20=255 21=255 22=255 23=255; client call => - 80 0; 255; 255; 255; 255; - 80 56; SerialsSpent 80 56; \
+    Some(SerialsSpent)
 4294967294 --filter,--talk=org.a.T; client call 2=1; client call => - 80 0; SerialsSpent 80 0; Some(SerialsSpent)
 4294967294 --filter; client call; client call => - 120 0; SerialsSpent 120 0; Some(SerialsSpent)
 4294967295 --filter; client call 2=1; client hello => - 0 0; SerialsSpent 0 0; Some(SerialsSpent)

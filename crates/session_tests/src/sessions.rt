@@ -19,16 +19,23 @@ const SESSIONS: &str = "\
 --filter; client call; bus return => - 120 0; - 120 140; None
 --filter; client_ended; bus_ended; client call => ClientEnd 0 0; ClientEnd 0 0; ClientEnd 0 0; Some(ClientEnd)
 --filter; bus_ended; client_ended => BusEnd 0 0; BusEnd 0 0; Some(BusEnd)
---filter,--talk=org.a.T; client call; stopped_by_log; client call; stopped_by_memory; bus_ended; took_bus 80 => - 80 0; LogFault 80 0; LogFault 80 0; LogFault 80 0; LogFault 80 0; - 0 0; Some(LogFault)
+--filter,--talk=org.a.T; client call; stopped_by_log; client call; stopped_by_memory; bus_ended; took_bus 80 => \
+    - 80 0; LogFault 80 0; LogFault 80 0; LogFault 80 0; LogFault 80 0; - 0 0; Some(LogFault)
 --filter; stopped_by_memory; client call => Memory 0 0; Memory 0 0; Some(Memory)
 --filter; client_ended; stopped_by_log => ClientEnd 0 0; ClientEnd 0 0; Some(ClientEnd)
 --filter; client return => - 0 0; None
 --filter,--talk=org.a.T; bytes call; bytes call; bytes call; client ones cut=15 => - 80 0; - 160 0; - 240 0; - 240 0; None
---filter,--talk=org.a.T; bytes call; client ones cut=15; client ones cut=1 => - 80 0; - 80 0; ClientMalformed(Message(Malformed { kind: ByteOrder, at: 0 })) 80 0; Some(ClientMalformed(Message(Malformed { kind: ByteOrder, at: 0 })))
+--filter,--talk=org.a.T; bytes call; client ones cut=15; client ones cut=1 => - 80 0; - 80 0; \
+    ClientMalformed(Message(Malformed { kind: ByteOrder, at: 0 })) 80 0; \
+    Some(ClientMalformed(Message(Malformed { kind: ByteOrder, at: 0 })))
 --filter,--talk=org.a.T; client call; note; bus return; note => - 80 0; none; - 80 56; none; None
 --filter; client call 2=1; client call 2=2; bus return; client call 1=9 2=2 => - 0 0; - 120 0; - 120 142; - 120 142; None
---filter,--talk=org.a.T; client long fill=70000; bus_byte 8; took_bus 12; bus_byte 70079; bus long_return fill=70000; client_byte 20; took_client 24; client_byte 70043; client call => - 70092 0; 1; - 70080 0; 120; - 70080 70068; 7; - 70080 70044; 120; - 70160 70044; None
---log; client ones; bus_byte 15; bus call; client_byte 8; client_byte 78; client ones cut=0; bytes ones; bus ones cut=3; client_ended; client ones => - 16 0; 255; - 16 80; 7; 84; - 16 80; - 32 80; - 32 83; ClientEnd 32 83; ClientEnd 32 83; Some(ClientEnd)
+--filter,--talk=org.a.T; client long fill=70000; bus_byte 8; took_bus 12; bus_byte 70079; \
+    bus long_return fill=70000; client_byte 20; took_client 24; client_byte 70043; client call => - 70092 0; 1; \
+    - 70080 0; 120; - 70080 70068; 7; - 70080 70044; 120; - 70160 70044; None
+--log; client ones; bus_byte 15; bus call; client_byte 8; client_byte 78; client ones cut=0; bytes ones; \
+    bus ones cut=3; client_ended; client ones => - 16 0; 255; - 16 80; 7; 84; - 16 80; - 32 80; - 32 83; \
+    ClientEnd 32 83; ClientEnd 32 83; Some(ClientEnd)
 --log; bus ones; took_client 10; client call; bus return; client_byte 6; bus_ended; note => - 0 16; - 0 6; - 80 6; - 80 62; 108; BusEnd 80 62; none; Some(BusEnd)
 ";
 
@@ -50,7 +57,9 @@ pub fn asked(options: &Options, mode: Mode) -> Mode {
 
 /// A call to org.a.T, with serial 7.
 const CALL: &[u8] =
-    b"l\x01\x00\x01\x00\x00\x00\x00\x07\x00\x00\x00@\x00\x00\x00\x01\x01o\x00\x02\x00\x00\x00/p\x00\x00\x00\x00\x00\x00\x02\x01s\x00\x07\x00\x00\x00org.a.I\x00\x03\x01s\x00\x01\x00\x00\x00A\x00\x00\x00\x00\x00\x00\x00\x06\x01s\x00\x07\x00\x00\x00org.a.T\x00";
+    b"l\x01\x00\x01\x00\x00\x00\x00\x07\x00\x00\x00@\x00\x00\x00\x01\x01o\x00\x02\x00\x00\x00/p\x00\x00\x00\x00\x00\
+        \x00\x02\x01s\x00\x07\x00\x00\x00org.a.I\x00\x03\x01s\x00\x01\x00\x00\x00A\x00\x00\x00\x00\x00\x00\x00\x06\
+        \x01s\x00\x07\x00\x00\x00org.a.T\x00";
 
 /// A return to :1.40 with serial 60, the answer to serial 1.
 const RETURN: &[u8] =
