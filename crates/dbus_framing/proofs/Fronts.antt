@@ -1,4 +1,4 @@
--- What the head and the message in front tell of the bytes that are left.
+-- What the head of the first message, and the message, say of the bytes that are left.
 use Rattle.std.proofs.Common.{◌≡◌, ℕ, ◌<◌, ◌≤◌, Bool, true, false, cond, List, [], ◌++◌, length, take, drop, Option, Some, None, Result, Ok, Err, refl, sym, ap, subst, ◌∙◌, append-nil, arith, inl, inr}
 use Rattle.std.specs.Prelude.{is_some, nat_lt, OnOk, OnErr}
 use Rattle.std.proofs.lemmas.List.{length-append, take-append-drop, length-take-le, drop_all}
@@ -23,7 +23,7 @@ use Rattle.dbus_framing.specs.declared.state.State.TheVariants.{AwaitsHead, Awai
 longer : (bytes x : List ℕ) → 16 ≤ length bytes → 16 ≤ length (bytes ++ x)
 longer bytes x h = rw (length-append bytes x) (up 16 (length bytes) (length x) h)
 
--- the head of more bytes says the same
+-- the head of a longer byte list says the same
 pub head-longer : (bytes x : List ℕ) (len : ℕ) → Head bytes len → Head (bytes ++ x) len
 head-longer bytes x len h =
     let same = same_head bytes x h.stands in
@@ -35,7 +35,7 @@ knows-longer AwaitsHead bytes x k = tt
 knows-longer (AwaitsMessage len) bytes x k = head-longer bytes x len k
 knows-longer (Bad f) bytes x k = fault-longer bytes x f k
 
--- after a push that went well, or failed
+-- after a push that succeeded or failed
 pub knows-pushed : {T E : Type 0} (state : State) (r : Result T E) (old piece new : List ℕ) → OnOk r (new ≡ old ++ piece) → OnErr r (new ≡ old) → Knows state old → Knows state new
 knows-pushed state (Ok u) old piece new ok err k = subst (Knows state) (sym ok) (knows-longer state old piece k)
 knows-pushed state (Err e) old piece new ok err k = subst (Knows state) (sym err) k

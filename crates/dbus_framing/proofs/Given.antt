@@ -1,4 +1,4 @@
--- What was given, and what all that was pushed holds.
+-- What was taken, and the messages of all that was pushed.
 use Rattle.std.proofs.Common.{◌≡◌, ℕ, List, [], ◌∷◌, ◌++◌, Some, None, refl, sym, ap, ◌∙◌, append_assoc, append-nil}
 use Rattle.std.specs.List.{flat_map, AllByRecursion}
 use Rattle.std.proofs.lemmas.Grind.{flat_map-append}
@@ -33,7 +33,7 @@ module _ (pushed : List ℕ) (given : List Message) (left : List ℕ) (stands : 
     ap (λ (q : List Message × List ℕ). fault q.1) split-pushed,
   )
 
-  -- where no message stands in front, all were given
+  -- if no message is first, all were taken
   pub all-given : front left ≡ None → (given ≡ messages pushed) × (bad pushed ≡ fault left)
   all-given none =
       let end = split_none left none in (
@@ -76,7 +76,7 @@ next-follows pushed given old (Bad f) new s g =
 abbrev the_bad : Malformed → Next
 the_bad f = Bad f
 
--- a fault in front is given again
+-- a fault is reported again
 pub bad-again : (old : List ℕ) (f : Malformed) (next : Next) (new : List ℕ) → fault old ≡ Some f → Gives old next new → (next ≡ Bad f) × (fault new ≡ Some f)
 bad-again old f (Whole frame) new e g = absurd (none-some (g.0, new) (sym (fault_front old f e) ∙ g.1.in_front))
 bad-again old f Rest new e g = absurd (none-some f (sym g.2 ∙ e))

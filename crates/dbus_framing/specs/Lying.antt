@@ -1,4 +1,4 @@
--- The bytes of a buffer, wherever they lie.
+-- The bytes of a buffer in either form.
 use Rattle.std.specs.Prelude.{ℕ, List}
 use Rattle.dbus_framing.specs.declared.buffer.Content.{Content}
 use Rattle.dbus_framing.specs.declared.buffer.Content.TheVariants.{Open, Shared}

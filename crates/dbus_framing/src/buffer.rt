@@ -1,4 +1,4 @@
-//! Bytes that are put in at the back and taken from the front. Those of a long message are given to others without a copy.
+//! Bytes that are appended at the end and removed from the start. Those of a long message are shared without a copy.
 ghost use Rattle.std.specs.Prelude.{◌≡◌, ◌==◌, ◌^◌, ◌<◌, ◌≤◌, ◌++◌, [], IfOk, IfSome, OnOk, OnErr, length, take, drop};
 
 use crate::queue::ByteQueue;
@@ -7,23 +7,22 @@ use std::alloc::{AllocError, Global};
 use std::marker::Model;
 use std::mem;
 
-/// A buffer keeps the memory of at most so many bytes beside those that wait in it, room for a few reads of a link, until
-/// it gives it back.
+/// The number of bytes of memory that a buffer keeps beside the bytes that wait in it: room for a few reads of a link.
 const KEPT: usize = 262_144;
 
-/// Fewer bytes aren't shared: to copy them costs less than memory and a write of their own.
+/// Fewer bytes aren't shared: a copy costs less than memory and a write of their own.
 const LONG: usize = 65_536;
 
-/// Where the bytes lie.
+/// Where the bytes are.
 #[derive(Drop)]
 pub(crate) enum Content {
-    /// Nothing else reaches them, and there may be room behind them.
+    /// Nothing else refers to them, and there may be room after them.
     Open(ByteQueue),
-    /// Others may have parts of them, so that nothing is put behind them.
+    /// Others may refer to parts of them, so nothing is appended to them.
     Shared(Bytes),
 }
 
-/// Bytes that came and weren't taken yet.
+/// Bytes that were received and not removed yet.
 #[derive(Drop)]
 pub(crate) struct Buffer {
     content: Content,
@@ -39,7 +38,7 @@ impl Model for Buffer {
     ghost view = { λ b. lying_in b.content };
 }
 
-/// A copy of bytes with others behind them.
+/// A copy of bytes, followed by others.
 fn joined(alloc: Global, bytes: &[u8], others: &[u8]) -> Result<ByteQueue, AllocError>
     ensures { IfOk result (λ all. all ≡ bytes.now ++ others.now) }
 {
@@ -49,7 +48,7 @@ fn joined(alloc: Global, bytes: &[u8], others: &[u8]) -> Result<ByteQueue, Alloc
 }
 
 impl Buffer {
-    /// It takes no memory before the first bytes.
+    /// An empty buffer. It allocates nothing until bytes are pushed.
     pub(crate) fn new(alloc: Global) -> Buffer
         ensures { result ≡ [] }
     {
@@ -59,7 +58,7 @@ impl Buffer {
         }
     }
 
-    /// A buffer with these bytes. They stay in their memory where nothing else holds them, and lie at its front then.
+    /// A buffer with these bytes. If nothing else refers to them, they stay in their memory and are moved to its start.
     pub(crate) fn with_bytes(alloc: Global, bytes: Bytes) -> Result<Buffer, AllocError>
         ensures { IfOk result (λ buffer. buffer ≡ bytes) }
     {
@@ -80,7 +79,7 @@ impl Buffer {
         }
     }
 
-    /// Its memory, unless others may have parts of it. The bytes are dropped.
+    /// The buffer's memory, unless others may refer to parts of it. The bytes are dropped.
     pub(crate) fn into_room(self) -> Vec<u8>
         ensures { result.items ≡ [] }
     {
@@ -101,7 +100,7 @@ impl Buffer {
         }
     }
 
-    /// How many bytes there are.
+    /// The number of bytes.
     pub(crate) fn len(&self) -> usize
         ensures value { result ≡ length self.now }
         ensures bound { result < 2 ^ 63 }
@@ -112,15 +111,16 @@ impl Buffer {
         }
     }
 
-    /// Puts bytes behind the others. Where they belong to a message of so many bytes in front, and those are many, there is room for all of
-    /// it at once, as far as memory for that is left.
+    /// Appends bytes. If the first message is long (`whole` bytes), this makes room for all of it at once, as far as
+    /// memory allows.
     pub(crate) fn push(&mut self, piece: &[u8], whole: usize) -> Result<(), AllocError>
         ensures ok { OnOk result (self.new ≡ self.old ++ piece.now) }
         ensures err { OnErr result (self.new ≡ self.old) }
     {
         match &mut self.content {
             Content::Open(bytes) => {
-                // A sender that states much and sends little takes addresses alone: no page is touched before bytes come to lie there.
+                // A sender that states much and sends little costs address space alone: no page is touched before bytes
+                // are written to it.
                 if whole >= LONG {
                     bytes.make_room(whole);
                 }
@@ -134,7 +134,7 @@ impl Buffer {
         }
     }
 
-    /// Takes that many bytes from the front.
+    /// Removes that many bytes from the start.
     pub(crate) fn take(&mut self, len: usize)
         requires { len ≤ length self.old }
         ensures { self.new ≡ drop len self.old }
@@ -145,7 +145,7 @@ impl Buffer {
         }
     }
 
-    /// Makes the bytes such that they can be shared, where memory for that is left.
+    /// Makes the bytes shareable, if memory for that is left.
     fn share(&mut self)
         ensures { self.new ≡ self.old }
     {
@@ -159,7 +159,7 @@ impl Buffer {
         };
     }
 
-    /// The first bytes, where they are many and memory for that is left. They aren't copied, and stay here too.
+    /// Lends the first bytes without a copy, if they are many and memory for that is left. They stay in the buffer too.
     pub(crate) fn shared(&mut self, len: usize) -> Option<Bytes>
         requires { len ≤ length self.old }
         ensures front { IfSome result (λ bytes. bytes ≡ take len self.old) }
@@ -175,7 +175,7 @@ impl Buffer {
         }
     }
 
-    /// Takes all bytes. None is copied. An error says that memory ran out; then nothing changes.
+    /// Takes all bytes without a copy. An error says that memory ran out; then nothing changes.
     pub(crate) fn take_all(&mut self) -> Result<Bytes, AllocError>
         ensures bytes { IfOk result (λ bytes. bytes ≡ self.old) }
         ensures ok { OnOk result (self.new ≡ []) }
@@ -198,7 +198,7 @@ impl Buffer {
         }
     }
 
-    /// Gives back memory that isn't needed for what waits, for another buffer.
+    /// Gives back memory that the waiting bytes don't need, for another buffer.
     pub(crate) fn give_room(&mut self, room: &mut Vec<u8>)
         requires { room.old.items ≡ [] }
         ensures same { self.new ≡ self.old }
@@ -209,7 +209,7 @@ impl Buffer {
         }
     }
 
-    /// Frees memory that isn't kept, as far as there is some for a copy.
+    /// Frees memory that the buffer needn't keep, if there is memory for the copy of what waits.
     pub(crate) fn release(&mut self)
         ensures { self.new ≡ self.old }
     {

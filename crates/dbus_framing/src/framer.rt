@@ -1,4 +1,4 @@
-//! The bytes that came and weren't given yet.
+//! The messages of a stream whose pieces are copied into a buffer.
 ghost use Rattle.std.specs.Prelude.{◌≡◌, ◌==◌, ◌^◌, ◌<◌, ◌≤◌, ◌++◌, [], Some, IfOk, IfErr, IfSome, OnOk, OnErr, length, take, drop};
 ghost use Rattle.dbus_header.specs.Message.{Message as MessageTree};
 ghost use Rattle.dbus_header.specs.Malformed.{fault};
@@ -15,10 +15,11 @@ use dbus_header::{KnownTexts, Malformed, Message, decode_checked};
 use std::alloc::{AllocError, Global};
 use std::marker::Model;
 
-/// A message of more bytes keeps the room that was taken for it while it comes.
+/// While a longer message is incomplete, the room that was reserved for it is kept.
 const LONGEST_GIVEN: usize = 65_535;
 
-/// A stream of messages: pieces come in by `push`; `front` says what stands in front, `message` reads it in place, and `take` takes it.
+/// A stream of messages. `push` adds a piece, `front` says whether a message is complete, `message` reads it in place,
+/// and `take` removes it.
 ///
 /// ```text
 ///   message in front   what follows
@@ -46,7 +47,7 @@ impl Model for Framer {
     ghost invariant = { λ f. Knows f.state f.bytes };
 }
 
-/// What stands in front, by what its head says.
+/// What the head of the first message says of the bytes.
 pub(crate) fn looked(state: State, left: &[u8]) -> Front
     requires known { Knows state left.now }
     requires short { state ≡ AwaitsHead → length left.now < 16 }
@@ -64,7 +65,7 @@ pub(crate) fn looked(state: State, left: &[u8]) -> Front
     }
 }
 
-/// The message of that length in front, or what is wrong with it.
+/// The first message, which has that length, or what is wrong with it.
 pub(crate) fn message_in_front<'a>(
     left: &'a [u8],
     len: usize,
@@ -80,7 +81,7 @@ pub(crate) fn message_in_front<'a>(
 }
 
 impl Framer {
-    /// It takes no memory before the first piece.
+    /// An empty stream. It allocates nothing until the first piece.
     pub fn new(alloc: Global) -> Framer
         ensures { result ≡ [] }
     {
@@ -91,7 +92,7 @@ impl Framer {
         }
     }
 
-    /// A framer to which these bytes were pushed. They stay in their memory where nothing else holds them.
+    /// A framer to which these bytes were pushed. They stay in their memory if nothing else refers to them.
     pub fn with_bytes(alloc: Global, bytes: Bytes) -> Result<Framer, AllocError>
         ensures { IfOk result (λ framer. framer ≡ bytes) }
     {
@@ -102,7 +103,7 @@ impl Framer {
         })
     }
 
-    /// A framer with the bytes of a vector, in its memory, and with what is known of the message in front.
+    /// A framer with the bytes of a vector, in its memory, and with what is known of the first message.
     pub(crate) fn with_known(alloc: Global, bytes: Vec<u8>, state: State) -> Framer
         requires { Knows state bytes.items }
         ensures { result ≡ bytes.items }
@@ -116,7 +117,7 @@ impl Framer {
         }
     }
 
-    /// Its memory, without bytes. Those that weren't given are dropped.
+    /// The framer's memory. Bytes that weren't taken are dropped.
     pub(crate) fn into_room(self) -> Vec<u8>
         ensures { result.items ≡ [] }
     {
@@ -129,7 +130,7 @@ impl Framer {
         self.alloc
     }
 
-    /// How many bytes came and weren't given yet.
+    /// The number of bytes that were pushed and not taken yet.
     pub fn len(&self) -> usize
         ensures value { result ≡ length self.now }
         ensures bound { result < 2 ^ 63 }
@@ -137,14 +138,14 @@ impl Framer {
         self.bytes.len()
     }
 
-    /// Whether all bytes that came were given.
+    /// Whether all bytes that were pushed were taken.
     pub fn is_empty(&self) -> bool
         ensures { result ≡ (length self.now == 0) }
     {
         self.bytes.len() == 0
     }
 
-    /// Puts a piece of the stream behind what came before.
+    /// Appends a piece of the stream.
     pub fn push(&mut self, piece: &[u8]) -> Result<(), AllocError>
         ensures ok { OnOk result (self.new ≡ self.old ++ piece.now) }
         ensures err { OnErr result (self.new ≡ self.old) }
@@ -153,7 +154,7 @@ impl Framer {
         self.bytes.push(piece, self.state.awaited())
     }
 
-    /// Takes memory that another framer gave back, for the bytes that are pushed next.
+    /// Uses memory that another framer gave back, for the bytes that are pushed next.
     pub fn take_room(&mut self, room: &mut Vec<u8>)
         requires { room.old.items ≡ [] }
         ensures same { self.new ≡ self.old }
@@ -162,8 +163,8 @@ impl Framer {
         self.bytes.take_room(room);
     }
 
-    /// Gives back memory for another framer. One that waits for no more of a message keeps none; one that waits for the rest
-    /// of a long message keeps what it has.
+    /// Gives back memory for another framer. A framer in which no bytes wait keeps none. One that waits for the rest of
+    /// a long message keeps what it has.
     pub fn give_room(&mut self, room: &mut Vec<u8>)
         requires { room.old.items ≡ [] }
         ensures same { self.new ≡ self.old }
@@ -174,7 +175,8 @@ impl Framer {
         }
     }
 
-    /// What stands in front, of which only the head is looked at, and that once. Nothing changes.
+    /// Says whether the first message is complete, by its head alone. Each head is read once. The stream doesn't
+    /// change.
     pub fn front(&mut self) -> Front
         ensures looks { Looks self.old result }
         ensures stays { self.new ≡ self.old }
@@ -188,8 +190,8 @@ impl Framer {
         front
     }
 
-    /// The message in front, of as many bytes as `front` said, read in place; or what is wrong with it. Known are headers and texts of
-    /// the stream's messages before it.
+    /// Reads the first message in place; `front` has said its length. Headers and texts that `known` has aren't checked
+    /// again.
     pub fn message<'a>(
         &'a self,
         len: usize,
@@ -203,8 +205,8 @@ impl Framer {
         message_in_front(self.bytes.as_slice(), len, known)
     }
 
-    /// The bytes of the message in front, of as many as `front` said, where they are many and memory for sharing them is left. They aren't
-    /// copied, and stay here too.
+    /// Lends the bytes of the first message without a copy, if they are many and memory for that is left. `front` has
+    /// said their number. They stay in the framer too.
     pub fn shared(&mut self, len: usize) -> Option<Bytes>
         requires { len ≤ length self.old }
         ensures front { IfSome result (λ bytes. bytes ≡ take len self.old) }
@@ -213,7 +215,7 @@ impl Framer {
         self.bytes.shared(len)
     }
 
-    /// Takes that many bytes from the front.
+    /// Removes that many bytes from the start.
     pub fn take(&mut self, len: usize)
         requires { len ≤ length self.old }
         ensures { self.new ≡ drop len self.old }
@@ -222,8 +224,8 @@ impl Framer {
         self.state = State::AwaitsHead;
     }
 
-    /// Takes the message in front, where it is whole and valid, as bytes of its own. Else nothing changes, and after `Bad` each
-    /// answer is the same.
+    /// Takes the first message, if it is whole and valid, as bytes of its own. Else nothing changes, and after `Bad`
+    /// each answer is the same.
     pub fn next(&mut self) -> Result<Next, AllocError>
         ensures gives { IfOk result (λ next. Gives self.old next self.new) }
         ensures err { OnErr result (self.new ≡ self.old) }
@@ -241,8 +243,8 @@ impl Framer {
         Ok(Next::Whole(frame))
     }
 
-    /// Gives all bytes that came and weren't given yet, whatever they hold: nothing is left. None is copied. An error says
-    /// that memory ran out; then nothing changes.
+    /// Takes all bytes that were pushed and not taken yet, whatever they hold. None is copied. An error says that
+    /// memory ran out; then nothing changes.
     pub fn left(&mut self) -> Result<Bytes, AllocError>
         ensures bytes { IfOk result (λ bytes. bytes ≡ self.old) }
         ensures ok { OnOk result (self.new ≡ []) }

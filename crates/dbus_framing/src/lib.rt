@@ -1,8 +1,7 @@
-//! The messages of a stream that comes in pieces (D-Bus Specification, "Message Format").
+//! The messages of a stream that is received in pieces (D-Bus Specification, "Message Format").
 //!
-//! A `Framer` is driven by `push` with each piece, and then by `front`, `message` and `take` until nothing whole is
-//! left. If nothing is left before a piece, `Messages` reads the messages where the piece lies, and only the rest is
-//! copied.
+//! Push each piece of the stream to a `Framer`, then call `front`, `message` and `take` until no whole message is left.
+//! If nothing is left before a piece, `Messages` reads the messages in the piece itself and copies only the rest.
 #![tactic(auto)]
 
 mod buffer;
@@ -19,24 +18,24 @@ pub use framer::Framer;
 pub use laws::{bad_is_given_again, given_are_messages, more_is_pushed, next_is_given};
 pub use messages::Messages;
 
-/// What stands in front of a stream, by its head.
+/// What the head of a stream's first message says.
 #[derive(Clone, Copy, Debug, PartialEq, Eq)]
 pub enum Front {
-    /// As many bytes as a good head states, which are this many. Whether they are a valid message isn't looked at yet.
+    /// The whole message was received; this is the length that its head states. Whether it is valid isn't checked yet.
     Whole(usize),
-    /// The beginning of a message at most: fewer than 16 bytes, or fewer than its head states.
+    /// At most the beginning of a message: fewer than 16 bytes, or fewer than its head states.
     Rest,
-    /// A head that is no valid message's.
+    /// The head isn't that of a valid message.
     Bad(Malformed),
 }
 
-/// What is taken from the front of a stream.
+/// What is taken from the start of a stream.
 #[derive(Debug, PartialEq, Eq, Drop)]
 pub enum Next {
-    /// A valid message, which is taken from the stream.
+    /// A valid message, which is removed from the stream.
     Whole(Bytes),
-    /// The beginning of a message at most: fewer than 16 bytes, or fewer than its head states.
+    /// At most the beginning of a message: fewer than 16 bytes, or fewer than its head states.
     Rest,
-    /// No valid message. The stream stays at it.
+    /// No valid message. The stream stays there.
     Bad(Malformed),
 }

@@ -1,4 +1,4 @@
-//! The messages of a stream that weren't taken yet, wherever their bytes lie.
+//! The messages of a stream that weren't taken yet, in a framer or in a piece of the stream.
 ghost use Rattle.std.specs.Prelude.{◌≡◌, ◌≤◌, [], Some, IfOk, IfErr, IfSome, MatchResult, length, take, drop};
 ghost use Rattle.dbus_header.specs.Message.{Message as MessageTree};
 ghost use Rattle.dbus_header.specs.Malformed.{fault};
@@ -12,17 +12,17 @@ use bytes::Bytes;
 use dbus_header::{KnownTexts, Malformed, Message};
 use std::marker::Model;
 
-/// Where the bytes of the messages lie.
+/// Where the bytes of the messages are.
 #[derive(Drop)]
 pub(crate) enum Source<'a> {
     /// In a framer, to which they were pushed.
     Kept(Framer),
-    /// In a piece that came when no bytes were left.
+    /// In a piece that was received when no bytes were left.
     Passed(Passing<'a>),
 }
 
-/// The messages of a stream that weren't taken yet: those in a framer, or those in a piece that came with nothing left
-/// before it. They are driven by `front`, `message` and `take`; `into_framer` then gives the framer for the next piece.
+/// The messages of a stream that weren't taken yet, in a framer or in a piece that was received with nothing left
+/// before it. Call `front`, `message` and `take`, and then `into_framer` for the framer of the next piece.
 #[derive(Drop)]
 pub struct Messages<'a> {
     source: Source<'a>,
@@ -47,9 +47,9 @@ impl<'a> Messages<'a> {
         }
     }
 
-    /// The messages in a piece. They are read where they lie, and `into_framer` copies only the rest, into the framer's
-    /// memory, which is made large enough for the whole piece here. An error says that memory for this ran out, and
-    /// gives the framer back.
+    /// The messages in a piece, which are read in place. `into_framer` copies only the rest, into the framer's memory;
+    /// room for the whole piece is reserved here. An error says that memory for this ran out, and gives the framer
+    /// back.
     pub fn passing(framer: Framer, piece: &'a [u8]) -> Result<Messages<'a>, Framer>
         requires { framer ≡ [] }
         ensures { MatchResult result (λ messages. messages ≡ piece.now) (λ refused. refused ≡ []) }
@@ -62,7 +62,8 @@ impl<'a> Messages<'a> {
         }
     }
 
-    /// What stands in front, of which only the head is looked at, and that once. Nothing changes.
+    /// Says whether the first message is complete, by its head alone. Each head is read once. The stream doesn't
+    /// change.
     pub fn front(&mut self) -> Front
         ensures looks { Looks self.old result }
         ensures stays { self.new ≡ self.old }
@@ -73,8 +74,8 @@ impl<'a> Messages<'a> {
         }
     }
 
-    /// The message in front, of as many bytes as `front` said, read in place; or what is wrong with it. Known are
-    /// headers and texts of the stream's messages before it.
+    /// Reads the first message in place; `front` has said its length. Headers and texts that `known` has aren't checked
+    /// again.
     pub fn message<'m>(
         &'m self,
         len: usize,
@@ -91,8 +92,8 @@ impl<'a> Messages<'a> {
         }
     }
 
-    /// The bytes of the message in front, of as many as `front` said, if they are many, lie in a framer, and memory for
-    /// sharing them is left. They aren't copied, and stay here too.
+    /// Lends the bytes of the first message without a copy, if they are many, are in a framer, and memory for that is
+    /// left. `front` has said their number. They stay here too.
     pub fn shared(&mut self, len: usize) -> Option<Bytes>
         requires { len ≤ length self.old }
         ensures front { IfSome result (λ bytes. bytes ≡ take len self.old) }
@@ -104,7 +105,7 @@ impl<'a> Messages<'a> {
         }
     }
 
-    /// Takes that many bytes from the front.
+    /// Removes that many bytes from the start.
     pub fn take(&mut self, len: usize)
         requires { len ≤ length self.old }
         ensures { self.new ≡ drop len self.old }
@@ -115,7 +116,7 @@ impl<'a> Messages<'a> {
         }
     }
 
-    /// The framer with all bytes that weren't taken. Those of a piece are copied, into memory that was reserved for
+    /// The framer with all bytes that weren't taken. Those of a piece are copied into memory that was reserved for
     /// them.
     pub fn into_framer(self) -> Framer
         ensures { result ≡ self.entry }

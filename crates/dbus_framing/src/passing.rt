@@ -1,4 +1,4 @@
-//! A piece of a stream whose messages are read where they lie.
+//! A piece of a stream whose messages are read in place.
 ghost use Rattle.std.specs.Prelude.{◌≡◌, ◌≤◌, [], Some, IfOk, IfErr, MatchResult, length, take, drop, vec_capacity};
 ghost use Rattle.dbus_header.specs.Message.{Message as MessageTree};
 ghost use Rattle.dbus_header.specs.Malformed.{fault};
@@ -12,8 +12,8 @@ use dbus_header::{KnownTexts, Malformed, Message};
 use std::alloc::Global;
 use std::marker::Model;
 
-/// The part of a piece that wasn't taken yet, and the memory of the stream's framer. That has room for all of the part,
-/// so that to keep the rest can't fail.
+/// The part of a piece that wasn't taken yet, and the memory of the stream's framer. The memory has room for the whole
+/// part, so keeping the rest can't fail.
 ///
 /// ```text
 ///   taken      left                     room, empty
@@ -74,7 +74,7 @@ impl<'a> Passing<'a> {
         }
     }
 
-    /// What stands in front, of which only the head is looked at, and that once. Nothing changes.
+    /// Says whether the first message is complete, by its head alone. Each head is read once. Nothing else changes.
     pub(crate) fn front(&mut self) -> Front
         ensures looks { Looks self.old result }
         ensures stays { self.new ≡ self.old }
@@ -84,7 +84,7 @@ impl<'a> Passing<'a> {
         looked(state, self.left)
     }
 
-    /// The message in front, of as many bytes as `front` said, or what is wrong with it.
+    /// Reads the first message, whose length `front` has said.
     pub(crate) fn message<'m>(
         &'m self,
         len: usize,
@@ -98,7 +98,7 @@ impl<'a> Passing<'a> {
         message_in_front(self.left, len, known)
     }
 
-    /// Takes that many bytes from the front.
+    /// Removes that many bytes from the start.
     pub(crate) fn take(&mut self, len: usize)
         requires { len ≤ length self.old }
         ensures { self.new ≡ drop len self.old }
@@ -107,7 +107,7 @@ impl<'a> Passing<'a> {
         self.state = State::AwaitsHead;
     }
 
-    /// A framer with the rest, which is copied into the memory that was reserved for it.
+    /// A framer with the rest, which is copied into memory that was reserved for it.
     pub(crate) fn into_framer(self) -> Framer
         ensures { result ≡ self.entry }
     {

@@ -1,4 +1,4 @@
-//! Bytes in one piece of memory, which are put in at the back and given from the front.
+//! Bytes in one block of memory, which are appended at the end and removed from the start.
 ghost use Rattle.std.specs.Prelude.{◌≡◌, ◌^◌, ◌<◌, ◌≤◌, ◌++◌, [], IfOk, OnOk, OnErr, MatchResult, length, drop};
 
 use bytes::Bytes;
@@ -6,16 +6,17 @@ use std::alloc::{AllocError, Global};
 use std::marker::Model;
 use std::mem;
 
-/// A piece of a stream is mostly no longer. The last one of a message holds as much of what follows it.
+/// The room that is added after a long message. A piece of a stream is mostly no longer, and the message's last piece
+/// holds at most that much of what follows it.
 const BEHIND: usize = 65_536;
 
-/// Of bytes that wait no more are copied to give back the memory in which they lie.
+/// At most this many waiting bytes are copied to give back a larger block of memory.
 const SHORT: usize = 1024;
 
-/// Memory for more bytes isn't given back to be used again.
+/// A larger block of memory isn't kept for reuse.
 const LONGEST_ROOM: usize = 262_144;
 
-/// Bytes that wait, in memory that nothing else reaches.
+/// Bytes that wait, in memory to which nothing else refers.
 ///
 /// ```text
 ///   given      bytes that wait
@@ -27,7 +28,7 @@ const LONGEST_ROOM: usize = 262_144;
 #[derive(Drop)]
 pub(crate) struct ByteQueue {
     bytes: Vec<u8>,
-    /// How many bytes were given from the front of the memory.
+    /// The number of bytes at the start of the memory that were removed from the queue.
     given: usize,
 }
 
@@ -42,7 +43,7 @@ impl Model for ByteQueue {
 }
 
 impl ByteQueue {
-    /// It takes no memory before the first bytes.
+    /// An empty queue. It allocates nothing until bytes are pushed.
     pub(crate) fn new(alloc: Global) -> ByteQueue
         ensures { result ≡ [] }
     {
@@ -56,7 +57,7 @@ impl ByteQueue {
         ByteQueue { bytes, given: 0 }
     }
 
-    /// Its memory. The bytes that wait are dropped.
+    /// The queue's memory. The bytes that wait are dropped.
     pub(crate) fn into_room(self) -> Vec<u8>
         ensures { result.items ≡ [] }
     {
@@ -65,7 +66,7 @@ impl ByteQueue {
         bytes
     }
 
-    /// A copy of bytes, in as much memory as they need.
+    /// A copy of bytes, in exactly as much memory as they need.
     pub(crate) fn copy_from_slice(alloc: Global, bytes: &[u8]) -> Result<ByteQueue, AllocError>
         ensures { IfOk result (λ queue. queue ≡ bytes.now) }
     {
@@ -80,7 +81,7 @@ impl ByteQueue {
         &self.bytes.as_slice()[self.given..]
     }
 
-    /// How many bytes wait.
+    /// The number of bytes that wait.
     #[inline]
     pub(crate) fn len(&self) -> usize
         ensures value { result ≡ length self.now }
@@ -89,7 +90,7 @@ impl ByteQueue {
         self.bytes.len() - self.given
     }
 
-    /// Puts bytes behind the others.
+    /// Appends bytes.
     #[inline]
     pub(crate) fn push(&mut self, piece: &[u8]) -> Result<(), AllocError>
         ensures ok { OnOk result (self.new ≡ self.old ++ piece.now) }
@@ -101,7 +102,7 @@ impl ByteQueue {
         self.bytes.extend_from_slice(piece)
     }
 
-    /// Makes room for that many bytes more.
+    /// Makes room for that many more bytes.
     #[cold]
     #[inline(never)]
     fn grow(&mut self, additional: usize) -> Result<(), AllocError>
@@ -115,7 +116,7 @@ impl ByteQueue {
         self.bytes.reserve(additional)
     }
 
-    /// Moves the bytes that wait to the front of the memory.
+    /// Moves the bytes that wait to the start of the memory.
     ///
     /// ```text
     /// +----------+--------+------+      +--------+-----------------+
@@ -131,8 +132,8 @@ impl ByteQueue {
         self.given = 0;
     }
 
-    /// Takes the room for so many bytes in all, where there is less, and for what may come with the last of them. Where that much memory
-    /// isn't left, it goes on with what there is.
+    /// Makes room for that many bytes in all, and for what may follow the last of them. If memory is short, the queue
+    /// goes on with the room that it has.
     #[inline(never)]
     pub(crate) fn make_room(&mut self, len: usize)
         ensures { self.new ≡ self.old }
@@ -149,7 +150,7 @@ impl ByteQueue {
             .reserve_exact((len - waits).saturating_add(BEHIND));
     }
 
-    /// Takes that many bytes from the front.
+    /// Removes that many bytes from the start.
     pub(crate) fn take(&mut self, len: usize)
         requires { len ≤ length self.old }
         ensures { self.new ≡ drop len self.old }
@@ -157,7 +158,7 @@ impl ByteQueue {
         self.given += len;
     }
 
-    /// Takes all bytes. None is copied. An error says that memory ran out; then nothing changes.
+    /// Takes all bytes without a copy. An error says that memory ran out; then nothing changes.
     pub(crate) fn take_all(&mut self, alloc: Global) -> Result<Bytes, AllocError>
         ensures bytes { IfOk result (λ bytes. bytes ≡ self.old) }
         ensures ok { OnOk result (self.new ≡ []) }
@@ -175,8 +176,8 @@ impl ByteQueue {
         }
     }
 
-    /// Frees the memory of what was given, where that is more than is kept and more than has to be copied. Where memory is
-    /// short the old memory serves on.
+    /// Frees the memory of removed bytes, if it is more than is kept and no less than what has to be copied. If memory
+    /// for the copy is short, the old block is kept.
     pub(crate) fn release(&mut self, alloc: Global, kept: usize)
         ensures { self.new ≡ self.old }
     {
@@ -193,7 +194,8 @@ impl ByteQueue {
         }
     }
 
-    /// Once all bytes were given, the next ones lie at the front. Memory that is more than is kept is freed.
+    /// Makes the next bytes begin at the start of the memory, since all were removed. A block that is too large to keep
+    /// is freed.
     fn empty(&mut self, alloc: Global, kept: usize)
         ensures { self.new ≡ [] }
     {
@@ -205,7 +207,7 @@ impl ByteQueue {
         self.given = 0;
     }
 
-    /// Takes the memory that another queue gave back, where no bytes wait here.
+    /// Uses the memory that another queue gave back, if no bytes wait here.
     pub(crate) fn take_room(&mut self, room: &mut Vec<u8>)
         requires { room.old.items ≡ [] }
         ensures same { self.new ≡ self.old }
@@ -218,9 +220,9 @@ impl ByteQueue {
         }
     }
 
-    /// Gives back its memory, for another queue: all of it where no bytes wait, and where few wait in much memory all but a
-    /// copy of those. Of this memory and what was given back before, the larger is kept. Where memory for the copy is
-    /// short, nothing is given back.
+    /// Gives back the queue's memory, for another queue: all of it if no bytes wait, or all but a copy of the bytes if
+    /// few wait in much memory. The larger of this block and the one that was given back before is kept. If memory for
+    /// the copy is short, nothing is given back.
     pub(crate) fn give_room(&mut self, alloc: Global, room: &mut Vec<u8>)
         requires { room.old.items ≡ [] }
         ensures same { self.new ≡ self.old }
@@ -241,7 +243,7 @@ impl ByteQueue {
         }
     }
 
-    /// The bytes such that they can be shared. None is copied. Where memory is short the queue comes back as it was.
+    /// Makes the bytes shareable without a copy. If memory is short, the queue comes back unchanged.
     pub(crate) fn freeze(self) -> Result<Bytes, ByteQueue>
         ensures { MatchResult result (λ bytes. bytes ≡ self) (λ queue. queue ≡ self) }
     {

@@ -1,22 +1,22 @@
-//! What is known of the message in front.
+//! What is known of the first message.
 ghost use Rattle.std.specs.Prelude.{◌≡◌, ℕ, ◌<◌, length};
 ghost use Rattle.dbus_framing.specs.Knows.{Knows};
 ghost use Rattle.dbus_framing.specs.declared.state.State.TheVariants.{AwaitsHead, AwaitsMessage};
 
 use dbus_header::Malformed;
 
-/// What is known of the message in front, so that each head is looked at once.
+/// What is known of the first message, so that each head is read once.
 #[derive(Clone, Copy)]
 pub(crate) enum State {
-    /// Nothing: its head may not stand yet.
+    /// Nothing: fewer bytes than a head may have been received.
     AwaitsHead,
-    /// Its head is good and states this length of the whole message.
+    /// Its head is valid and states this length of the whole message.
     AwaitsMessage(usize),
-    /// Its head is no valid message's.
+    /// Its head isn't that of a valid message.
     Bad(Malformed),
 }
 
-/// What the head in front says, where it stands.
+/// What the head of the first message says, if it was received whole.
 fn read_head(left: &[u8]) -> State
     ensures known { Knows result left.now }
     ensures short { result ≡ AwaitsHead → length left.now < 16 }
@@ -31,7 +31,7 @@ fn read_head(left: &[u8]) -> State
 }
 
 impl State {
-    /// The length of the whole message in front, or 0 where it isn't known.
+    /// The length of the whole message, or 0 if it isn't known.
     pub(crate) fn awaited(self) -> usize
         ensures { (len : ℕ) → self ≡ AwaitsMessage len → result ≡ len }
     {
@@ -41,7 +41,7 @@ impl State {
         }
     }
 
-    /// What is known once the head was looked at.
+    /// What is known after the head was read.
     pub(crate) fn with_head(self, left: &[u8]) -> State
         requires { Knows self left.now }
         ensures known { Knows result left.now }
