@@ -29,7 +29,7 @@ of_start n s low high =
       len = sym same.1 ∙ ap whole_len (take-append-drop n s);
     }
 
--- a whole message stands in front, valid or not
+-- a whole message is first, valid or not
 pub record Stands (s : List ℕ) : Type 0 where
   pub are : AreBytes s
   pub long : 16 ≤ length s
@@ -87,7 +87,7 @@ message_in_whole t w =
     by None = refl
     by (Some m) = refl
 
--- and the message in front is the one that the first bytes are
+-- and the first message is the one that the first bytes are
 pub front_of_first : (s : List ℕ) → Stands s → front s ≡ option_map (λ m. (m, drop (whole_len s) s)) (message_of (first_of s))
 unfolding front
 front_of_first s stands =

@@ -56,7 +56,7 @@ fault-longer bytes x f e = told (bytes ++ x) f (go (found bytes f e))
         in_whole (same.0 ∙ h) (rw len (up 16 (length bytes) (length x) l)) (rw (same.1, len) (up (whole_len bytes) (length bytes) (length x) s))
         (ap (λ (n : ℕ). fault_in (whole (take n (bytes ++ x)))) same.1 ∙ ap (λ (t : List ℕ). fault_in (whole t)) (take-append-le (whole_len bytes) bytes x s) ∙ e)
 
--- with a fault no message stands in front
+-- with a fault no valid message is first
 pub fault_front : (bytes : List ℕ) (f : Malformed) → fault bytes ≡ Some f → front bytes ≡ None
 fault_front bytes f e = go (found bytes f e) (front bytes) refl
   where

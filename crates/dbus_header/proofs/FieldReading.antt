@@ -1,4 +1,4 @@
--- The field that is read at a place is the one that stands there.
+-- The field that is read at a place is the valid field there.
 use Rattle.std.proofs.Common.{◌≡◌, ℕ, zero, suc, ◌+◌, ◌^◌, ◌%◌, ◌<◌, ◌≤◌, Bool, true, false, cond, List, [], ◌∷◌, ◌++◌, length, take, drop, get_or, Option, Some, None, option_map, refl, sym, ap, ◌∙◌, arith, inl, inr, drop-cons}
 use Rattle.std.specs.Prelude.{◌&&◌, ◌==◌, nat_lt, nat_le, is_none, unwrap_or, ◌⊎◌}
 use Rattle.std.specs.Int.{Width, w8, w32}
@@ -147,7 +147,7 @@ number_width bytes o q inside =
 pub number_small : (bytes : List ℕ) (o : Order) (q : ℕ) → AreBytes bytes → number_at o bytes q < 2 ^ 32
 number_small bytes o q are = below o (take 4 (drop q bytes)) (AreBytes-take 4 (drop q bytes) (AreBytes-drop q bytes are))
 
--- so many bytes and a NUL
+-- a number of bytes and a NUL
 pub ended_at : (bytes : List ℕ) (n q : ℕ) → q ≤ length bytes → ended_by_nul n (at_place bytes q) ≡ lifted bytes (ended_text n bytes q)
 ended_at bytes n q inside =
     ap (λ (x : Option (List ℕ × At)). x >>= nul_behind) (taken bytes q n inside)
@@ -177,7 +177,7 @@ ended_at bytes n q inside =
         past_end (nat_le (q + n) (length bytes)) le
         ∙ sym (ap (λ (b : Bool). lifted bytes (cond (b && (get_or bytes (q + n) 0 == 0)) (Some (take n (drop q bytes), q + n + 1)) None)) (le-ltb (q + n) (length bytes) le))
 
--- ---- a field's code, and the variant behind it
+-- ---- a field's code, and the variant after it
 
 abbrev pub Inner : Type 0
 Inner = Complete → At → Option (Value × At)
@@ -202,7 +202,7 @@ field_with c x = when (is_field_of c x.0) (field c x.0, x.1)
 abbrev typed_value : Inner → ℕ → List Complete × At → Option (Field × At)
 typed_value inner c ts = one_type ts.0 >>= λ t. inner t ts.1 >>= field_with c
 
--- the field with a code, whose variant stands there
+-- the field with a code, whose variant is there
 abbrev pub variant_field : Inner → ℕ → At → Option (Field × At)
 variant_field inner c a = signature_at a >>= typed_value inner c
 
@@ -363,7 +363,7 @@ number_read bytes o inner c q rules part none are inside =
         ∙ ap (λ (x : Part). cond (is_number_of c (number_at o bytes q)) (Some (x, q + 4)) None) (part (number_at o bytes q))
     by false = refl
 
--- a text, which has its length in front
+-- a text, which follows its length
 abbrev length_then : ℕ × At → Option (List ℕ × At)
 length_then n = ended_by_nul n.0 n.1 >>= if_text
 
@@ -461,7 +461,7 @@ path_read bytes o inner q none are inside =
     two : List ℕ → At → Value × At
     two t a = (a_path t, a)
 
--- a signature, which has its length in a byte in front
+-- a signature, which follows its length in one byte
 abbrev types_then : List ℕ × At → Option (List Complete × At)
 types_then x = signature_of x.0 >>= λ ts. Some (ts, x.1)
 
@@ -622,7 +622,7 @@ module _ (bytes : List ℕ) (o : Order) (start : ℕ) (aligned_8 : start % 8 ≡
   coded (suc (suc (suc (suc (suc (suc (suc (suc (suc zero))))))))) low = known 9 (number uint32) (number_typed (λ x. true)) refl (number_read bytes o (value_within 63 o) 9 (start + 1 + 3) (λ n. refl) (λ n. refl) no_gap are)
   coded (suc (suc (suc (suc (suc (suc (suc (suc (suc (suc n)))))))))) low = other (suc (suc (suc (suc (suc (suc (suc (suc (suc (suc n)))))))))) (omega arith) low
 
--- what is read at a place is the valid field that stands there
+-- what is read at a place is the valid field there
 pub part_at-is : (bytes : List ℕ) (o : Order) (place : ℕ) → AreBytes bytes → place ≤ length bytes → part_at o bytes place ≡ parts (sound_field_at o (at_place bytes place))
 part_at-is bytes o place are inside = sym (ap parts (sound_at bytes o place are inside) ∙ by (nat_lt (place + padding 8 place) (length bytes)) refl (all_zero (take (padding 8 place) (drop place bytes))))
   where

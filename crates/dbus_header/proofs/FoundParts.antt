@@ -1,4 +1,4 @@
--- What was found is the parts of the fields that were read, the newest of them foremost.
+-- What was found is the parts of the fields that were read, the newest first.
 use Rattle.std.proofs.Common.{◌≡◌, ℕ, zero, suc, ◌+◌, ◌<◌, ◌≤◌, Bool, true, false, cond, List, [], ◌∷◌, Option, Some, None, refl, sym, ap, subst, ◌∙◌, arith}
 use Rattle.std.specs.Prelude.{not, ◌&&◌, ◌||◌, ◌==◌, nat_lt, is_some}
 use Rattle.std.proofs.lemmas.Bool.{and_parts, lt-ltb, eqb-true, ne_eqb}
@@ -11,16 +11,16 @@ use Rattle.dbus_header.specs.HeaderFields.{spelled_in, found_in}
 use Rattle.dbus_header.specs.HeaderReading.{Part, unread, Found, unless, found_with, with_part}
 use Rattle.dbus_header.proofs.FieldReading.{field, part_of}
 
--- each may follow those behind it
+-- each may follow those after it in the list
 abbrev pub all_follow : List Field → Bool
 all_follow [] = true
 all_follow (f ∷ before) = may_follow before f && all_follow before
 
--- the place of the number, where the field that stands at a place is REPLY_SERIAL
+-- the place of the number, if the field at a place is REPLY_SERIAL
 abbrev pub next_place : ℕ → Field → Option ℕ → Option ℕ
 next_place place f kept = cond (f.code == 5) (Some (place + padding 8 place + 4)) kept
 
--- ---- a part stands where its field does
+-- ---- a part is in its field
 
 -- the value that a field in its grammar has
 path_only : (v : Value) → is_field_of 1 v ≡ true → (text : List ℕ) × (v ≡ a_path text)
@@ -160,7 +160,7 @@ module _ (before : List Field) (follow : all_follow before ≡ true) (place : �
       some : Found → Option Found
       some x = Some x
 
-  -- where a value is known, what holds of it holds of the field
+  -- if a value is known, what holds of it holds of the field
   known : (c : ℕ) (v w : Value) → v ≡ w → is_field_of c v ≡ true → (is_field_of c w ≡ true → Puts (field c w)) → Puts (field c v)
   known c v w is rules puts = subst (λ (x : Value). Puts (field c x)) (sym is) (puts (ap (is_field_of c) (sym is) ∙ rules))
 
@@ -204,6 +204,6 @@ module _ (before : List Field) (follow : all_follow before ≡ true) (place : �
   by_code (suc (suc (suc (suc (suc (suc (suc (suc (suc zero))))))))) v rules = let p = number_only _ v rules in known 9 v _ p.1 rules (descriptors_put p.0)
   by_code (suc (suc (suc (suc (suc (suc (suc (suc (suc (suc n)))))))))) v rules = other (suc (suc (suc (suc (suc (suc (suc (suc (suc (suc n)))))))))) v (omega arith) rules
 
-  -- a field's part is put in exactly where the field may follow those before it
+  -- a field's part is added exactly if the field may follow those before it
   pub puts : (f : Field) → is_field_of f.code f.value ≡ true → with_part (found_in before kept) place (part_of f) ≡ when (may_follow before f) (found_in (f ∷ before) (next_place place f kept))
   puts f rules = by_code f.code f.value rules

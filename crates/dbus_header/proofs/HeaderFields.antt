@@ -21,7 +21,7 @@ use Rattle.dbus_header.proofs.FoundParts.{all_follow, next_place, puts}
 
 -- ---- the fields in their order
 
--- those that were read, the newest foremost, and then others
+-- those that were read, the newest first, and then others
 abbrev pub unwind : List Field → List Field → List Field
 unwind [] rest = rest
 unwind (f ∷ before) rest = unwind before (f ∷ rest)
@@ -38,7 +38,7 @@ none_of : {A : Type 0} (o : Option A) → is_some o ≡ false → o ≡ None
 none_of None e = refl
 none_of (Some x) e = absurd cc
 
--- a known code that may follow stands nowhere before
+-- a known code that may follow doesn't occur before
 new_code : (before : List Field) (f : Field) (c : ℕ) → nat_lt 9 c ≡ false → (f.code == c) ≡ true → may_follow before f ≡ true → has_field c before ≡ false
 new_code before f c known e m =
     let is : f.code ≡ c = eqb-true f.code c e in
@@ -153,7 +153,7 @@ none_parts : (x : Option (Field × At)) → parts x ≡ None → x ≡ None
 none_parts None e = refl
 none_parts (Some x) e = absurd cc
 
--- where no valid field stands, reading stops
+-- if there is no valid field, reading stops
 stopped : (o : Order) (bytes : List ℕ) (found : Found) (place : ℕ) (r : Reached o bytes found place) → valid_field_at o r.before (at_place bytes place) ≡ None → FieldsRead o bytes found place
 stopped o bytes found place r none =
     let last : fields_in o bytes ≡ (unwind r.before [], at_place bytes place) = r.same ∙ ap (λ (x : List Field × At). two (unwind r.before x.0) x.1) (nothing_more r.fuel) in

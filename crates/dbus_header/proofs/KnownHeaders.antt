@@ -1,4 +1,4 @@
--- Header fields whose bytes are those of fields that were read, but for the number of REPLY_SERIAL, are read as those were.
+-- Header fields that equal fields that were read, except for the number of REPLY_SERIAL, are read as those were.
 use Rattle.std.proofs.Common.{◌≡◌, ℕ, ◌+◌, ◌-◌, ◌^◌, ◌<◌, ◌≤◌, Bool, true, false, cond, List, [], ◌∷◌, ◌++◌, length, map, take, drop, Option, Some, None, option_map, refl, sym, ap, subst, ◌∙◌, append_assoc, append-nil, arith, inl, inr}
 use Rattle.std.specs.Prelude.{◌&&◌, ◌||◌, ◌==◌, ◌⊎◌, not, nat_le, nat_lt, is_some, bytes_eq}
 use Rattle.std.specs.Int.{w32}
@@ -38,7 +38,7 @@ use Rattle.dbus_header.proofs.ValidLaws.{code_is, field_same, follow_same, value
 use Rattle.dbus_header.proofs.NumberLaws.{patched, there, place_stands}
 use Rattle.dbus_header.proofs.WholeMessage.{stands}
 
--- ---- the fields of a message depend on its order and on their own bytes alone
+-- ---- the fields of a message depend only on its order and their own bytes
 
 module _ (t : List ℕ) (o : Order) (n : ℕ) (order : o ≡ order_in t) (len : IsFieldsLen t n) where
   fields_same : fields_of t ≡ fields_by o n (fields_bytes n t)
@@ -166,7 +166,7 @@ are_spelt o n bytes found are read =
       zeros = parts.1;
     }
 
--- where REPLY_SERIAL's number has a place, it is there
+-- if REPLY_SERIAL's number has a place, it is there
 placed_number : (o : Order) (n : ℕ) (bytes : List ℕ) (fs : List Field) → AreSpelt o n bytes fs → (p : ℕ) → number_place o 16 fs ≡ Some p → (x : ℕ) × (number_in (field_in 5 fs) ≡ Some x)
 placed_number o n bytes fs spelt p place = there (number_in (field_in 5 fs)) (stands number_in 5 refl (number_holds _) fs [] spelt.follow ∙ sym (place_stands o 16 fs) ∙ ap is_some place)
 
@@ -272,7 +272,7 @@ module _ (o : Order) (n : ℕ) (kept bytes : List ℕ) (found : Found) (at : ℕ
 
 -- ---- parts at their places
 
--- a part that has none of the four bytes stays where the others do
+-- a part that doesn't overlap the four bytes is unchanged
 pub cut_same : (kept bytes : List ℕ) (at : ℕ) (s : Span) → take at kept ≡ take at bytes → drop (at + 4) kept ≡ drop (at + 4) bytes → is_apart (Some at) s ≡ true → cut bytes s ≡ cut kept s
 cut_same kept bytes at s front back apart = go (or_cases (nat_le (s.start + s.len) at) (nat_le (at + 4) s.start) apart)
   where
@@ -345,12 +345,12 @@ alike_read o n kept bytes p known are as_long alike = by p.reply_serial refl ali
         subst (AreRead o n bytes) (found_same o kept bytes p at known.apart is same.0 same.1)
         (read-again o n kept bytes (found_at o kept p) at known.are are as_long few (known.within.number at is) known.read (ap (option_map (λ k. 16 + k)) is) same.0 same.1 same.2)
 
--- bytes are like the kept ones where both sides of the number are equal, which isn't 0
+-- bytes are like the kept ones if both sides of the number are equal and the number isn't 0
 pub alike-some : (o : Order) (hole : Option ℕ) (kept bytes : List ℕ) (at : ℕ) → hole ≡ Some at → take at kept ≡ take at bytes → drop 4 (drop at kept) ≡ drop 4 (drop at bytes) → 0 < number_at o bytes at → AreAlike o hole kept bytes
 alike-some o hole kept bytes at is front back low =
     subst (λ (r : Option ℕ). AreAlike o r kept bytes) (sym is) (front, sym (drop-drop 4 at kept) ∙ back ∙ drop-drop 4 at bytes, low)
 
--- and their parts stand where those of the kept ones do
+-- and their parts are where those of the kept ones are
 pub alike_within : (o : Order) (kept bytes : List ℕ) (p : Places) → AreWithin kept p → AreApart p → length bytes ≡ length kept → AreAlike o p.reply_serial kept bytes → AreWithin bytes p
 alike_within o kept bytes p within apart as_long alike = record {
   path = λ s e. text s (apart.path s e) (within.path s e);
@@ -381,9 +381,9 @@ not_unequal a b e = bytes_eq-true a b (not-false (bytes_eq a b) e)
 pub some_is : (a b : Span) → ◌≡◌ {A = Option Span} (Some a) (Some b) → a ≡ b
 some_is a b e = cc
 
--- ---- where the parts of fields that were read stand
+-- ---- the places of the parts of fields that were read
 
--- no text is found where there is none
+-- nothing is claimed of an absent text
 text_none : (P : ℕ → List ℕ → Type 0) (start : ℕ) (text : Option (Bor (List ℕ))) → text_seen text ≡ None → OfText P start text
 text_none P start None e = tt
 text_none P start (Some text) e = absurd cc
@@ -403,7 +403,7 @@ none_begin message f e = record {
   signature = signature_none (BeginsAt message) f.starts.signature f.signature (ap (λ (x : Found). x.signature) e);
 }
 
--- what stands in a message stands in the bytes of its fields
+-- what is in a message is in the bytes of its fields
 text_of : (P Q : ℕ → List ℕ → Type 0) (start : ℕ) (text : Option (Bor (List ℕ))) → ((s : ℕ) (t : List ℕ) → P s t → Q s t) → OfText P start text → OfText Q start text
 text_of P Q start None to h = tt
 text_of P Q start (Some text) to h = to start text.now h
@@ -452,7 +452,7 @@ all_begin t front n f len is b = record {
     to : (s : ℕ) (text : List ℕ) → BeginsAt front s text → BeginsIn (fields_bytes n t) s text
     to s text h = begins_in t n (body_place n - 16) s text (omega arith) (omega (arith, len.inside)) (subst (λ (b : List ℕ). BeginsAt b s text) is h)
 
--- the number stands at its place
+-- the number is at its place
 module _ (o : Order) (n : ℕ) (bytes : List ℕ) (found : Found) (are : AreBytes bytes) (few : n ≤ length bytes) (read : AreRead o n bytes found) where
   abbrev fields_found_by : List Field
   fields_found_by = (fields_by o n bytes).0

@@ -1,4 +1,4 @@
--- A valid message, spelled, is read again from the front of any bytes that begin with it.
+-- A valid message, spelled, is read again from the start of any bytes that begin with it.
 use Rattle.std.proofs.Common.{◌≡◌, ℕ, zero, suc, ◌+◌, ◌^◌, ◌<◌, ◌≤◌, Bool, true, false, cond, List, [], ◌∷◌, ◌++◌, length, map, take, drop, get_or, Option, Some, None, Result, Ok, refl, sym, ap, ◌∙◌, append_assoc, arith, inl, inr}
 use Rattle.std.specs.Prelude.{not, ◌&&◌, ◌==◌, nat_lt, nat_le, ◌⊎◌, unwrap_or, is_none}
 use Rattle.std.specs.List.{list_all}
@@ -68,7 +68,7 @@ field_again f o p r d i =
     let low : depth (field_value f) < 66 = omega (arith, leb-true (depth (a_variant f.value)) 64 d) in
     then_is (value_within 66 o field_type (at p (spelled o p (field_value f) ++ r))) _ _ _ (again (field_value f) 65 o p r low i refl) refl
 
--- nothing stands where there are no bytes
+-- without bytes, alignment fails or leaves no bytes
 abbrev Ends : ℕ → ℕ → Type 0
 Ends n p = (aligned n (at p []) ≡ None) ⊎ ((q : ℕ) × (aligned n (at p []) ≡ Some (at q [])))
 

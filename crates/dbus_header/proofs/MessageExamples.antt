@@ -58,7 +58,7 @@ false_spelled : spell false_in_place ≡ hex (codes "6c020101 04000000 46000000 
 unfolding false_in_place spell
 false_spelled = refl
 
--- a call in big order, and a return whose REPLY_SERIAL stands behind its SENDER
+-- a call in big order, and a return whose REPLY_SERIAL follows its SENDER
 big_call : Message
 big_call = record { order = Big; kind = 1; flags = 0; serial = 0x01020304; fields = record { code = 1; value = a_path (codes "/") } ∷ text_field 3 (Some (codes "M")) ++ text_field 6 (Some (codes "a.b")); body = [] }
 

@@ -332,7 +332,7 @@ module _ (t : List ℕ) (m : Message) (are : AreBytes t) (long : 16 ≤ length t
       subst (λ (x : Message). drop (body_place (fields_len t)) t ≡ spelled_list x.order (body_place (length (spelled_fields x.order x.fields))) x.body) check.is
       (back_is ∙ ap (λ (k : ℕ). spelled_list o (body_place k) body.0) (sym fields_len_is))
 
--- what is read from the front is a valid message, and its spelling and the rest are the bytes
+-- what is read from the start is a valid message, and its spelling and the rest are the bytes
 pub front-is : (s : List ℕ) (m : Message) (r : List ℕ) → AreBytes s → front s ≡ Some (m, r) → Valid m × (s ≡ spell m ++ r)
 front-is s m r are e =
     let f = front_parts s m r e in

@@ -11,7 +11,7 @@ u32 n = a_number uint32 n
 abbrev pub names : List (List ℕ) → Value
 names texts = an_array (basic string) (values_of (map a_string texts))
 
--- the SIGNATURE field, where there is a body
+-- the SIGNATURE field, if there is a body
 abbrev pub signed : List Value → List Field
 signed [] = []
 signed (v ∷ vs) = record { code = 8; value = a_signature (map type_of (v ∷ vs)) } ∷ []

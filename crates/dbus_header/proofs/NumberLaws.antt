@@ -23,7 +23,7 @@ use Rattle.dbus_header.proofs.WholeMessage.{IsWhole, fault_of_whole, take_all}
 use Rattle.dbus_header.proofs.MessageLaws.{spell-with_serial}
 use Rattle.dbus_header.proofs.ReplyLaws.{spell-with_reply_serial}
 
--- a new serial stands at place 8
+-- a new serial is written at place 8
 pub serial_patched : (n : ℕ) (m : Message) → spell (with_serial n m) ≡ with_number m.order 8 n (spell m)
 serial_patched n m = spell-with_serial n m
 
@@ -47,7 +47,7 @@ pub record ReplyPatched (n place : ℕ) (m : Message) : Type 0 where
   pub bytes : spell (with_reply_serial n m) ≡ with_number m.order place n (spell m)
   pub inside : place + 4 ≤ length (spell m)
 
--- and a new reply serial where its number stands
+-- and a new reply serial at the place of its number
 pub reply_patched : (n x place : ℕ) (m : Message) → Valid m → reply_serial m ≡ Some x → reply_place m ≡ Some place → ReplyPatched n place m
 reply_patched n x place m v r e =
     let one = spell-with_reply_serial n x m v r in
@@ -123,7 +123,7 @@ accepted bytes are s =
     read (Ok n) m e = refl
     read (Err k) m e = absurd cc
 
--- a reply serial's number stands somewhere exactly where there is one
+-- a reply serial's number has a place exactly if there is one
 pub place_stands : (o : Order) (p : ℕ) (fs : List Field) → is_some (number_place o p fs) ≡ has_field 5 fs
 place_stands o p [] = refl
 place_stands o p (f ∷ fs) = go (f.code == 5) (place_stands o (p + length (spelled o p (field_value f))) fs)
@@ -176,7 +176,7 @@ reply_at bytes place are s e = go (message_of bytes) refl s e
         message_some : (a b : Message) → ◌≡◌ {A = Option Message} (Some a) (Some b) → a ≡ b
         message_some a b e = cc
 
--- so the place is found where the message has a reply serial
+-- so the place is found if the message has a reply serial
 pub reply_none : (bytes : List ℕ) → IsSome (option_and_then reply_serial (message_of bytes)) → option_and_then reply_place (message_of bytes) ≡ None → ⊥
 reply_none bytes s e = go (message_of bytes) s e
   where
@@ -188,7 +188,7 @@ reply_none bytes s e = go (message_of bytes) s e
         let h : Some p.0 ≡ None = sym p.1 ∙ e in
         cc
 
--- where the number of a message's reply serial stands, four bytes do
+-- there are four bytes at the place of a message's reply serial
 pub reply_inside : (bytes : List ℕ) (q : Contents) → AreBytes bytes → option_map contents_of (message_of bytes) ≡ Some q →
     (x place : ℕ) → q.parts.reply_serial ≡ Some x → q.reply_place ≡ Some place → place + 4 ≤ length bytes
 reply_inside bytes q are e x place number at = go (message_of bytes) refl e

@@ -1,4 +1,4 @@
--- Places in a message: behind the padding to a multiple of 8 there is none to a multiple of 4.
+-- Places in a message: a place that is padded to a multiple of 8 needs no padding to a multiple of 4.
 use Rattle.std.proofs.Common.{◌≡◌, ℕ, ◌+◌, ◌%◌, arith}
 use Rattle.dbus_values.specs.Values.{padding}
 

@@ -1,4 +1,4 @@
--- A changed REPLY_SERIAL changes the four bytes of its number, wherever its field stands.
+-- A changed REPLY_SERIAL changes the four bytes of its number, in any position of its field.
 use Rattle.std.proofs.Common.{◌≡◌, ℕ, ◌+◌, Bool, true, false, cond, List, [], ◌∷◌, ◌++◌, length, map, Option, Some, refl, sym, ap, ◌∙◌, append_assoc, add_assoc, replicate, arith, inl, inr}
 use Rattle.std.specs.Prelude.{not, ◌||◌, ◌==◌, nat_lt, is_some, ◌⊎◌}
 use Rattle.std.specs.Int.{w8, w32}
@@ -18,7 +18,7 @@ use Rattle.dbus_header.proofs.Places.{aligned_8, no_gap_4, no_gap_1}
 abbrev pub set_reply : ℕ → Field → Field
 set_reply n f = set_field 5 (a_number uint32 n) f
 
--- the two texts differ in one number alone, which stands at the place, the texts standing at the start
+-- the two texts, which begin at the start, differ only in one number at the place
 pub record OneNumber (o : Order) (x n start : ℕ) (place : Option ℕ) (old new : List ℕ) : Type 0 where
   pub before : List ℕ
   pub after : List ℕ
@@ -26,7 +26,7 @@ pub record OneNumber (o : Order) (x n start : ℕ) (place : Option ℕ) (old new
   pub new_is : new ≡ before ++ (number_bytes o w32 n ++ after)
   pub place_is : place ≡ Some (start + length before)
 
--- what stands in a reply serial's field before its number
+-- what a reply serial's field has before its number
 abbrev lead : Order → ℕ → List ℕ
 lead o p =
     let start = p + padding 8 p in
@@ -38,7 +38,7 @@ code_len : (o : Order) (start : ℕ) → length (spelled o start (a_number byte 
 code_len Little start = ap (λ (k : ℕ). length (replicate k 0 ++ number_bytes Little w8 5)) (no_gap_1 start)
 code_len Big start = ap (λ (k : ℕ). length (replicate k 0 ++ number_bytes Big w8 5)) (no_gap_1 start)
 
--- where the number stands
+-- where the number is
 lead_end : (o : Order) (p : ℕ) → p + length (lead o p) ≡ p + padding 8 p + 4
 lead_end o p =
     let start = p + padding 8 p in
@@ -79,7 +79,7 @@ is_reply f c e =
     field : ℕ → Value → Field
     field k w = record { code = k; value = w }
 
--- nothing changes where no field has the code 5
+-- nothing changes if no field has the code 5
 none_set : (n : ℕ) (fields before : List Field) → has_field 5 before ≡ true → may_all_follow before fields ≡ true → map (set_reply n) fields ≡ fields
 none_set n [] before h m = refl
 none_set n (f ∷ fields) before h m =

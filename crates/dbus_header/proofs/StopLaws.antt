@@ -1,4 +1,4 @@
--- Where reading stops, no further value or field stands: so a fault's place is where the last valid one ended.
+-- Where reading stops, no further value or field can be read: so a fault's place is where the last valid one ended.
 use Rattle.std.proofs.Common.{◌≡◌, ℕ, zero, suc, ◌+◌, ◌<◌, ◌≤◌, true, List, [], ◌∷◌, ◌++◌, length, drop, Option, Some, None, refl, sym, ap, subst, ◌∙◌, arith, inl, inr}
 use Rattle.std.specs.Prelude.{◌⊎◌}
 use Rattle.std.proofs.lemmas.List.{length-append, nil_from_length}
@@ -38,7 +38,7 @@ no_value o t b none v more type complete deep sound bytes =
 
 -- ---- fields
 
--- the fields that stand before the next one, the last of them foremost
+-- the fields before the next one, the last of them first
 abbrev pub onto : List Field → List Field → List Field
 onto before [] = before
 onto before (f ∷ fields) = onto (f ∷ before) fields

@@ -1,4 +1,4 @@
--- A stream that goes on keeps its messages: those of the rest with what is new come behind them.
+-- A stream that goes on keeps its messages: those of the rest with the new bytes follow them.
 use Rattle.std.proofs.Common.{◌≡◌, ℕ, zero, suc, ◌+◌, ◌-◌, ◌<◌, ◌≤◌, Bool, true, false, cond, List, [], ◌∷◌, ◌++◌, length, take, drop, Option, Some, None, refl, sym, ap, ◌∙◌, arith}
 use Rattle.std.proofs.lemmas.List.{length-append, take-append-le, drop-append-le, length-drop}
 use Rattle.std.proofs.lemmas.Bool.{and_parts, and_from, not-true, ltb-false, le-ltb}
@@ -12,7 +12,7 @@ use Rattle.dbus_header.specs.Malformed.{head_fault, whole_len, has_whole, whole,
 use Rattle.dbus_header.specs.Stream.{more, split_by, split, messages, rest}
 use Rattle.dbus_header.specs.declared.Malformed.{Malformed}
 
--- ---- streams of anything that is read from the front
+-- ---- streams of anything that is read from the start
 
 abbrev behind : {A : Type 0} → (List ℕ → Option (A × List ℕ)) → List A × List ℕ → List ℕ → List A × List ℕ
 behind front p x = let r = split_by front (length (p.1 ++ x)) (p.1 ++ x) in (p.0 ++ r.0, r.1)
@@ -79,7 +79,7 @@ fault_of_head t f long e =
     none : Option Malformed
     none = None
 
--- a front that was read: the whole message stands, it is m, and the rest follows it
+-- the first message was read: it is whole, it is m, and the rest follows it
 pub record Fronts (s : List ℕ) (m : Message) (r : List ℕ) : Type 0 where
   pub long : 16 ≤ length s
   pub sound : is_none (head_fault s) ≡ true
@@ -145,7 +145,7 @@ front-longer s x m r e =
       rest = ap (λ (n : ℕ). drop n (s ++ x)) same.1 ∙ drop-append-le (whole_len s) s x f.stands ∙ ap (λ (t : List ℕ). t ++ x) f.rest;
     })
 
--- a message in front is the first, and what follows has the others
+-- the message that `front` reads is the first, and what follows has the others
 pub split-front : (s : List ℕ) (m : Message) (tail : List ℕ) → front s ≡ Some (m, tail) → split s ≡ (m ∷ messages tail, rest tail)
 unfolding split
 split-front s m tail e =

@@ -14,7 +14,7 @@ use Rattle.dbus_header.proofs.MessageAgain.{front-spell}
 use Rattle.dbus_header.proofs.MessageRead.{front-is}
 use Rattle.dbus_header.specs.declared.Malformed.{Malformed}
 
--- one front after the other, what is read is spelled so, and nothing more can be read
+-- each message that was read is spelled so, and nothing more can be read
 record Split (n : ℕ) (s : List ℕ) : Type 0 where
   parts : s ≡ flat_map spell (split_by front n s).0 ++ (split_by front n s).1
   each : AllByRecursion Valid (split_by front n s).0
@@ -66,7 +66,7 @@ only_split (m ∷ ms) s r h p =
     ∙ ap (λ (q : Option (Message × List ℕ)). more q s (split_by front (length s))) read
     ∙ ap (λ (q : List Message × List ℕ). (m ∷ q.0, q.1)) (enough front front-shorter front-longer (length s) (length tail) tail (omega (arith, less)) (omega arith) ∙ rest_split)
 
--- where no message is read and no fault is found, the message isn't whole yet
+-- if no message is read and no fault is found, the message isn't whole yet
 pub not_whole : (s : List ℕ) → front s ≡ None → fault s ≡ None → (length s < 16) ⊎ (length s < whole_len s)
 unfolding fault
 not_whole s f g = go (cases_lt (length s) 16)

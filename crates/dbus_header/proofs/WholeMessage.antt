@@ -43,7 +43,7 @@ empty_by_place : (bytes rest : List ℕ) (end : ℕ) → end + length rest ≡ l
 empty_by_place bytes [] end e = sym (eq-eqb end (length bytes) (omega (arith, e)))
 empty_by_place bytes (x ∷ rest) end e = sym (ne_eqb end (length bytes) (λ k. absurd (omega (arith, e, k))))
 
--- the end of values is the end of the bytes exactly where nothing follows them
+-- the end of values is the end of the bytes exactly if nothing follows them
 values_left : (o : Order) (types : List Complete) (bytes : List ℕ) (start : ℕ) → AreBytes bytes → start ≤ length bytes → list_all is_complete types ≡ true →
     let found = values_at o types (at_place bytes start) in (is_empty found.1.bytes ≡ (found.1.place == length bytes)) × (found.1.place ≤ length bytes)
 values_left o types bytes start are inside complete =
@@ -98,7 +98,7 @@ module _ (o : Order) (signature bytes : List ℕ) (start : ℕ) (are : AreBytes 
           absurd (never (nat_lt 255 (length signature)) TooLong Form (ap (λ (ts : Option (List Complete)). cond (nat_lt 255 (length signature)) (Some TooLong) (fault_of_types ts)) (sym e) ∙ valid))
       by (Some ts) e = (ts, sym (spelled_types-types_of signature ts e))
 
-  -- the fault lies inside of the bytes
+  -- the fault is inside the bytes
   pub fault_inside : (fault : Option ℕ) → ((types : List Complete) → signature ≡ spelled_types types → fault ≡ body_fault_at o types bytes start) → IfSome fault (λ at. at ≤ length bytes)
   fault_inside None is = tt
   fault_inside (Some at) is =
@@ -187,7 +187,7 @@ pub record IsWhole (t : List ℕ) : Type 0 where
   pub head : head_fault t ≡ None
   pub exact : length t ≡ whole_len t
 
--- they are so where nothing is wrong with the first sixteen
+-- they are so if nothing is wrong with the first sixteen
 pub whole_by : (t : List ℕ) → AreBytes t → 16 ≤ length t → None ≡ head_fault t → (head_fault t ≡ None → length t ≡ whole_len t) → IsWhole t
 whole_by t are long sound exact = record { are = are; long = long; head = sym sound; exact = exact (sym sound) }
 
@@ -314,7 +314,7 @@ rest_is_read t o n start found fault are order len place sound found_is is =
     ∙ ap (λ (k : ℕ). rest_fault (get_or t 1 0) (fields_found t) (body_fault_at (order_in t) types t k)) (place ∙ ap body_place len.stated)
     ∙ sym (rest_wrong t are sound)
 
--- where nothing is wrong the fields are the message's
+-- if nothing is wrong, the fields are the message's
 pub has_parts : (t : List ℕ) (found : Found) → found ≡ fields_found t → fault_in (whole t) ≡ None → HasParts t found
 has_parts t found found_is = by (whole t) refl
   where
@@ -322,7 +322,7 @@ has_parts t found found_is = by (whole t) refl
     by (Ok m) is e = record { message = m; is = is; found_is = found_is ∙ ap (λ (x : Message). found_of x.order x.fields) (checked t m is).is }
     by (Err f) is e = absurd cc
 
--- where nothing was told to be wrong
+-- if no fault was reported
 pub parts_on_ok : {A : Type 0} (result : Result A Malformed) (t : List ℕ) (found : Found) → found ≡ fields_found t → refusal result ≡ fault_in (whole t) → OnOk result (HasParts t found)
 parts_on_ok (Ok x) t found found_is e = has_parts t found found_is (sym e)
 parts_on_ok (Err f) t found found_is e = tt

@@ -1,4 +1,4 @@
--- What is read of a message, part by part.
+-- The parts of a message, as they are read.
 use Rattle.std.specs.Prelude.{◌≡◌, ◌≤◌, ℕ, ◌+◌, Bool, List, length, Option, Some}
 use Rattle.dbus_names.specs.Names.{is_empty}
 use Rattle.dbus_values.specs.Reading.{◌>>=◌, when}
@@ -6,7 +6,7 @@ use Rattle.dbus_values.specs.declared.Order.{Order}
 use Rattle.dbus_header.specs.Message.{Message, path, interface, member, error_name, reply_serial, destination, sender, signature, reply_place, has_unknown_field, spell, spelled_fields, spelled_list, body_place, with_serial, with_reply_serial, with_number}
 use Rattle.dbus_header.specs.Malformed.{front}
 
--- the valid message that the bytes are, all of them
+-- the valid message that all of the bytes are
 unfoldable pub message_of : List ℕ → Option Message
 message_of bytes = front bytes >>= λ x. when (is_empty x.1) x.0
 
@@ -20,7 +20,7 @@ pub record Parts : Type 0 where
   pub destination : Option (List ℕ)
   pub sender : Option (List ℕ)
 
--- what is read of a message: whether it has a field of an unknown code, its signature as it is spelled, and its body's bytes
+-- what is read of a message; its signature as it is spelled, whether a field has an unknown code, and its body's bytes
 pub record Contents : Type 0 where
   pub order : Order
   pub kind : ℕ
@@ -59,12 +59,12 @@ contents_of m = record {
   body = body_bytes m;
 }
 
--- where the serial's number stands in the bytes of a message
+-- the place of the serial's number in the bytes of a message
 pub record IsSerialPlace (bytes : List ℕ) (place : ℕ) : Type 0 where
   pub inside : place + 4 ≤ length bytes
   pub patched : (n : ℕ) (m : Message) → message_of bytes ≡ Some m → with_number m.order place n bytes ≡ spell (with_serial n m)
 
--- and where the reply serial's number does
+-- the place of the reply serial's number in the bytes of a message
 pub record IsReplySerialPlace (bytes : List ℕ) (place : ℕ) : Type 0 where
   pub inside : place + 4 ≤ length bytes
   pub patched : (n : ℕ) (m : Message) → message_of bytes ≡ Some m → with_number m.order place n bytes ≡ spell (with_reply_serial n m)

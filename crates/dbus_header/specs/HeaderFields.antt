@@ -27,18 +27,18 @@ parts_in fields = record {
   sender = text_in (field_in 7 fields);
 }
 
--- what is found in the fields, REPLY_SERIAL's number standing at a place
+-- what is found in the fields, with REPLY_SERIAL's number at a place
 abbrev pub found_in : List Field → Option ℕ → Found
 found_in fields place = record { parts = parts_in fields; reply_place = place; unknown = has_unknown fields; signature = spelled_in (field_in 8 fields); descriptors = number_in (field_in 9 fields) }
 
 abbrev pub found_of : Order → List Field → Found
 found_of order fields = found_in fields (number_place order 16 fields)
 
--- the fields of a message that is cut behind them
+-- the fields of a message that is cut after them
 abbrev pub fields_in : Order → List ℕ → List Field × At
 fields_in order bytes = fields_at order (length bytes - 16) [] (at_place bytes 16)
 
--- the place where the last valid field ended, and what was found where that is the end of all
+-- the place where the last valid field ended, and what was found up to there
 pub record FieldsRead (order : Order) (bytes : List ℕ) (found : Found) (end : ℕ) : Type 0 where
   pub low : 16 ≤ end
   pub inside : end ≤ length bytes

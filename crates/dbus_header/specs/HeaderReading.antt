@@ -1,4 +1,4 @@
--- How the header fields are read from bytes in one pass, place by place. That what is read so is what the definitions say is proved of it.
+-- How the header fields are read from bytes in one pass. It is proved that this gives what the definitions say.
 use Rattle.std.specs.Prelude.{ℕ, ◌+◌, Bool, true, false, ◌&&◌, ◌==◌, nat_lt, nat_le, List, [], ◌∷◌, length, take, drop, get_or, Option, Some, None, Result, Ok, Err, if◌then◌else◌, is_some, is_none}
 use Rattle.std.specs.Int.{w32}
 use Rattle.dbus_names.specs.Names.{is_path, is_interface, is_member, is_error_name, is_bus_name}
@@ -23,7 +23,7 @@ pub data Part : Type 0 where
   some_signature : List ℕ → Part
   unread : Part
 
--- the type of a known code's value, as a signature has it
+-- the type of a known code's value, as a signature spells it
 abbrev pub type_code : ℕ → ℕ
 type_code code = if code == 1 then 111 else (if code == 5 then 117 else (if code == 8 then 103 else (if code == 9 then 117 else 115)))
 
@@ -37,11 +37,11 @@ is_text_of code text =
     else (if code == 7 then is_bus_name text
     else false)))))
 
--- whether it is in the grammar of the field with this code, a signature's too
+-- whether a text is in the grammar of the field with this code, or a signature is valid
 abbrev pub is_sound_of : ℕ → List ℕ → Bool
 is_sound_of code text = if code == 8 then is_none (signature_fault text) else is_text_of code text
 
--- so many bytes at a place and a NUL, and where that ends
+-- the bytes of this length at a place, if a NUL follows them, and the place after the NUL
 abbrev pub ended_text : ℕ → List ℕ → ℕ → Option (List ℕ × ℕ)
 ended_text n bytes at = if nat_lt (at + n) (length bytes) && get_or bytes (at + n) 0 == 0 then Some (take n (drop at bytes), at + n + 1) else None
 
@@ -67,7 +67,7 @@ checked_signature (Some x) = if is_none (signature_fault x.0) then Some (some_si
 abbrev pub signature_part : List ℕ → ℕ → Option (Part × ℕ)
 signature_part bytes at = if nat_lt at (length bytes) then checked_signature (ended_text (get_or bytes at 0) bytes (at + 1)) else None
 
--- a known code's value behind its signature
+-- a known code's value, after the variant's signature
 abbrev pub known_value : Order → ℕ → List ℕ → ℕ → Option (Part × ℕ)
 known_value order code bytes at =
     if code == 5 then number_part order code bytes at
@@ -85,13 +85,13 @@ abbrev pub unread_to : Result ℕ BadValue → Option (Part × ℕ)
 unread_to (Ok end) = Some (unread, end)
 unread_to (Err bad) = None
 
--- the field whose code stands at a place
+-- the field whose code is at a place
 abbrev pub coded_part : Order → ℕ → List ℕ → ℕ → Option (Part × ℕ)
 coded_part order code bytes at =
     if code == 0 then None
     else (if nat_le code 9 then known_part order code bytes (at + 1) else unread_to (values_end order (variant ∷ []) (at + 1) bytes))
 
--- the field that stands behind the padding, and where it ends
+-- the field after the padding, and where it ends
 abbrev pub part_at : Order → List ℕ → ℕ → Option (Part × ℕ)
 part_at order bytes place =
     if nat_lt (place + padding 8 place) (length bytes) && all_zero (take (padding 8 place) (drop place bytes))
@@ -117,7 +117,7 @@ nothing_found = record { parts = no_parts; reply_place = None; unknown = false; 
 abbrev pub unless : {A : Type 0} → Bool → A → Option A
 unless test x = if test then None else Some x
 
--- one part more, that may not stand already
+-- one more part, whose field wasn't found before
 abbrev pub with_text : Parts → ℕ → List ℕ → Option Parts
 with_text p code text =
     if code == 1 then unless (is_some p.path) (record p { path = Some text })
@@ -137,7 +137,7 @@ with_number_part found place code n =
     then unless (is_some found.parts.reply_serial) (record found { parts = record (found.parts) { reply_serial = Some n }; reply_place = Some (place + padding 8 place + 4) })
     else unless (is_some found.descriptors) (record found { descriptors = Some n })
 
--- what was found, and the part of the field that stands at the place
+-- what was found, with the part of the field at the place
 abbrev pub with_part : Found → ℕ → Part → Option Found
 with_part found place (some_text code t) = found_with found (with_text found.parts code t)
 with_part found place (some_number code n) = with_number_part found place code n

@@ -21,7 +21,7 @@ kind_by n =
 unfoldable pub kind_of : Message → Kind
 kind_of m = kind_by m.kind
 
--- returns and errors alone answer
+-- only returns and errors are replies
 abbrev pub answers_kind : Kind → Bool
 answers_kind Call = false
 answers_kind Return = true
@@ -29,7 +29,7 @@ answers_kind Error = true
 answers_kind Signal = false
 answers_kind Other = false
 
--- by a message's flags: NO_REPLY_EXPECTED, 1, isn't set
+-- from a message's flags: NO_REPLY_EXPECTED, 1, isn't set
 abbrev pub expects_reply_by : ℕ → Bool
 expects_reply_by flags = flags % 2 == 0
 

@@ -1,4 +1,4 @@
--- A header that was read and kept, and where its parts stand in it.
+-- A header that was read and kept, and the places of its parts.
 use Rattle.std.specs.Prelude.{◌≡◌, ◌≤◌, ◌<◌, ℕ, ◌+◌, ◌-◌, Bool, true, ◌&&◌, ◌||◌, nat_le, List, [], length, take, drop, Option, Some, None, option_map}
 use Rattle.std.specs.Str.{is_utf8}
 use Rattle.byte_lists.specs.Bytes.{AreBytes}
@@ -26,7 +26,7 @@ fields_bytes n message = take (body_place n - 16) (drop 16 message)
 abbrev pub fields_by : Order → ℕ → List ℕ → List Field × At
 fields_by order n bytes = fields_at order n [] (record { place = 16; bytes = take n bytes })
 
--- they are valid fields and then zeros, and this is what the fields hold
+-- the bytes are valid fields and then zeros, and this is what the fields hold
 pub record AreRead (order : Order) (n : ℕ) (bytes : List ℕ) (found : Found) : Type 0 where
   pub sound : (is_empty (fields_by order n bytes).1.bytes && all_zero (drop n bytes)) ≡ true
   pub is : found ≡ found_of order (fields_by order n bytes).0
@@ -53,7 +53,7 @@ found_at order bytes p = record {
   descriptors = p.descriptors;
 }
 
--- a part that has none of the four bytes of the number at a place
+-- a part that doesn't overlap the four bytes of the number at a place
 abbrev pub is_apart : Option ℕ → Span → Bool
 is_apart None s = true
 is_apart (Some at) s = nat_le (s.start + s.len) at || nat_le (at + 4) s.start
@@ -66,7 +66,7 @@ pub record HasSignature (bytes : List ℕ) (s : Span) : Type 0 where
   pub inside : s.start + s.len ≤ length bytes
   pub valid : signature_fault (cut bytes s) ≡ None
 
--- the parts of a header stand at the places
+-- the parts of a header are at the places
 pub record AreWithin (bytes : List ℕ) (p : Places) : Type 0 where
   pub path : (s : Span) → p.path ≡ Some s → HasText bytes s
   pub interface : (s : Span) → p.interface ≡ Some s → HasText bytes s
@@ -77,7 +77,7 @@ pub record AreWithin (bytes : List ℕ) (p : Places) : Type 0 where
   pub signature : (s : Span) → p.signature ≡ Some s → HasSignature bytes s
   pub number : (at : ℕ) → p.reply_serial ≡ Some at → at + 4 ≤ length bytes
 
--- none of them has bytes of REPLY_SERIAL's number
+-- none of them overlaps REPLY_SERIAL's number
 pub record AreApart (p : Places) : Type 0 where
   pub path : (s : Span) → p.path ≡ Some s → is_apart p.reply_serial s ≡ true
   pub interface : (s : Span) → p.interface ≡ Some s → is_apart p.reply_serial s ≡ true
@@ -87,7 +87,7 @@ pub record AreApart (p : Places) : Type 0 where
   pub sender : (s : Span) → p.sender ≡ Some s → is_apart p.reply_serial s ≡ true
   pub signature : (s : Span) → p.signature ≡ Some s → is_apart p.reply_serial s ≡ true
 
--- the bytes are those of valid header fields, whose parts stand at the places
+-- the bytes are those of valid header fields, whose parts are at the places
 pub record AreKnown (order : Order) (n : ℕ) (bytes : List ℕ) (p : Places) : Type 0 where
   pub are : AreBytes bytes
   pub len : length bytes + 16 ≡ body_place n
@@ -95,7 +95,7 @@ pub record AreKnown (order : Order) (n : ℕ) (bytes : List ℕ) (p : Places) : 
   pub within : AreWithin bytes p
   pub apart : AreApart p
 
--- ---- where the texts of fields that were read stand
+-- ---- the places of the texts of fields that were read
 
 -- a text that begins at a place of the message, after the first sixteen bytes
 pub record BeginsAt (message : List ℕ) (start : ℕ) (text : List ℕ) : Type 0 where
@@ -109,7 +109,7 @@ Begins message (header.Number code number) = Unit {0}
 Begins message (header.Signed signature start) = BeginsAt message start signature.bytes.now
 Begins message header.Unread = Unit {0}
 
--- a text that begins at a place of the message, by the bytes of its fields alone
+-- a text that begins at a place of the message, of whose bytes only those of the fields are given
 pub record BeginsIn (bytes : List ℕ) (start : ℕ) (text : List ℕ) : Type 0 where
   pub low : 16 ≤ start
   pub inside : start - 16 + length text ≤ length bytes
@@ -123,7 +123,7 @@ abbrev pub OfSignature : (ℕ → List ℕ → Type 0) → ℕ → Option Signat
 OfSignature P start None = Unit {0}
 OfSignature P start (Some signature) = P start signature.bytes.now
 
--- each text and the signature begins where its start says
+-- each text and the signature begins at its place
 pub record OfEach (P : ℕ → List ℕ → Type 0) (f : Fields) : Type 0 where
   pub path : OfText P f.starts.path f.path
   pub interface : OfText P f.starts.interface f.interface
@@ -139,16 +139,16 @@ AllBeginAt message f = OfEach (BeginsAt message) f
 abbrev pub AllBeginIn : List ℕ → Fields → Type 0
 AllBeginIn bytes f = OfEach (BeginsIn bytes) f
 
--- REPLY_SERIAL's number stands at its place in the message
+-- REPLY_SERIAL's number is at its place in the message
 pub record NumberIn (order : Order) (bytes : List ℕ) (serial place : Option ℕ) : Type 0 where
   pub none : place ≡ None → serial ≡ None
   pub low : (p : ℕ) → place ≡ Some p → 16 ≤ p
   pub inside : (p : ℕ) → place ≡ Some p → p - 16 + 4 ≤ length bytes
   pub is : (p : ℕ) → place ≡ Some p → serial ≡ Some (number_at order bytes (p - 16))
 
--- ---- headers that are read as it was
+-- ---- headers that are read as a kept one
 
--- the bytes are equal but for a number at the place, which isn't 0
+-- the bytes are equal except for a number at the place, which isn't 0
 abbrev pub AreAlike : Order → Option ℕ → List ℕ → List ℕ → Type 0
 AreAlike order None kept bytes = kept ≡ bytes
 AreAlike order (Some at) kept bytes = (take at kept ≡ take at bytes) × (drop (at + 4) kept ≡ drop (at + 4) bytes) × (0 < number_at order bytes at)

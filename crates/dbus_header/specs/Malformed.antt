@@ -1,4 +1,4 @@
--- What bytes are as a message: the message that they spell, or the kind and place of what is wrong.
+-- Bytes as a message: the message that they spell, or the kind and place of what is wrong.
 use Rattle.std.specs.Prelude.{ℕ, zero, suc, ◌+◌, ◌^◌, Bool, not, ◌&&◌, ◌==◌, nat_lt, List, [], ◌∷◌, length, take, drop, get_or, Option, Some, None, Result, Ok, Err, if◌then◌else◌, is_some, is_none, unwrap_or}
 use Rattle.std.specs.Int.{w32}
 use Rattle.dbus_names.specs.Names.{is_empty}
@@ -12,7 +12,7 @@ use Rattle.dbus_header.specs.declared.MalformedKind.{MalformedKind}
 use Rattle.dbus_header.specs.declared.MalformedKind.TheVariants.{ByteOrder, MessageType, Version, Length, Serial, Fields, Required, Body, Descriptors}
 use Rattle.dbus_header.specs.declared.Malformed.{Malformed}
 
--- its number in an End's bytes
+-- the kind's number in the bytes of an End
 abbrev pub kind_number : MalformedKind → ℕ
 kind_number ByteOrder = 1
 kind_number MessageType = 2
@@ -32,7 +32,7 @@ malformed kind at = Some (record { kind = kind; at = at })
 abbrev pub order_of : ℕ → Option Order
 order_of b = if b == 108 then Some Little else (if b == 66 then Some Big else None)
 
--- the order that the first byte states, or Little where it states none
+-- the order that the first byte states, or Little if it states none
 abbrev pub order_in : List ℕ → Order
 order_in bytes = unwrap_or (order_of (get_or bytes 0 0)) Little
 
@@ -67,7 +67,7 @@ head_fault bytes =
 
 -- ---- a whole message
 
--- a field is a struct of its code and a variant, at which the count of containers starts
+-- a field is a struct of its code and a variant; containers are counted from the variant on
 abbrev pub field_type : Complete
 field_type = struct (basic (number byte)) (and variant no_types)
 
@@ -84,7 +84,7 @@ field_at order at = do
 abbrev pub valid_field_at : Order → List Field → Read Field
 valid_field_at order before at = field_at order at >>= λ x. when (may_follow before x.0) x
 
--- valid fields one after the other, at most so many, behind those before them; and what follows them
+-- at most this many valid fields, after those before them; and what follows them
 abbrev pub fields_at : Order → ℕ → List Field → At → List Field × At
 fields_at order zero before at = ([], at)
 fields_at order (suc n) before at = and_then_all (valid_field_at order before at) at (λ f rest. fields_at order n (f ∷ before) rest)
@@ -109,13 +109,13 @@ whole_by bytes fields body =
     else (if not (has_no_descriptors fields.0) then Err (record { kind = Descriptors; at = 12 })
     else Ok (record { order = order_in bytes; kind = get_or bytes 1 0; flags = get_or bytes 2 0; serial = serial_in bytes; fields = fields.0; body = body.0 }))))
 
--- of bytes whose first sixteen are in order and state exactly their length
+-- of bytes whose first sixteen are valid and state exactly their length
 unfoldable pub whole : List ℕ → Result Message Malformed
 whole bytes = let fields = fields_of bytes in whole_by bytes fields (values_in bytes (stated fields.0))
 
--- ---- the front of bytes
+-- ---- the first message of bytes
 
--- a whole message stands in front, valid or not
+-- the bytes begin with a whole message, valid or not
 abbrev pub has_whole : List ℕ → Bool
 has_whole bytes = not (nat_lt (length bytes) 16) && is_none (head_fault bytes) && not (nat_lt (length bytes) (whole_len bytes))
 
@@ -135,7 +135,7 @@ abbrev pub message_in : Result Message Malformed → Option Message
 message_in (Ok m) = Some m
 message_in (Err fault) = None
 
--- the valid message that stands in front, and what follows it
+-- the valid message with which the bytes begin, and what follows it
 unfoldable pub front : List ℕ → Option (Message × List ℕ)
 front bytes =
     if has_whole bytes then (message_in (whole (take (whole_len bytes) bytes)) >>= λ m. Some (m, drop (whole_len bytes) bytes)) else None

@@ -1,4 +1,4 @@
--- Messages: their parts, their spelling, which are valid, and what is wrong with bytes that spell none.
+-- Messages: their parts, their spelling, and which of them are valid.
 use Rattle.std.specs.Prelude.{◌≡◌, ◌<◌, ◌≤◌, unwrap_or, take, drop, ℕ, ◌+◌, ◌^◌, Bool, true, false, not, ◌&&◌, ◌||◌, ◌==◌, nat_lt, List, [], ◌∷◌, ◌++◌, length, map, Option, Some, None, IsTrue, if◌then◌else◌, is_some}
 use Rattle.std.specs.Int.{w32}
 use Rattle.std.specs.List.{list_all, list_any}
@@ -65,7 +65,7 @@ destination m = text_in (field_in 6 m.fields)
 abbrev pub sender : Message → Option (List ℕ)
 sender m = text_in (field_in 7 m.fields)
 
--- a field whose code the specification doesn't name, so that what it means isn't known
+-- a field whose code the specification doesn't name, so its meaning isn't known
 abbrev pub is_unknown : Field → Bool
 is_unknown f = nat_lt 9 f.code
 
@@ -75,7 +75,7 @@ has_unknown fields = list_any is_unknown fields
 abbrev pub has_unknown_field : Message → Bool
 has_unknown_field m = has_unknown m.fields
 
--- the types that the SIGNATURE field states; none where it is absent
+-- the types that the SIGNATURE field states; none if it is absent
 abbrev pub stated : List Field → List Complete
 stated fields = types_in (field_in 8 fields)
 
@@ -85,11 +85,11 @@ signature m = spelled_types (map type_of m.body)
 
 -- ---- the body's texts
 
--- the first body value, where the body's signature begins with s
+-- the first body value, if the body's signature begins with s
 abbrev pub first_text : Message → Option (List ℕ)
 first_text m = first_text_of m.body
 
--- the first two body values, where the body's signature begins with ss
+-- the first two body values, if the body's signature begins with ss
 abbrev pub two_texts : Message → Option (List ℕ × List ℕ)
 two_texts m = two_of m.body
 
@@ -117,14 +117,14 @@ with_serial serial m = record m { serial = serial }
 abbrev pub set_field : ℕ → Value → Field → Field
 set_field code v f = if f.code == code then record f { value = v } else f
 
--- the REPLY_SERIAL field's number replaced, wherever that field stands
+-- the number of the REPLY_SERIAL field replaced, in any position
 abbrev pub with_reply_serial : ℕ → Message → Message
 with_reply_serial serial m = record m { fields = map (set_field 5 (a_number uint32 serial)) m.fields }
 
 abbrev pub string_values : List (List ℕ) → List Value
 string_values texts = map a_string texts
 
--- the body an array of these strings
+-- the body replaced by an array of these strings
 abbrev pub with_names : List (List ℕ) → Message → Message
 with_names names m = record m { body = an_array (basic string) (values_of (string_values names)) ∷ [] }
 
@@ -138,17 +138,17 @@ order_byte Big = 66
 abbrev pub field_value : Field → Value
 field_value f = a_struct (a_number byte f.code) (value (a_variant f.value) no_values)
 
--- one after the other from a place on
+-- values one after the other, from a place on
 abbrev pub spelled_list : Order → ℕ → List Value → List ℕ
 spelled_list order place [] = []
 spelled_list order place (v ∷ vs) =
     let first = spelled order place v in first ++ spelled_list order (place + length first) vs
 
--- the fields begin at 16, behind their length
+-- the fields begin at 16, after their length
 abbrev pub spelled_fields : Order → List Field → List ℕ
 spelled_fields order fields = spelled_list order 16 (map field_value fields)
 
--- where the body begins, behind so many bytes of fields
+-- where the body begins, after this many bytes of fields
 abbrev pub body_place : ℕ → ℕ
 body_place n = 16 + n + padding 8 (16 + n)
 
@@ -159,18 +159,19 @@ spell m =
     order_byte m.order ∷ m.kind ∷ m.flags ∷ 1 ∷ number_bytes m.order w32 (length body) ++ number_bytes m.order w32 m.serial
     ++ number_bytes m.order w32 (length fields) ++ fields ++ zeros 8 (16 + length fields) ++ body
 
--- the place of REPLY_SERIAL's number, the fields standing from a place on: behind the padding, the field's code and the signature `u`
+-- the place of REPLY_SERIAL's number if the fields begin at a place: after the padding, the field's code and the
+-- signature `u`
 abbrev pub number_place : Order → ℕ → List Field → Option ℕ
 number_place order place [] = None
 number_place order place (f ∷ fields) =
     if f.code == 5 then Some (place + padding 8 place + 4)
     else number_place order (place + length (spelled order place (field_value f))) fields
 
--- the place of REPLY_SERIAL's number in the message's bytes, where it has one
+-- the place of REPLY_SERIAL's number in the message's bytes, if it has one
 abbrev pub reply_place : Message → Option ℕ
 reply_place m = number_place m.order 16 m.fields
 
--- the bytes with another number of four bytes at a place
+-- the bytes with the four-byte number at a place replaced
 abbrev pub with_number : Order → ℕ → ℕ → List ℕ → List ℕ
 with_number order place n bytes = take place bytes ++ number_bytes order w32 n ++ drop (place + 4) bytes
 
@@ -210,7 +211,7 @@ is_field_of code v =
 abbrev pub has_field : ℕ → List Field → Bool
 has_field code fields = is_some (field_in code fields)
 
--- a field that may follow these: in its grammar, and no known field a second time
+-- a field that may follow these: in its grammar, and no repetition of a known field
 abbrev pub may_follow : List Field → Field → Bool
 may_follow before f = is_field_of f.code f.value && (nat_lt 9 f.code || not (has_field f.code before))
 
@@ -229,12 +230,13 @@ has_required kind fields = list_all (λ code. has_field code fields) (required k
 abbrev pub has_no_descriptors : List Field → Bool
 has_no_descriptors fields = unwrap_or (number_in (field_in 9 fields)) 0 == 0
 
--- values one after the other from a place on, each in the limits
+-- values one after the other from a place on, each within the limits
 abbrev pub are_valid : Order → ℕ → List Value → Bool
 are_valid order place [] = true
 are_valid order place (v ∷ vs) = is_within 64 v && is_value order place v && are_valid order (place + length (spelled order place v)) vs
 
--- the same of fields, where the count of containers starts at the field's variant
+-- fields one after the other from a place on, each within the limits; containers are counted from the field's variant
+-- on
 abbrev pub are_valid_fields : Order → ℕ → List Field → Bool
 are_valid_fields order place [] = true
 are_valid_fields order place (f ∷ fields) =

@@ -1,4 +1,4 @@
--- What a message that the code has read is seen as.
+-- The model of a message that the code has read.
 use Rattle.dbus_header.specs.Contents.{Contents}
 use Rattle.dbus_header.specs.Seen.{text_seen}
 use Rattle.dbus_header.specs.declared.message.Message.{Message}

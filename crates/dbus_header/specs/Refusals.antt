@@ -1,4 +1,4 @@
--- What reading a message was refused by.
+-- Why a message wasn't read.
 use Rattle.std.specs.Prelude.{Option, Some, None, Result, Ok, Err}
 use Rattle.dbus_header.specs.declared.Malformed.{Malformed}
 

@@ -1,4 +1,4 @@
--- What the code's header fields are seen as.
+-- The models of the code's header fields.
 use Rattle.std.specs.Prelude.{◌≡◌, ℕ, true, List, Option, Some, option_map}
 use Rattle.dbus_header.specs.Contents.{Parts}
 use Rattle.dbus_header.specs.HeaderReading.{Part, some_text, some_number, some_signature, unread, Found}
@@ -49,6 +49,6 @@ fields_seen f = record { parts = parts_seen f; reply_place = f.reply_serial_plac
 abbrev pub name_seen : Option BusName → Option (List ℕ)
 name_seen name = option_map (λ n. n.text.now) name
 
--- a text that stands is a bus name
+-- if there is a text, it is a bus name
 abbrev pub AreBusNames : Option (List ℕ) → Type 0
 AreBusNames text = (name : List ℕ) → text ≡ Some name → is_bus_name name ≡ true

@@ -1,4 +1,4 @@
--- The messages of a stream, and what is left of it.
+-- The messages of a stream, and what is left after them.
 use Rattle.std.specs.Prelude.{◌≡◌, ℕ, zero, suc, List, [], ◌∷◌, ◌++◌, length, Option, Some, None}
 use Rattle.std.specs.List.{flat_map, AllByRecursion}
 use Rattle.dbus_header.specs.Message.{Message, Valid, spell}
@@ -15,12 +15,12 @@ abbrev pub more : {A : Type 0} → Option (A × List ℕ) → List ℕ → (List
 more None stream others = ([], stream)
 more (Some x) stream others = let rest = others x.1 in (x.0 ∷ rest.0, rest.1)
 
--- what front reads from the front of a stream, again and again, at most so many times; and what follows
+-- what `front` reads from the start of a stream, at most this many times, and what follows
 abbrev pub split_by : {A : Type 0} → (List ℕ → Option (A × List ℕ)) → ℕ → List ℕ → List A × List ℕ
 split_by front zero stream = ([], stream)
 split_by front (suc n) stream = more (front stream) stream (split_by front n)
 
--- each message takes a byte at least, so the length is enough
+-- each message has at least one byte, so the length is enough
 unfoldable pub split : List ℕ → List Message × List ℕ
 split stream = split_by front (length stream) stream
 

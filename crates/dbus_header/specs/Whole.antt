@@ -14,14 +14,16 @@ use Rattle.dbus_header.specs.declared.MalformedKind.TheVariants.{Fields, Require
 
 -- ---- the header fields
 
--- a whole message states so many bytes of header fields, and its body begins behind them; the limits of both lengths are kept
+-- a whole message states this number of bytes of header fields, and its body begins after them; both lengths are within
+-- the limits
 pub record IsFieldsLen (bytes : List ℕ) (n : ℕ) : Type 0 where
   pub stated : n ≡ fields_len bytes
   pub few : n ≤ 2 ^ 26
   pub inside : body_place n ≤ length bytes
   pub short : length bytes ≤ 2 ^ 27
 
--- the last valid field doesn't end where the fields do, or the padding behind isn't zero; the place is its end
+-- the last valid field doesn't end where the fields do, or the padding after the fields isn't zero; the place is that
+-- field's end
 abbrev pub fields_fault : List ℕ → Option Malformed
 fields_fault bytes = let fields = fields_of bytes in if is_empty fields.1.bytes && has_zeros bytes then None else malformed Fields fields.1.place
 
@@ -31,11 +33,11 @@ fields_found bytes = found_of (order_in bytes) (fields_of bytes).0
 
 -- ---- the body
 
--- the place of what is wrong with a body of the types, whose values are those that were read
+-- the place where the body of these types is wrong, if the values are those that were read
 abbrev pub body_fault_of : List Complete → List Value × At → Option ℕ
 body_fault_of types found = if length found.0 == length types && is_empty found.1.bytes then None else Some found.1.place
 
--- the body begins at a place of the bytes
+-- the place where the body is wrong, if it begins at this place of the bytes
 abbrev pub body_fault_at : Order → List Complete → List ℕ → ℕ → Option ℕ
 body_fault_at order types bytes place = body_fault_of types (values_at order types (at_place bytes place))
 
@@ -45,12 +47,12 @@ stated_in found = unwrap_or found.signature []
 
 -- ---- the message
 
--- a body that stops being its values at this place, or else the descriptors
+-- the body is wrong at this place, or else the descriptors are
 abbrev pub body_or_descriptors : Found → Option ℕ → Option Malformed
 body_or_descriptors found (Some at) = malformed Body at
 body_or_descriptors found None = if unwrap_or found.descriptors 0 == 0 then None else malformed Descriptors 12
 
--- what else is wrong with a message of this type with these fields, whose body stops being its values at this place
+-- what else is wrong with a message of this type with these fields, whose body is wrong at this place
 abbrev pub rest_fault : ℕ → Found → Option ℕ → Option Malformed
 rest_fault kind found body = if not (has_required_parts kind found.parts) then malformed Required 12 else body_or_descriptors found body
 

@@ -1,4 +1,4 @@
-//! The texts of a message's body.
+//! The strings of a message's body.
 ghost use Rattle.std.specs.Prelude.{◌≡◌, Some, bytes_eq};
 ghost use Rattle.dbus_header.specs.Contents.{message_of};
 ghost use Rattle.dbus_header.specs.Message.{Message as MessageTree, Valid, first_text, two_texts, only_text, three_texts, text_list};
@@ -7,7 +7,7 @@ ghost use Rattle.dbus_header.specs.Seen.{text_seen, two_seen, texts_seen};
 use crate::message::Message;
 use dbus_values::Texts;
 
-/// A message that is read is valid.
+/// A message that was read is valid.
 pub(crate) fn is_valid(bytes: &[u8])
     ensures { (m : MessageTree) → message_of bytes.now ≡ Some m → Valid m }
 {
@@ -22,7 +22,7 @@ fn is_signed(message: &Message<'_>, signature: &[u8]) -> bool
 }
 
 impl<'a> Message<'a> {
-    /// The first value of the body, where that is a string: none exactly where SIGNATURE doesn't begin with `s`.
+    /// The first value of the body, if it is a string: `None` exactly if SIGNATURE doesn't begin with `s`.
     pub fn first_text(&self) -> Option<&'a str>
         ensures { (m : MessageTree) → message_of self.now.bytes.now ≡ Some m → text_seen result ≡ first_text m }
     {
@@ -30,7 +30,7 @@ impl<'a> Message<'a> {
         dbus_values::first_text(self.order, self.signature, self.body)
     }
 
-    /// The first two values of the body, if both are strings: none exactly where SIGNATURE doesn't begin with `ss`.
+    /// The first two values of the body, if both are strings: `None` exactly if SIGNATURE doesn't begin with `ss`.
     pub fn two_texts(&self) -> Option<(&'a str, &'a str)>
         ensures { (m : MessageTree) → message_of self.now.bytes.now ≡ Some m → two_seen result ≡ two_texts m }
     {
@@ -38,7 +38,7 @@ impl<'a> Message<'a> {
         dbus_values::two_texts(self.order, self.signature, self.body)
     }
 
-    /// The string that is the whole body: none exactly where SIGNATURE isn't `s`.
+    /// The string that is the whole body: `None` exactly if SIGNATURE isn't `s`.
     pub fn only_text(&self) -> Option<&'a str>
         ensures { (m : MessageTree) → message_of self.now.bytes.now ≡ Some m → text_seen result ≡ only_text m }
     {
@@ -49,7 +49,7 @@ impl<'a> Message<'a> {
         }
     }
 
-    /// The three strings that are the whole body: none exactly where SIGNATURE isn't `sss`.
+    /// The three strings that are the whole body: `None` exactly if SIGNATURE isn't `sss`.
     pub fn three_texts(&self) -> Option<(&'a str, &'a str, &'a str)>
         ensures { (m : MessageTree) → message_of self.now.bytes.now ≡ Some m → texts_seen result ≡ three_texts m }
     {
@@ -62,7 +62,7 @@ impl<'a> Message<'a> {
         }
     }
 
-    /// The strings of the list that is the whole body: none exactly where SIGNATURE isn't `as`.
+    /// The strings of the array that is the whole body: `None` exactly if SIGNATURE isn't `as`.
     pub fn text_list(&self) -> Option<Texts<'a>>
         ensures { (m : MessageTree) → message_of self.now.bytes.now ≡ Some m → result ≡ text_list m }
     {

@@ -21,7 +21,8 @@ use crate::{Malformed, MalformedKind};
 use dbus_types::Signature;
 use dbus_values::{Order, is_zero, padding, value_end};
 
-/// Whether the fields stand that a message of this type needs (D-Bus Specification, "Message Format", "Header Fields").
+/// Whether a message of this type has the header fields that it needs (D-Bus Specification, "Message Format", "Header
+/// Fields").
 fn has_required(kind: u8, fields: &Fields<'_>) -> bool
     ensures { result ≡ has_required_parts kind (parts_seen fields.now) }
 {
@@ -44,7 +45,7 @@ fn has_no_descriptors(fields: &Fields<'_>) -> bool
     }
 }
 
-/// The body's signature, which is empty where SIGNATURE is absent.
+/// The body's signature, which is empty if SIGNATURE is absent.
 fn stated<'a>(fields: &Fields<'a>) -> Signature<'a>
     ensures { result.bytes.now ≡ stated_in (fields_seen fields.now) }
 {
@@ -54,7 +55,7 @@ fn stated<'a>(fields: &Fields<'a>) -> Signature<'a>
     }
 }
 
-/// Where the body stops being the signature's values, which are to fill it exactly.
+/// The place where the body stops being the signature's values, which must fill it exactly; `None` if they do.
 fn body_fault(order: Order, signature: Signature<'_>, bytes: &[u8], start: usize) -> Option<usize>
     requires { start ≤ length bytes.now }
     ensures fault { (types : List Complete) → signature.entry.bytes.now ≡ spelled_types types → result ≡ body_fault_at order types bytes.now start }
@@ -67,7 +68,7 @@ fn body_fault(order: Order, signature: Signature<'_>, bytes: &[u8], start: usize
     }
 }
 
-/// Whether the last valid field ended where the fields do, with zeros up to the body behind it.
+/// Whether the last valid field ended where the fields do, with zeros from there to the body.
 fn is_header_end(bytes: &[u8], end: usize, fields_end: usize) -> bool
     requires inside { fields_end + padding_to 8 fields_end ≤ length bytes.now }
     requires short { fields_end ≤ 2 ^ 28 }
@@ -81,7 +82,7 @@ fn is_header_end(bytes: &[u8], end: usize, fields_end: usize) -> bool
     is_zero(gap)
 }
 
-/// The bytes of header fields that a whole message has, whose first sixteen bytes are in order.
+/// The length of the header fields of a whole message whose first sixteen bytes are valid.
 fn header_fields_len(order: Order, bytes: &[u8]) -> u32
     requires order { order ≡ stated_order bytes.now }
     requires long { 16 ≤ length bytes.now }
@@ -103,7 +104,8 @@ fn fields_bytes(fields_len: u32, bytes: &[u8]) -> &[u8]
     own
 }
 
-/// Reads the header fields of a whole message, which are to end where their length says, with zeros up to the body behind them.
+/// Reads the header fields of a whole message. They must end where their length says, with zeros from there to the
+/// body.
 fn header_fields<'a>(
     known: &mut KnownTexts,
     order: Order,
@@ -134,7 +136,7 @@ fn header_fields<'a>(
     Ok(())
 }
 
-/// What else is wrong with a message with these header fields, whose body begins at a place.
+/// What else is wrong with a message that has these header fields and whose body begins at this place.
 fn check_rest(
     order: Order,
     bytes: &[u8],
@@ -167,7 +169,7 @@ fn check_rest(
     Ok(())
 }
 
-/// Reads the header fields of a whole message whose first sixteen bytes are in order, and passes over its body.
+/// Reads the header fields of a whole message whose first sixteen bytes are valid, and checks its body.
 fn read_whole<'a>(
     known: &mut KnownTexts,
     order: Order,
@@ -187,7 +189,7 @@ fn read_whole<'a>(
     check_rest(order, bytes, body_start(fields_len) as usize, fields)
 }
 
-/// The valid message of these bytes, whose header fields are these.
+/// The valid message with these bytes and these header fields.
 #[inline(always)]
 fn assembled<'a>(order: Order, bytes: &'a [u8], fields: &Fields<'a>) -> Message<'a>
     requires long { 16 ≤ length bytes.now }
@@ -219,8 +221,8 @@ fn assembled<'a>(order: Order, bytes: &'a [u8], fields: &Fields<'a>) -> Message<
     }
 }
 
-/// The message that the bytes are, or what is wrong with them, and where (D-Bus Specification, "Message Format"). One pass
-/// over the header and one over the body.
+/// Reads a message, or finds what is wrong with it and where (D-Bus Specification, "Message Format"). This takes one
+/// pass over the header and one over the body.
 pub fn decode(bytes: &[u8]) -> Result<Message<'_>, Malformed>
     requires long { 16 ≤ length bytes.now }
     requires whole { head_fault bytes.now ≡ None → length bytes.now ≡ whole_len bytes.now }
@@ -230,7 +232,8 @@ pub fn decode(bytes: &[u8]) -> Result<Message<'_>, Malformed>
     decode_knowing(bytes, &mut KnownTexts::none())
 }
 
-/// Reads a message as `decode` does. What is known of earlier messages isn't read once more, and this one is known then.
+/// Reads a message as `decode` does. This doesn't check again what `known` has of earlier messages, and adds this
+/// message to it.
 pub fn decode_knowing<'a>(bytes: &'a [u8], known: &mut KnownTexts) -> Result<Message<'a>, Malformed>
     requires long { 16 ≤ length bytes.now }
     requires whole { head_fault bytes.now ≡ None → length bytes.now ≡ whole_len bytes.now }
@@ -241,7 +244,7 @@ pub fn decode_knowing<'a>(bytes: &'a [u8], known: &mut KnownTexts) -> Result<Mes
     decode_checked(bytes, known)
 }
 
-/// Reads a message as `decode_knowing` does, whose first sixteen bytes `length` has found to be in order.
+/// Reads a message as `decode_knowing` does, if `length` has already found its first sixteen bytes to be valid.
 pub fn decode_checked<'a>(bytes: &'a [u8], known: &mut KnownTexts) -> Result<Message<'a>, Malformed>
     requires long { 16 ≤ length bytes.now }
     requires head { head_fault bytes.now ≡ None }
@@ -274,8 +277,8 @@ fn valid_fields<'a>(known: &KnownTexts, order: Order, bytes: &'a [u8], fields: &
     }
 }
 
-/// The message that bytes are of which that is known: its header fields are read again, unless a known header has them, and
-/// its body isn't. What is known stays as it is.
+/// Reads a message that is known to be valid. Its body isn't checked again, and its header fields aren't if a known
+/// header has them. `known` isn't changed.
 pub fn read_valid<'a>(bytes: &'a [u8], known: &KnownTexts) -> Message<'a>
     requires { IsSome (message_of bytes.now) }
     ensures { result.bytes.now ≡ bytes.now }

@@ -35,18 +35,18 @@ const UNIX_FDS: u8 = 9;
 /// A header field.
 #[derive(Clone, Copy)]
 enum HeaderField<'a> {
-    /// One that holds a path or a string, by its code, and where that begins.
+    /// A path or a string, with the field's code and the place where the text begins.
     Text(u8, &'a str, usize),
-    /// REPLY_SERIAL or UNIX_FDS, by its code.
+    /// REPLY_SERIAL or UNIX_FDS, with its code.
     Number(u8, u32),
-    /// SIGNATURE, and where it begins.
+    /// SIGNATURE, and the place where the signature begins.
     Signed(Signature<'a>, usize),
-    /// One with an unknown code, whose value isn't read.
+    /// A field with an unknown code, whose value isn't read.
     Unread,
 }
 
-/// Where the texts and the signature of a message's header fields begin in the message. The place of an absent one says
-/// nothing.
+/// Where the texts and the signature of a message's header fields begin in the message. The place of an absent one
+/// means nothing.
 #[derive(Clone, Copy)]
 pub(crate) struct Starts {
     pub(crate) path: usize,
@@ -58,7 +58,7 @@ pub(crate) struct Starts {
     pub(crate) signature: usize,
 }
 
-/// The header fields of a message, each where it stands.
+/// The header fields of a message, read in place.
 #[derive(Clone, Copy)]
 pub(crate) struct Fields<'a> {
     pub(crate) path: Option<&'a str>,
@@ -66,9 +66,9 @@ pub(crate) struct Fields<'a> {
     pub(crate) member: Option<&'a str>,
     pub(crate) error_name: Option<&'a str>,
     pub(crate) reply_serial: Option<u32>,
-    /// Where REPLY_SERIAL's number stands in the message.
+    /// The place of REPLY_SERIAL's number in the message.
     pub(crate) reply_serial_place: Option<usize>,
-    /// Whether one with an unknown code stands.
+    /// Whether a field has an unknown code.
     pub(crate) has_unknown: bool,
     pub(crate) destination: Option<&'a str>,
     pub(crate) sender: Option<&'a str>,
@@ -78,7 +78,7 @@ pub(crate) struct Fields<'a> {
     pub(crate) starts: Starts,
 }
 
-/// The type that a known code's value has, as a signature spells it.
+/// The type of a known field's value, as a signature spells it.
 fn type_of(code: u8) -> u8
     ensures { result ≡ type_code code }
 {
@@ -91,7 +91,7 @@ fn type_of(code: u8) -> u8
     }
 }
 
-/// So many bytes at a place and the NUL behind them, and where that ends.
+/// The bytes of this length at a place, if a NUL follows them, and the place after the NUL.
 fn ended_text(len: usize, bytes: &[u8], at: usize) -> Option<(&[u8], usize)>
     requires len { len < 2 ^ 32 }
     requires inside { at ≤ length bytes.now }
@@ -107,7 +107,7 @@ fn ended_text(len: usize, bytes: &[u8], at: usize) -> Option<(&[u8], usize)>
     Some((text, end + 1))
 }
 
-/// A field that holds a path or a string, by the place of its value.
+/// Reads a field that holds a path or a string, from the place of its value.
 fn text_field<'a>(
     known: &mut KnownTexts,
     order: Order,
@@ -133,12 +133,12 @@ fn text_field<'a>(
     if !known.is_text_of(code, text) {
         return None;
     }
-    // The grammar of each name lets ASCII alone pass.
+    // The grammar of each name allows ASCII only.
     let text = unsafe { str::from_utf8_unchecked(text) };
     Some((HeaderField::Text(code, text, at + 4), end))
 }
 
-/// REPLY_SERIAL, which isn't 0, or UNIX_FDS.
+/// Reads REPLY_SERIAL, which must not be 0, or UNIX_FDS.
 fn number_field(order: Order, code: u8, bytes: &[u8], at: usize) -> Option<(HeaderField<'_>, usize)>
     requires inside { at ≤ length bytes.now }
     requires short { length bytes.now ≤ 2 ^ 28 }
@@ -155,7 +155,7 @@ fn number_field(order: Order, code: u8, bytes: &[u8], at: usize) -> Option<(Head
     Some((HeaderField::Number(code, number), at + 4))
 }
 
-/// SIGNATURE.
+/// Reads SIGNATURE.
 fn signature_field<'a>(
     known: &mut KnownTexts,
     bytes: &'a [u8],
@@ -180,7 +180,7 @@ fn signature_field<'a>(
     }
 }
 
-/// A known field by the place of its value.
+/// Reads a known field from the place of its value.
 fn known_value<'a>(
     known: &mut KnownTexts,
     order: Order,
@@ -202,7 +202,7 @@ fn known_value<'a>(
     }
 }
 
-/// A known field by the place of its variant, whose signature has to be the code's type.
+/// Reads a known field from the place of its variant, whose signature must be the type of the code.
 fn known_field<'a>(
     known: &mut KnownTexts,
     order: Order,
@@ -233,7 +233,7 @@ fn variant_signature() -> Signature<'static>
     Signature { bytes: b"v" }
 }
 
-/// A field with an unknown code by the place of its variant, which may hold anything.
+/// Passes over a field with an unknown code, from the place of its variant, which may hold anything.
 fn unread_field(order: Order, bytes: &[u8], at: usize) -> Option<(HeaderField<'_>, usize)>
     requires { at ≤ length bytes.now }
     ensures part { option_map end_seen result ≡ unread_to (values_end order (variant ∷ []) at bytes.now) }
@@ -245,7 +245,7 @@ fn unread_field(order: Order, bytes: &[u8], at: usize) -> Option<(HeaderField<'_
     }
 }
 
-/// The field whose code stands at a place.
+/// Reads the field whose code is at a place.
 fn coded_field<'a>(
     known: &mut KnownTexts,
     order: Order,
@@ -266,7 +266,7 @@ fn coded_field<'a>(
     }
 }
 
-/// The field that stands behind the padding, and where it ends.
+/// Reads the field after the padding, and finds where it ends.
 fn read_field<'a>(
     known: &mut KnownTexts,
     order: Order,
@@ -292,7 +292,7 @@ fn read_field<'a>(
 }
 
 impl<'a> Fields<'a> {
-    /// No field, before any was read.
+    /// No fields, before any was read.
     pub(crate) fn none() -> Fields<'a>
         ensures { fields_seen result ≡ nothing_found }
     {
@@ -320,7 +320,7 @@ impl<'a> Fields<'a> {
         }
     }
 
-    /// Puts in a text that begins at a place, unless one stands there.
+    /// Adds a text that begins at a place, unless its field was found before.
     fn put_text(&mut self, code: u8, text: &'a str, start: usize) -> bool
         ensures parts { (if result then Some (parts_seen self.new) else None) ≡ with_text (parts_seen self.old) code text.now }
         ensures place { self.new.reply_serial_place ≡ self.old.reply_serial_place }
@@ -360,7 +360,7 @@ impl<'a> Fields<'a> {
         true
     }
 
-    /// Puts in REPLY_SERIAL, whose field stands at a place, or UNIX_FDS, unless one stands there.
+    /// Adds REPLY_SERIAL, whose field is at a place, or UNIX_FDS, unless that field was found before.
     fn put_number(&mut self, place: usize, code: u8, number: u32) -> bool
         requires { place < 2 ^ 40 }
         ensures part { (if result then Some (fields_seen self.new) else None) ≡ with_number_part (fields_seen self.old) place code number }
@@ -381,7 +381,7 @@ impl<'a> Fields<'a> {
         true
     }
 
-    /// Puts in a field that stands at a place, unless one with its code stands there.
+    /// Adds a field that is at a place, unless a known field with its code was found before.
     fn put(&mut self, place: usize, field: HeaderField<'a>) -> bool
         requires { place < 2 ^ 40 }
         ensures part { (if result then Some (fields_seen self.new) else None) ≡ with_part (fields_seen self.old) place (part_seen field.entry) }
@@ -406,8 +406,7 @@ impl<'a> Fields<'a> {
     }
 }
 
-/// Reads the fields of a message that is cut behind them, and tells where the last valid one ended. They are put where they are
-/// to stay.
+/// Reads the fields of a message that is cut after them into `fields`, and returns where the last valid one ended.
 #[inline(never)]
 pub(crate) fn read_fields<'a>(
     known: &mut KnownTexts,

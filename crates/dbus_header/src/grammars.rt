@@ -1,4 +1,4 @@
-//! The grammars of the texts in header fields, and the texts and headers of earlier messages that are known.
+//! The grammars of the texts in header fields, and the texts and headers of earlier messages that are kept.
 ghost use Rattle.std.specs.Prelude.{◌≡◌, ◌≢◌, ◌==◌, ◌||◌, ◌+◌, ◌<◌, true, false, Some, None, is_none, IfSome, option_map, length, if◌then◌else◌};
 ghost use Rattle.dbus_types.specs.Signature.{signature_fault};
 ghost use Rattle.dbus_header.specs.HeaderReading.{is_text_of as is_value_text, is_sound_of};
@@ -14,20 +14,20 @@ use dbus_types::Signature;
 use dbus_values::Order;
 use std::alloc::Global;
 
-/// No longer text is kept. A path alone may be longer (D-Bus Specification, "Valid Names").
+/// No longer text is kept. Only a path may be longer (D-Bus Specification, "Valid Names").
 const LONGEST_KEPT: usize = 255;
 
-/// No longer header is kept, by the bytes of its fields. Those of a desktop's messages have 100 to 250.
+/// A header with more bytes of fields isn't kept. Those of a desktop's messages have 100 to 250.
 const LONGEST_HEADER: usize = 512;
 
 /// The number of headers that a stream keeps.
 const HEADERS_KEPT: usize = 4;
 
-/// Once the unknown headers outnumber the known ones by this number, the header of every eighth message alone is looked up and
-/// kept, so that a stream whose headers all differ is hardly slower.
+/// Once the unknown headers outnumber the known ones by this number, only every eighth message's header is looked up
+/// and kept, so that a stream whose headers all differ is hardly slower.
 const MISSES: u8 = 16;
 
-/// The number of messages that are read before a text or a header is kept. A stream that is little used keeps none.
+/// The number of messages that are read before a text or a header is kept. A stream of few messages keeps none.
 const OFTEN: u64 = 64;
 
 /// Whether a text is in the grammar of the field with this code.
@@ -46,7 +46,7 @@ fn is_in_grammar(code: u8, text: &[u8]) -> bool
     }
 }
 
-/// A text that was found in the grammar of the field with this code, or none.
+/// A text that is in the grammar of the field with this code, or none.
 #[derive(Drop)]
 struct KnownText {
     code: u8,
@@ -55,7 +55,7 @@ struct KnownText {
 }
 
 impl KnownText {
-    /// None yet, which takes no memory.
+    /// No text. It allocates nothing.
     fn none(alloc: Global) -> KnownText {
         KnownText {
             code: 0,
@@ -63,14 +63,14 @@ impl KnownText {
         }
     }
 
-    /// Whether this is the text, which is in the grammar of the field with this code then.
+    /// Whether this is the kept text of the field with this code. If it is, it is in the field's grammar.
     fn is(&self, code: u8, text: &[u8]) -> bool
         ensures { result ≡ true → is_sound_of code text.now ≡ true }
     {
         self.code == code && !self.text.is_empty() && self.text.as_slice() == text
     }
 
-    /// Keeps a text that is in the grammar of the field with this code, unless it is long or memory is short.
+    /// Keeps a text that is in the grammar of the field with this code, unless it is too long or memory is short.
     fn keep(&mut self, code: u8, text: &[u8])
         requires { is_sound_of code text.now ≡ true }
     {
@@ -83,14 +83,14 @@ impl KnownText {
     }
 }
 
-/// The texts and the headers that a stream keeps. They take no memory before many messages were read.
+/// The texts and the headers that are kept of a stream. They allocate nothing until many messages were read.
 #[derive(Drop)]
 struct Kept {
     /// The last text of each field, by the fields' codes.
     texts: Vec<KnownText>,
     /// The headers of the kinds of messages that were read last.
     headers: Vec<KnownHeader>,
-    /// How many messages were read.
+    /// The number of messages that were read.
     read: u64,
     /// By how many the unknown headers outnumber the known ones, from 0 to [`MISSES`].
     missed: u8,
@@ -98,7 +98,7 @@ struct Kept {
 }
 
 impl Kept {
-    /// Whether this is the text that is kept of the field with this code.
+    /// Whether this is the kept text of the field with this code.
     fn has(&self, code: u8, text: &[u8]) -> bool
         ensures { result ≡ true → is_sound_of code text.now ≡ true }
     {
@@ -125,17 +125,17 @@ impl Kept {
         }
     }
 
-    /// Whether the header of the message that is read is looked up and kept.
+    /// Whether the header of the current message is looked up and kept.
     fn is_turn(&self) -> bool {
         self.read > OFTEN && (self.missed < MISSES || self.read % 8 == 0)
     }
 
-    /// Counts a message that is read.
+    /// Counts a message.
     fn count(&mut self) {
         self.read = self.read.wrapping_add(1);
     }
 
-    /// Puts the header fields of these bytes in, if a kept header has them; else nothing changes.
+    /// Takes the header fields of these bytes from a kept header that has them; if none has, they don't change.
     fn fill<'a>(
         &mut self,
         order: Order,
@@ -162,7 +162,7 @@ impl Kept {
         false
     }
 
-    /// The same, and nothing is noted of it.
+    /// Does as `fill` does, without counting hits and misses.
     fn find<'a>(
         &self,
         order: Order,
@@ -196,7 +196,7 @@ impl Kept {
         oldest
     }
 
-    /// The place of the header that the next one is kept in, if memory is left.
+    /// The place in which the next header is kept, if memory is left.
     fn place(&mut self) -> Option<usize>
         ensures { IfSome result (λ place. place < length self.new.headers.items) }
     {
@@ -229,16 +229,16 @@ impl Kept {
     }
 }
 
-/// What is known of the messages that a stream had: the headers of the last four kinds, and the last text of each field.
-/// The parts of a message whose header equals a known one, but for its reply serial, are taken from their places. In any
-/// other header each text is compared with the last one of its field, and is read only if it differs.
+/// What is kept of a stream's earlier messages: the headers of the last four kinds, and the last text of each field. If
+/// a message's header equals a kept one except for its reply serial, its parts are found at the same places. In any
+/// other header, each text is compared with the last one of its field, and is checked only if it differs.
 #[derive(Drop)]
 pub struct KnownTexts {
     kept: Option<Kept>,
 }
 
 impl KnownTexts {
-    /// No text is known yet, those to come are.
+    /// Nothing is known yet; what is read is kept.
     pub fn new(alloc: Global) -> KnownTexts {
         KnownTexts {
             kept: Some(Kept {
@@ -251,12 +251,12 @@ impl KnownTexts {
         }
     }
 
-    /// No text is known, now and later: for a message that is read alone.
+    /// Nothing is known and nothing is kept: for a message that is read alone.
     pub fn none() -> KnownTexts {
         KnownTexts { kept: None }
     }
 
-    /// Whether this is the text that is known of the field with this code.
+    /// Whether this is the kept text of the field with this code.
     fn is_known(&self, code: u8, text: &[u8]) -> bool
         ensures { result ≡ true → is_sound_of code text.now ≡ true }
     {
@@ -266,7 +266,7 @@ impl KnownTexts {
         }
     }
 
-    /// A text that is in the grammar of the field with this code is known from now on, where texts are kept.
+    /// Keeps a text that is in the grammar of the field with this code, if texts are kept.
     fn keep(&mut self, code: u8, text: &[u8])
         requires { is_sound_of code text.now ≡ true }
     {
@@ -275,7 +275,7 @@ impl KnownTexts {
         }
     }
 
-    /// Puts the header fields of these bytes in, if a known header has them; else nothing changes.
+    /// Takes the header fields of these bytes from a known header that has them; if none has, they don't change.
     pub(crate) fn fill<'a>(
         &mut self,
         order: Order,
@@ -296,7 +296,7 @@ impl KnownTexts {
         }
     }
 
-    /// The same, and nothing is noted of it.
+    /// Does as `fill` does, without counting hits and misses.
     pub(crate) fn find<'a>(
         &self,
         order: Order,
@@ -314,7 +314,7 @@ impl KnownTexts {
         }
     }
 
-    /// The header fields of a message that was read are known from now on, if headers are kept.
+    /// Keeps the header fields of a message that was read, if headers are kept.
     pub(crate) fn keep_header(
         &mut self,
         order: Order,
@@ -346,7 +346,7 @@ impl KnownTexts {
         is_text
     }
 
-    /// The signature that a text is.
+    /// The signature that these bytes spell, if they spell one.
     pub(crate) fn signature<'a>(&mut self, text: &'a [u8]) -> Option<Signature<'a>>
         ensures { option_map (λ s. s.bytes.now) result ≡ (if is_none (signature_fault text.now) then Some text.now else None) }
     {

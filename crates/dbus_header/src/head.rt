@@ -11,13 +11,13 @@ use dbus_values::{Order, padding};
 /// The bytes of a message before its header fields.
 pub(crate) const HEAD_LEN: usize = 16;
 
-/// The most bytes that header fields may have (D-Bus Specification, "Message Format": an array's limit).
+/// The maximum length of the header fields (D-Bus Specification, "Message Format": an array's limit).
 const FIELDS_LIMIT: u32 = 67_108_864;
 
-/// The most bytes that a message may have (D-Bus Specification, "Message Format").
+/// The maximum length of a message (D-Bus Specification, "Message Format").
 const MESSAGE_LIMIT: u64 = 134_217_728;
 
-/// A number of four bytes.
+/// Reads a number of four bytes.
 pub(crate) fn read_u32(order: Order, bytes: &[u8], at: usize) -> u32
     requires { at + 4 ≤ length bytes.now }
     ensures { result ≡ number_at order bytes.now at }
@@ -47,7 +47,7 @@ pub(crate) fn order_in(bytes: &[u8]) -> Order
     }
 }
 
-/// Where the body begins behind so many bytes of header fields.
+/// Where the body begins after header fields of this length.
 pub(crate) fn body_start(fields_len: u32) -> u64
     ensures { result ≡ body_place fields_len }
 {
@@ -104,7 +104,7 @@ pub(crate) fn check_head(bytes: &[u8]) -> Result<u32, Malformed>
     Ok(len as u32)
 }
 
-/// The length of the whole message that the first sixteen bytes state, or the first of the kinds ByteOrder, MessageType,
+/// The length of the whole message, as its first sixteen bytes state it. Otherwise the first of ByteOrder, MessageType,
 /// Version, Length and Serial that is wrong with them (D-Bus Specification, "Message Format").
 pub fn length(first16: &[u8; 16]) -> Result<u32, Malformed>
     ensures refusal { refusal result ≡ head_fault first16.now }

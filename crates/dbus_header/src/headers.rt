@@ -1,4 +1,4 @@
-//! Headers that were read, by which equal ones are read without a walk over their fields.
+//! Headers that were read. An equal header is then read without a walk over its fields.
 ghost use Rattle.std.specs.Prelude.{◌≡◌, ◌==◌, ◌+◌, true, false, length};
 ghost use Rattle.dbus_header.specs.Message.{body_place};
 ghost use Rattle.dbus_header.specs.KnownHeaders.{AreKnown, AreAlike, AreRead};
@@ -13,7 +13,7 @@ use std::alloc::Global;
 /// The header fields of a message that was read, or none.
 #[derive(Drop)]
 pub(crate) struct KnownHeader {
-    /// How many messages were read when it was used last.
+    /// The number of messages that had been read when it was used last.
     pub(crate) used: u64,
     order: Order,
     fields_len: u32,
@@ -24,7 +24,7 @@ pub(crate) struct KnownHeader {
 }
 
 impl KnownHeader {
-    /// None yet, which takes no memory.
+    /// No header. It allocates nothing.
     pub(crate) fn none(alloc: Global) -> KnownHeader {
         KnownHeader {
             used: 0,
@@ -35,7 +35,7 @@ impl KnownHeader {
         }
     }
 
-    /// Whether these bytes are the kept ones but for REPLY_SERIAL's number, which isn't 0.
+    /// Whether these bytes equal the kept ones except for REPLY_SERIAL's number, which isn't 0.
     fn is_alike(&self, bytes: &[u8]) -> bool
         requires known { AreKnown self.now.order self.now.fields_len self.now.bytes.items self.now.places }
         requires len { length bytes.now ≡ length self.now.bytes.items }
@@ -59,7 +59,7 @@ impl KnownHeader {
         read_u32(self.order, bytes, at) > 0
     }
 
-    /// Whether header fields of these bytes are read as the kept ones.
+    /// Whether these header fields equal the kept ones except for REPLY_SERIAL's number.
     fn is_header(&self, order: Order, fields_len: u32, bytes: &[u8]) -> bool
         requires { length bytes.now + 16 ≡ body_place fields_len }
         ensures order { result ≡ true → self.now.order ≡ order }
@@ -73,7 +73,8 @@ impl KnownHeader {
             && self.is_alike(bytes)
     }
 
-    /// Puts in the parts of these header fields, if they are read as the kept ones; else nothing changes.
+    /// Takes the parts of these header fields from the kept places, if the fields equal the kept ones except for
+    /// REPLY_SERIAL's number; else nothing changes.
     pub(crate) fn fill<'a>(
         &self,
         order: Order,

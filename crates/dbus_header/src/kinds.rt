@@ -4,33 +4,33 @@ ghost use Rattle.dbus_header.specs.Kinds.{expects_reply_by, forbids_auto_start_b
 
 use crate::message::Message;
 
-/// The type of a call.
+/// The type of a method call.
 pub const METHOD_CALL: u8 = 1;
 
-/// The type of a return, which answers a call.
+/// The type of a method return, which answers a call.
 pub const METHOD_RETURN: u8 = 2;
 
 /// The type of an error, which answers a call.
 pub const ERROR: u8 = 3;
 
-/// The type of a signal. Greater types are valid, and have no name.
+/// The type of a signal. Greater types are valid but have no name.
 pub const SIGNAL: u8 = 4;
 
-/// The flag of a call that no one waits for.
+/// The flag of a call whose sender waits for no reply.
 pub const NO_REPLY_EXPECTED: u8 = 1;
 
-/// The flag of a call that is not to start the service that it is for.
+/// The flag of a call that must not start the service to which it is sent.
 pub const NO_AUTO_START: u8 = 2;
 
 impl Message<'_> {
-    /// Whether it is a call.
+    /// Whether it is a method call.
     pub fn is_method_call(&self) -> bool
         ensures { result ≡ (self.now.kind == 1) }
     {
         self.kind == METHOD_CALL
     }
 
-    /// Whether it is a return.
+    /// Whether it is a method return.
     pub fn is_method_return(&self) -> bool
         ensures { result ≡ (self.now.kind == 2) }
     {
@@ -65,7 +65,7 @@ impl Message<'_> {
         self.flags % (2 * NO_REPLY_EXPECTED) == 0
     }
 
-    /// Whether a call is not to start a service: NO_AUTO_START is set.
+    /// Whether a call must not start a service: NO_AUTO_START is set.
     pub fn forbids_auto_start(&self) -> bool
         ensures { result ≡ forbids_auto_start_by self.now.flags }
     {

@@ -1,8 +1,8 @@
-//! D-Bus messages: their parts, their spelling, which are valid, and the laws between spelling and reading.
+//! D-Bus messages: their parts, their spelling, which of them are valid, and the laws between spelling and reading.
 //!
-//! It is driven by `length`, with the first sixteen bytes of a message, and then by `decode`, with the whole of it; a `Message` lends its parts.
-//! `decode_knowing` reads the messages of a stream faster, and `decode_checked` spares it a second look at the first
-//! sixteen bytes.
+//! Call `length` with the first sixteen bytes of a message, and then `decode` with the whole message. The parts of a
+//! `Message` are borrowed from its bytes. `decode_knowing` reads the messages of a stream faster, and `decode_checked`
+//! doesn't check the first sixteen bytes again.
 #![tactic(auto)]
 
 mod bodies;
@@ -43,29 +43,29 @@ pub enum MalformedKind {
     /// The protocol version isn't 1.
     #[error("the protocol version isn't 1")]
     Version,
-    /// The header fields are longer than 2^26 bytes, which is the maximum length of an array, or the whole message than
-    /// 2^27.
+    /// The header fields are longer than 2^26 bytes, the maximum length of an array, or the whole message is longer
+    /// than 2^27.
     #[error("the header fields or the message are too long")]
     Length,
     /// The serial is 0.
     #[error("the serial is 0")]
     Serial,
-    /// The header fields aren't a spelled `a(yv)`, one of them is invalid or stands twice, or the padding after them isn't
-    /// zero ("Header Fields"; "Valid Names").
+    /// The header fields don't spell an `a(yv)`, one of them is invalid or a known one occurs twice, or the padding
+    /// after them isn't zero ("Header Fields"; "Valid Names").
     #[error("the header fields are invalid")]
     Fields,
-    /// A header field that the type needs is absent ("Header Fields").
+    /// A header field that the message type needs is absent ("Header Fields").
     #[error("a required header field is absent")]
     Required,
     /// The body isn't exactly the values that SIGNATURE states ("Type System", "Marshaling").
     #[error("the body isn't the values of its signature")]
     Body,
-    /// UNIX_FDS stands and isn't 0: descriptors aren't passed on ("Header Fields").
+    /// UNIX_FDS is present and isn't 0: file descriptors aren't passed on ("Header Fields").
     #[error("the message comes with file descriptors")]
     Descriptors,
 }
 
-/// A message that isn't valid, by what is wrong with it and the place in its bytes, from 0.
+/// Why a message isn't valid, and the place in its bytes, counted from 0.
 #[derive(Clone, Copy, Debug, PartialEq, Eq, Error)]
 #[error("byte {at}: {kind}")]
 pub struct Malformed {
@@ -73,7 +73,7 @@ pub struct Malformed {
     pub at: u32,
 }
 
-/// What a refused call is answered with, in place of the bus's answer to the ping that was sent for it.
+/// The answer to a refused call. It replaces the bus's answer to the ping that was sent in place of the call.
 #[derive(Clone, Copy, Debug, PartialEq, Eq)]
 pub enum Instead {
     /// The error `org.freedesktop.DBus.Error.AccessDenied`.
@@ -86,22 +86,22 @@ pub enum Instead {
     False,
 }
 
-/// What a valid message spells is read as that message, whatever follows.
+/// A valid message's spelling is read as that message, whatever follows it.
 pub fn spelled_is_read()
     ensures { (m : MessageTree) (rest : List ℕ) → Valid m → front (spell m ++ rest) ≡ Some (m, rest) }
 {}
 
-/// What is read is a valid message and is spelled so, and what follows is left.
+/// A message that was read is valid and its spelling is the bytes that were taken; what follows is left.
 pub fn read_is_spelled()
     ensures { (bytes : List ℕ) (m : MessageTree) (rest : List ℕ) → ((i : ℕ) → slice_index bytes i < 256) → front bytes ≡ Some (m, rest) → Valid m × (bytes ≡ spell m ++ rest) }
 {}
 
-/// A stream has one splitting into valid messages and a rest that begins with none.
+/// A stream can be split in one way only into valid messages and a rest that begins with none.
 pub fn one_splitting()
     ensures { (messages : List MessageTree) (bytes rest : List ℕ) → ((i : ℕ) → slice_index bytes i < 256) → Splits bytes messages rest → split bytes ≡ (messages, rest) }
 {}
 
-/// A fault of a stream stays when more bytes come, and so do the messages before it.
+/// If a stream has a fault, the fault and the messages before it stay when more bytes are received.
 pub fn fault_stays()
     ensures { (bytes more : List ℕ) (f : Fault) → bad bytes ≡ Some f → (messages (bytes ++ more) ≡ messages bytes) × (bad (bytes ++ more) ≡ Some f) }
 {}

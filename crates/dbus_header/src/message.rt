@@ -6,14 +6,15 @@ ghost use Rattle.dbus_header.specs.Seen.{text_seen};
 use dbus_types::Signature;
 use dbus_values::Order;
 
-/// A valid message. Its texts, its signature and its body are parts of its bytes (D-Bus Specification, "Message Format").
+/// A valid message (D-Bus Specification, "Message Format"). Its texts, its signature and its body are parts of its
+/// bytes.
 #[derive(Clone, Copy)]
 pub struct Message<'a> {
     /// The byte order of its numbers.
     pub order: Order,
-    /// The message type: 1 METHOD_CALL, 2 METHOD_RETURN, 3 ERROR, 4 SIGNAL, or a greater one that has no name.
+    /// The message type: 1 METHOD_CALL, 2 METHOD_RETURN, 3 ERROR, 4 SIGNAL, or a greater number, which has no name.
     pub kind: u8,
-    /// The flags, as they stand.
+    /// The flags, as received.
     pub flags: u8,
     pub serial: u32,
     pub path: Option<&'a str>,
@@ -21,13 +22,13 @@ pub struct Message<'a> {
     pub member: Option<&'a str>,
     pub error_name: Option<&'a str>,
     pub reply_serial: Option<u32>,
-    /// The place of REPLY_SERIAL's number in the bytes, where that field stands.
+    /// The place of REPLY_SERIAL's number in the bytes, if the message has that field.
     pub reply_serial_place: Option<usize>,
     /// Whether a header field has a code that the specification doesn't name, above 9.
     pub has_unknown_field: bool,
     pub destination: Option<&'a str>,
     pub sender: Option<&'a str>,
-    /// The types of the body's values, which are none where SIGNATURE is absent.
+    /// The types of the body's values. They are none if SIGNATURE is absent.
     pub signature: Signature<'a>,
     pub body: &'a [u8],
     /// The whole message.

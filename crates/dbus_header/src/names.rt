@@ -15,8 +15,8 @@ fn has_bus_names(message: &Message<'_>)
 }
 
 impl<'a> Message<'a> {
-    /// The name of the connection that it is for, where it has a DESTINATION (D-Bus Specification, "Message Format", "Header
-    /// Fields"). Its grammar isn't read again.
+    /// The name of the connection to which the message is sent, if it has a DESTINATION (D-Bus Specification, "Message
+    /// Format", "Header Fields"). Its grammar isn't checked again.
     pub fn destination_name(&self) -> Option<BusName<'a>>
         ensures { name_seen result ≡ text_seen self.now.destination }
     {
@@ -25,8 +25,8 @@ impl<'a> Message<'a> {
         Some(BusName { text })
     }
 
-    /// The name of the connection that sent it, where it has a SENDER (D-Bus Specification, "Message Format", "Header Fields").
-    /// Its grammar isn't read again.
+    /// The name of the connection that sent the message, if it has a SENDER (D-Bus Specification, "Message Format",
+    /// "Header Fields"). Its grammar isn't checked again.
     pub fn sender_name(&self) -> Option<BusName<'a>>
         ensures { name_seen result ≡ text_seen self.now.sender }
     {

@@ -19,7 +19,7 @@ pub fn write_u32(order: Order, bytes: &mut [u8], place: usize, number: u32)
     bytes[place..place + 4].copy_from_slice(&order.bytes_of_u32(number));
 }
 
-/// Where the serial stands in a message.
+/// The place of the serial in a message.
 fn serial_place(bytes: &[u8]) -> usize
     requires { IsSome (message_of bytes.now) }
     ensures { IsSerialPlace bytes.now result }
@@ -28,7 +28,7 @@ fn serial_place(bytes: &[u8]) -> usize
     SERIAL_PLACE
 }
 
-/// The byte order of a message, which is valid.
+/// The byte order of a valid message.
 fn order_of(bytes: &[u8]) -> Order
     requires { IsSome (message_of bytes.now) }
     ensures order { (m : Message) → message_of bytes.now ≡ Some m → result ≡ m.order }
@@ -37,7 +37,7 @@ fn order_of(bytes: &[u8]) -> Order
     order_in(bytes)
 }
 
-/// Where REPLY_SERIAL's number stands in a message.
+/// The place of REPLY_SERIAL's number in a message, if it has one.
 fn found_place(bytes: &[u8]) -> Option<usize>
     requires { IsSome (message_of bytes.now) }
     ensures { result ≡ option_and_then reply_place (message_of bytes.now) }
@@ -48,7 +48,7 @@ fn found_place(bytes: &[u8]) -> Option<usize>
     }
 }
 
-/// The same, of a message that has one.
+/// The place of REPLY_SERIAL's number in a message that has one.
 fn reply_serial_place(bytes: &[u8]) -> usize
     requires { IsSome (option_and_then reply_serial (message_of bytes.now)) }
     ensures { IsReplySerialPlace bytes.now result }
@@ -70,7 +70,7 @@ pub fn set_serial(bytes: &mut [u8], serial: u32)
     write_u32(order, bytes, place, serial);
 }
 
-/// Gives a valid message that has a REPLY_SERIAL another one, wherever that field stands. Nothing else of it changes.
+/// Gives a valid message that has a REPLY_SERIAL another one. Nothing else of it changes.
 pub fn set_reply_serial(bytes: &mut [u8], serial: u32)
     requires message { IsSome (option_and_then reply_serial (message_of bytes.old)) }
     requires serial { 0 < serial }

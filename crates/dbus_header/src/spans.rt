@@ -1,4 +1,4 @@
-//! Where the parts of a header stand.
+//! The places of the parts of a header.
 ghost use Rattle.std.specs.Prelude.{◌≡◌, ◌+◌, ◌<◌, ◌≤◌, ◌^◌, ℕ, true, Some, IfSome, option_map, length};
 ghost use Rattle.dbus_header.specs.HeaderReading.{number_at};
 ghost use Rattle.dbus_header.specs.KnownHeaders.{AllBeginIn, AreApart, AreWithin, BeginsIn, HasSignature, HasText, NumberIn, OfSignature, OfText, cut as cut_of, found_at, is_apart as has_none_of};
@@ -11,21 +11,21 @@ use dbus_types::Signature;
 use dbus_values::Order;
 use std::str;
 
-/// A part of some bytes by its place in them and its length.
+/// A part of some bytes: the place where it begins, and its length.
 #[derive(Clone, Copy)]
 pub(crate) struct Span {
     pub(crate) start: u32,
     pub(crate) len: u32,
 }
 
-/// The parts of a message's header fields by their places in the fields' bytes.
+/// The places of the parts of a message's header fields, in the fields' bytes.
 #[derive(Clone, Copy)]
 pub(crate) struct Places {
     pub(crate) path: Option<Span>,
     pub(crate) interface: Option<Span>,
     pub(crate) member: Option<Span>,
     pub(crate) error_name: Option<Span>,
-    /// Where REPLY_SERIAL's number begins, which has four bytes.
+    /// The place of REPLY_SERIAL's number, which has four bytes.
     pub(crate) reply_serial: Option<u32>,
     /// Whether a field has an unknown code.
     pub(crate) has_unknown: bool,
@@ -70,7 +70,7 @@ fn signature_at(place: Option<Span>, bytes: &[u8]) -> Option<Signature<'_>>
     }
 }
 
-/// Where a text of header fields with these bytes is, which begins at a place of the message.
+/// The place of a text in the bytes of the header fields. The text begins at a place of the message.
 fn text_span(bytes: &[u8], start: usize, text: Option<&str>) -> Option<Span>
     requires short { length bytes.now < 2 ^ 32 }
     requires begins { OfText (BeginsIn bytes.now) start text }
@@ -90,7 +90,7 @@ fn text_span(bytes: &[u8], start: usize, text: Option<&str>) -> Option<Span>
     }
 }
 
-/// Where the signature of header fields with these bytes is, which begins at a place of the message.
+/// The place of the signature in the bytes of the header fields. The signature begins at a place of the message.
 fn signature_span(bytes: &[u8], start: usize, signature: Option<Signature<'_>>) -> Option<Span>
     requires short { length bytes.now < 2 ^ 32 }
     requires begins { OfSignature (BeginsIn bytes.now) start signature }
@@ -107,7 +107,7 @@ fn signature_span(bytes: &[u8], start: usize, signature: Option<Signature<'_>>) 
     }
 }
 
-/// Where REPLY_SERIAL's number is in header fields with these bytes, which stands at a place of the message.
+/// The place of REPLY_SERIAL's number in the bytes of the header fields, from its place in the message.
 fn number_span(order: Order, bytes: &[u8], serial: Option<u32>, place: Option<usize>) -> Option<u32>
     requires short { length bytes.now < 2 ^ 31 }
     requires number { NumberIn order bytes.now serial place }
@@ -136,7 +136,7 @@ fn is_apart(place: Option<Span>, at: u32) -> bool
 }
 
 impl Places {
-    /// Those of no fields.
+    /// The places of no fields.
     pub(crate) fn none() -> Places {
         Places {
             path: None,
@@ -152,7 +152,7 @@ impl Places {
         }
     }
 
-    /// Whether no part has bytes of REPLY_SERIAL's number.
+    /// Whether no part overlaps REPLY_SERIAL's number.
     fn are_apart(&self) -> bool
         ensures { result ≡ true → AreApart self.now }
     {
@@ -193,7 +193,7 @@ impl Places {
         }
     }
 
-    /// The places of the parts of a message whose fields have these bytes. None if a part has bytes of REPLY_SERIAL's
+    /// The places of the parts of a message whose fields have these bytes. `None` if a part overlaps REPLY_SERIAL's
     /// number, which doesn't happen.
     pub(crate) fn of(order: Order, bytes: &[u8], fields: &Fields<'_>) -> Option<Places>
         requires short { length bytes.now < 2 ^ 31 }
@@ -211,7 +211,7 @@ impl Places {
         }
     }
 
-    /// Puts in the parts of a message whose fields have these bytes.
+    /// Sets the parts of a message whose fields have these bytes.
     pub(crate) fn fill<'a>(&self, order: Order, bytes: &'a [u8], fields: &mut Fields<'a>)
         requires { AreWithin bytes.now self.now }
         ensures { fields_seen fields.new ≡ found_at order bytes.now self.now }
