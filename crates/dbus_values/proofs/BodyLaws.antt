@@ -33,9 +33,9 @@ from p body = record { place = p; bytes = body }
 pub shifted_start : (p : ℕ) (body : List ℕ) → from p body ≡ shift p (from_start body)
 shifted_start p body = let same : p ≡ p + 0 = omega arith in ap (λ (q : ℕ). from q body) same
 
--- ---- a string in front
+-- ---- the first string
 
--- a string of the body, and the values behind it; the body begins at p, and is read from its start
+-- a string of the body, and the values after it; the body begins at p, and is read from its start
 pub record Front (o : Order) (p : ℕ) (ts : List Complete) (a : At) (values : List Value) : Type 0 where
   pub text : List ℕ × At
   pub there : text_at o a ≡ Some text
@@ -61,7 +61,7 @@ front_of_body o bytes body p types ts values b is =
     (ap (λ (a : At). (values_at o (basic string ∷ ts) a).0) (sym (shifted_start p body)) ∙ ap (λ (us : List Complete). (values_at o us (from p body)).0) (sym is) ∙ ap (λ (x : List Value × At). x.0) b.read)
     (b.all ∙ ap length is)
 
--- the string behind it
+-- the string after it
 front_behind : (o : Order) (p : ℕ) (ts : List Complete) (a : At) (values : List Value) → p % 8 ≡ 0 → (f : Front o p (basic string ∷ ts) a values) → Front o p ts f.text.1 f.others
 front_behind o p ts a values e f = string_front o p ts f.text.1 f.others e f.read f.all
 

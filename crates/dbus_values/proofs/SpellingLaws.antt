@@ -1,4 +1,4 @@
--- Spelling and reading are each other's opposite, by the limits of messages.
+-- Spelling and reading are inverse to each other, within the limits of messages.
 use Rattle.std.proofs.Common.{◌≡◌, ℕ, ◌+◌, true, List, ◌++◌, length, Option, Some, None, sym, ap, ◌∙◌, arith}
 use Rattle.std.proofs.lemmas.Bool.{leb-true, le-leb}
 use Rattle.byte_lists.specs.Bytes.{AreBytes}

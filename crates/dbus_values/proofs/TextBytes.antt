@@ -68,7 +68,7 @@ path_refused o at x e p =
     go true = ap (λ (b : Bool). when b x.1) p
     go false = refl
 
--- what is read as a string's bytes is UTF-8 where a string stands
+-- what is read as a string's bytes is UTF-8 if it is a string
 pub counted_utf8 : (o : Order) (at : At) (x : List ℕ × At) → counted_at o at ≡ Some x → IsSome (text_at o at) → IsUtf8 x.0
 counted_utf8 o at x e s = go (is_text x.0) refl (subst IsSome (text_at-counted o at ∙ ap (λ (y : Option (List ℕ × At)). y >>= if_text) e) s)
   where

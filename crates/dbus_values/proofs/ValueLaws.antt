@@ -1,4 +1,5 @@
--- A value that is spelled is read again, whatever follows: so a value has one reading, and no spelling begins another of its type.
+-- A value that is spelled is read again, whatever follows: so a value has one reading, and no spelling begins another
+-- of its type.
 use Rattle.std.proofs.Common.{◌≡◌, ℕ, zero, suc, ◌+◌, ◌^◌, ◌<◌, Bool, true, false, cond, List, [], ◌∷◌, ◌++◌, length, take, replicate, Option, Some, None, refl, ap, ◌∙◌, append_assoc, arith}
 use Rattle.std.specs.Prelude.{not, ◌&&◌, nat_lt, nat_le, is_none}
 use Rattle.std.specs.Str.{is_utf8}
@@ -125,7 +126,7 @@ ends_at {A} x p q r e = ap (λ (n : ℕ). some {A = A × At} (x, at n r)) e
 
 -- ---- texts
 
--- where a text's spelling ends
+-- the place where a text's spelling ends
 abbrev pub text_len : Order → ℕ → List ℕ → ℕ
 text_len o p text = length (zeros 4 p ++ counted o text ++ 0 ∷ [])
 

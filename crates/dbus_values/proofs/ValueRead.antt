@@ -15,7 +15,7 @@ use Rattle.dbus_types.proofs.SignatureRead.{signature_of-is}
 use Rattle.dbus_values.specs.declared.Order.{Order}
 use Rattle.dbus_values.specs.declared.Order.TheVariants.{Little, Big}
 
--- from a to b stand these bytes
+-- these bytes are between a and b
 pub record Takes (a : At) (text : List ℕ) (b : At) : Type 0 where
   pub bytes : a.bytes ≡ text ++ b.bytes
   pub place : b.place ≡ a.place + length text

@@ -16,12 +16,12 @@ use Rattle.dbus_values.proofs.ValueRead.{some_bytes-takes, aligned-takes}
 use Rattle.dbus_values.specs.declared.Order.{Order}
 use Rattle.dbus_values.specs.declared.Order.TheVariants.{Little, Big}
 
--- the types that follow, and where a value ended that was read
+-- the types that follow, and the end of the value that was read
 abbrev pub ends : List ℕ → Option (Value × At) → Option (List ℕ × At)
 ends rest None = None
 ends rest (Some x) = Some (rest, x.1)
 
--- where it ended alone
+-- only the end
 abbrev pub ended : Option (Value × At) → Option At
 ended None = None
 ended (Some x) = Some x.1

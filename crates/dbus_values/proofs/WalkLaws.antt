@@ -26,9 +26,9 @@ use Rattle.dbus_values.proofs.WalkBasic.{ends, ended, with_ended, IsFree, number
 use Rattle.dbus_values.specs.declared.Order.{Order}
 use Rattle.dbus_values.specs.declared.BadValue.{BadValue}
 
--- ---- the codes in front
+-- ---- the first codes
 
--- it tells the type's alignment, and isn't the bracket behind a struct's members
+-- it gives the type's alignment, and isn't the parenthesis after a struct's members
 type_front : (t : Complete) (rest : List ℕ) → let code = front_code (spelled_type t ++ rest) in (alignment_by code ≡ alignment t) × ((code == 41) ≡ false)
 type_front (basic (number byte)) rest = (refl, refl)
 type_front (basic (number boolean)) rest = (refl, refl)
@@ -106,7 +106,7 @@ at_4 p = omega arith
 at_8 : (p : ℕ) → padding 8 (p + padding 8 p) ≡ 0
 at_8 p = omega arith
 
--- behind its padding no more of it is needed
+-- after its padding no more is needed
 aligned_place : (t : Complete) (p : ℕ) → padding (alignment t) (p + padding (alignment t) p) ≡ 0
 aligned_place (basic (number byte)) p = at_1 p
 aligned_place (basic (number boolean)) p = at_4 p
@@ -128,7 +128,7 @@ aligned_place (entry k t) p = at_8 p
 
 -- ---- containers
 
--- values within so many containers, passed over
+-- passing over values of less than this nesting depth
 abbrev Walks : ℕ → Order → Type 0
 Walks k o = (t : Complete) (rest : List ℕ) (at : At) → is_complete t ≡ true → AreBytes at.bytes → walk_within k o (spelled_type t ++ rest) at ≡ ends rest (value_within k o t at)
 
@@ -151,7 +151,7 @@ width_taken w a = (take w a.bytes, record { place = a.place + w; bytes = drop w 
 abbrev if_zeros : List ℕ × At → Option At
 if_zeros x = when (all_zero x.0) x.1
 
--- a number stands where its bytes do
+-- there is a number if its bytes are there
 number_stands : (o : Order) (j : ℕ) (n : Number) → IsFree n → (a : At) → AreBytes a.bytes → padding (byte_len (width n)) a.place ≡ 0
     → ended (within_item (suc j) o n a) ≡ when (nat_le (byte_len (width n)) (length a.bytes)) (record { place = a.place + byte_len (width n); bytes = drop (byte_len (width n)) a.bytes })
 number_stands o j n free a h p = sym (number_ended o (value_within j o) n free a h) ∙ ap (λ (s : Option At). s >>= walk_bytes) there ∙ bytes (nat_le (byte_len (width n)) (length a.bytes))
@@ -409,7 +409,7 @@ module _ (o : Order) (k : ℕ) (walks : Walks k o) where
 
   -- ---- arrays
 
-  -- whether elements stand up to the end of the bytes
+  -- whether there are elements up to the end of the bytes
   abbrev are_elements : Complete → At → Bool
   are_elements t a = is_some (to_the_end (element_at inner t) (suc (length a.bytes)) a)
 

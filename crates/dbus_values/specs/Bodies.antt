@@ -7,7 +7,8 @@ use Rattle.dbus_values.specs.Values.{Value, a_string, an_array, Values, no_value
 use Rattle.dbus_values.specs.Reading.{At, ◌>>=◌, some_bytes, aligned, a_width, text_at, values_at}
 use Rattle.dbus_values.specs.declared.Order.{Order}
 
--- the body is these values, one of each of the signature's types; it begins at a place of the message that is a multiple of 8
+-- the body is these values, one of each of the signature's types; it begins at a place of the message that is a
+-- multiple of 8
 pub record IsBody (order : Order) (signature body : List ℕ) (place : ℕ) (types : List Complete) (values : List Value) : Type 0 where
   pub start : place % 8 ≡ 0
   pub spelled : signature ≡ spelled_types types
@@ -20,12 +21,12 @@ HasBody order signature body = (place : ℕ) × (types : List Complete) × (valu
 
 -- ---- texts
 
--- the first body value, where the signature begins with s
+-- the first body value, if the signature begins with s
 abbrev pub first_text_of : List Value → Option (List ℕ)
 first_text_of (a_string text ∷ values) = Some text
 first_text_of _ = None
 
--- the first two body values, where the signature begins with ss
+-- the first two body values, if the signature begins with ss
 abbrev pub two_of : List Value → Option (List ℕ × List ℕ)
 two_of (a_string a ∷ a_string b ∷ values) = Some (a, b)
 two_of _ = None
@@ -48,13 +49,13 @@ list_in _ = None
 
 -- ---- texts one after the other
 
--- strings up to the end of the bytes, of which there are at most so many
+-- strings up to the end of the bytes, at most this many
 abbrev pub texts_at : Order → ℕ → At → Option (List (List ℕ))
 texts_at order zero at = None
 texts_at order (suc n) at =
     if is_empty at.bytes then Some [] else (text_at order at >>= λ x. texts_at order n x.1 >>= λ texts. Some (x.0 ∷ texts))
 
--- each takes a byte at least
+-- each has at least one byte
 abbrev pub texts_in : Order → At → Option (List (List ℕ))
 texts_in order at = texts_at order (suc (length at.bytes)) at
 
@@ -62,7 +63,7 @@ abbrev pub texts_or_none : Option (List (List ℕ)) → List (List ℕ)
 texts_or_none None = []
 texts_or_none (Some texts) = texts
 
--- where the elements of an array of strings stand
+-- the elements of an array of strings
 abbrev pub elements_in : Order → At → Option At
 elements_in order at = do
   start ← aligned 4 at

@@ -1,4 +1,4 @@
--- A string's bytes, whatever they are.
+-- A string's bytes, before they are checked.
 use Rattle.std.specs.Prelude.{ℕ, List}
 use Rattle.std.specs.Int.{w32}
 use Rattle.dbus_values.specs.Reading.{Read, ◌>>=◌, aligned, a_width, ended_by_nul}

@@ -1,4 +1,4 @@
--- Reading values from bytes: the value that stands at a place, and what follows it.
+-- Reading values from bytes: the value at a place, and what follows it.
 use Rattle.std.specs.Prelude.{ℕ, zero, suc, ◌+◌, ◌^◌, Bool, true, ◌&&◌, ◌==◌, nat_le, nat_lt, List, [], ◌∷◌, length, take, drop, Option, Some, None, if◌then◌else◌}
 use Rattle.std.specs.Int.{Width, w8, w32, byte_len, from_le_bytes, from_be_bytes}
 use Rattle.dbus_names.specs.Names.{is_path, is_empty}
@@ -12,7 +12,7 @@ pub record At : Type 0 where
   pub place : ℕ
   pub bytes : List ℕ
 
--- what stands in front, and what follows it; nothing where no such thing stands there
+-- the thing with which the bytes begin, and what follows it; none if they don't begin with such a thing
 abbrev pub Read : Type 0 → Type 0
 Read A = At → Option (A × At)
 
@@ -21,7 +21,7 @@ abbrev pub ◌>>=◌ : {A B : Type 0} → Option A → (A → Option B) → Opti
 None >>= f = None
 (Some x) >>= f = f x
 
--- x where the test holds
+-- x if the test holds
 abbrev pub when : {A : Type 0} → Bool → A → Option A
 when test x = if test then Some x else None
 
@@ -50,7 +50,7 @@ a_width order w at = do
   x ← some_bytes (byte_len w) at
   Some (number_of order w x.0, x.1)
 
--- so many bytes and one NUL
+-- n bytes and one NUL
 abbrev pub ended_by_nul : ℕ → Read (List ℕ)
 ended_by_nul n at = do
   x ← some_bytes n at
@@ -74,7 +74,7 @@ signature_at at = do
 
 -- ---- values
 
--- values one after the other up to the end of the bytes, of which there are at most so many
+-- values one after the other up to the end of the bytes, at most this many
 abbrev pub to_the_end : Read Value → ℕ → At → Option Values
 to_the_end item zero at = None
 to_the_end item (suc n) at = if is_empty at.bytes then Some no_values else (item at >>= λ x. to_the_end item n x.1 >>= λ xs. Some (value x.0 xs))
@@ -91,7 +91,7 @@ abbrev pub one_type : List Complete → Option Complete
 one_type (t ∷ []) = Some t
 one_type _ = None
 
--- an array's element, where inner reads the values within
+-- an array's element; `inner` reads the values inside
 abbrev pub element_at : (Complete → Read Value) → Complete → Read Value
 element_at inner (entry k t) at = do
   start ← aligned 8 at
@@ -100,7 +100,7 @@ element_at inner (entry k t) at = do
   Some (an_entry x.0 y.0, y.1)
 element_at inner t at = inner t at
 
--- a value, where inner reads the values within
+-- a value; `inner` reads the values inside
 abbrev pub value_by : Order → (Complete → Read Value) → Complete → Read Value
 value_by order inner (basic (number n)) at = do
   start ← aligned (byte_len (width n)) at
@@ -134,7 +134,7 @@ value_by order inner (struct t ts) at = do
   Some (a_struct x.0 xs.0, xs.1)
 value_by order inner (entry k t) at = None
 
--- a value round whose innermost value lie fewer than so many containers
+-- a value whose nesting depth of containers is less than this number
 abbrev pub value_within : ℕ → Order → Complete → Read Value
 value_within zero order t at = None
 value_within (suc n) order t at = value_by order (value_within n order) t at
@@ -143,12 +143,12 @@ value_within (suc n) order t at = value_by order (value_within n order) t at
 abbrev pub value_at : Order → Complete → Read Value
 value_at order t at = value_within 65 order t at
 
--- the thing in front of the others, where it stands; else none of them
+-- the first thing and then the others, if it is there; else none of them
 abbrev pub and_then_all : {A : Type 0} → Option (A × At) → At → (A → At → List A × At) → List A × At
 and_then_all None at others = ([], at)
 and_then_all (Some x) at others = let rest = others x.0 x.1 in (x.0 ∷ rest.0, rest.1)
 
--- values of the types one after the other, as many as stand there, and what follows them
+-- values of the types one after the other, as many as are there, and what follows them
 abbrev pub values_at : Order → List Complete → At → List Value × At
 values_at order [] at = ([], at)
 values_at order (t ∷ ts) at = and_then_all (value_at order t at) at (λ v rest. values_at order ts rest)

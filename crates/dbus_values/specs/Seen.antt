@@ -1,4 +1,4 @@
--- What the code's cursors are seen as.
+-- The models of the code's cursors.
 use Rattle.std.specs.Prelude.{ℕ, List}
 use Rattle.dbus_values.specs.Reading.{At}
 use Rattle.dbus_values.specs.declared.cursor.Cursor.{Cursor}

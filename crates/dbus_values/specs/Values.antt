@@ -10,8 +10,8 @@ use Rattle.dbus_values.specs.declared.Order.TheVariants.{Little, Big}
 
 -- ---- values
 
--- A number stands by its bits. An array has its elements' type, so that each value has one type.
--- A struct has a first member and others. An entry is a dict entry, a key and a value.
+-- A number is given by its bits. An array has its elements' type, so that each value has one type. A struct has a first
+-- member and others. An entry is a dict entry, a key and a value.
 mutual
   pub data Value : Type 0 where
     a_number : Number → ℕ → Value
@@ -74,7 +74,7 @@ alignment (array t) = 4
 alignment (struct t ts) = 8
 alignment (entry k t) = 8
 
--- how far the next multiple of n is
+-- the distance to the next multiple of n
 abbrev pub padding : ℕ → ℕ → ℕ
 padding n place = (n - place % n) % n
 
@@ -85,7 +85,7 @@ abbrev pub number_bytes : Order → Width → ℕ → List ℕ
 number_bytes Little w x = to_le_bytes w x
 number_bytes Big w x = to_be_bytes w x
 
--- a length, and the bytes behind it
+-- a length, and the bytes after it
 abbrev pub counted : Order → List ℕ → List ℕ
 counted order bytes = number_bytes order w32 (length bytes) ++ bytes
 
@@ -93,7 +93,7 @@ counted order bytes = number_bytes order w32 (length bytes) ++ bytes
 abbrev pub spelled_signature : List Complete → List ℕ
 spelled_signature ts = length (spelled_types ts) ∷ spelled_types ts ++ 0 ∷ []
 
--- where an array's elements begin, the array standing at the place: behind its length and their own padding
+-- where the elements of an array at the place begin: after its length and their own padding
 abbrev pub elements_place : Complete → ℕ → ℕ
 elements_place t place = let behind = place + padding 4 place + 4 in behind + padding (alignment t) behind
 
@@ -125,7 +125,7 @@ abbrev mutual
 
 -- ---- which values there are
 
--- how many containers lie round the innermost value; an entry counts together with its array
+-- the greatest number of containers around a value inside; an entry counts together with its array
 abbrev mutual
   pub depth : Value → ℕ
   depth (a_number n x) = 0
@@ -157,7 +157,7 @@ abbrev pub have_type : Complete → Values → Bool
 have_type t no_values = true
 have_type t (value v vs) = has_type t v && have_type t vs
 
--- all limits but the depth's
+-- all limits except the depth's
 abbrev mutual
   pub is_value : Order → ℕ → Value → Bool
   is_value order place (a_number n x) = nat_lt x (limit n)

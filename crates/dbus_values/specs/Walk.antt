@@ -1,4 +1,5 @@
--- How values are passed over by the codes of their types, in one pass. That each ends where reading it ends is proved of it.
+-- How values are passed over by the codes of their types, in one pass. It is proved that this ends where reading them
+-- ends.
 use Rattle.std.specs.Prelude.{ℕ, zero, suc, ◌%◌, ◌^◌, Bool, true, false, ◌&&◌, ◌||◌, ◌==◌, nat_lt, nat_le, List, [], ◌∷◌, length, drop, get_or, is_none, Option, Some, None, if◌then◌else◌, Result, Ok, Err}
 use Rattle.std.specs.Int.{w32}
 use Rattle.dbus_names.specs.Names.{is_path, is_empty}
@@ -14,7 +15,7 @@ Walk = List ℕ → At → Option (List ℕ × At)
 
 -- ---- basic values
 
--- how many bytes a number has whose bits may be any, by its type's code; 0 for another type
+-- the width in bytes of a number type in which all bits are valid, by the type's code; 0 for another type
 abbrev pub number_width : ℕ → ℕ
 number_width c =
     if c == 121 then 1
@@ -55,7 +56,7 @@ read_signature at = do
 abbrev pub walk_signature : At → Option At
 walk_signature at = read_signature at >>= λ x. Some x.1
 
--- a number whose bits may be any, by its type's code
+-- a number in which all bits are valid, by its type's code
 abbrev pub walk_number_by : ℕ → At → Option At
 walk_number_by c at = if number_width c == 0 then None else walk_number (number_width c) at
 
@@ -86,7 +87,7 @@ alignment_by c =
     else (if c == 40 then 8
     else (if c == 123 then 8 else 1)))))))))))))
 
--- the code of the type in front
+-- the code of the first type
 abbrev pub front_code : List ℕ → ℕ
 front_code [] = 0
 front_code (c ∷ types) = c
@@ -95,7 +96,7 @@ abbrev pub behind_entry : Option (List ℕ × At) → Option (List ℕ × At)
 behind_entry None = None
 behind_entry (Some x) = Some (drop 1 x.0, x.1)
 
--- an entry, its types standing behind the brace
+-- an entry, whose types follow the brace
 abbrev pub walk_entry : Walk → Walk
 walk_entry inner types at = do
   start ← aligned 8 at
@@ -110,12 +111,12 @@ abbrev pub has_more : Option (List ℕ × At) → (At → Bool) → Bool
 has_more None others = false
 has_more (Some x) others = others x.1
 
--- whether elements stand one after the other up to the end, of which there are at most so many
+-- whether elements, at most this many, follow each other up to the end
 abbrev pub walk_to_end : (At → Option (List ℕ × At)) → ℕ → At → Bool
 walk_to_end item zero at = false
 walk_to_end item (suc n) at = if is_empty at.bytes then true else has_more (item at) (walk_to_end item n)
 
--- numbers of one width fill the bytes where these are a multiple of it
+-- numbers of one width fill the bytes if the length is a multiple of it
 abbrev pub numbers_fill : ℕ → ℕ → List ℕ → Bool
 numbers_fill containers width bytes = is_empty bytes || nat_lt 0 containers && length bytes % width == 0
 
@@ -124,7 +125,7 @@ elements_fill containers inner types at =
     if number_width (front_code types) == 0 then walk_to_end (walk_element inner types) (suc (length at.bytes)) at
     else numbers_fill containers (number_width (front_code types)) at.bytes
 
--- an array, its element's type standing in front
+-- an array, from its element's type on
 abbrev pub walk_array : Order → ℕ → Walk → Walk
 walk_array order containers inner types at = do
   start ← aligned 4 at
@@ -133,13 +134,13 @@ walk_array order containers inner types at = do
   x ← some_bytes n.0 first
   when (nat_le n.0 (2 ^ 26) && elements_fill containers inner types (record { place = first.place; bytes = x.0 })) (behind 0 types, x.1)
 
--- members up to the closing bracket, at most so many
+-- members up to the closing parenthesis, at most this many
 abbrev pub walk_members : Walk → ℕ → Walk
 walk_members inner zero types at = None
 walk_members inner (suc n) types at =
     if front_code types == 41 then Some (drop 1 types, at) else (inner types at >>= λ x. walk_members inner n x.0 x.1)
 
--- a struct, its members' types standing behind the bracket
+-- a struct, whose members' types follow the parenthesis
 abbrev pub walk_struct : Walk → Walk
 walk_struct inner types at = do
   start ← aligned 8 at
@@ -167,7 +168,7 @@ walk_by order containers inner (c ∷ types) at =
     else (if c == 118 then with_types types (walk_variant inner at)
     else with_types types (walk_basic order c at)))
 
--- the value of the type in front, round whose innermost value lie fewer than so many containers
+-- the value of the first type, if its nesting depth of containers is less than this number
 unfoldable pub walk_within : ℕ → Order → Walk
 walk_within zero order types at = None
 walk_within (suc n) order types at = walk_by order n (walk_within n order) types at
@@ -176,11 +177,11 @@ abbrev pub walked : Option (List ℕ × At) → List ℕ × At → (List ℕ →
 walked None here others = here
 walked (Some x) here others = others x.0 x.1
 
--- the types that are left, and where their first value was to begin, after as many values as stand there; at most so many
+-- the types that are left after at most this many values, and where the next value was to begin
 abbrev pub walk_types : Walk → ℕ → List ℕ → At → List ℕ × At
 walk_types walk zero types at = (types, at)
 walk_types walk (suc n) types at = if is_empty types then (types, at) else walked (walk types at) (types, at) (walk_types walk n)
 
--- the place where the last value ended, as a refusal where types are left
+-- the place where the last value ended; if types are left, as a refusal
 abbrev pub end_at : List ℕ × At → Result ℕ BadValue
 end_at x = if is_empty x.0 then Ok x.1.place else Err (record { at = x.1.place })

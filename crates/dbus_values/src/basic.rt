@@ -18,7 +18,7 @@ use dbus_names::is_path;
 use dbus_types::Signature;
 use std::str;
 
-/// How many bytes a number has whose bits may be any, by its type's code; 0 for another type.
+/// The width in bytes of a number type in which all bits are valid, by the type's code; 0 for another type.
 #[inline]
 pub(crate) fn number_width(code: u8) -> usize
     ensures { result ≡ width_by_code code }
@@ -32,7 +32,8 @@ pub(crate) fn number_width(code: u8) -> usize
     }
 }
 
-/// Whether all bytes are ASCII other than NUL. A wrong byte doesn't end the loop, so that it takes many at a time.
+/// Whether all bytes are ASCII other than NUL. A wrong byte doesn't end the loop, so that it can test many bytes at a
+/// time.
 #[inline(never)]
 fn is_ascii_text(text: &[u8]) -> bool
     ensures { result ≡ list_all is_ascii_text_byte text.now }
@@ -65,7 +66,7 @@ fn is_utf8(text: &[u8]) -> bool
     }
 }
 
-/// Whether the bytes are UTF-8 without NUL, as a string has to be. ASCII is looked at once.
+/// Whether the bytes are UTF-8 without NUL, as a string must be. ASCII takes one pass only.
 #[inline(never)]
 pub(crate) fn is_text(text: &[u8]) -> bool
     requires { length text.now < 2 ^ 32 }
@@ -93,8 +94,8 @@ fn is_signature_of_many(types: &[u8]) -> bool
     Signature::read(types).is_ok()
 }
 
-/// Whether the bytes are a valid signature. Most variants have a signature of one byte, and a message can have millions of
-/// them.
+/// Whether the bytes are a valid signature. Most variants have a signature of one byte, and a message can have millions
+/// of them.
 #[inline(always)]
 fn is_signature(types: &[u8]) -> bool
     ensures { result ≡ is_none (signature_fault types.now) }
@@ -106,10 +107,10 @@ fn is_signature(types: &[u8]) -> bool
     }
 }
 
-// These methods are inlined, and call only tests out of line. So a loop over small values keeps its cursor in registers: a
-// call that returns a cursor passes it in memory, which took half of the time.
+// These methods are inlined and call only tests that aren't. So a loop over small values keeps its cursor in registers:
+// a call that returns a cursor passes it in memory, which took half of the time.
 impl<'a> Cursor<'a> {
-    /// So many bytes that a NUL ends, and the cursor behind the NUL.
+    /// Takes the bytes of this length, if a NUL follows them, and gives the cursor after the NUL.
     #[inline(always)]
     fn ended_by_nul(self, len: usize) -> Option<(&'a [u8], Cursor<'a>)>
         ensures { option_map bytes_seen result ≡ ended_by_nul len (place_seen self.entry) }
@@ -123,7 +124,7 @@ impl<'a> Cursor<'a> {
         }
     }
 
-    /// The bytes of a string or a path: a length, the bytes, a NUL.
+    /// Takes the bytes of a string or a path: a length, the bytes, a NUL.
     #[inline(always)]
     pub(crate) fn counted(self, order: Order) -> Option<(&'a [u8], Cursor<'a>)>
         ensures bytes { option_map bytes_seen result ≡ counted_at order (place_seen self.entry) }
@@ -142,7 +143,7 @@ impl<'a> Cursor<'a> {
         if is_text(text) { Some(behind) } else { None }
     }
 
-    // A path's grammar lets ASCII alone pass.
+    // The grammar of a path allows ASCII only.
     #[inline(always)]
     fn path(self, order: Order) -> Option<Cursor<'a>>
         ensures { option_map place_seen result ≡ walk_path order (place_seen self.entry) }
@@ -151,7 +152,7 @@ impl<'a> Cursor<'a> {
         if is_path(text) { Some(behind) } else { None }
     }
 
-    /// A signature: a length byte, the types, a NUL.
+    /// Takes a signature: a length byte, the types, a NUL.
     #[inline(always)]
     pub(crate) fn signature(self) -> Option<(&'a [u8], Cursor<'a>)>
         ensures { option_map bytes_seen result ≡ read_signature (place_seen self.entry) }
@@ -165,7 +166,7 @@ impl<'a> Cursor<'a> {
         }
     }
 
-    /// The code of a variant's type and the cursor after the signature, if the type is a number whose bits may be any.
+    /// Takes a variant's signature, if its type is a number in which all bits are valid, and gives the type's code.
     #[inline(always)]
     pub(crate) fn number_signature(self) -> Option<(u8, Cursor<'a>)>
         ensures read { IfSome result (λ x. read_signature (place_seen self.entry) ≡ Some (x.0 ∷ [], place_seen x.1)) }
@@ -197,7 +198,7 @@ impl<'a> Cursor<'a> {
         Some(behind)
     }
 
-    /// The cursor behind a number whose bits may be any, by its type's code.
+    /// The cursor after a number in which all bits are valid, by its type's code.
     #[inline(always)]
     pub(crate) fn number_by_code(self, code: u8) -> Option<Cursor<'a>>
         ensures { option_map place_seen result ≡ walk_number_by code (place_seen self.entry) }
@@ -211,7 +212,7 @@ impl<'a> Cursor<'a> {
         }
     }
 
-    /// The cursor behind a value of a basic type, by the type's code.
+    /// The cursor after a value of a basic type, by the type's code.
     #[inline(always)]
     pub(crate) fn basic(self, order: Order, code: u8) -> Option<Cursor<'a>>
         ensures { option_map place_seen result ≡ walk_basic order code (place_seen self.entry) }

@@ -1,4 +1,4 @@
-//! Values of any type, passed over by the codes of their types.
+//! Passing over values of any type, by the codes of their types.
 ghost use Rattle.std.specs.Prelude.{◌≡◌, ◌⊎◌, ◌≤◌, ◌<◌, suc, Some, None, IfSome, option_map, length, drop};
 ghost use Rattle.dbus_values.specs.Walk.{alignment_by, front_code as code_in_front, walk_within, walk_by, walk_array, walk_struct, walk_members, walk_variant, walk_element, walk_entry, walk_to_end, elements_fill, numbers_fill};
 ghost use Rattle.dbus_values.specs.Seen.{place_seen, bytes_seen};
@@ -9,13 +9,13 @@ use crate::basic::number_width;
 use crate::cursor::Cursor;
 use dbus_types::behind_type;
 
-/// The most bytes that an array's elements may have (D-Bus Specification, "Type System", "Marshaling").
+/// The maximum length of an array's elements in bytes (D-Bus Specification, "Type System", "Marshaling").
 const ARRAY_LIMIT: u32 = 67_108_864;
 
-/// What passing over a value leaves: the types that follow, and the cursor behind it.
+/// What is left after a value: the types that follow, and the cursor after the value.
 type Passed<'a> = Option<(&'a [u8], Cursor<'a>)>;
 
-/// The code of the type in front.
+/// The code of the first type.
 #[inline(always)]
 pub(crate) fn front_code(types: &[u8]) -> u8
     ensures { result ≡ code_in_front types.now }
@@ -26,7 +26,7 @@ pub(crate) fn front_code(types: &[u8]) -> u8
     }
 }
 
-/// What follows the code in front.
+/// What follows the first code.
 #[inline(always)]
 fn behind_code(types: &[u8]) -> &[u8]
     ensures { result.now ≡ drop 1 types.now }
@@ -51,8 +51,8 @@ fn alignment(code: u8) -> usize
     }
 }
 
-/// Passes over a value of a basic type, or over a variant that holds a number. It gives nothing for any other value, and for
-/// one that isn't valid. It is inlined and calls only tests, so that a loop keeps its cursor in registers.
+/// Passes over a value of a basic type, or over a variant that holds a number. It gives `None` for any other value and
+/// for an invalid one. It is inlined and calls only tests, so that a loop keeps its cursor in registers.
 #[inline(always)]
 fn walk_at_once<'a>(order: Order, containers: usize, types: &'a [u8], at: Cursor<'a>) -> Passed<'a>
     ensures { IfSome result (λ x. walk_within containers order types.now (place_seen at.entry) ≡ Some (bytes_seen x)) }
@@ -71,7 +71,7 @@ fn walk_at_once<'a>(order: Order, containers: usize, types: &'a [u8], at: Cursor
     }
 }
 
-/// Passes over a value of the type in front, round whose innermost value lie fewer than so many containers.
+/// Passes over a value of the first type. Its nesting depth of containers must be less than `containers`.
 #[inline(always)]
 #[cycle(walk)]
 pub(crate) fn walk<'a>(
@@ -85,12 +85,12 @@ pub(crate) fn walk<'a>(
     if let Some((others, behind)) = walk_at_once(order, containers, types, at) {
         return Some((others, behind));
     }
-    // The result is taken apart, so that only this call passes one in memory.
+    // The result is taken apart so that only this call passes one in memory.
     let (others, behind) = walk_any(order, containers, types, at)?;
     Some((others, behind))
 }
 
-/// The same, for a value that likely is a container.
+/// Passes over a value that is likely a container.
 #[inline]
 #[cycle(walk)]
 fn walk_any<'a>(order: Order, containers: usize, types: &'a [u8], at: Cursor<'a>) -> Passed<'a>
@@ -102,7 +102,7 @@ fn walk_any<'a>(order: Order, containers: usize, types: &'a [u8], at: Cursor<'a>
     walk_within_one(order, containers - 1, types, at)
 }
 
-/// The same, where so many containers may lie round a value that is within this one.
+/// Passes over a value. A value inside it may have a nesting depth of less than `containers`.
 #[inline(never)]
 #[cycle(walk)]
 fn walk_within_one<'a>(
@@ -122,7 +122,7 @@ fn walk_within_one<'a>(
     }
 }
 
-/// Passes over an array, its element's type standing in front.
+/// Passes over an array, from its element's type on.
 #[cycle(walk)]
 fn array<'a>(order: Order, containers: usize, types: &'a [u8], at: Cursor<'a>) -> Passed<'a>
     ensures { option_map bytes_seen result ≡ walk_array order containers (walk_within containers order) types.now (place_seen at.entry) }
@@ -141,7 +141,7 @@ fn array<'a>(order: Order, containers: usize, types: &'a [u8], at: Cursor<'a>) -
     }
 }
 
-/// Whether elements of the type in front fill the bytes exactly.
+/// Whether elements of the first type fill the bytes exactly.
 #[cycle(walk)]
 fn fills(order: Order, containers: usize, types: &[u8], at: Cursor<'_>) -> bool
     ensures { result ≡ elements_fill containers (walk_within containers order) types.now (place_seen at.entry) }
@@ -152,13 +152,13 @@ fn fills(order: Order, containers: usize, types: &[u8], at: Cursor<'_>) -> bool
     }
 }
 
-/// Whether elements stand one after the other up to the end of the bytes.
+/// Whether elements follow each other up to the end of the bytes.
 #[cycle(walk)]
 fn elements_to_end(order: Order, containers: usize, types: &[u8], first: Cursor<'_>) -> bool
     ensures { result ≡ walk_to_end (walk_element (walk_within containers order) types.now) (suc (length first.entry.bytes.now)) (place_seen first.entry) }
 {
     let mut at = first;
-    // Each element takes a byte at least.
+    // Each element has at least one byte.
     let mut most = at.bytes.len() + 1;
     while most > 0 {
         if at.bytes.is_empty() {
@@ -188,7 +188,7 @@ fn element<'a>(order: Order, containers: usize, types: &'a [u8], at: Cursor<'a>)
     }
 }
 
-/// Passes over a dict entry, its types standing behind the brace.
+/// Passes over a dict entry. Its types follow the brace.
 #[inline(never)]
 #[cycle(walk)]
 fn dict_entry<'a>(order: Order, containers: usize, types: &'a [u8], at: Cursor<'a>) -> Passed<'a>
@@ -199,7 +199,7 @@ fn dict_entry<'a>(order: Order, containers: usize, types: &'a [u8], at: Cursor<'
     Some((behind_code(types), behind))
 }
 
-/// Passes over a struct, its members' types standing behind the bracket.
+/// Passes over a struct. Its members' types follow the parenthesis.
 #[inline(always)]
 #[cycle(walk)]
 fn structure<'a>(order: Order, containers: usize, types: &'a [u8], at: Cursor<'a>) -> Passed<'a>
@@ -213,7 +213,7 @@ fn structure<'a>(order: Order, containers: usize, types: &'a [u8], at: Cursor<'a
     }
 }
 
-/// Passes over members up to the closing bracket.
+/// Passes over members up to the closing parenthesis.
 #[inline(never)]
 #[cycle(walk)]
 fn members<'a>(
@@ -226,7 +226,7 @@ fn members<'a>(
 {
     let mut types = member_types;
     let mut at = first;
-    // Each member's type takes a byte at least.
+    // Each member's type has at least one byte.
     let mut most = types.len() + 1;
     while most > 0 {
         if front_code(types) == b')' {

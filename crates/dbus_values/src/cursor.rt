@@ -3,7 +3,7 @@ ghost use Rattle.std.specs.Prelude.{◌≡◌, ◌≤◌, ◌<◌, ◌+◌, ◌^
 
 use crate::Order;
 
-/// Bytes of a message, and the place of the first of them, by which values are aligned.
+/// Bytes of a message, and the place of the first of them. Values are aligned by that place.
 #[derive(Clone, Copy)]
 pub(crate) struct Cursor<'a> {
     pub(crate) place: usize,

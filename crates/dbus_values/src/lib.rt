@@ -1,7 +1,7 @@
 //! D-Bus values: how one is spelled at a place of a message, how it is read from bytes, and the laws between the two.
 //!
-//! It is driven by `value_end`, which passes over the values of a signature; the texts of a body that was so passed over are read by `first_text`,
-//! `two_texts`, `texts3` and `text_list`.
+//! `value_end` checks and passes over the values of a signature. The texts of a body that was checked so are then read
+//! by `first_text`, `two_texts`, `texts3` and `text_list`.
 #![tactic(auto)]
 
 mod basic;
@@ -22,9 +22,9 @@ pub use values::value_end;
 /// The byte order of a message (D-Bus Specification, "Message Format": `l` is little, `B` is big).
 #[derive(Clone, Copy, Debug, PartialEq, Eq)]
 pub enum Order {
-    /// `l`: the least significant byte stands first.
+    /// `l`: the least significant byte is first.
     Little,
-    /// `B`: the most significant byte stands first.
+    /// `B`: the most significant byte is first.
     Big,
 }
 
@@ -32,6 +32,6 @@ pub enum Order {
 #[derive(Clone, Copy, Debug, PartialEq, Eq, Error)]
 #[error("byte {at}: no value of the signature's next type")]
 pub struct BadValue {
-    /// Where the last valid value of the signature's own types ended; where none did, where they were to begin.
+    /// Where the last valid value of the signature's own types ended; if none did, where the first was to begin.
     pub at: usize,
 }

@@ -1,4 +1,4 @@
-//! The numbers of a byte order, by the library `byteorder` (D-Bus Specification, "Type System", "Marshaling").
+//! Numbers in a byte order, by the library `byteorder` (D-Bus Specification, "Type System", "Marshaling").
 ghost use Rattle.std.specs.Prelude.{◌≡◌, ◌≤◌, ◌++◌, length, drop};
 ghost use Rattle.std.specs.Int.{w16, w32, w64};
 ghost use Rattle.dbus_values.specs.Reading.{number_of};
@@ -8,7 +8,7 @@ use crate::Order;
 use byteorder::{BigEndian, ByteOrder, LittleEndian};
 
 impl Order {
-    /// The number that the first two bytes are.
+    /// Reads the number in the first two bytes.
     #[inline]
     pub fn read_u16(self, bytes: &[u8]) -> u16
         requires { 2 ≤ length bytes.now }
@@ -20,7 +20,7 @@ impl Order {
         }
     }
 
-    /// The number that the first four bytes are.
+    /// Reads the number in the first four bytes.
     #[inline]
     pub fn read_u32(self, bytes: &[u8]) -> u32
         requires { 4 ≤ length bytes.now }
@@ -32,7 +32,7 @@ impl Order {
         }
     }
 
-    /// The number that the first eight bytes are.
+    /// Reads the number in the first eight bytes.
     #[inline]
     pub fn read_u64(self, bytes: &[u8]) -> u64
         requires { 8 ≤ length bytes.now }
@@ -44,7 +44,7 @@ impl Order {
         }
     }
 
-    /// Writes a number of four bytes over the first four.
+    /// Writes a number over the first four bytes.
     #[inline]
     pub fn write_u32(self, bytes: &mut [u8], number: u32)
         requires { 4 ≤ length bytes.old }

@@ -9,7 +9,7 @@ ghost use Rattle.dbus_values.specs.Alignments.{IsAlignment};
 use crate::Order;
 use crate::cursor::Cursor;
 
-/// How many bytes of padding stand at a place, up to the next multiple of an alignment (D-Bus Specification, "Type System",
+/// The number of padding bytes from a place to the next multiple of an alignment (D-Bus Specification, "Type System",
 /// "Marshaling": a value begins at a multiple of its type's alignment, counted from the start of the message).
 #[inline]
 pub fn padding(alignment: usize, place: usize) -> usize
@@ -24,7 +24,8 @@ pub fn padding(alignment: usize, place: usize) -> usize
     }
 }
 
-/// Whether all bytes are 0, as those of padding have to be (D-Bus Specification, "Type System", "Marshaling"). No bytes are.
+/// Whether all bytes are 0, as those of padding must be (D-Bus Specification, "Type System", "Marshaling"). If there
+/// are no bytes, they are.
 #[inline]
 pub fn is_zero(bytes: &[u8]) -> bool
     ensures { result ≡ all_zero bytes.now }
@@ -40,7 +41,7 @@ pub fn is_zero(bytes: &[u8]) -> bool
 }
 
 impl<'a> Cursor<'a> {
-    /// The next so many bytes, and the cursor behind them.
+    /// Takes the next bytes, as many as `len`, and gives the cursor after them.
     #[inline(always)]
     pub(crate) fn take(self, len: usize) -> Option<(&'a [u8], Cursor<'a>)>
         ensures { option_map bytes_seen result ≡ some_bytes len (place_seen self.entry) }
@@ -56,7 +57,7 @@ impl<'a> Cursor<'a> {
         Some((bytes, behind))
     }
 
-    /// The cursor behind the zeros up to the next multiple of an alignment.
+    /// The cursor after the zeros up to the next multiple of an alignment.
     #[inline(always)]
     pub(crate) fn align(self, alignment: usize) -> Option<Cursor<'a>>
         requires { IsAlignment alignment }
@@ -66,7 +67,7 @@ impl<'a> Cursor<'a> {
         if is_zero(zeros) { Some(behind) } else { None }
     }
 
-    /// A number of four bytes, aligned already.
+    /// Takes a number of four bytes that is already aligned.
     #[inline(always)]
     pub(crate) fn number(self, order: Order) -> Option<(u32, Cursor<'a>)>
         ensures { option_map number_seen result ≡ a_width order w32 (place_seen self.entry) }

@@ -1,4 +1,4 @@
-//! The texts of bodies that are valid.
+//! The strings in valid bodies.
 ghost use Rattle.std.specs.Prelude.{◌≡◌, Some, None, IsSome, IfSome, ℕ, List, option_map, map, slice_get, drop, codes};
 ghost use Rattle.dbus_types.specs.Signature.{Complete};
 ghost use Rattle.dbus_values.specs.Values.{Value};
@@ -13,7 +13,7 @@ use std::alloc::AllocError;
 use std::marker::Model;
 use std::str;
 
-// The start of a body. A valid body begins at a multiple of 8, so that its values are aligned as they are from 0 on.
+// The start of a body. A body begins at a multiple of 8, so its values are aligned as if it began at 0.
 fn start(body: &[u8]) -> Cursor<'_>
     ensures { place_seen result ≡ record { place = 0; bytes = body.now } }
 {
@@ -23,7 +23,7 @@ fn start(body: &[u8]) -> Cursor<'_>
     }
 }
 
-/// The string that stands at the cursor, and the cursor behind it.
+/// Reads the string at the cursor, and gives the cursor after it.
 pub(crate) fn text<'a>(order: Order, at: Cursor<'a>) -> (&'a str, Cursor<'a>)
     requires { IsSome (text_at order (place_seen at)) }
     ensures { Some (text_seen result) ≡ text_at order (place_seen at.entry) }
@@ -34,7 +34,7 @@ pub(crate) fn text<'a>(order: Order, at: Cursor<'a>) -> (&'a str, Cursor<'a>)
     }
 }
 
-/// The two strings that stand at the cursor, and the cursor behind them.
+/// Reads the two strings at the cursor, and gives the cursor after them.
 fn pair<'a>(order: Order, at: Cursor<'a>) -> ((&'a str, &'a str), Cursor<'a>)
     requires { IsSome (two_at order (place_seen at)) }
     ensures { Some (two_seen result) ≡ two_at order (place_seen at.entry) }
@@ -44,7 +44,7 @@ fn pair<'a>(order: Order, at: Cursor<'a>) -> ((&'a str, &'a str), Cursor<'a>)
     ((first, second), behind)
 }
 
-/// The three strings that stand at the cursor.
+/// Reads the three strings at the cursor.
 fn three_texts<'a>(order: Order, at: Cursor<'a>) -> [&'a str; 3]
     requires { IsSome (three_at order (place_seen at)) }
     ensures { Some (map (λ t. t.now) result) ≡ option_map listed (three_at order (place_seen at.entry)) }
@@ -54,7 +54,7 @@ fn three_texts<'a>(order: Order, at: Cursor<'a>) -> [&'a str; 3]
     [first, second, third]
 }
 
-/// The first value of a valid body, where that is a string: none exactly where its signature doesn't begin with `s`.
+/// The first value of a valid body, if it is a string: `None` exactly if the signature doesn't begin with `s`.
 pub fn first_text<'a>(order: Order, signature: Signature<'_>, body: &'a [u8]) -> Option<&'a str>
     requires { HasBody order signature.bytes.now body.now }
     ensures { (place : ℕ) (types : List Complete) (values : List Value) → IsBody order signature.entry.bytes.now body.now place types values → option_map (λ t. t.now) result ≡ first_text_of values }
@@ -66,7 +66,7 @@ pub fn first_text<'a>(order: Order, signature: Signature<'_>, body: &'a [u8]) ->
     }
 }
 
-/// The first two values of a valid body, if both are strings: none exactly where its signature doesn't begin with `ss`.
+/// The first two values of a valid body, if both are strings: `None` exactly if the signature doesn't begin with `ss`.
 pub fn two_texts<'a>(
     order: Order,
     signature: Signature<'_>,
@@ -82,7 +82,7 @@ pub fn two_texts<'a>(
     }
 }
 
-/// The three strings of a valid body of the signature `sss`.
+/// The three strings of a valid body with the signature `sss`.
 pub fn texts3<'a>(order: Order, body: &'a [u8]) -> [&'a str; 3]
     requires { HasBody order (codes "sss") body.now }
     ensures { (place : ℕ) (types : List Complete) (values : List Value) → IsBody order (codes "sss") body.now place types values → option_map listed (three_of values) ≡ Some (map (λ t. t.now) result) }
@@ -90,7 +90,7 @@ pub fn texts3<'a>(order: Order, body: &'a [u8]) -> [&'a str; 3]
     three_texts(order, start(body))
 }
 
-/// The strings of an array, one after the other.
+/// An iterator over the strings of an array.
 #[derive(Drop)]
 pub struct Texts<'a> {
     order: Order,
@@ -141,7 +141,7 @@ impl<'a> Iterator for Texts<'a> {
     }
 }
 
-/// The string that stands at the cursor and the cursor behind it, where bytes are left.
+/// Reads the string at the cursor, if bytes are left, and gives the cursor after it.
 fn text_if_left<'a>(order: Order, at: Cursor<'a>) -> Option<(&'a str, Cursor<'a>)>
     requires { IsSome (texts_in order (place_seen at)) }
     ensures text { option_map (λ x. x.0.now) result ≡ slice_get (texts_or_none (texts_in order (place_seen at.entry))) 0 }
@@ -153,7 +153,7 @@ fn text_if_left<'a>(order: Order, at: Cursor<'a>) -> Option<(&'a str, Cursor<'a>
     Some(text(order, at))
 }
 
-/// The strings of a valid body of the signature `as`.
+/// The strings of a valid body with the signature `as`.
 pub fn text_list(order: Order, body: &[u8]) -> Texts<'_>
     requires { HasBody order (codes "as") body.now }
     ensures { (place : ℕ) (types : List Complete) (values : List Value) → IsBody order (codes "as") body.now place types values → list_in values ≡ Some result }
@@ -164,7 +164,7 @@ pub fn text_list(order: Order, body: &[u8]) -> Texts<'_>
     }
 }
 
-/// The elements of the array that a body is.
+/// The elements of the array that is the whole body.
 fn elements(order: Order, body: &[u8]) -> Cursor<'_>
     requires { IsSome (elements_in order (record { place = 0; bytes = body.now })) }
     ensures { Some (place_seen result) ≡ elements_in order (record { place = 0; bytes = body.now }) }

@@ -1,4 +1,4 @@
-//! Where values end that stand in bytes.
+//! The end of the values in some bytes.
 ghost use Rattle.std.specs.Prelude.{◌≡◌, ◌≤◌, ℕ, suc, List, length, drop};
 ghost use Rattle.dbus_types.specs.Signature.{Complete, spelled_types};
 ghost use Rattle.dbus_values.specs.Ends.{values_end};
@@ -10,16 +10,16 @@ use crate::cursor::Cursor;
 use crate::{BadValue, Order};
 use dbus_types::Signature;
 
-/// One more than the most containers within which a value lies (D-Bus Specification, "Type System", "Valid Signatures").
+/// One more than the greatest nesting depth of containers (D-Bus Specification, "Type System", "Valid Signatures").
 const CONTAINERS: usize = 65;
 
-/// Where the values end that stand one after the other, by their types.
+/// Where the values of these types end, one after the other.
 fn types_end(order: Order, first_types: &[u8], first: Cursor<'_>) -> Result<usize, BadValue>
     ensures { result ≡ end_at (walk_types (walk_within 65 order) (suc (length first_types.now)) first_types.now (place_seen first.entry)) }
 {
     let mut types = first_types;
     let mut at = first;
-    // Each type takes a byte at least.
+    // Each type has at least one byte.
     let mut most = types.len() + 1;
     while most > 0 && !types.is_empty() {
         match walk(order, CONTAINERS, types, at) {
@@ -38,9 +38,9 @@ fn types_end(order: Order, first_types: &[u8], first: Cursor<'_>) -> Result<usiz
     }
 }
 
-/// Where the values of the signature end that stand at a place of the bytes, whose first byte stands at a place of the
-/// message that is a multiple of 8. They may be followed by more. In place and in one pass; an array of numbers of a fixed
-/// width is passed over by its length.
+/// Finds where the values of the signature end, from a place of the bytes on. The bytes must begin at a multiple of 8
+/// in the message; more bytes may follow the values. This takes one pass, in place, and passes over an array of
+/// fixed-width numbers by its length.
 pub fn value_end(
     order: Order,
     signature: Signature<'_>,

@@ -3,7 +3,8 @@ use Rattle.dbus_values.specs.Walk.{walk_within, walk_members, walk_element, walk
 use Rattle.dbus_values.specs.Seen.{place_seen}
 use Rattle.dbus_values.proofs.containers.+walk.Given as goal
 
--- Each container takes one from those that may still lie round a value; the calls between two values go down step by step.
+-- Each container takes one from those that may still be around a value; the calls between two values go down step by
+-- step.
 
 abbrev pub decreases-walk : goal.decreases-walk
 decreases-walk l = 8 * l.containers + 1
