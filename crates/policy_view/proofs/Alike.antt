@@ -1,4 +1,4 @@
--- Histories that give the same, and what follows them; bytes at which nobody looks, in two pieces or in one.
+-- Histories that give the same, and what follows them; raw bytes in two pieces or in one.
 use Rattle.std.proofs.Common.{ℕ, ◌≡◌, ◌+◌, nat_le, Bool, true, false, if◌then◌else◌, List, [], ◌∷◌, ◌++◌, length, Option, Some, None, refl, ap, ap₂, ◌∙◌, sym, append-nil, append_assoc}
 use Rattle.policy_args.specs.Policy.{Policy}
 use Rattle.policy_view.specs.Sent.{Past}
@@ -59,7 +59,7 @@ unfolding past after bus_bytes client_bytes to_bus to_client numbered
 two_items policy h Client x y = record { to_bus = sym (append_assoc (bus_bytes policy h) x y); to_client = sym (append-nil (client_bytes policy h ++ [])); noted = refl; told = refl; end_is = refl }
 two_items policy h Bus x y = record { to_bus = sym (append-nil (bus_bytes policy h ++ [])); to_client = sym (append_assoc (client_bytes policy h) x y); noted = refl; told = refl; end_is = refl }
 
--- the item, in whose place an End may stand
+-- the item, or an End in its place
 abbrev raw_or_end : Bool → Side → List ℕ → Item
 raw_or_end room side bytes = if room then Raw side bytes else Ended SerialsSpent
 

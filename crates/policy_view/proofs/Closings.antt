@@ -1,4 +1,4 @@
--- Laws of the event at which the history of events gets its End: before it the history is open, and after it the End stays.
+-- Laws of the event at which the history of events gets its End: before it there is no End, and after it the End stays.
 use Rattle.std.proofs.Common.{ℕ, ◌≡◌, ◌+◌, ◌≤◌, ◌<◌, List, [], ◌∷◌, ◌++◌, length, Option, Some, None, refl, ap, ◌∙◌, sym, subst, arith, length-append}
 use Rattle.policy_args.specs.Policy.{Policy}
 use Rattle.policy_view.specs.History.{Event, history, end_of}
@@ -7,7 +7,7 @@ use Rattle.policy_view.specs.declared.Mode.{Mode}
 use Rattle.policy_view.proofs.PastLaws.{ended_is_final}
 use Rattle.policy_view.specs.Closings.{closed_by, closing, ClosesFirst}
 
--- the parts of two pairs that are the same
+-- the parts of two equal pairs
 abbrev end_in : End → Option (End × ℕ) → End
 end_in other None = other
 end_in other (Some x) = x.0

@@ -1,4 +1,4 @@
--- A name that an entry covers is seen, so a hidden owner change tells nothing.
+-- A name that an entry covers is seen, so a hidden owner change gives no facts.
 use Rattle.std.proofs.Common.{◌≡◌, Bool, true, false, ◌&&◌, ◌||◌, if◌then◌else◌, List, [], ◌++◌, Option, Some, None, refl, ◌∙◌, ◌⊎◌, inl, inr}
 use Rattle.std.specs.List.{list_any}
 use Rattle.dbus_names.specs.Names.{is_bus, is_unique, is_well_known}
@@ -42,7 +42,7 @@ covered_seen policy facts name h = by (is_well_known name) h
     by true h = level_seen policy name h
     by false h = absurd cc
 
--- an owner change is shown whole, or it tells nothing
+-- an owner change is shown whole, or it gives no facts
 pub change_cases : (policy : Policy) (told : Told) (texts : Option (Text × Text × Text)) → (on_owner_change policy.sloppy (knowledge policy told) texts ≡ Whole)
     ⊎ ((reason : Reason) × (on_owner_change policy.sloppy (knowledge policy told) texts ≡ Hide reason) × (owners_of policy texts ≡ []))
 unfolding knowledge

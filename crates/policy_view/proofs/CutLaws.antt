@@ -1,4 +1,4 @@
--- Where a stream is cut into pieces changes nothing.
+-- How a stream is cut into pieces changes nothing.
 use Rattle.std.proofs.Common.{ℕ, zero, suc, ◌≡◌, ◌+◌, ◌-◌, ◌<◌, ◌≤◌, Bool, true, false, cond, List, [], ◌∷◌, ◌++◌, length, take, nat_le, Option, Some, None, refl, ap, ◌∙◌, sym, arith, append_assoc, append-nil, length-append, inl, inr}
 use Rattle.std.specs.Prelude.{◌⊎◌, nat_lt, min}
 use Rattle.std.proofs.lemmas.List.{length-take}
@@ -46,7 +46,7 @@ end_follows policy items end = by (end_of items) refl
     by None e = end_placed policy (past policy items) end items
     by (Some x) e = (x, e)
 
--- behind an End nothing has an effect
+-- after an End nothing has an effect
 end_last : (policy : Policy) (items : History) (xs ys : List Item) (end : End) → followed_by_all policy items (xs ++ Ended end ∷ ys) ≡ followed_by_all policy items (xs ++ Ended end ∷ [])
 unfolding followed_by_all
 end_last policy items xs ys end =
@@ -80,7 +80,7 @@ take_none : (n : ℕ) (xs : List ℕ) → n ≡ 0 → take n xs ≡ []
 take_none zero xs e = refl
 take_none (suc n) xs e = absurd (omega (arith, e))
 
--- ---- streams that are the same
+-- ---- equal streams
 
 abbrev SameStreams : List Event → List Event → Type 0
 SameStreams one two = (side : Side) → whole_stream side one ≡ whole_stream side two
@@ -98,7 +98,7 @@ raw_same mode side one two same = raw_by mode side one two (stream_same Client o
 fault_same : (mode : Mode) (side : Side) (one two : List Event) → SameStreams one two → fault_in mode side one ≡ fault_in mode side two
 fault_same mode side one two same = fault_by mode side one two (stream_same Client one two same) (stream_same Bus one two same)
 
--- where a second piece adds nothing to its side's stream
+-- a second piece adds nothing to its side's stream
 record Unchanged (mode : Mode) (side : Side) (one two : List Event) : Type 0 where
   found_is : found mode side two ≡ found mode side one
   raw_is : raw mode side two ≡ raw mode side one
@@ -149,7 +149,7 @@ none_followed policy h = refl
 ended_then : (policy : Policy) (h : History) (end : End) (one other after : List Item) → followed_by_all policy h (Ended end ∷ one) ≡ followed_by_all policy (followed_by_all policy h (Ended end ∷ other)) after
 ended_then policy h end one other after = end_last policy h [] one end ∙ sym (end_stays policy h [] other after end)
 
--- lines and messages, bytes at which nobody looks, and an End
+-- lines and messages, raw bytes, and an End
 abbrev three : Side → List Item → List ℕ → Option Fault → Bool → List Item
 three side items bytes f over = items ++ (raw_item side bytes ++ (fault_end side f ++ end_if over (finished side)))
 
@@ -163,7 +163,7 @@ brought_three mode side events piece items bytes found_is raw_is =
 
 -- ---- a piece in two pieces
 
--- how far two histories are alike, where those that are the same are, and the same items follow both alike
+-- a likeness of histories that holds for equal ones and is kept if the same items follow both
 record IsLikeness (policy : Policy) (Like : History → History → Type 0) : Type 0 where
   same : (h k : History) → h ≡ k → Like h k
   chained : (a b c : History) → Like a b → Like b c → Like a c
@@ -248,7 +248,7 @@ nothing_left : (xs ys : List ℕ) → xs ++ ys ≡ [] → ys ≡ []
 nothing_left [] ys e = e
 nothing_left (x ∷ xs) ys e = absurd cc
 
--- nothing is added to a list that stays the same
+-- nothing was added to a list that is unchanged
 none_added : {A : Type 0} (xs ys : List A) → xs ++ ys ≡ xs → ys ≡ []
 none_added xs ys e = sym (new_last xs ys) ∙ ap (new_in xs) e ∙ ap (new_in xs) (sym (append-nil xs)) ∙ new_last xs []
 
@@ -305,7 +305,7 @@ module _ (policy : Policy) (mode : Mode) (side : Side) (events : List Event) (fi
       let long = ltb-true longest_stream (length (stream side events) + length first) e in
       lt-ltb longest_stream (length (stream side events) + length (first ++ second)) (omega (arith, l, long))
 
-  -- ---- and where it doesn't
+  -- ---- and if it doesn't
 
   room_len : nat_lt longest_stream (length (stream side events) + length first) ≡ false → length (stream side once) ≡ length (stream side events) + length first
   unfolding taken_of
@@ -412,7 +412,7 @@ later_like policy mode Like like (event ∷ later) one two same e =
 the_same : (policy : Policy) → IsLikeness policy (λ (h k : History). h ≡ k)
 the_same policy = record { same = λ h k e. e; chained = λ a b c e f. e ∙ f; followed = λ items h k e. ap (λ (t : History). followed_by_all policy t items) e }
 
--- with a filter nobody's bytes go on unseen
+-- with a filter there are no raw bytes
 none_raw : (mode : Mode) (side : Side) (events : List Event) → mode.filter ≡ true → raw mode side events ≡ []
 unfolding raw
 none_raw mode side events e = ap (λ (b : Bool). raw_in b (content mode side events)) e

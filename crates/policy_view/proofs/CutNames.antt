@@ -129,7 +129,7 @@ body_len o p ws =
 six_len : (a b c d e f : List ℕ) → length (((((a ++ b) ++ c) ++ d) ++ e) ++ f) ≡ length a + length b + length c + length d + length e + length f
 six_len a b c d e f = omega (arith, length-append ((((a ++ b) ++ c) ++ d) ++ e) f, length-append (((a ++ b) ++ c) ++ d) e, length-append ((a ++ b) ++ c) d, length-append (a ++ b) c, length-append a b)
 
--- the length of a message, but for its body's
+-- the length of a message, without that of its body
 abbrev before_body : Order → ℕ → List ℕ → ℕ
 before_body o serial fields = 16 + length fields + length (zeros 8 (16 + length fields))
 

@@ -1,4 +1,4 @@
--- What is decided on a message rests on the facts, the sent messages and the owed replies alone.
+-- The decision on a message depends only on the facts, the sent messages and the owed replies.
 use Rattle.std.proofs.Common.{ℕ, ◌≡◌, List, Option, ap, ap₂}
 use Rattle.dbus_header.specs.Message.{Message}
 use Rattle.policy_args.specs.Levels.{entries, level_of}
@@ -13,7 +13,7 @@ use Rattle.policy_view.specs.Shown.{bus_role, shown, showing}
 use Rattle.policy_view.specs.Verdicts.{verdict}
 use Rattle.policy_view.specs.declared.Verdict.{Verdict}
 
--- all that the tables look at
+-- all that the tables use
 known_alike : (policy : Policy) (one other : Past) → KnowTheSame one other → knowledge policy one.told ≡ knowledge policy other.told
 unfolding knowledge
 known_alike policy one other same =

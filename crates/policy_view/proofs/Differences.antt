@@ -1,4 +1,4 @@
--- Visible parts differ first where what is given of their elements does, and else at their Ends.
+-- Visible parts first differ where their given elements do, and else at their Ends.
 use Rattle.std.proofs.Common.{ℕ, zero, suc, ◌≡◌, ◌+◌, ◌-◌, List, [], ◌∷◌, ◌++◌, length, map, flat_map, take, Option, Some, None, refl, ap, ap₂, sym, subst, ◌∙◌, append-nil, arith}
 use Rattle.std.specs.Prelude.{option_to_list, slice_get}
 use Rattle.std.specs.List.{AllByRecursion}
@@ -15,7 +15,7 @@ use Rattle.policy_view.specs.declared.End.{End}
 use Rattle.policy_view.specs.declared.visible.Visible.{Visible as Element}
 use Rattle.policy_view.specs.declared.visible.Visible.TheVariants as given
 
--- ---- what is given of an element is given again of the element that it tells
+-- ---- the element that a given element represents gives it again
 
 abbrev again : Element → Element
 again (given.Line side bytes) = given.Line side bytes

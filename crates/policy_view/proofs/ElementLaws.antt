@@ -1,4 +1,4 @@
--- The elements that are given of a history, and its End, tell its visible part.
+-- The visible part of a history follows from its given elements and its End.
 use Rattle.std.proofs.Common.{ℕ, ◌≡◌, Bool, true, false, if◌then◌else◌, List, [], ◌∷◌, ◌++◌, map, flat_map, Option, Some, None, refl, ap, ap₂, sym, ◌∙◌, append-nil}
 use Rattle.std.proofs.lemmas.List.{map-append}
 use Rattle.std.specs.Prelude.{option_to_list, unwrap_or}
@@ -27,7 +27,7 @@ use Rattle.policy_view.proofs.CutNames.{cut_valid}
 use Rattle.policy_view.proofs.Frames.{spelled_message}
 use Rattle.policy_view.proofs.Sound.{AllBytes, EndsOnce, HasValid, Runs, once_history, valid_history}
 
--- the elements of which they are given again
+-- the given elements are given again
 abbrev Again : List Visible → Type 0
 Again vs = map element_of (flat_map given_of vs) ≡ vs
 

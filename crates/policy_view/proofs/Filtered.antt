@@ -1,4 +1,4 @@
--- The history of a session that filters messages has no bytes at which nobody looks.
+-- The history of a session that filters messages has no raw bytes.
 use Rattle.std.proofs.Common.{ℕ, ◌≡◌, Bool, true, false, List, [], ◌∷◌, ◌++◌, length, map, Option, Some, None}
 use Rattle.std.specs.List.{AllByRecursion}
 use Rattle.dbus_header.specs.Message.{Message}

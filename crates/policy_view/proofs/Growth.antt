@@ -1,4 +1,4 @@
--- A history grows at its front, and the bytes that it gives out at their end.
+-- A history grows at the head of its list, and the bytes that it gives out at their end.
 use Rattle.std.proofs.Common.{◌≡◌, ◌≤◌, ◌-◌, ◌+◌, ℕ, zero, suc, List, [], ◌∷◌, ◌++◌, Option, Some, None, refl, ap, ◌∙◌, sym, append_assoc, append-nil, length, take, drop, length-append, arith, flat_map}
 use Rattle.std.proofs.lemmas.List.{take-append-drop}
 use Rattle.policy_args.specs.Policy.{Policy}
@@ -113,7 +113,7 @@ drop_more (item ∷ added) before k =
     let same : suc (length added) + k ≡ suc (length added + k) = omega arith in
     ap (λ (n : ℕ). drop n (item ∷ added ++ before)) same ∙ drop_more added before k
 
--- they are the same when more has come
+-- they stay when more was received
 pub first_of_more : (n : ℕ) (added before : History) → n ≤ length before → first_items n (added ++ before) ≡ first_items n before
 first_of_more n added before le =
     let same : length (added ++ before) - n ≡ length added + (length before - n) = omega (arith, length-append added before, le) in

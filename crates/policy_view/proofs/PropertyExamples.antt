@@ -72,7 +72,7 @@ other_methods : map property_request (
 unfolding property_request
 other_methods = refl
 
--- ---- verdicts on calls of a name that is only seen
+-- ---- verdicts on calls to a name that is only seen
 
 abbrev on_T : Grant → Entry
 on_T grant = record { pattern = record { name = codes "org.a.T"; exact = true }; grant = grant }

@@ -1,4 +1,4 @@
--- No more replies pass than calls came that want one.
+-- No more replies pass than there were calls that want one.
 use Rattle.std.proofs.Common.{ℕ, ◌≡◌, ◌+◌, ◌-◌, ◌≤◌, Bool, true, false, cond, List, [], ◌∷◌, ◌++◌, Option, Some, None, refl, ap, ap₂, ◌∙◌, sym, subst, arith, count_by}
 use Rattle.std.specs.Prelude.{◌==◌, nat_lt}
 use Rattle.std.proofs.lemmas.Bool.{and_parts, eqb-true}
@@ -27,7 +27,7 @@ times_append e xs ys = sum_by-append (λ x. cond (is_same e x) 1 0) xs ys
 pub times_one : (e x : Exchange) → times e (x ∷ []) ≡ cond (is_same e x) 1 0
 times_one e x = omega arith
 
--- two that are the same, one of which has a peer
+-- two equal exchanges, one of which has a peer
 same_exchange : (e x : Exchange) → is_same e x ≡ true → e ≡ x
 same_exchange e x h = by e.peer refl x.peer refl (and_parts (same_text e.peer x.peer) (e.number == x.number) h)
   where

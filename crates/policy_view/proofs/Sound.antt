@@ -1,4 +1,4 @@
--- The messages of a history are valid, where what the events bring are bytes; and nothing stands behind its End.
+-- The messages of a history are valid if the events bring bytes; and nothing follows its End.
 use Rattle.std.proofs.Common.{ℕ, ◌≡◌, Bool, true, false, List, [], ◌∷◌, ◌++◌, drop, length, map, if◌then◌else◌, Option, Some, None, refl, subst, arith}
 use Rattle.std.specs.List.{AllByRecursion}
 use Rattle.std.specs.Prelude.{◌==◌}
@@ -116,7 +116,7 @@ valid_arrived mode (Stopped end) events are = (tt, tt)
 pub valid_history : (policy : Policy) (mode : Mode) (events : List Event) → AllBytes events → AllByRecursion HasValid (history policy mode events)
 valid_history policy mode events are = each_item HasValid (λ end. tt) policy mode AllBytes (λ event events are. are.1) (valid_arrived mode) events are
 
--- ---- nothing stands behind the End
+-- ---- nothing follows the End
 
 abbrev pub Runs : History → Type 0
 Runs [] = Unit {0}

@@ -24,7 +24,7 @@ use Rattle.policy_view.specs.declared.Side.TheVariants.{Client, Bus}
 
 -- ---- what is said of a side's stream that grows
 
--- the items that a side's new bytes make, and those of them at which nobody looks, behind which no item comes
+-- the items that a side's new bytes make, and the raw bytes among them, which no item follows
 pub record Grown (mode : Mode) (side : Side) (events : List Event) (piece : List ℕ) : Type 0 where
   pub items : List Item
   pub bytes : List ℕ
@@ -67,7 +67,7 @@ client_stream events piece = refl
 abbrev found_of : Side → Bool → List (List ℕ) → Option (List ℕ) → List Item
 found_of side filter ls c = map (Line side) ls ++ map (Msg side) (messages_in filter c)
 
--- more bytes follow the lines, or more lines come where nothing follows them yet
+-- more bytes follow the lines, or there are more lines and nothing follows the lines before
 data Grows (ls : List (List ℕ)) (c : Option (List ℕ)) (now : List (List ℕ)) (then_c : Option (List ℕ)) : Type 0 where
   behind : (b y : List ℕ) → now ≡ ls → c ≡ Some b → then_c ≡ Some (b ++ y) → Grows ls c now then_c
   before : Begins ls now → (c ≡ None) ⊎ (c ≡ Some []) → Grows ls c now then_c
@@ -88,7 +88,7 @@ no_byte : (b : Bool) → cond {A = List ℕ} b [] [] ≡ []
 no_byte true = refl
 no_byte false = refl
 
--- where no bytes follow the lines
+-- if no bytes follow the lines
 pub nothing_in : (filter : Bool) (c : Option (List ℕ)) → (c ≡ None) ⊎ (c ≡ Some []) → (messages_in filter c ≡ []) × (raw_in filter c ≡ [])
 unfolding split
 nothing_in filter c (inl e) = (ap (messages_in filter) e, ap (raw_in filter) e ∙ no_byte filter)
@@ -305,7 +305,7 @@ bus_part_stays : (auth filter : Bool) (n : ℕ) (b : Bool) (S y : List ℕ) (g :
 bus_part_stays true filter n b S y g e = bus_stays filter n b S y g e
 bus_part_stays false filter n b S y g e = plain_stays Bus filter S y g e
 
--- a fault stays where it is, with nothing behind it
+-- a fault stays where it is, and nothing follows it
 pub stays : (mode : Mode) (side : Side) (events : List Event) (piece : List ℕ) (f : Fault) → fault mode side events ≡ Some f → Unmoved mode side events (Bytes side piece ∷ events) (Some f)
 unfolding found raw lines content fault
 stays mode Client events piece f h =
@@ -328,7 +328,7 @@ no_line_fault : (o : Option LineFault) (later : Option Fault) → first_fault (f
 no_line_fault None later e = refl
 no_line_fault (Some f) later e = absurd cc
 
--- the bus's stream S, where the client's goes on from C to C ++ y
+-- the bus's stream S, while the client's goes on from C to C ++ y
 bus_apart : (filter : Bool) (C y S : List ℕ) → first_fault (fault_of_line (bus_fault (asked C) (has_begun C) S)) (fault_in filter (behind_bus (asked C) (has_begun C) S)) ≡ None →
     Quieted filter (bus_lines (asked C) S) (bus_lines (asked (C ++ y)) S) (behind_bus (asked C) (has_begun C) S) (behind_bus (asked (C ++ y)) (has_begun (C ++ y)) S) (fault_of_line (bus_fault (asked (C ++ y)) (has_begun (C ++ y)) S))
 bus_apart filter C y S e = go (has_begun C) refl
@@ -407,9 +407,9 @@ pub client_by : (mode : Mode) (one two : List Event) → stream Client one ≡ s
 unfolding lines content fault
 client_by mode one two c = (rw c refl, rw c refl, rw c refl)
 
--- ---- bytes behind the lines
+-- ---- bytes after the lines
 
--- more bytes behind the lines, of which all were given
+-- more bytes after the lines, all of which were given
 pub record More (now : List (List ℕ)) (ls : List (List ℕ)) (then_c : Option (List ℕ)) (b y : List ℕ) : Type 0 where
   pub content_is : then_c ≡ Some (b ++ y)
   pub lines_is : now ≡ ls
@@ -434,7 +434,7 @@ bus_more true n true S y b e all = record {
   lines_is = bus_lines-stay n S y (all refl);
 }
 
--- where a piece comes behind a side's lines, all of which were given
+-- a piece follows a side's lines, all of which were given
 pub content_more : (mode : Mode) (side : Side) (events : List Event) (piece b : List ℕ) → content mode side events ≡ Some b
     → (side ≡ Bus → mode.auth ≡ true → length (lines mode Bus events) ≡ asked (stream Client events))
     → More (lines mode side (Bytes side piece ∷ events)) (lines mode side events) (content mode side (Bytes side piece ∷ events)) b (taken_of side events piece)
@@ -450,7 +450,7 @@ content_more mode Bus events piece b e all =
 
 -- ---- the bus's side, while the client's bytes come
 
--- its lines are the same; what follows them too, or nothing follows them
+-- its lines are the same; what follows them is the same too, or nothing follows them
 pub record BusKept (mode : Mode) (one other : List Event) : Type 0 where
   pub lines_is : lines mode Bus other ≡ lines mode Bus one
   pub quiet : bytes_in (content mode Bus one) ≡ [] → bytes_in (content mode Bus other) ≡ []

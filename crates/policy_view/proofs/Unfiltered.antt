@@ -1,4 +1,4 @@
--- A session that doesn't filter: its items are lines and bytes at which nobody looks, and all of them go on.
+-- A session that doesn't filter: its items are lines and raw bytes, and all of them are passed on.
 use Rattle.std.proofs.Common.{ℕ, ◌≡◌, ◌+◌, nat_le, Bool, true, false, cond, if◌then◌else◌, List, [], ◌∷◌, ◌++◌, length, map, Option, Some, None, refl, ap, ap₂, ◌∙◌, sym, subst, append_assoc, append-nil, inl, inr}
 use Rattle.std.specs.Prelude.{◌⊎◌, flat_map}
 use Rattle.std.specs.List.{AllByRecursion}
@@ -29,7 +29,7 @@ use Rattle.policy_view.proofs.Streams.{Grown, Unmoved, apart, bus_apart_client, 
 
 -- ---- items that are no messages
 
--- a line, or bytes at which nobody looks
+-- a line, or raw bytes
 abbrev IsPlain : Item → Type 0
 IsPlain (Line side bytes) = Unit {0}
 IsPlain (Msg side m) = ⊥
@@ -43,7 +43,7 @@ record Gave (policy : Policy) (h : History) (bus client : List ℕ) : Type 0 whe
   past_is : past policy h ≡ nothing_before
   noted : numbered policy h ≡ ([], 0)
 
--- what causes no message stands as it came
+-- an item that causes no message is kept unchanged
 followed_is : (policy : Policy) (h : History) (item : Item) → due policy nothing_before item ≡ [] → past policy h ≡ nothing_before → end_of h ≡ None → followed_by policy h item ≡ item ∷ h
 unfolding followed_by placed nothing_before
 followed_is policy h item quiet is running =
@@ -131,7 +131,7 @@ module _ (policy : Policy) where
   unfolding followed_by_all
   no_ends h side f over none room = ap₂ (λ (o : Option Fault) (b : Bool). followed_by_all policy h (ends side o b)) none room
 
-  -- where no End follows there is no fault
+  -- if no End follows, there is no fault
   no_fault : (h : History) (side : Side) (f : Option Fault) (over : Bool) → end_of (followed_by_all policy h (ends side f over)) ≡ None → f ≡ None
   no_fault h side None over e = refl
   no_fault h side (Some f) over e =
@@ -175,7 +175,7 @@ none_more : (side : Side) (ls : List (List ℕ)) → map (Line side) ls ≡ [] �
 none_more side [] e = refl
 none_more side (l ∷ ls) e = absurd cc
 
--- the lines and bytes that are new on a side; behind bytes no line comes
+-- the lines and bytes that are new on a side; no line follows bytes
 record Brings (mode : Mode) (side : Side) (events : List Event) (piece : List ℕ) : Type 0 where
   more : List (List ℕ)
   bytes : List ℕ
@@ -216,7 +216,7 @@ no_line_fault mode side events e none =
     no_bad None = refl
     no_bad (Some bytes) = refl
 
--- ---- the bytes of lines, and those behind them
+-- ---- the bytes of lines, and those after them
 
 nothing_from : (ls : List (List ℕ)) → flat_map {A = ℕ} (λ l. []) ls ≡ []
 nothing_from [] = refl
@@ -240,7 +240,7 @@ unfolding to_bus to_client
 bus_raw_out policy [] = (refl, refl)
 bus_raw_out policy (b ∷ bytes) = (refl, append-nil (b ∷ bytes))
 
--- new lines and new bytes come behind what was given, as bytes come behind the lines
+-- new lines and new bytes follow what was given, as bytes follow the lines
 behind : (f : List ℕ → List ℕ) (ls more : List (List ℕ)) (r bytes : List ℕ) → (r ≡ []) ⊎ (more ≡ []) → ((flat_map f ls ++ r) ++ flat_map f more) ++ bytes ≡ flat_map f (ls ++ more) ++ (r ++ bytes)
 behind f ls more r bytes (inl e) =
     ap (λ (t : List ℕ). ((flat_map f ls ++ t) ++ flat_map f more) ++ bytes) e
@@ -254,7 +254,7 @@ behind f ls more r bytes (inr e) =
     ∙ ap (λ (t : List (List ℕ)). flat_map f t ++ (r ++ bytes)) (sym (append-nil ls))
     ∙ ap (λ (t : List (List ℕ)). flat_map f (ls ++ t) ++ (r ++ bytes)) (sym e)
 
--- nothing comes to the other side
+-- nothing is given to the other side
 none_behind : (given x y : List ℕ) → x ≡ [] → y ≡ [] → (given ++ x) ++ y ≡ given
 none_behind given x y e f = ap₂ (λ (s t : List ℕ). (given ++ s) ++ t) e f ∙ append-nil (given ++ []) ∙ append-nil given
 

@@ -73,7 +73,7 @@ see_a = policy_of (record { pattern = record { name = codes "org.a"; exact = fal
 abbrev visible : Policy → List Item → List Visible
 visible policy items = part policy (followed_by_all policy [] items)
 
--- ---- an answer in place is told by the position and the serial of the ping's answer
+-- ---- an answer in place becomes the position and the serial of the ping's answer
 
 in_place : visible talk_T (
     from_client (call 1 (codes "org.a.T") (codes "A")) ∷ from_client (call 2 (codes "org.h.X") (codes "A")) ∷ from_client (call 3 (codes "org.a.T") (codes "B"))
@@ -107,7 +107,8 @@ owner_learned : visible talk_T (learning [] [] owned)
 unfolding everything
 owner_learned = refl
 
--- another owner is another element; an error, and a text that is no unique name, are a refusal; a second answer is erased
+-- another owner is another element; an error, and a text that is no unique name, are refusals; a second answer is
+-- erased
 owners :
     (visible talk_T (learning [] [] (answer 2 3 3 bus_name (a_string (codes ":1.8") ∷ [])))
     ≡ FromClient (bus_call 1 (codes "Hello")) ∷ ShownWhole (answer 2 1 1 bus_name (a_string (codes ":1.40") ∷ [])) ∷ OwnerAnswered 3 (Some (codes ":1.8"))
@@ -120,7 +121,7 @@ owners :
 unfolding everything
 owners = (refl, refl, refl, refl)
 
--- ---- a list is told by the names that are seen, in their order
+-- ---- a list becomes the names that are seen, in their order
 
 abbrev listed : List Text → List Item
 listed texts = from_client (bus_call 1 (codes "ListNames")) ∷ from_bus (answer 2 30 1 bus_name (names texts)) ∷ []
@@ -137,7 +138,8 @@ order_counts :
 unfolding everything
 order_counts = (refl, refl)
 
--- ---- the proxy's own list is told by the names to be asked; a list with none of them asks nothing, and an error is a refusal
+-- ---- the proxy's own list becomes the names to be asked; a list with none of them asks nothing, and an error is a
+-- refusal
 
 abbrev asking : Message → List Item
 asking m = from_client (bus_call 1 (codes "Hello")) ∷ from_bus (answer 2 2 2 bus_name []) ∷ from_bus m ∷ []
@@ -151,7 +153,7 @@ names_told :
 unfolding everything
 names_told = (refl, refl, refl, refl)
 
--- ---- lines and the End are told as they came, and nothing behind the End
+-- ---- lines and the End are unchanged, and nothing follows the End
 
 lines_and_end : visible talk_T (Line Client (0 ∷ []) ∷ Line Bus (codes "OK") ∷ Ended ClientEnd ∷ Ended BusEnd ∷ from_client (call 1 (codes "org.a.T") (codes "A")) ∷ [])
     ≡ VisibleLine Client (0 ∷ []) ∷ VisibleLine Bus (codes "OK") ∷ Closed ClientEnd ∷ []

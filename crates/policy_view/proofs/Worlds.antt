@@ -29,7 +29,7 @@ use Rattle.policy_view.specs.declared.Reason.TheVariants.{SenderNotTalk}
 use Rattle.policy_view.proofs.Covered.{change_cases}
 use Rattle.policy_view.proofs.Filtered.{IsNotRaw}
 
--- what a history told and gave out, but for the answers that it used up
+-- what is known after a history and what it gave out, except for the answers that it used up
 record World : Type 0 where
   told : Told
   bus_side : List ℕ
@@ -111,7 +111,7 @@ follow policy w (OwnerAnswered position owner) = with_owner w owner (expected_in
 follow policy w (NamesAnswered position names) = with_asked w names
 follow policy w (Closed end) = record w { ended = Some end }
 
--- nothing is added where there is nothing to add
+-- adding nothing changes nothing
 idle : (w : World) → record {
   told = record { facts = w.told.facts ++ []; sent = w.told.sent ++ []; called = w.told.called ++ []; replied = w.told.replied };
   bus_side = w.bus_side ++ [];
@@ -121,7 +121,7 @@ idle : (w : World) → record {
 } ≡ w
 idle w = simp append-nil
 
--- ---- what a role tells of the answer
+-- ---- what follows from the role of the answer
 
 abbrev told_by : BusRole → Option Expected → Option Expected
 told_by (OwnerAnswer name) x = Some (expects.OwnOwner name)
@@ -229,7 +229,7 @@ module _ (policy : Policy) where
   step_unexpected : (w : World) (m : Message) → fold (follow policy) w (elements w m Unexpected) ≡ with_message policy w m Unexpected
   step_unexpected w m = sym (idle w)
 
-  -- the same where the answer was used up: then the message is erased
+  -- if the answer was used up, the message is erased
   step_used : (w : World) (m : Message) (k : Kind) → kind_of m ≡ k → fold (follow policy) w (elements w m (bus_role_at k m None)) ≡ with_message policy w m (bus_role_at k m None)
   step_used w m Call e = step_at w m CallIn (rw e refl)
   step_used w m Return e = step_unexpected w m

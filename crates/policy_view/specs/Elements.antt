@@ -1,4 +1,4 @@
--- The elements of the visible part as they are given: messages by their frames, and the End apart.
+-- The elements of the visible part as they are given: messages by their frames, without the End.
 use Rattle.std.specs.Prelude.{◌≡◌, ℕ, ◌+◌, ◌-◌, ◌≤◌, List, [], ◌∷◌, ◌++◌, length, map, flat_map, take, slice_get, option_to_list}
 use Rattle.byte_lists.specs.Bytes.{AreBytes}
 use Rattle.dbus_header.specs.Message.{spell}
@@ -10,7 +10,7 @@ use Rattle.policy_view.specs.Visible.{Visible, VisibleLine, FromClient, ShownWho
 use Rattle.policy_view.specs.declared.visible.Visible.{Visible as Element}
 use Rattle.policy_view.specs.declared.visible.Visible.TheVariants as given
 
--- what is given of an element: of an End nothing
+-- what is given of an element: nothing of an End
 abbrev pub given_of : Visible → List Element
 given_of (VisibleLine side bytes) = given.Line side bytes ∷ []
 given_of (FromClient m) = given.Client (spell m) ∷ []
@@ -25,7 +25,7 @@ given_of (Closed end) = []
 unfoldable pub elements : Policy → History → List Element
 elements policy items = flat_map given_of (part policy items)
 
--- the element of which it was given
+-- the visible element that this given element represents
 abbrev pub element_of : Element → Visible
 element_of (given.Line side bytes) = VisibleLine side bytes
 element_of (given.Client frame) = FromClient (message_in frame)
@@ -35,17 +35,17 @@ element_of (given.Ping position serial) = PingAnswered position serial
 element_of (given.Owner position owner) = OwnerAnswered position owner
 element_of (given.Asked position names) = NamesAnswered position names
 
--- the elements that are given of a history, and its End, tell its visible part
+-- the visible part of a history follows from its given elements and its End
 abbrev pub TellThePart : Policy → History → Type 0
 TellThePart policy items = part policy items ≡ map element_of (elements policy items) ++ map Closed (option_to_list (end_of items))
 
--- the first place at which two lists differ, from 1; where one of them ends is a place too
+-- the first place at which two lists differ, from 1; the place after the end of the shorter list counts too
 pub record DifferFirst {A : Type 0} (place : ℕ) (one other : List A) : Type 0 where
   pub counted : 1 ≤ place
   pub before : take (place - 1) one ≡ take (place - 1) other
   pub there : slice_get one (place - 1) ≡ slice_get other (place - 1) → ⊥
 
--- the visible parts of two histories differ first where what is given of them does, and else at their Ends
+-- the visible parts of two histories first differ where their given elements do, and else at their Ends
 pub record DifferAsGiven (policy : Policy) (one other : History) : Type 0 where
   pub same : elements policy one ≡ elements policy other → end_of one ≡ end_of other → part policy one ≡ part policy other
   pub at_element : (place : ℕ) → DifferFirst place (elements policy one) (elements policy other) → DifferFirst place (part policy one) (part policy other)

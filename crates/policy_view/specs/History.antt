@@ -16,7 +16,7 @@ use Rattle.policy_view.specs.declared.Fault.TheVariants.{Line as OfLine, Message
 use Rattle.policy_view.specs.declared.End.{End}
 use Rattle.policy_view.specs.declared.End.TheVariants.{ClientMalformed, BusMalformed, ClientEnd, BusEnd, SerialsSpent}
 
--- what happens to a session; events are kept newest first, as items are
+-- what happens to a session; the newest event or item is first in its list
 pub data Event : Type 0 where
   Bytes : (side : Side) (piece : List ℕ) → Event
   Finished : (side : Side) → Event
@@ -28,25 +28,25 @@ longest_stream = 1152921504606846976
 abbrev pub most_sent : ℕ
 most_sent = 4294967295
 
--- all bytes that the events bring of a side
+-- all bytes of a side that the events bring
 abbrev pub whole_stream : Side → List Event → List ℕ
 whole_stream side [] = []
 whole_stream Client (Bytes Client piece ∷ events) = whole_stream Client events ++ piece
 whole_stream Bus (Bytes Bus piece ∷ events) = whole_stream Bus events ++ piece
 whole_stream side (_ ∷ events) = whole_stream side events
 
--- the stream of a side: these bytes up to its limit
+-- the stream of a side: these bytes, up to its limit
 unfoldable pub stream : Side → List Event → List ℕ
 stream side events = take longest_stream (whole_stream side events)
 
--- ---- a side's stream in lines, and in messages where these are filtered
+-- ---- a side's stream in lines, and in messages if these are filtered
 
--- the whole lines of a side: the client's up to BEGIN, and so many of the bus's as the client asked for
+-- the whole lines of a side: the client's up to BEGIN, and as many of the bus's as the client asked for
 unfoldable pub lines : Mode → Side → List Event → List (List ℕ)
 lines mode Client events = if mode.auth then client_lines (stream Client events) else []
 lines mode Bus events = if mode.auth then bus_lines (asked (stream Client events)) (stream Bus events) else []
 
--- what follows a side's lines, where BEGIN was seen
+-- what follows a side's lines, if BEGIN was seen
 unfoldable pub content : Mode → Side → List Event → Option (List ℕ)
 content mode Client events =
     if mode.auth then (if has_begun (stream Client events) then Some (after_begin (stream Client events)) else None)
@@ -56,7 +56,7 @@ content mode Bus events =
     then (if has_begun (stream Client events) then Some (after_lines (asked (stream Client events)) (stream Bus events)) else None)
     else Some (stream Bus events)
 
--- the messages of that, where messages are filtered
+-- its messages, if messages are filtered
 abbrev pub messages_in : Bool → Option (List ℕ) → List Message
 messages_in filter None = []
 messages_in filter (Some bytes) = if filter then messages bytes else []
@@ -65,7 +65,7 @@ abbrev pub bytes_in : Option (List ℕ) → List ℕ
 bytes_in None = []
 bytes_in (Some bytes) = bytes
 
--- and where they aren't, its bytes, at which nobody looks
+-- its raw bytes, if messages aren't filtered
 abbrev pub raw_in : Bool → Option (List ℕ) → List ℕ
 raw_in filter content = if filter then [] else bytes_in content
 
@@ -73,11 +73,11 @@ raw_in filter content = if filter then [] else bytes_in content
 unfoldable pub found : Mode → Side → List Event → List Item
 found mode side events = map (Line side) (lines mode side events) ++ map (Msg side) (messages_in mode.filter (content mode side events))
 
--- the bytes that stand in the place of messages where these aren't filtered
+-- the raw bytes, which take the place of messages if these aren't filtered
 unfoldable pub raw : Mode → Side → List Event → List ℕ
 raw mode side events = raw_in mode.filter (content mode side events)
 
--- ---- its first fault
+-- ---- the first fault of a side's stream
 
 abbrev pub fault_of_line : Option LineFault → Option Fault
 fault_of_line None = None
@@ -102,7 +102,7 @@ abbrev pub first_fault : Option Fault → Option Fault → Option Fault
 first_fault None later = later
 first_fault (Some f) later = Some f
 
--- what is wrong with a side's stream: with its lines, and with its messages where these are filtered
+-- what is wrong with a side's stream: with its lines, or with its messages if these are filtered
 unfoldable pub fault : Mode → Side → List Event → Option Fault
 fault mode side events = first_fault (line_fault mode side events) (fault_in mode.filter (content mode side events))
 
@@ -118,7 +118,7 @@ abbrev pub fault_end : Side → Option Fault → List Item
 fault_end side None = []
 fault_end side (Some f) = Ended (malformed side f) ∷ []
 
--- bytes at which nobody looks, as one item where there are any
+-- raw bytes as one item, if there are any
 abbrev pub raw_item : Side → List ℕ → List Item
 raw_item side [] = []
 raw_item side (byte ∷ bytes) = Raw side (byte ∷ bytes) ∷ []
@@ -154,7 +154,7 @@ arrived mode events (Bytes side piece) = brought mode side events piece
 arrived mode events (Finished side) = Ended (finished side) ∷ []
 arrived mode events (Stopped end) = Ended end ∷ []
 
--- the item, or the End that stands in its place
+-- the item, or the End that takes its place
 unfoldable pub placed : Policy → Past → Item → Item
 placed policy before item =
     if nat_le (length before.told.sent + length (due policy before item)) most_sent then item else Ended SerialsSpent
@@ -179,11 +179,11 @@ unfoldable pub followed_by_all : Policy → History → List Item → History
 followed_by_all policy before [] = before
 followed_by_all policy before (item ∷ items) = followed_by_all policy (followed_by policy before item) items
 
--- the history of the events; the last event stands first
+-- the history of the events; the last event is first in the list
 unfoldable pub history : Policy → Mode → List Event → History
 history policy mode [] = []
 history policy mode (event ∷ events) = followed_by_all policy (history policy mode events) (arrived mode events event)
 
--- the first so many items of a history: those that came before the others
+-- the first items of a history, as many as this number: those that came before the others
 abbrev pub first_items : ℕ → History → History
 first_items n items = drop (length items - n) items

@@ -13,14 +13,14 @@ use Rattle.policy_view.specs.declared.Side.TheVariants.{Client, Bus}
 use Rattle.policy_view.specs.declared.Decision.{Decision}
 use Rattle.policy_view.specs.declared.Decision.TheVariants.{Judged, Shown}
 
--- the message that the bytes of a valid one spell
+-- the message that these bytes of a valid message spell
 abbrev pub message_in : List ℕ → Message
 message_in bytes = unwrap_or (message_of bytes) ping
 
 pub record Note : Type 0 where
   pub number : ℕ
   pub side : Side
-  -- the message's bytes, as it came
+  -- the message's bytes, as received
   pub frame : List ℕ
   pub decision : Decision
 
@@ -29,7 +29,7 @@ abbrev pub decision_on : Policy → Past → Side → Message → Decision
 decision_on policy before Client m = Judged (judged policy before.told m)
 decision_on policy before Bus m = Shown (shown policy before m)
 
--- the notes so far and their number, with the note of one more item: a message has one, and nothing else has
+-- the notes so far and their number, with the note on one more item: only a message has one
 abbrev pub with_note_of : Policy → Past → Item → List Note × ℕ → List Note × ℕ
 with_note_of policy before (Msg side m) so_far =
     (so_far.0 ++ record { number = so_far.1 + 1; side = side; frame = spell m; decision = decision_on policy before side m } ∷ [], so_far.1 + 1)
@@ -45,6 +45,6 @@ numbered policy (item ∷ before) = with_note_of policy (past policy before) ite
 abbrev pub notes : Policy → History → List Note
 notes policy items = (numbered policy items).0
 
--- those that a session makes: all where it makes notes, and else none
+-- the notes that a session makes: all if it makes notes, and else none
 abbrev pub notes_made : Mode → Policy → History → List Note
 notes_made mode policy items = if mode.notes then notes policy items else []

@@ -9,14 +9,15 @@ use Rattle.policy_view.specs.Past.{Item, Line, Msg, Raw, Ended, History, past, d
 use Rattle.policy_view.specs.declared.Side.TheVariants.{Client, Bus}
 use Rattle.sasl_watch.specs.Lines.{for_bus}
 
--- every message sent to the bus, the n-th with serial n
+-- every message that was sent to the bus, the n-th with serial n
 abbrev pub sent : Policy → History → List Sent
 sent policy items = (past policy items).told.sent
 
 abbrev pub facts : Policy → History → List Fact
 facts policy items = (past policy items).told.facts
 
--- the bytes for the bus that an item makes: a line of the client, the due messages, numbered on, or the client's bytes as they came
+-- the bytes for the bus that an item makes: a line of the client, the due messages, with the next serials, or the
+-- client's raw bytes
 unfoldable pub to_bus : Policy → Past → Item → List ℕ
 to_bus policy before (Line Client bytes) = for_bus bytes
 to_bus policy before (Line Bus bytes) = []
@@ -39,7 +40,7 @@ unfoldable pub seen_in : Policy → History → List Message
 seen_in policy [] = []
 seen_in policy (item ∷ before) = seen_in policy before ++ seen_of policy (past policy before) item
 
--- the bytes for the client that an item makes: a line of the bus, the messages that are shown, or the bus's bytes as they came
+-- the bytes for the client that an item makes: a line of the bus, the messages that are shown, or the bus's raw bytes
 unfoldable pub to_client : Policy → Past → Item → List ℕ
 to_client policy before (Line Client bytes) = []
 to_client policy before (Line Bus bytes) = bytes

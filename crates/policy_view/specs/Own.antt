@@ -1,4 +1,4 @@
--- The proxy's own messages: its calls to the bus, and its answers in place to the client.
+-- The proxy's own messages: its calls to the bus, and the answers that it gives the client in place of the bus's.
 use Rattle.std.specs.Prelude.{ℕ, List, [], ◌∷◌, ◌++◌, map, if◌then◌else◌, codes}
 use Rattle.dbus_types.specs.Signature.{boolean, uint32}
 use Rattle.dbus_values.specs.Values.{Value, a_number, a_string, a_path, a_signature, type_of}
@@ -14,12 +14,12 @@ use Rattle.dbus_header.specs.declared.Instead.TheVariants.{AccessDenied, NameHas
 abbrev pub field : ℕ → Value → Field
 field code v = record { code = code; value = v }
 
--- the SIGNATURE field, where there is a body
+-- the SIGNATURE field, if there is a body
 abbrev pub signed : List Value → List Field
 signed [] = []
 signed (v ∷ vs) = field 8 (a_signature (map type_of (v ∷ vs))) ∷ []
 
--- a call to the bus; its serial is put in when it is sent
+-- a call to the bus; its serial is set when it is sent
 abbrev pub own_call : Text → Text → Text → List Value → Message
 own_call path interface member body = record {
   order = Little;
@@ -57,7 +57,7 @@ error_in_place order reply serial name text = record {
   body = a_string text ∷ [];
 }
 
--- the answer to a refused call, by its order and serial, with the serial of the answer to the ping
+-- the answer to a refused call, in its byte order and to its serial, with the serial of the answer to the ping
 unfoldable pub answer_in_place : Order → ℕ → ℕ → Instead → Message
 answer_in_place order reply serial AccessDenied =
     error_in_place order reply serial (codes "org.freedesktop.DBus.Error.AccessDenied") (codes "access denied by policy")

@@ -1,4 +1,5 @@
--- How each item adds to the past: the messages that are due, the facts, the calls and replies, the answers used up.
+-- What each item adds to the past: the messages that are due, the facts, the calls and replies, and the answers used
+-- up.
 use Rattle.std.specs.Prelude.{ℕ, nat_le, Bool, ◌&&◌, not, List, [], ◌∷◌, ◌++◌, length, map, if◌then◌else◌, Option, Some, None}
 use Rattle.std.specs.List.{list_any}
 use Rattle.dbus_names.specs.Texts.{Text}
@@ -19,14 +20,15 @@ use Rattle.policy_view.specs.declared.Verdict.{Verdict}
 use Rattle.policy_view.specs.declared.Verdict.TheVariants.{Pass, Ping, Drop}
 use Rattle.policy_view.specs.declared.End.{End}
 
--- what a session's history holds: lines of the authentication protocol, messages, bytes that nobody looks at, and the End
+-- what a session's history holds: lines of the authentication protocol, messages, raw bytes that aren't read, and the
+-- End
 pub data Item : Type 0 where
   Line : (side : Side) (bytes : List ℕ) → Item
   Msg : (side : Side) (message : Message) → Item
   Raw : (side : Side) (bytes : List ℕ) → Item
   Ended : (end : End) → Item
 
--- Items and events are kept newest first: `item ∷ before` is an item and what stands before it.
+-- The newest item or event is first in its list: `item ∷ before` is an item and the items before it.
 abbrev pub History : Type 0
 History = List Item
 
@@ -72,7 +74,7 @@ returned_text m = if_return (kind_of m) (only_text m)
 unfoldable pub returned_names : Message → Option (List Text)
 returned_names m = if_return (kind_of m) (text_list m)
 
--- the text where it is a unique name
+-- the text, if it is a unique name
 abbrev pub if_unique : Option Text → Option Text
 if_unique None = None
 if_unique (Some text) = if is_unique text then Some text else None
@@ -84,7 +86,7 @@ fact_of fact (Some text) = fact text ∷ []
 abbrev pub is_covered : Policy → Text → Bool
 is_covered policy name = is_well_known name && list_any (λ e. covers e.pattern name) policy.entries
 
--- an owner change of a covered name tells both owners
+-- the owner change of a covered name gives facts on both owners
 abbrev pub owners_of : Policy → Option (Text × Text × Text) → List Fact
 owners_of policy None = []
 owners_of policy (Some texts) =
@@ -116,7 +118,7 @@ abbrev pub due_at : Policy → Message → BusRole → List Sent
 due_at policy m NamesAnswer = names_due policy (returned_names m)
 due_at policy m _ = []
 
--- a call of the bus asks for a reply
+-- a call from the bus asks for a reply
 abbrev pub called_at : Message → BusRole → List Exchange
 called_at m CallIn = if expects_reply m then record { peer = sender m; number = m.serial } ∷ [] else []
 called_at m _ = []
@@ -130,7 +132,7 @@ with_bus policy m role told = record {
   replied = told.replied;
 }
 
--- a return or an error uses up the place that it names, where that was sent
+-- a return or an error uses up the place of its REPLY_SERIAL, if a message with that serial was sent
 abbrev pub place_used : ℕ → Option ℕ → List ℕ
 place_used count None = []
 place_used count (Some r) = if nat_le r count then r ∷ [] else []
@@ -145,11 +147,11 @@ used_at count Other r = []
 unfoldable pub used_by : Past → Message → List ℕ
 used_by before m = used_at (length before.told.sent) (kind_of m) (reply_serial m)
 
--- the verdict on a client's message, by what the items before told
+-- the verdict on a client's message, given what is known from the items before
 unfoldable pub judged : Policy → Told → Message → Verdict
 judged policy told m = verdict policy (knowledge policy told) m
 
--- the role of a bus message, by what it answers
+-- the role of a bus message, given the call that it answers
 unfoldable pub role : Past → Message → BusRole
 role before m = bus_role (answered before (reply_serial m)) m
 

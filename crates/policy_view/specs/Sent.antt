@@ -1,4 +1,4 @@
--- What was sent to the bus and told by it: the record of a session's past, as lists that never forget.
+-- The record of a session's past: what was sent to the bus and learned from it, as lists that only grow.
 use Rattle.std.specs.Prelude.{ℕ, zero, suc, ◌+◌, ◌-◌, nat_eq, ◌==◌, Bool, true, false, ◌&&◌, ◌||◌, not, List, [], ◌∷◌, ◌++◌, flat_map, filter, count_by, if◌then◌else◌, Option, Some, None, option_map, slice_get, codes}
 use Rattle.std.specs.Str.{bytes_eq}
 use Rattle.std.specs.List.{list_any}
@@ -21,7 +21,7 @@ abbrev pub is_bus_or_absent : Option Text → Bool
 is_bus_or_absent None = true
 is_bus_or_absent (Some name) = is_bus name
 
--- a call to the bus that its table of members judges, with this member
+-- a call to the bus with this member, which the table of the bus's members judges
 abbrev pub is_bus_member : Text → Message → Bool
 is_bus_member name m =
     m.kind == 1 && is_bus_or_absent (destination m) && is_bus_or_absent (interface m) && has_text (member m) name
@@ -33,8 +33,8 @@ is_hello m = is_bus_member (codes "Hello") m
 unfoldable pub asks_names : Message → Bool
 asks_names m = is_bus_member (codes "ListNames") m || is_bus_member (codes "ListActivatableNames") m
 
--- A message that was sent to the bus, by its origin: the client's message that passed, the ping for a
--- client's message that was refused, or a call of the proxy's own. Its serial is its place among the sent.
+-- A message that was sent to the bus, by its origin: a message of the client that passed, the ping for a refused
+-- message of the client, or a call of the proxy's own. Its serial is its place among the sent messages.
 pub data Sent : Type 0 where
   Passed : (request : Message) → Sent
   Pinged : (request : Message) (what : Instead) → Sent
@@ -49,7 +49,7 @@ message_of (OwnMatch pattern) = add_match pattern
 message_of (OwnOwner name) = get_owner name
 message_of OwnNames = list_names
 
--- it is a call, and its answer is wanted
+-- it is a call, and its sender wants an answer
 abbrev pub expects_answer : Sent → Bool
 expects_answer (Passed request) = request.kind == 1 && expects_reply request
 expects_answer (Pinged request what) = true
@@ -57,7 +57,7 @@ expects_answer (OwnMatch pattern) = true
 expects_answer (OwnOwner name) = true
 expects_answer OwnNames = true
 
--- what its answer is for
+-- what its answer is used for
 abbrev pub expected_of : Sent → Expected
 expected_of (Passed request) =
     if is_hello request then expects.Hello request.serial
@@ -86,15 +86,15 @@ same_text (Some text) (Some other) = bytes_eq text other
 abbrev pub is_same : Exchange → Exchange → Bool
 is_same a b = same_text a.peer b.peer && a.number == b.number
 
--- What the items before tell, in their order: the facts, the sent messages, the bus's calls that want a reply,
--- the client's replies that passed.
+-- What is known from the items before, in their order: the facts, the sent messages, the bus's calls that want a reply,
+-- and the client's replies that passed.
 pub record Told : Type 0 where
   pub facts : List Fact
   pub sent : List Sent
   pub called : List Exchange
   pub replied : List Exchange
 
--- the same, and the places in `sent` that the bus's returns and errors used up
+-- that record, and the places in `sent` that the bus's returns and errors used up
 pub record Past : Type 0 where
   pub told : Told
   pub used : List ℕ
@@ -102,7 +102,7 @@ pub record Past : Type 0 where
 unfoldable pub nothing_before : Past
 nothing_before = record { told = record { facts = []; sent = []; called = []; replied = [] }; used = [] }
 
--- how many replies are owed to a peer for a serial
+-- the number of replies that are owed to a peer for a serial
 unfoldable pub owed : Told → Exchange → ℕ
 owed told to = count_by (is_same to) told.called - count_by (is_same to) told.replied
 
@@ -115,21 +115,21 @@ abbrev pub if_expected : Option Sent → Option Sent
 if_expected None = None
 if_expected (Some s) = if expects_answer s then Some s else None
 
--- the sent call of a serial whose answer is wanted, used up or not
+-- the sent call with this serial, if its answer is wanted, used up or not
 unfoldable pub call_at : Told → Option ℕ → Option Sent
 call_at told None = None
 call_at told (Some r) = if_expected (sent_at told.sent r)
 
--- it was used up
+-- the place of this REPLY_SERIAL was used up
 abbrev pub is_used : List ℕ → Option ℕ → Bool
 is_used used None = false
 is_used used (Some r) = list_any (nat_eq r) used
 
--- what a bus message with this REPLY_SERIAL answers, by what the answer to that call is for
+-- what the answer with this REPLY_SERIAL is used for, unless its place was used up
 unfoldable pub answered : Past → Option ℕ → Option Expected
 answered before r = if is_used before.used r then None else option_map expected_of (call_at before.told r)
 
--- the own calls that learn who owns the names of a pattern
+-- the proxy's own calls that find who owns the names of a pattern
 abbrev pub calls_for : Pattern → List Sent
 calls_for p = OwnMatch p ∷ only_if p.exact (OwnOwner p.name)
 

@@ -24,7 +24,7 @@ use Rattle.policy_view.specs.declared.Reason.TheVariants.{UnknownType, BadArgume
 use Rattle.policy_view.specs.declared.Showing.{Showing}
 use Rattle.policy_view.specs.declared.Showing.TheVariants.{Whole, Reply, Cut, Instead as InsteadOf, Hide}
 
--- what a bus message is, by itself and by the sent call that it answers
+-- what a bus message is, by its own contents and by the sent call that it answers
 pub data BusRole : Type 0 where
   NoRole : BusRole
   Unexpected : BusRole
@@ -40,7 +40,7 @@ pub data BusRole : Type 0 where
   SignalIn : BusRole
   BroadcastIn : BusRole
 
--- the role of a return or an error by what it is the answer to; a list of names comes in a return alone
+-- the role of a return or an error, by what the answer is used for; only a return has a list of names
 abbrev pub role_of_reply : Bool → Option Expected → BusRole
 role_of_reply is_return None = Unexpected
 role_of_reply is_return (Some (expects.Call serial)) = OtherAnswer serial
@@ -88,7 +88,7 @@ abbrev pub on_names : ℕ → Option (List Text) → Showing
 on_names serial None = Hide BadArgument
 on_names serial (Some names) = Cut serial
 
--- the client sees the name, or it is a unique name and owner changes of all these are shown
+-- the client sees the name, or it is a unique name and the owner changes of all unique names are shown
 abbrev pub sees_change : Bool → Knowledge → Text → Bool
 sees_change sloppy known name = at_least See (known.level name) || (sloppy && is_unique name)
 
@@ -112,14 +112,14 @@ showing_at policy known m OwnerChange = on_owner_change policy.sloppy known (thr
 showing_at policy known m SignalIn = Whole
 showing_at policy known m BroadcastIn = if may_broadcast policy known m (sender m) then Whole else Hide SenderNotTalk
 
--- by what the message answers, where it answers a call
+-- what the client is shown, given what the message answers, if it answers a call
 unfoldable pub showing : Policy → Knowledge → Option Expected → Message → Showing
 showing policy known answer m = showing_at policy known m (bus_role answer m)
 
 unfoldable pub shown : Policy → Past → Message → Showing
 shown policy before m = showing policy (knowledge policy before.told) (answered before (reply_serial m)) m
 
--- the names at See or more
+-- the names with the level See or more
 abbrev pub is_seen : (Text → Level) → Text → Bool
 is_seen level name = at_least See (level name)
 

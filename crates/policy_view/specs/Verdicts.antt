@@ -1,4 +1,4 @@
--- The verdict on a client's message: the role that the message has by itself, and a row for each role.
+-- The verdict on a client's message: the role that the message has by its own contents, and a row for each role.
 use Rattle.std.specs.Prelude.{ℕ, nat_lt, Bool, true, false, ◌&&◌, ◌||◌, List, [], ◌∷◌, if◌then◌else◌, Option, Some, None, codes, find}
 use Rattle.std.specs.Str.{bytes_eq}
 use Rattle.std.specs.List.{list_any}
@@ -23,7 +23,7 @@ use Rattle.policy_view.specs.declared.Reason.TheVariants.{NotVisible, OnlySee, N
 use Rattle.policy_view.specs.declared.Verdict.{Verdict}
 use Rattle.policy_view.specs.declared.Verdict.TheVariants.{Pass, Ping, Drop}
 
--- what a client's message is, by itself
+-- what a client's message is, by its own contents
 pub data ClientRole : Type 0 where
   OfUnknownType : ClientRole
   Reply : ClientRole
@@ -62,7 +62,7 @@ client_role_at Other m = OfUnknownType
 unfoldable pub client_role : Message → ClientRole
 client_role m = client_role_at (kind_of m) m
 
--- refused: dropped where no reply is wanted, else answered in a ping's place
+-- refused: dropped if no reply is wanted, else replaced by a ping whose answer is turned into this one
 abbrev pub refused : Message → Instead → Reason → Verdict
 refused m what reason = if expects_reply m then Ping what reason else Drop reason
 
@@ -74,7 +74,7 @@ abbrev pub first_or_0 : List ℕ → ℕ
 first_or_0 [] = 0
 first_or_0 (n ∷ ns) = n
 
--- the entry's rule lets a call of this path, interface and member pass, or a call that is this property request
+-- a rule of the entry lets a call of this path, interface and member pass, or a call that is this property request
 abbrev pub lets_pass : Option Text → Option Text → Option Text → Option PropertyRequest → Grant → Bool
 lets_pass path interface member request to_see = false
 lets_pass path interface member request to_talk = false
@@ -101,7 +101,7 @@ calls_methods (to_call rule) = true
 calls_methods (to_broadcast rule) = false
 calls_methods (to_property rule) = false
 
--- the entry of that number passes the test
+-- the entry with this number passes the test
 abbrev pub passes : (Grant → Bool) → Option Entry → Bool
 passes test None = false
 passes test (Some e) = test e.grant
@@ -135,7 +135,7 @@ on_signal numbers See = Drop (OnlySee (first_or_0 numbers))
 on_signal numbers Talk = Pass
 on_signal numbers Own = Pass
 
--- the members of the bus
+-- the members of the bus that every client may call
 abbrev pub free_members : List Text
 free_members = codes "Hello" ∷ codes "GetId" ∷ codes "ListNames" ∷ codes "ListActivatableNames" ∷ []
 
@@ -150,7 +150,7 @@ owner_members =
 abbrev pub name_members : List Text
 name_members = codes "RequestName" ∷ codes "ReleaseName" ∷ codes "ListQueuedOwners" ∷ []
 
--- what a member asks of its text
+-- what a member requires of its text
 pub data TextDemand : Type 0 where
   NoEavesdrop : TextDemand
   SeenOwner : TextDemand
@@ -158,7 +158,7 @@ pub data TextDemand : Type 0 where
   Startable : TextDemand
   Ownable : TextDemand
 
--- what is asked of a call of a member: nothing, something of its text, or that it isn't made
+-- what is required of a call of a member: nothing, something of its text, or that it isn't made
 pub data Demand : Type 0 where
   Free : Demand
   OnText : (demand : TextDemand) → Demand
@@ -192,7 +192,7 @@ on_text policy m SeenName text numbers level = if at_least See level then Pass e
 on_text policy m Startable text numbers level = on_start policy m numbers level
 on_text policy m Ownable text numbers level = if at_least Own level then Pass else refused m AccessDenied ArgNotOwn
 
--- the text that is asked of has to stand
+-- the text that something is required of must be present
 abbrev pub on_argument : Policy → Knowledge → Message → TextDemand → Option Text → Verdict
 on_argument policy known m demand None = refused m AccessDenied BadArgument
 on_argument policy known m demand (Some text) = on_text policy m demand text (known.entries text) (known.level text)
@@ -206,7 +206,7 @@ abbrev pub text_or_empty : Option Text → Text
 text_or_empty None = []
 text_or_empty (Some text) = text
 
--- to whom and to what serial a message replies
+-- the peer to which a message replies, and the serial that it replies to
 abbrev pub reply_to : Message → Exchange
 reply_to m = record { peer = destination m; number = number_or_0 (reply_serial m) }
 
@@ -221,8 +221,9 @@ verdict_at policy known m OtherBusCall = refused m AccessDenied BusInterface
 verdict_at policy known m BusCall = on_bus_call policy known m (demand_of (text_or_empty (member m)))
 verdict_at policy known m (CallTo name) = on_call policy m name (known.entries name) (known.level name)
 
--- A field of an unknown code may mean something to a bus or to those that it passes the message on to, and isn't looked at here.
--- A policy may let known fields alone pass, whatever the message's role: such a call is then refused.
+-- A field of an unknown code may mean something to a bus or to those to whom the bus passes the message on, and isn't
+-- read here. A policy may demand that only messages without such fields pass, whatever their role: such a call is then
+-- refused.
 abbrev pub on_unknown_field : Kind → Message → Verdict
 on_unknown_field Call m = refused m AccessDenied UnknownField
 on_unknown_field Return m = Drop UnknownField

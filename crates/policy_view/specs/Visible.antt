@@ -1,4 +1,4 @@
--- The policy-visible part of a history: what is left of it when all that the policy hides is erased.
+-- The visible part of a history: what is left of it if all that the policy hides is erased.
 use Rattle.std.specs.Prelude.{ℕ, List, [], ◌∷◌, ◌++◌, Option, Some, None}
 use Rattle.dbus_names.specs.Texts.{Text}
 use Rattle.dbus_header.specs.Message.{Message, reply_serial}
@@ -15,8 +15,8 @@ use Rattle.policy_view.specs.declared.End.{End}
 use Rattle.policy_view.specs.declared.Showing.{Showing}
 use Rattle.policy_view.specs.declared.Showing.TheVariants.{Whole, Reply, Cut, Instead as InsteadOf, Hide}
 
--- An element of the visible part. A position is a place among the messages that were sent to the bus, as the
--- REPLY_SERIAL of the answer names it; messages of the bus have the REPLY_SERIAL that they came with.
+-- An element of the visible part. A position is a place among the messages that were sent to the bus, which the
+-- REPLY_SERIAL of the answer gives; messages of the bus have their original REPLY_SERIAL.
 pub data Visible : Type 0 where
   VisibleLine : (side : Side) (bytes : List ℕ) → Visible
   FromClient : (message : Message) → Visible
@@ -24,9 +24,9 @@ pub data Visible : Type 0 where
   ShownCut : (message : Message) → Visible
   -- the answer to a ping
   PingAnswered : (position serial : ℕ) → Visible
-  -- the answer to a GetNameOwner of the proxy's own: the unique owner, or refused
+  -- the answer to the proxy's own GetNameOwner: the unique owner, or none if the call was refused
   OwnerAnswered : (position : ℕ) (owner : Option Text) → Visible
-  -- the answer to the proxy's own ListNames: the names to be asked, or refused
+  -- the answer to the proxy's own ListNames: the names whose owners are asked for, or none if the call was refused
   NamesAnswered : (position : ℕ) (names : Option (List Text)) → Visible
   Closed : (end : End) → Visible
 
@@ -38,13 +38,13 @@ abbrev pub names_asked : Policy → Option (List Text) → Option (List Text)
 names_asked policy None = None
 names_asked policy (Some names) = Some (asked policy names)
 
--- what a hidden message tells as the answer to a call of the proxy's own
+-- what is left of a hidden message that answers a call of the proxy's own
 abbrev pub visible_hidden : Policy → Message → BusRole → List Visible
 visible_hidden policy m (OwnerAnswer name) = OwnerAnswered (position_of m) (if_unique (returned_text m)) ∷ []
 visible_hidden policy m NamesAnswer = NamesAnswered (position_of m) (names_asked policy (returned_names m)) ∷ []
 visible_hidden policy m _ = []
 
--- by what the client is shown of it
+-- what is left of a message, by what the client is shown of it
 abbrev pub visible_as : Policy → (Text → Level) → Message → BusRole → Showing → List Visible
 visible_as policy level m role Whole = ShownWhole m ∷ []
 visible_as policy level m role (Reply serial) = ShownWhole m ∷ []

@@ -1,7 +1,7 @@
-//! The definitions of a filtering D-Bus proxy: what a session's events make of its history, what is sent to the bus and
-//! what the client is shown; the plain types in which the other crates speak of it; and the laws of the definitions.
+//! The definitions of a filtering D-Bus proxy: the history that a session's events make, what is sent to the bus and
+//! what the client is shown; the plain types that the other crates use for these; and the laws of the definitions.
 //!
-//! It is read more than called: the crates that stand on it are proved against its `specs`.
+//! This crate is mainly there to be read: the crates that depend on it are proved against its `specs`.
 #![tactic(auto)]
 
 mod note;
@@ -37,50 +37,50 @@ pub enum Side {
 /// How a session treats its two streams.
 #[derive(Clone, Copy, Debug, PartialEq, Eq)]
 pub struct Mode {
-    /// Whether both streams begin with the lines of the authentication protocol; else they begin with messages.
+    /// Whether both streams begin with the lines of the authentication protocol. Otherwise they begin with messages.
     pub auth: bool,
     /// Whether messages are filtered.
     pub filter: bool,
-    /// Whether each message that is filtered leaves a note of what was decided on it.
+    /// Whether each filtered message leaves a note of what was decided on it.
     pub notes: bool,
 }
 
-/// Why a message was refused or hidden; the numbers are entries of the policy, from 1, and 0 for none.
+/// Why a message was refused or hidden. The numbers are those of the policy's entries, from 1; 0 is no entry.
 #[derive(Clone, Copy, Debug, PartialEq, Eq)]
 pub enum Reason {
-    /// The policy gives the name no level.
+    /// The policy gives the name no access.
     NotVisible,
     /// The policy only lets the name be seen.
     OnlySee(u32),
     /// No Call or Property rule of the name matches.
     NoRule(u32),
-    /// The bus's member isn't one that is let through.
+    /// A call to the bus of a member that isn't allowed.
     BusMember,
-    /// The bus's interface isn't one that is let through.
+    /// A call to the bus of an interface that isn't allowed.
     BusInterface,
-    /// The name that the call speaks of isn't visible.
+    /// The name in the call's argument isn't visible.
     ArgNotVisible,
-    /// The name that the call speaks of may not be talked to.
+    /// The name in the call's argument may not be talked to.
     ArgNotTalk,
-    /// The name that the call speaks of may not be owned.
+    /// The name in the call's argument may not be owned.
     ArgNotOwn,
     /// The match rule asks for messages that are meant for others.
     Eavesdrop,
-    /// Nothing waits for this reply of the client.
+    /// No caller waits for this reply of the client.
     NotOutstanding,
-    /// The message's type is none that is known.
+    /// The message has an unknown type.
     UnknownType,
     /// The body isn't what the member needs.
     BadArgument,
     /// The sender of a broadcast may not be talked to, and no Broadcast rule matches.
     SenderNotTalk,
-    /// The owner of a name changed that isn't visible.
+    /// The owner of a name changed, and the name isn't visible.
     NameHidden,
-    /// No call waits for this answer of the bus.
+    /// No call of the client waits for this reply of the bus.
     NotExpected,
-    /// The answer to a call of the proxy's own.
+    /// The reply to a call of the proxy's own.
     OwnAnswer,
-    /// A header field's code is none that the D-Bus Specification names.
+    /// A header field has a code that the D-Bus Specification doesn't name.
     UnknownField,
 }
 
@@ -89,22 +89,22 @@ pub enum Reason {
 pub enum Verdict {
     /// It goes to the bus.
     Pass,
-    /// A ping goes to the bus in its place, and its answer comes to the client as this.
+    /// A ping is sent to the bus in its place, and the answer to the ping becomes this answer to the client.
     Ping(Instead, Reason),
-    /// Nothing goes to the bus.
+    /// Nothing is sent to the bus.
     Drop(Reason),
 }
 
-/// What the client is shown of a bus message; the numbers are the client's serials.
+/// What the client is shown of a bus message. The numbers are serials of the client.
 #[derive(Clone, Copy, Debug, PartialEq, Eq)]
 pub enum Showing {
-    /// The message as it is.
+    /// The message, unchanged.
     Whole,
-    /// The message as the answer to the client's call with this serial.
+    /// The message, as the reply to the client's call with this serial.
     Reply(u32),
-    /// The same, with the names that are hidden cut from its list.
+    /// The message, as the reply to the client's call with this serial, with the hidden names removed from its list.
     Cut(u32),
-    /// An answer in place of the message, in the order of the refused call and to its serial.
+    /// An answer in place of the message, in the byte order of the refused call and to its serial.
     Instead {
         order: Order,
         reply: u32,
@@ -121,10 +121,10 @@ pub enum Decision {
     Shown(Showing),
 }
 
-/// What is wrong with a side's stream.
+/// What is wrong with the stream of a side.
 #[derive(Clone, Copy, Debug, PartialEq, Eq, Error)]
 pub enum Fault {
-    /// A line that isn't one (D-Bus Specification, "Authentication Protocol").
+    /// An invalid line (D-Bus Specification, "Authentication Protocol").
     #[error("line: {0}")]
     Line(LineFault),
     /// A message that isn't valid (D-Bus Specification, "Message Format").
@@ -147,7 +147,7 @@ pub enum End {
     /// The bus's stream ended.
     #[error("the bus's stream ended")]
     BusEnd,
-    /// There is no serial left for a message that is due.
+    /// No serial is left for a message that must be sent.
     #[error("all serials were given")]
     SerialsSpent,
     /// Memory was refused.
@@ -173,64 +173,66 @@ pub enum End {
     LogFault,
 }
 
-/// With more events, what either side was given stands, and only more follows it; so it is of the items, the notes, and the elements.
+/// With more events, what either side was given stays, and only more follows it. The same holds of the history's items,
+/// the notes, and the visible elements.
 pub fn bytes_only_grow()
     ensures { (policy : Policy) (mode : SessionMode) (more events : List Event) → OnlyGrows policy mode more events }
 {}
 
-/// The closing of events is the End of their history, with the number of the first event after which it stands.
+/// The closing of events is the End of their history, with the number of the first event after which the history has
+/// it.
 pub fn histories_close_once()
     ensures { (policy : Policy) (mode : SessionMode) (events : List Event) → ClosesFirst policy mode events }
 {}
 
-/// Where a session that filters messages takes a stream in two pieces or in one makes no difference, whatever comes
-/// before and after, in lines and in messages: it has the same history, and so the same bytes for either side and the
-/// same End.
+/// If a session filters messages, it makes no difference whether a stream is taken in one piece or in two, in lines or
+/// in messages, whatever comes before and after: the history is the same, and so are the bytes for either side and the
+/// End.
 pub fn cuts_change_nothing()
     ensures { (policy : Policy) (mode : SessionMode) (later earlier : List Event) (side : StreamSide) (first second : List ℕ) → IsTrue mode.filter → history policy mode (later ++ Bytes side second ∷ Bytes side first ∷ earlier) ≡ history policy mode (later ++ Bytes side (first ++ second) ∷ earlier) }
 {}
 
-/// With a filter or without, where a stream is taken in two pieces or in one makes no difference to what either side is
-/// given, to the notes and to the End, whatever comes before and after. Without a filter the two histories differ in how
-/// the bytes are cut at which nobody looks.
+/// With or without a filter, it makes no difference to what either side is given, to the notes and to the End whether a
+/// stream is taken in one piece or in two, whatever comes before and after. Without a filter, the two histories differ
+/// only in how the raw bytes are cut.
 pub fn cuts_change_no_bytes()
     ensures { (policy : Policy) (mode : SessionMode) (later earlier : List Event) (side : StreamSide) (first second : List ℕ) → GivesTheSame policy (history policy mode (later ++ Bytes side (first ++ second) ∷ earlier)) (history policy mode (later ++ Bytes side second ∷ Bytes side first ∷ earlier)) }
 {}
 
-/// A session that doesn't filter passes everything. After each event, up to and with the one that ends it, the bus has the
-/// client's lines, each as the bus is to get it, and all bytes behind them as they came; the client has the bus's lines and
-/// all bytes behind them, as they came. Without lines each has the other's stream, which is what came up to its limit: not a
-/// byte is lost, added or changed. With lines nothing is lost between them and the bytes behind them. Nothing of the proxy's
-/// own is sent, and nothing noted. It goes on with each piece that leaves its side's lines without a fault and for which its
-/// stream has room, whatever bytes follow the lines.
+/// A session that doesn't filter passes everything. After each event, up to and including the one that ends it, the bus
+/// has the client's lines, each as the bus must get it, and all bytes after them unchanged; the client has the bus's
+/// lines and all bytes after them, unchanged. Without lines, each side has the other's stream, which is what was
+/// received up to its limit: no byte is lost, added or changed. With lines, nothing is lost between them and the bytes
+/// after them. The proxy sends nothing of its own, and makes no notes. The session goes on with each piece that leaves
+/// its side's lines without a fault and for which its stream has room, whatever bytes follow the lines.
 pub fn an_unfiltered_session_passes_all()
     ensures at_start { (policy : Policy) (mode : SessionMode) → mode.filter ≡ false → PassesAll policy mode [] }
     ensures with_each_event { (policy : Policy) (mode : SessionMode) (event : Event) (events : List Event) → mode.filter ≡ false → end_of (history policy mode events) ≡ None → PassesAll policy mode (event ∷ events) }
     ensures goes_on { (policy : Policy) (mode : SessionMode) (side : StreamSide) (piece : List ℕ) (events : List Event) → mode.filter ≡ false → end_of (history policy mode events) ≡ None → line_fault mode side (Bytes side piece ∷ events) ≡ None → is_over side events piece ≡ false → end_of (history policy mode (Bytes side piece ∷ events)) ≡ None }
 {}
 
-/// Pasts with the same facts, the same sent messages and the same owed replies decide the same: each message of the client
-/// gets the same verdict and causes the same messages, and each of the bus that answers the same is shown as the same and
-/// causes the same.
+/// Pasts with the same facts, the same sent messages and the same owed replies lead to the same decisions. Each message
+/// of the client gets the same verdict and causes the same messages. Each message of the bus that answers the same call
+/// is shown in the same way and causes the same messages.
 pub fn decisions_rest_on_what_is_known()
     ensures { (policy : Policy) (one other : Past) → KnowTheSame one other → DecideTheSame policy one other }
 {}
 
-/// What the policy hides from the client changes nothing. Where the visible parts of the histories of two sessions that
-/// filter messages are equal, they sent the bus the same messages and showed the client the same, gave both the same bytes
-/// and had the same End, and know the same, whatever was hidden in either.
+/// What the policy hides from the client changes nothing. If the visible parts of the histories of two sessions that
+/// filter messages are equal, these sessions sent the bus the same messages, showed the client the same messages, gave
+/// both sides the same bytes, had the same End and know the same, whatever was hidden in either.
 pub fn what_is_hidden_changes_nothing()
     ensures { (policy : Policy) (one_mode other_mode : SessionMode) (one other : List Event) → HiddenChangesNothing policy one_mode other_mode one other }
 {}
 
-/// Where the events bring bytes, the elements of their history's visible part as they are given, messages by their frames,
-/// and its End tell the whole visible part.
+/// If the events bring bytes, the whole visible part of their history follows from its elements, with messages as
+/// frames, and from its End.
 pub fn elements_tell_the_part()
     ensures { (policy : Policy) (mode : SessionMode) (events : List Event) → AllByRecursion BringsBytes events → TellThePart policy (history policy mode events) }
 {}
 
-/// Where the events bring bytes, the visible parts of two histories are equal where what is given of their elements and
-/// their Ends are, and else they differ first at the place at which these do.
+/// If the events bring bytes, the visible parts of two histories are equal if their given elements and their Ends are.
+/// Otherwise they first differ where these first differ.
 pub fn parts_differ_as_given()
     ensures { (policy : Policy) (one_mode other_mode : SessionMode) (one other : List Event) → AllByRecursion BringsBytes one → AllByRecursion BringsBytes other → DifferAsGiven policy (history policy one_mode one) (history policy other_mode other) }
 {}

@@ -1,4 +1,4 @@
-//! A note: what was decided on a message of a session.
+//! Notes: what was decided on each message of a session.
 ghost use Rattle.std.specs.Prelude.{◌≡◌};
 ghost use Rattle.dbus_header.specs.Contents.{contents_of};
 ghost use Rattle.dbus_header.specs.Message.{Message as MessageTree, Valid, spell};
@@ -10,7 +10,7 @@ use bytes::Bytes;
 use dbus_header::{KnownTexts, Message, read_valid};
 use std::marker::Model;
 
-/// The message that a frame is, which is valid.
+/// Reads a frame, which is a valid message.
 pub fn message_of(frame: &[u8]) -> Message<'_>
     requires { (m : MessageTree) × Valid m × (frame.now ≡ spell m) }
     ensures bytes { result.bytes.now ≡ frame.now }
@@ -19,7 +19,7 @@ pub fn message_of(frame: &[u8]) -> Message<'_>
     message_by(frame, &KnownTexts::none())
 }
 
-/// The same, if headers and texts of other messages are known.
+/// Reads a frame, which is a valid message, if headers and texts of other messages are known.
 fn message_by<'a>(frame: &'a [u8], known: &KnownTexts) -> Message<'a>
     requires { (m : MessageTree) × Valid m × (frame.now ≡ spell m) }
     ensures bytes { result.bytes.now ≡ frame.now }
@@ -28,8 +28,8 @@ fn message_by<'a>(frame: &'a [u8], known: &KnownTexts) -> Message<'a>
     read_valid(frame, known)
 }
 
-/// What was decided on a message of a session: on the client's whether it goes to the bus, and on the bus's what the client
-/// is shown of it. Its frame is a valid message, as it came.
+/// What was decided on a message of a session: whether the client's message is sent to the bus, or what the client is
+/// shown of the bus's. The frame is a valid message, as received.
 #[derive(Drop)]
 pub struct Note {
     number: u64,
@@ -51,8 +51,8 @@ impl Model for Note {
 }
 
 impl Note {
-    /// The note on a message, by its number among the messages of its session, from 1, both sides counted together. The
-    /// frame is a valid message.
+    /// A note on a message. The number is its number among the messages of its session, from 1, both sides counted
+    /// together. The frame is a valid message.
     pub fn new(number: u64, side: Side, frame: Bytes, decision: Decision) -> Note
         requires { (m : MessageTree) × Valid m × (frame ≡ spell m) }
         ensures { result ≡ record { number = number; side = side; frame = frame; decision = decision } }
@@ -72,21 +72,21 @@ impl Note {
         self.number
     }
 
-    /// The side that the message came of.
+    /// The side that sent the message.
     pub fn side(&self) -> Side
         ensures { result ≡ self.now.side }
     {
         self.side
     }
 
-    /// The message's bytes, as they came.
+    /// The message's bytes, as received.
     pub fn frame(&self) -> &[u8]
         ensures { result.now ≡ self.now.frame }
     {
         self.frame.as_slice()
     }
 
-    /// What is read of the message, which is valid.
+    /// Reads the message, which is valid.
     pub fn message(&self) -> Message<'_>
         ensures bytes { result.bytes.now ≡ self.now.frame }
         ensures contents { message_seen result ≡ contents_of (message_in self.now.frame) }
@@ -95,7 +95,7 @@ impl Note {
         message_of(self.frame.as_slice())
     }
 
-    /// The same, if headers and texts of other messages are known, as those of the stream in which it came.
+    /// Reads the message, if headers and texts of other messages of its stream are known.
     pub fn message_knowing(&self, known: &KnownTexts) -> Message<'_>
         ensures bytes { result.bytes.now ≡ self.now.frame }
         ensures contents { message_seen result ≡ contents_of (message_in self.now.frame) }

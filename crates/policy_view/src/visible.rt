@@ -1,4 +1,4 @@
-//! The visible part of a history, element by element: what is left of it when all that the policy hides is erased.
+//! The visible part of a history: what is left of it, element by element, if all that the policy hides is erased.
 ghost use Rattle.std.specs.Prelude.{◌≡◌, ◌↔◌, IsTrue};
 
 use crate::Side;
@@ -6,7 +6,7 @@ use bytes::Bytes;
 use dbus_names::Name;
 use std::marker::Model;
 
-/// Names in an order. Contracts see their texts.
+/// A list of names, which contracts see as their texts.
 #[derive(Debug, Drop)]
 pub struct NameList {
     names: Vec<Name>,
@@ -28,7 +28,7 @@ impl NameList {
         NameList { names }
     }
 
-    /// The names, lent.
+    /// The names of the list.
     pub fn as_slice(&self) -> &[Name]
         ensures { result.now ≡ self.now }
     {
@@ -36,30 +36,31 @@ impl NameList {
     }
 }
 
-/// An element of the visible part of a history: a line, a message, or what is left of an answer that the client isn't shown as it
-/// is. A position is a place among the messages that were sent to the bus, from 1. Messages are whole frames; those of
-/// the bus have the REPLY_SERIAL that they came with.
+/// An element of the visible part of a history: a line, a message, or what is left of an answer that the client isn't
+/// shown unchanged. A position is a place among the messages that were sent to the bus, from 1. Messages are whole
+/// frames; those of the bus have their original REPLY_SERIAL.
 #[derive(Debug, Drop)]
 pub enum Visible {
-    /// A line of the authentication protocol, as it came.
+    /// A line of the authentication protocol, as received.
     Line(Side, Bytes),
     /// A message of the client.
     Client(Bytes),
     /// A message of the bus that the client is shown.
     Shown(Bytes),
-    /// A message of the bus that the client is shown with its list cut, so cut.
+    /// A message of the bus that the client is shown with its list of names cut, after the cut.
     Cut(Bytes),
     /// The answer to a ping.
     Ping {
         position: u32,
         serial: u32,
     },
-    /// The answer to a GetNameOwner of the proxy's own: the unique name that owns the name, or None where it was refused.
+    /// The answer to the proxy's own GetNameOwner: the unique name of the owner, or None if the call was refused.
     Owner {
         position: u32,
         owner: Option<Name>,
     },
-    /// The answer to the proxy's own ListNames: the names whose owners are asked for, or None where it was refused.
+    /// The answer to the proxy's own ListNames: the names whose owners are then asked for, or None if the call was
+    /// refused.
     Asked {
         position: u32,
         names: Option<NameList>,
@@ -104,7 +105,7 @@ impl Visible {
     }
 }
 
-/// Whether both are refused, or the same name.
+/// Whether both are refusals, or both are the same name.
 fn is_same_owner(owner: &Option<Name>, other: &Option<Name>) -> bool
     ensures { IsTrue result ↔ (owner.now ≡ other.now) }
 {
@@ -115,7 +116,7 @@ fn is_same_owner(owner: &Option<Name>, other: &Option<Name>) -> bool
     }
 }
 
-/// Whether both are refused, or the same names in the same order.
+/// Whether both are refusals, or both have the same names in the same order.
 fn are_same_names(names: &Option<NameList>, other: &Option<NameList>) -> bool
     ensures { IsTrue result ↔ (names.now ≡ other.now) }
 {
