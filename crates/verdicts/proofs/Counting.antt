@@ -1,4 +1,4 @@
--- How many steps a walk over a name's entries takes, and a verdict and a showing.
+-- The number of steps of a walk over a name's entries, of a verdict and of a showing.
 use Rattle.std.proofs.Common.{◌≡◌, ◌+◌, ◌*◌, ℕ, suc, List, [], ◌∷◌, length, Option, Some, ap, ap₂, sym, ◌∙◌, arith}
 use Rattle.std.specs.Prelude.{option_and_then, option_map}
 use Rattle.std.proofs.Math.Nat.{one-mul, suc-mul}
@@ -22,7 +22,7 @@ use Rattle.verdicts.proofs.Showings.{bus-role-of}
 
 -- ---- a walk
 
--- an entry is found and looked at
+-- an entry is found and tested
 pub one-walked : (old new : NameNumbers) (n : ℕ) → old.numbers ≡ n ∷ new.numbers → new.name ≡ old.name → entry_steps old ≡ entry_steps new + elements old.name + 1
 one-walked old new n gives named =
     let more : length (n ∷ new.numbers) + 1 ≡ suc (length new.numbers + 1) = omega arith in

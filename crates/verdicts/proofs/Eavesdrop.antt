@@ -1,4 +1,4 @@
--- A word stands in a text where the text has it between two others.
+-- A word occurs in a text if the text has it between two others.
 use Rattle.std.proofs.Common.{◌≡◌, ℕ, Bool, true, false, nat_eq, List, [], ◌∷◌, ◌++◌, length, drop, None, refl, ap, sym}
 use Rattle.std.specs.Prelude.{◌||◌}
 use Rattle.std.specs.Bool.{MatchBool}

@@ -1,4 +1,4 @@
--- The entries of a name, looked at one after the other by their numbers.
+-- The entries of a name, tested one after the other by their numbers.
 use Rattle.std.proofs.Common.{◌≡◌, ℕ, Bool, true, false, cond, List, [], ◌∷◌, Option, Some, None, refl, ap, ◌∙◌}
 use Rattle.std.specs.Prelude.{◌||◌, find}
 use Rattle.std.specs.List.{list_any}

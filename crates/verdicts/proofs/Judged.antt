@@ -119,7 +119,7 @@ is-verdict policy known bytes q role given read role_is is m at =
     ∙ ap (λ o. verdict_by policy known (contents_of m) (option_and_then first_text o) (option_and_then property_request o) (client_role_of (contents_of m))) at
     ∙ verdict-row policy known m
 
--- where what is kept is what a past told
+-- what is kept represents a past
 pub is-judged : (policy : Policy) (known : Knowledge) (before : Past) (m : Message) (given : Verdict) → known ≡ knowledge policy before.told → given ≡ verdict policy known m → given ≡ judged policy before.told m
 unfolding judged
 is-judged policy known before m given same is = is ∙ ap (λ (k : Knowledge). verdict policy k m) same

@@ -1,4 +1,4 @@
--- Where a tracker and a ledger stand for a past, what they keep is what the past told.
+-- If a tracker and a ledger represent a past, what they keep is what is known after it.
 use Rattle.std.proofs.Common.{◌≡◌, ℕ, true, false, List, ap, ◌∙◌}
 use Rattle.std.proofs.Math.Path.{fun_ext}
 use Rattle.std.specs.List.{list_any}

@@ -92,7 +92,7 @@ is-showing policy known answer bytes q role given read role_is is m at =
     ∙ showing-row policy known m bytes at (bus_role_of answer (contents_of m))
     ∙ ap (showing_at policy known m) (bus-role-of answer m)
 
--- where what is kept is what a past told, and the message has its role there
+-- what is kept represents a past, and the message has its role there
 pub is-shown : (policy : Policy) (known : Knowledge) (answer : Option Expected) (before : Past) (m : Message) (given : Showing) → known ≡ knowledge policy before.told → bus_role answer m ≡ role_in before m →
     given ≡ showing policy known answer m → given ≡ shown policy before m
 unfolding showing shown role_in

@@ -1,4 +1,4 @@
--- What the entries of a name that is only seen say of a call of it, one after the other.
+-- What the entries of a name that is only seen say of a call, one after the other.
 use Rattle.std.specs.Prelude.{ℕ, ◌+◌, ◌*◌, List, [], ◌∷◌, length, if◌then◌else◌, Option, Some, None}
 use Rattle.dbus_header.specs.Contents.{Contents}
 use Rattle.dbus_names.specs.Texts.{Text}
@@ -12,7 +12,7 @@ use Rattle.policy_view.specs.declared.Verdict.TheVariants.{Pass}
 use Rattle.verdicts.specs.Judging.{allows, unruled_by}
 use Rattle.verdicts.specs.declared.entries.Lowest.{Lowest}
 
--- the number that stands, else the other
+-- the first number if it is present, else the other
 abbrev pub first_of : Option ℕ → Option ℕ → Option ℕ
 first_of None other = other
 first_of (Some n) other = Some n
@@ -31,8 +31,8 @@ judged_from policy x request (n ∷ ns) lowest = if entry_passes policy (allows 
 
 -- ---- what is counted
 
--- the most steps of a walk over the entries that speak of a name: each is found by one look-up for each element of the name,
--- and looked at, and that there is no other takes as many look-ups
+-- the most steps of a walk over the entries of a name: finding each takes one look-up for each element of the name, and
+-- testing it is one more; finding that there is no other takes as many look-ups
 abbrev pub steps_for : Text → List ℕ → ℕ
 steps_for name numbers = (length numbers + 1) * (elements name + 1)
 

@@ -1,4 +1,4 @@
--- The verdict on a client's message, by what is read of it: the definition's rows.
+-- The verdict on a client's message, from what is read of it: the definition's rows.
 use Rattle.std.specs.Prelude.{ℕ, nat_lt, ◌==◌, Bool, ◌&&◌, ◌||◌, List, [], ◌∷◌, if◌then◌else◌, Option, Some, None, codes, find, option_and_then}
 use Rattle.std.specs.List.{list_any}
 use Rattle.dbus_header.specs.Contents.{Contents, message_of}
@@ -22,7 +22,7 @@ use Rattle.policy_view.specs.declared.Reason.TheVariants.{NotVisible, OnlySee, N
 use Rattle.policy_view.specs.declared.Verdict.{Verdict}
 use Rattle.policy_view.specs.declared.Verdict.TheVariants.{Pass, Ping, Drop}
 
--- the first text in the body of the message that the bytes are
+-- the first text in the body of the message with these bytes
 abbrev pub first_text_in : List ℕ → Option Text
 first_text_in bytes = option_and_then first_text (message_of bytes)
 
@@ -36,7 +36,7 @@ refused_by flags what reason = if expects_reply_by flags then Ping what reason e
 abbrev pub allows : Contents → Option PropertyRequest → Grant → Bool
 allows x = lets_pass x.parts.path x.parts.interface x.parts.member
 
--- the first number, where there is one
+-- the first number, if there is one
 abbrev pub first_in : List ℕ → Option ℕ
 first_in [] = None
 first_in (n ∷ ns) = Some n
@@ -69,7 +69,7 @@ start_by policy flags numbers See = if may_start policy numbers then Pass else r
 start_by policy flags numbers Talk = Pass
 start_by policy flags numbers Own = Pass
 
--- a text at a level and above alone
+-- passes from this level on only
 abbrev pub from_level : ℕ → Level → Instead → Reason → Level → Verdict
 from_level flags least what reason level = if at_least least level then Pass else refused_by flags what reason
 
@@ -112,7 +112,7 @@ role_by policy known x first request (CallTo name) = call_by policy x request na
 
 -- ---- fields of unknown codes
 
--- a message with such a field, where known ones alone pass
+-- a message with such a field, if only known ones are allowed
 abbrev pub unknown_field_by : Contents → Verdict
 unknown_field_by x = if x.kind == 1 then refused_by x.flags AccessDenied UnknownField else Drop UnknownField
 

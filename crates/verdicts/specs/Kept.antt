@@ -1,4 +1,4 @@
--- What a tracker and a ledger tell of names and replies, and for which pasts they stand.
+-- What a tracker and a ledger keep of names and replies, and which pasts they represent.
 use Rattle.std.specs.Prelude.{◌≡◌, ℕ, Option, Some, None}
 use Rattle.std.specs.Ordering.{nat_cmp}
 use Rattle.std.specs.FinMap.{FinMap, get}
@@ -19,7 +19,7 @@ owed_to replies (Some peer) n = count_of replies peer n
 abbrev pub owed_by : Replies → Exchange → ℕ
 owed_by replies e = owed_to replies e.peer e.number
 
--- what is expected at a REPLY_SERIAL
+-- the answer that is expected with a REPLY_SERIAL
 abbrev pub expected_at : FinMap nat_cmp Kind → Option ℕ → Option Kind
 expected_at expected None = None
 expected_at expected (Some r) = get expected r
@@ -27,7 +27,8 @@ expected_at expected (Some r) = get expected r
 abbrev pub kept : Policy → Ids → Replies → Knowledge
 kept policy ids replies = record { level = kept_level policy ids; entries = kept_numbers policy ids; owed = owed_by replies }
 
--- They stand for a past: the tracker was taught its facts, and the ledger has what is owed and what each answer is for.
+-- They represent a past: the tracker has learned its facts, and the ledger has what is owed and what each answer is
+-- for.
 pub record StandFor (policy : Policy) (ids : Ids) (ledger : Ledger) (before : Past) : Type 0 where
   pub facts : Taught ids policy before.told.facts
   pub replies : (e : Exchange) → owed_by ledger.owed e ≡ owed before.told e

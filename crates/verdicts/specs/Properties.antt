@@ -1,4 +1,4 @@
--- The property request that a message is, by what is read of it.
+-- The property request that a message makes, from what is read of it.
 use Rattle.std.specs.Prelude.{ℕ, Bool, ◌&&◌, ◌||◌, List, if◌then◌else◌, Option, None, codes, bytes_eq, option_and_then}
 use Rattle.dbus_header.specs.Contents.{Contents, message_of}
 use Rattle.dbus_header.specs.Message.{first_text, two_texts}
@@ -6,7 +6,7 @@ use Rattle.dbus_names.specs.Texts.{Text}
 use Rattle.policy_view.specs.Properties.{PropertyRequest, property_request, request_of_all, request_of_one}
 use Rattle.policy_view.specs.Texts.{has_text}
 
--- that of the message that the bytes are
+-- that of the message with these bytes
 abbrev pub property_request_in : List ℕ → Option PropertyRequest
 property_request_in bytes = option_and_then property_request (message_of bytes)
 

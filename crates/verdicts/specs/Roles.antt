@@ -1,4 +1,4 @@
--- The roles of messages, by what is read of them.
+-- The roles of messages, from what is read of them.
 use Rattle.std.specs.Prelude.{◌==◌, ◌&&◌, Bool, true, false, if◌then◌else◌, Option, codes, is_some}
 use Rattle.dbus_header.specs.Contents.{Contents}
 use Rattle.dbus_names.specs.Names.{bus_name}

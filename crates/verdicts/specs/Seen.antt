@@ -1,4 +1,4 @@
--- What the code's roles, demands and property requests are seen as.
+-- The models of the code's roles, demands and property requests.
 use Rattle.std.specs.Prelude.{Option, option_map}
 use Rattle.dbus_header.specs.Seen.{text_seen}
 use Rattle.policy_view.specs.Properties.{PropertyRequest}

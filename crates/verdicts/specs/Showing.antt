@@ -1,4 +1,4 @@
--- What the client is shown of a bus message, by what is read of it: the definition's rows.
+-- What the client is shown of a bus message, from what is read of it: the definition's rows.
 use Rattle.std.specs.Prelude.{ℕ, Bool, false, ◌&&◌, ◌||◌, List, if◌then◌else◌, Option, Some, None, is_some, option_and_then, option_map}
 use Rattle.std.specs.List.{list_any}
 use Rattle.dbus_header.specs.Contents.{Contents, message_of}
@@ -17,11 +17,11 @@ use Rattle.policy_view.specs.declared.Reason.TheVariants.{UnknownType, BadArgume
 use Rattle.policy_view.specs.declared.Showing.{Showing}
 use Rattle.policy_view.specs.declared.Showing.TheVariants.{Whole, Reply, Cut, Instead as InsteadOf, Hide}
 
--- the body of the message that the bytes are is a list of texts
+-- the body of the message with these bytes is an array of strings
 abbrev pub has_list_in : List ℕ → Bool
 has_list_in bytes = is_some (option_and_then text_list (message_of bytes))
 
--- the first of the three texts that its body is
+-- the first of the three texts that are its body
 abbrev pub changed_name_in : List ℕ → Option Text
 changed_name_in bytes = option_map (λ t. t.0) (option_and_then three_texts (message_of bytes))
 
@@ -42,7 +42,7 @@ may_announce policy level entries x (Some name) =
 abbrev pub names_by : ℕ → Bool → Showing
 names_by serial is_list = if is_list then Cut serial else Hide BadArgument
 
--- the client sees the name, or it is a unique name and owner changes of all these are shown
+-- the client sees the name, or it is a unique name and the owner changes of all unique names are shown
 abbrev pub sees_change_by : Bool → (Text → Level) → Text → Bool
 sees_change_by sloppy level name = at_least See (level name) || (sloppy && is_unique name)
 

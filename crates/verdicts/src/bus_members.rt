@@ -1,4 +1,4 @@
-//! The members of the bus, and what each asks of a call of it.
+//! The members of the bus, and what each requires of a call.
 ghost use Rattle.std.specs.Prelude.{◌≡◌, ◌≤◌, ◌+◌, codes};
 ghost use Rattle.dbus_header.specs.Seen.{text_seen};
 ghost use Rattle.name_patterns.specs.Ranks.{elements};
@@ -19,14 +19,14 @@ use policy_view::{Reason, Verdict};
 use std::sync::ledger::Ledger;
 use unique_names::Tracker;
 
-/// What a member asks of the text that is its first argument.
+/// What a member requires of the text that is its first argument.
 #[derive(Clone, Copy)]
 pub(crate) enum TextDemand {
-    /// The match rule doesn't speak of `eavesdrop`.
+    /// The match rule doesn't contain the word `eavesdrop`.
     NoEavesdrop,
-    /// The name is seen; else it has no owner.
+    /// The name is seen; otherwise the answer is that it has no owner.
     SeenOwner,
-    /// The name is seen; else the answer is false.
+    /// The name is seen; otherwise the answer is false.
     SeenName,
     /// The name may be started.
     Startable,
@@ -34,18 +34,18 @@ pub(crate) enum TextDemand {
     Ownable,
 }
 
-/// What is asked of a call of a member.
+/// What is required of a call of a member.
 #[derive(Clone, Copy)]
 pub(crate) enum Demand {
     /// Nothing.
     Free,
-    /// Something of its text.
+    /// Something of its first text.
     OnText(TextDemand),
     /// That it isn't made.
     Unlisted,
 }
 
-/// What is asked of a call of this member (D-Bus Specification, "Message Bus Messages").
+/// What is required of a call of this member (D-Bus Specification, "Message Bus Messages").
 #[tactic(auto, unfolding(policy_view::specs::Verdicts::demand_of))]
 fn demand_of(member: &str) -> Demand
     ensures { demand_seen result ≡ demand_by member.now }
@@ -66,7 +66,7 @@ fn demand_of(member: &str) -> Demand
     }
 }
 
-/// The verdict on a call of the bus by its own interface, or by none.
+/// The verdict on a call to the bus with its own interface, or without one.
 pub(crate) fn judge_bus_call<L: Ledger>(
     policy: &Policy,
     tracker: &Tracker,
@@ -92,7 +92,7 @@ fn first_text<'a>(message: &Message<'a>) -> Option<&'a str>
     message.first_text()
 }
 
-// The text that is asked of has to stand.
+// The text that something is required of must be present.
 fn judge_argument<L: Ledger>(
     policy: &Policy,
     tracker: &Tracker,
@@ -113,7 +113,7 @@ fn judge_argument<L: Ledger>(
     }
 }
 
-// The text has this level, as a name.
+// The text has this level as a name.
 fn judge_text<L: Ledger>(
     policy: &Policy,
     tracker: &Tracker,
@@ -141,8 +141,8 @@ fn judge_text<L: Ledger>(
     }
 }
 
-// A match rule that speaks of `eavesdrop`, anywhere in its text, may ask for messages that are meant for others (D-Bus
-// Specification, "Match Rules").
+// A match rule that contains the word `eavesdrop` may ask for messages that are meant for others (D-Bus Specification,
+// "Match Rules").
 fn judge_match(message: &Message<'_>, text: &str) -> Verdict
     ensures { result ≡ match_by message.now.flags text.now }
 {
@@ -159,7 +159,8 @@ fn speaks_of_eavesdrop(text: &str) -> bool
     text.contains("eavesdrop")
 }
 
-// A name that may be talked to may be started, and one that is only seen where that is asked for.
+// A name that may be talked to may be started. One that is only seen may be started if the policy and an entry allow
+// it.
 fn judge_start<L: Ledger>(
     policy: &Policy,
     tracker: &Tracker,
@@ -184,8 +185,8 @@ fn judge_start<L: Ledger>(
     }
 }
 
-// Whether a name at See may be started: the policy lets called names be started, and one of the name's entries has a rule
-// on calls of methods. What is known of a unique name is looked up for that, which is a step.
+// Whether a name at See may be started: the policy lets called names be started, and one of the name's entries has a
+// rule on calls of methods. Finding the entries of a unique name takes a look-up, which is a step.
 fn may_start<L: Ledger>(
     policy: &Policy,
     tracker: &Tracker,
@@ -202,7 +203,7 @@ fn may_start<L: Ledger>(
     is_called(policy, tracker.entries(policy, name), steps)
 }
 
-// What passes from a level on, and is refused below it.
+// Passes the call from a level on, and refuses it below that level.
 fn pass_from(
     message: &Message<'_>,
     level: Level,

@@ -23,7 +23,7 @@ use reply_ledger::Ledger as ReplyLedger;
 use std::sync::ledger::Ledger;
 use unique_names::{Entries, LookedUp, Tracker};
 
-/// The verdict on a message whose role is this one if its fields let it have it.
+/// The verdict on a message. It is judged by its role, unless the policy refuses one of its header fields.
 pub(crate) fn judge_message<L: Ledger>(
     policy: &Policy,
     tracker: &Tracker,
@@ -82,7 +82,7 @@ fn judge_as<L: Ledger>(
     }
 }
 
-/// Refuses a message: it is dropped where nobody waits for its answer.
+/// Refuses a message. It is dropped if no reply to it is expected.
 pub(crate) fn refused(message: &Message<'_>, what: Instead, reason: Reason) -> Verdict
     ensures { result ≡ refused_by message.now.flags what reason }
 {
@@ -93,7 +93,7 @@ pub(crate) fn refused(message: &Message<'_>, what: Instead, reason: Reason) -> V
     }
 }
 
-// A reply passes where it is owed.
+// A reply passes if it is owed.
 fn judge_reply(ledger: &ReplyLedger, message: &Message<'_>) -> Verdict
     ensures { result ≡ reply_by (nat_lt 0 (owed_by ledger.now.owed (reply_of (message_seen message.now)))) }
 {
@@ -108,7 +108,7 @@ fn judge_reply(ledger: &ReplyLedger, message: &Message<'_>) -> Verdict
     }
 }
 
-// Whether a reply is owed to calls of this name, which may be absent, with this serial.
+// Whether a reply to this serial is owed to this name, which may be absent.
 fn is_owed(ledger: &ReplyLedger, peer: Option<&str>, serial: u32) -> bool
     ensures { result ≡ nat_lt 0 (owed_to ledger.now.owed (text_seen peer.entry) serial) }
 {
@@ -141,7 +141,7 @@ fn lowest<L: Ledger>(mut numbers: Entries<'_>, steps: &mut Steps<L>) -> u32
     numbers.next_counted(steps).unwrap_or(0)
 }
 
-// A call of a name other than the bus's own.
+// A call to a name other than the bus's own.
 fn judge_call<L: Ledger>(
     policy: &Policy,
     message: &Message<'_>,
@@ -162,7 +162,7 @@ fn judge_call<L: Ledger>(
     }
 }
 
-// A call of a name that is hidden: a service that it could have started is unknown, and any other name has no owner.
+// A call to a hidden name: a service that it could have started is unknown, and any other name has no owner.
 fn judge_hidden(message: &Message<'_>, name: BusName<'_>) -> Verdict
     ensures { result ≡ hidden_call_by message.now.flags name.entry.text.now }
 {

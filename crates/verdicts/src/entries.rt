@@ -1,4 +1,4 @@
-//! The entries of the policy that speak of a name, by their numbers.
+//! The entries of the policy that apply to a name, by their numbers.
 ghost use Rattle.std.specs.Prelude.{◌≡◌, ◌≤◌, ◌+◌};
 ghost use Rattle.std.specs.List.{list_any};
 ghost use Rattle.std.specs.Option.{option_copied};
@@ -22,17 +22,17 @@ use policy_view::{Reason, Verdict};
 use std::sync::ledger::Ledger;
 use unique_names::Entries;
 
-/// The lowest numbers of entries that were looked at.
+/// The lowest numbers of the entries that were tested.
 #[derive(Clone, Copy)]
 struct Lowest {
-    /// That of any entry.
+    /// The lowest of any entry.
     any: Option<u32>,
-    /// That of an entry with a Call or a Property rule.
+    /// The lowest of an entry with a Call or a Property rule.
     ruled: Option<u32>,
 }
 
 impl Lowest {
-    // The same with one more entry, which stands behind those before.
+    // The lowest numbers with one more entry, which follows those before.
     fn with(self, policy: &Policy, number: u32) -> Lowest
         ensures { result ≡ lowest_with policy.now number self }
     {
@@ -47,10 +47,10 @@ impl Lowest {
     }
 }
 
-/// The verdict on a call of a name that is only seen, by the numbers of its entries: one whose Call rule matches it lets it
-/// pass, and one whose Property rule matches the property request that it is.
+/// The verdict on a call to a name that is only seen, from the numbers of its entries. The call passes if a Call rule
+/// of an entry matches it, or if it is a property request that a Property rule of an entry matches.
 ///
-/// Each entry that is looked at is a step, beside the look-ups by which it is found.
+/// Each entry that is tested is a step, beside the look-ups that find it.
 pub(crate) fn judge_seen<L: Ledger>(
     policy: &Policy,
     message: &Message<'_>,
@@ -63,7 +63,7 @@ pub(crate) fn judge_seen<L: Ledger>(
     judge_by_rules(policy, message, property_request(message), numbers, steps)
 }
 
-// The verdict on such a call, by the property request that it is.
+// The verdict on such a call, given the property request that it makes.
 fn judge_by_rules<L: Ledger>(
     policy: &Policy,
     message: &Message<'_>,
@@ -99,7 +99,8 @@ fn refuse(message: &Message<'_>, lowest: Lowest) -> Verdict
     refused(message, Instead::AccessDenied, reason)
 }
 
-/// Whether an entry with one of these numbers has a Broadcast rule that matches the signal. Each that is looked at is a step.
+/// Whether an entry with one of these numbers has a Broadcast rule that matches the signal. Each tested entry is a
+/// step.
 pub(crate) fn is_announced<L: Ledger>(
     policy: &Policy,
     message: &Message<'_>,
@@ -118,7 +119,7 @@ pub(crate) fn is_announced<L: Ledger>(
     false
 }
 
-/// Whether an entry with one of these numbers has a Call rule. Each that is looked at is a step.
+/// Whether an entry with one of these numbers has a Call rule. Each tested entry is a step.
 pub(crate) fn is_called<L: Ledger>(
     policy: &Policy,
     mut numbers: Entries<'_>,
@@ -136,7 +137,7 @@ pub(crate) fn is_called<L: Ledger>(
     false
 }
 
-// The entry of a number, if the policy has so many.
+// The entry with a number, if the policy has one.
 fn entry(policy: &Policy, number: u32) -> Option<&Entry>
     ensures { option_copied result ≡ entry_at policy.now.entries number }
 {
@@ -147,7 +148,7 @@ fn entry(policy: &Policy, number: u32) -> Option<&Entry>
     }
 }
 
-// Whether the entry of a number has a rule that lets the call pass.
+// Whether the entry with a number has a rule that lets the call pass.
 fn allows(
     policy: &Policy,
     number: u32,
@@ -172,7 +173,7 @@ fn is_allowing(grant: &Grant, message: &Message<'_>, request: Option<PropertyReq
     }
 }
 
-// Whether it has a rule on calls.
+// Whether the entry with a number has a rule on calls.
 fn rules_calls(policy: &Policy, number: u32) -> bool
     ensures { result ≡ entry_passes policy.now grant_rules_calls number }
 {
@@ -188,7 +189,7 @@ fn is_ruling_calls(grant: &Grant) -> bool
     matches!(grant, Grant::Call(_) | Grant::Property(_))
 }
 
-// Whether it has a rule on calls of methods.
+// Whether the entry with a number has a rule on calls of methods.
 fn calls_methods(policy: &Policy, number: u32) -> bool
     ensures { result ≡ entry_passes policy.now grant_calls_methods number }
 {
@@ -204,7 +205,7 @@ fn is_calling_methods(grant: &Grant) -> bool
     matches!(grant, Grant::Call(_))
 }
 
-// Whether it has a Broadcast rule that matches the signal.
+// Whether the entry with a number has a Broadcast rule that matches the signal.
 fn announces(policy: &Policy, number: u32, message: &Message<'_>) -> bool
     ensures { result ≡ entry_passes policy.now (grant_announces (message_seen message.now)) number }
 {

@@ -1,7 +1,7 @@
-//! What becomes of messages: the verdict on one of the client's, and what the client is shown of one of the bus's.
+//! The decisions on messages: the verdict on a client's message, and what the client is shown of a bus message.
 //!
-//! Both are looked up in a table by the role that the message has (xdg-dbus-proxy(1), "Filtering"), with what a tracker
-//! tells of names and a ledger of replies.
+//! Both are found in a table by the message's role (xdg-dbus-proxy(1), "Filtering"), with what a tracker knows of names
+//! and a ledger of replies.
 #![tactic(auto)]
 
 ghost use Rattle.std.specs.Prelude.{◌≡◌, ◌≤◌, ◌<◌, ◌+◌, Some};
@@ -35,30 +35,32 @@ use std::marker::Brand;
 use std::sync::ledger::{Blank, Ledger};
 use unique_names::Tracker;
 
-/// The verdict on a client's message: it passes, or a ping takes its place, or it is dropped.
+/// The verdict on a client's message: it passes, a ping is sent in its place, or it is dropped.
 ///
-/// A message of a type above 4 is dropped. A return or an error passes where it is owed. A signal passes without
-/// DESTINATION, and to a name that may be talked to. A call of the bus passes by an interface that each object has; by the
-/// bus's own, or by none, it is judged by its member and the level of its first text; by any other it is refused. Another
-/// call passes to a name that may be talked to, and to one that is only seen where a Call rule of its entries matches it,
-/// or where it is a property request that a Property rule of them matches: Get, Set or GetAll of the interface of properties
-/// with the signature that the member has (D-Bus Specification, "org.freedesktop.DBus.Properties").
+/// A message of a type above 4 is dropped. A return or an error passes if it is owed. A signal passes if it has no
+/// DESTINATION, or if its destination may be talked to. A call to the bus passes if its interface is one that each
+/// object has. If its interface is the bus's own or absent, it is judged by its member and the level of its first text;
+/// with any other interface it is refused. A call to another name passes if that name may be talked to. If the name may
+/// only be seen, the call passes if a Call rule of the name's entries matches it, or if it is a property request that a
+/// Property rule of them matches: Get, Set or GetAll of the interface of properties, with the member's signature (D-Bus
+/// Specification, "org.freedesktop.DBus.Properties").
 ///
-/// Under a policy that lets known header fields alone pass, a call that has another is refused, and any other message that
-/// has one is dropped, whatever they are.
+/// If the policy allows known header fields only, a call that has another field is refused and any other message that
+/// has one is dropped, whatever its role.
 ///
-/// What is refused is dropped where its flag NO_REPLY_EXPECTED is set (D-Bus Specification, "Message Format"); else a ping
-/// goes to the bus in its place, whose answer brings the error to the client. Entries are numbered from 1.
+/// A refused call is dropped if its flag NO_REPLY_EXPECTED is set (D-Bus Specification, "Message Format"). Otherwise a
+/// ping is sent to the bus in its place, and the client is answered when the ping's answer is received. Entries are
+/// numbered from 1.
 pub fn judge(
     policy: &Policy,
     tracker: &Tracker,
     ledger: &ReplyLedger,
     message: &Message<'_>,
 ) -> Verdict
-    // By what the tracker and the ledger keep, it is the definition's verdict.
+    // It is the definition's verdict, given what the tracker and the ledger keep.
     ensures kept { (m : MessageTree) → message_of message.now.bytes.now ≡ Some m → result ≡ verdict policy.now (kept policy.now tracker.now ledger.now.owed) m }
 
-    // So it is for each past for which they stand.
+    // So it is the verdict for each past that these represent.
     ensures exact { (before : Past) (m : MessageTree) → StandFor policy.now tracker.now ledger.now before → message_of message.now.bytes.now ≡ Some m → result ≡ judged policy.now before.told m }
 {
     policy.covers_no_unique_name();
@@ -71,8 +73,8 @@ pub fn judge(
     judge_from::<Brand>(asked, Blank::new(1))
 }
 
-/// What `judge` answers, with its steps: the look-ups of the name that the message is for, or that it asks the bus of, and
-/// the entries of that name alone.
+/// Does as `judge` does and counts the steps: the look-ups of the message's destination, or of the name that it asks
+/// the bus about, and the tested entries of that name.
 pub fn judge_counted<L: Ledger>(
     policy: &Policy,
     tracker: &Tracker,
@@ -93,7 +95,7 @@ pub fn judge_counted<L: Ledger>(
     )
 }
 
-// A message of the client, and by what it is judged.
+// A message of the client, and what it is judged by.
 #[derive(Drop)]
 struct ClientMessage<'a, 'm> {
     policy: &'a Policy,
@@ -119,25 +121,27 @@ fn judge_from<L: Ledger>(asked: ClientMessage<'_, '_>, blank: Blank) -> Verdict
     )
 }
 
-/// What the client is shown of a bus message: the message as it is or as an answer, an answer in its place, or nothing.
+/// What the client is shown of a bus message: the message unchanged or as an answer, an answer in its place, or
+/// nothing.
 ///
-/// A return or an error is shown as the answer to the client's call that it answers: a list of names cut, and the answer to
-/// a ping as the error that took the call's place. NameOwnerChanged of the bus is shown where its name is seen. Calls, and
-/// other signals with a DESTINATION, are shown whole, and a signal without one where its sender may be talked to or a
-/// Broadcast rule of the sender's entries matches. What answers nothing, or a call of the proxy's own, is hidden, and so is
-/// a message of a type above 4.
+/// A return or an error is shown as the answer to the client's call that it answers: a list of names is cut, and the
+/// answer to a ping becomes the answer to the call that the ping replaced. NameOwnerChanged of the bus is shown if its
+/// name is seen. Calls, and other signals with a DESTINATION, are shown whole. A signal without one is shown if its
+/// sender may be talked to or a Broadcast rule of the sender's entries matches. A return or an error that answers no
+/// call, or a call of the proxy's own, is hidden, and so is a message of a type above 4.
 ///
-/// It is told what the message is the answer to, which matters to a return and an error alone.
+/// The caller gives what the message is the answer to. That matters only for a return or an error.
 pub fn show(
     policy: &Policy,
     tracker: &Tracker,
     answered: Option<&Kind>,
     message: &Message<'_>,
 ) -> Showing
-    // By what the tracker keeps, it is what the definition shows, whatever replies are owed.
+    // It is what the definition shows, given what the tracker keeps, whatever replies are owed.
     ensures kept { (owed : Replies) (m : MessageTree) → message_of message.now.bytes.now ≡ Some m → result ≡ showing policy.now (kept policy.now tracker.now owed) (option_copied answered.entry) m }
 
-    // So it is for each past for which that and a ledger stand, where the message has the role there that its answer gives it.
+    // So it is what is shown for each past that the tracker and a ledger represent, if the message has there the role
+    // that its answer gives it.
     ensures exact { (ledger : LedgerValue) (before : Past) (m : MessageTree) → StandFor policy.now tracker.now ledger before → bus_role_by (option_copied answered.entry) m ≡ role before m → message_of message.now.bytes.now ≡ Some m → result ≡ shown policy.now before m }
 {
     policy.covers_no_unique_name();
@@ -150,8 +154,8 @@ pub fn show(
     show_from::<Brand>(asked, Blank::new(1))
 }
 
-/// What `show` answers, with its steps: the look-ups of the name whose owner changed, or of the sender of a signal for all,
-/// and the entries of that sender alone.
+/// Does as `show` does and counts the steps: the look-ups of the name whose owner changed, or of the sender of a
+/// broadcast signal, and the tested entries of that sender.
 pub fn show_counted<L: Ledger>(
     policy: &Policy,
     tracker: &Tracker,
@@ -165,7 +169,7 @@ pub fn show_counted<L: Ledger>(
     showing::show_as(policy, tracker, message, bus_role(answered, message), steps)
 }
 
-// A message of the bus, and by what it is shown.
+// A message of the bus, and what its showing depends on.
 #[derive(Drop)]
 struct BusMessage<'a, 'm> {
     policy: &'a Policy,

@@ -1,4 +1,5 @@
-//! Requests of properties, by calls of `org.freedesktop.DBus.Properties` (D-Bus Specification, "org.freedesktop.DBus.Properties").
+//! Requests of properties, by calls of `org.freedesktop.DBus.Properties` (the section of that name in the D-Bus
+//! Specification).
 ghost use Rattle.std.specs.Prelude.{◌≡◌};
 ghost use Rattle.dbus_header.specs.Read.{message_seen};
 ghost use Rattle.dbus_header.specs.Seen.{text_seen};
@@ -22,7 +23,7 @@ pub(crate) struct PropertyRequest<'a> {
     pub(crate) property: Option<&'a str>,
 }
 
-/// The property request that a call is: `None` if it is none.
+/// The property request that a call makes, or `None` if it makes none.
 pub(crate) fn property_request<'a>(message: &Message<'a>) -> Option<PropertyRequest<'a>>
     ensures { request_seen result ≡ property_request_in message.now.bytes.now }
 {
@@ -33,7 +34,7 @@ pub(crate) fn property_request<'a>(message: &Message<'a>) -> Option<PropertyRequ
     }
 }
 
-// The request by the member and the signature of a call of the interface.
+// The request of a call of this interface, by its member and signature.
 fn method_request<'a>(message: &Message<'a>) -> Option<PropertyRequest<'a>>
     ensures { request_seen result ≡ method_request_by (message_seen message.now) message.now.bytes.now }
 {

@@ -1,4 +1,4 @@
-//! The roles of messages: what a message is, by itself and by the sent call that it answers.
+//! The roles of messages: what a message is, by its own contents and by the sent call that it answers.
 ghost use Rattle.std.specs.Prelude.{◌≡◌, true, false};
 ghost use Rattle.std.specs.Option.{option_copied};
 ghost use Rattle.dbus_header.specs.Read.{message_seen};
@@ -26,13 +26,13 @@ pub(crate) enum ClientRole<'a> {
     Broadcast,
     /// A signal for this name.
     SignalTo(BusName<'a>),
-    /// A call of the bus by an interface that each object has.
+    /// A call to the bus with an interface that each object has.
     StandardBusCall,
-    /// A call of the bus by an interface that is neither such nor its own.
+    /// A call to the bus with any other interface than these and its own.
     OtherBusCall,
-    /// A call of the bus by its own interface, or by none.
+    /// A call to the bus with its own interface, or without one.
     BusCall,
-    /// A call of another name.
+    /// A call to another name.
     CallTo(BusName<'a>),
 }
 
@@ -43,11 +43,11 @@ pub(crate) enum BusRole<'a> {
     NoRole,
     /// It answers nothing that was sent.
     Unexpected,
-    /// The answer to a match rule of the proxy's own.
+    /// The answer to an AddMatch of the proxy's own.
     MatchAnswer,
-    /// The answer to the proxy's own question who owns this name.
+    /// The answer to the proxy's own GetNameOwner for this name.
     OwnerAnswer(&'a Name),
-    /// The answer to the proxy's own question for the list of names.
+    /// The answer to the proxy's own ListNames.
     NamesAnswer,
     /// The answer to the ping for the client's call with this serial.
     PingAnswer {
@@ -61,13 +61,13 @@ pub(crate) enum BusRole<'a> {
     HelloAnswer(u32),
     /// The answer to another call of the client, with this serial.
     OtherAnswer(u32),
-    /// A call of the client.
+    /// A call to the client.
     CallIn,
-    /// The bus tells that a name's owner changed.
+    /// NameOwnerChanged from the bus.
     OwnerChange,
-    /// A signal for the client.
+    /// A signal to the client.
     SignalIn,
-    /// A signal for all.
+    /// A broadcast signal.
     BroadcastIn,
 }
 
@@ -134,7 +134,7 @@ fn role_of_signal(destination: Option<BusName<'_>>) -> ClientRole<'_>
     }
 }
 
-/// The role of a bus message, by what it is the answer to.
+/// The role of a bus message, given what it is the answer to.
 pub(crate) fn bus_role<'a>(answered: Option<&'a Kind>, message: &Message<'_>) -> BusRole<'a>
     ensures { bus_role_seen result ≡ bus_role_of (option_copied answered.entry) (message_seen message.now) }
 {
@@ -147,7 +147,7 @@ pub(crate) fn bus_role<'a>(answered: Option<&'a Kind>, message: &Message<'_>) ->
     }
 }
 
-// The role of a return or an error, by what it is the answer to.
+// The role of a return or an error, given what it is the answer to.
 fn role_of_reply(is_return: bool, answer: Option<&Kind>) -> BusRole<'_>
     ensures { bus_role_seen result ≡ reply_role is_return (option_copied answer.entry) }
 {

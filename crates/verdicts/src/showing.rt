@@ -19,7 +19,7 @@ use policy_view::{Reason, Showing};
 use std::sync::ledger::Ledger;
 use unique_names::Tracker;
 
-/// What is shown of a message of this role.
+/// What the client is shown of a message with this role.
 pub(crate) fn show_as<L: Ledger>(
     policy: &Policy,
     tracker: &Tracker,
@@ -53,7 +53,7 @@ pub(crate) fn show_as<L: Ledger>(
     }
 }
 
-// A list of names, where the body is one.
+// Shows a list of names, if the body is one.
 fn show_names(message: &Message<'_>, serial: u32) -> Showing
     ensures { result ≡ names_by serial (has_list_in message.now.bytes.now) }
 {
@@ -64,14 +64,14 @@ fn show_names(message: &Message<'_>, serial: u32) -> Showing
     }
 }
 
-// Whether the body is a list of texts.
+// Whether the body is an array of strings.
 fn has_list(message: &Message<'_>) -> bool
     ensures { result ≡ has_list_in message.now.bytes.now }
 {
     message.text_list().is_some()
 }
 
-// The owner of a name changed, which the client learns if it sees the change.
+// The owner of a name changed. The client is shown that if it sees the change.
 fn show_owner_change<L: Ledger>(
     policy: &Policy,
     tracker: &Tracker,
@@ -108,7 +108,7 @@ fn sees_change<L: Ledger>(
     level.is_at_least(Level::See) || policy.sloppy() && is_unique(name.as_bytes())
 }
 
-// The first of the three texts that the body is: the name, its old owner and its new one.
+// The first of the three texts that are the body: the name, its old owner and its new one.
 fn changed_name<'a>(message: &Message<'a>) -> Option<&'a str>
     ensures { text_seen result ≡ changed_name_in message.now.bytes.now }
 {
@@ -116,7 +116,7 @@ fn changed_name<'a>(message: &Message<'a>) -> Option<&'a str>
     Some(name)
 }
 
-// A signal for all comes from a name that may be talked to, or where a rule says so.
+// A broadcast signal is shown if its sender may be talked to or a rule says so.
 fn show_broadcast<L: Ledger>(
     policy: &Policy,
     tracker: &Tracker,

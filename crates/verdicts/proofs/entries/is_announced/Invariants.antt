@@ -6,7 +6,7 @@ use Rattle.verdicts.specs.Entries.{entry_steps}
 use Rattle.verdicts.specs.Showing.{announces}
 use Rattle.verdicts.proofs.entries.is_announced.Given as goal
 
--- what is left to look at tells whether one passes
+-- whether one passes depends on the numbers that are left
 abbrev pub invariant-loop-number : goal.invariant-loop-number
 invariant-loop-number g l = record {
   announced : list_any (entry_passes l.policy (announces (message_seen l.message))) l.numbers.numbers ≡ list_any (entry_passes l.policy (announces (message_seen l.message))) l.fn.numbers.numbers;

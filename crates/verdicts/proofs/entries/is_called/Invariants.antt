@@ -4,7 +4,7 @@ use Rattle.policy_view.specs.Verdicts.{calls_methods, entry_passes}
 use Rattle.verdicts.specs.Entries.{entry_steps}
 use Rattle.verdicts.proofs.entries.is_called.Given as goal
 
--- what is left to look at tells whether one passes
+-- whether one passes depends on the numbers that are left
 abbrev pub invariant-loop-number : goal.invariant-loop-number
 invariant-loop-number g l = record {
   called : list_any (entry_passes l.policy calls_methods) l.numbers.numbers ≡ list_any (entry_passes l.policy calls_methods) l.fn.numbers.numbers;
