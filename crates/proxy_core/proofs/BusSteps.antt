@@ -31,7 +31,7 @@ use Rattle.proxy_core.proofs.Replies.{more_for_owed}
 use Rattle.proxy_core.proofs.Placing.{HoldsSides}
 use Rattle.proxy_core.proofs.Sent.{Based, answered_is, sending_holds}
 
--- a tracker that is taught facts
+-- a tracker that learns facts
 taught_facts : (policy : Policy) (facts : List Fact) (ids : Ids) (known : List Fact) → Taught ids policy known → Taught (taught policy ids facts) policy (known ++ facts)
 taught_facts policy [] ids known t = subst (λ (fs : List Fact). Taught ids policy fs) (sym (append-nil known)) t
 taught_facts policy (fact ∷ facts) ids known t =

@@ -1,4 +1,4 @@
--- Lines and messages taken from the front of a stream, one and then many; bytes that go on as they came.
+-- Lines and messages taken from the start of a stream, one and then many; bytes that are passed on unchanged.
 use Rattle.std.proofs.Common.{ℕ, zero, suc, ◌≡◌, ◌+◌, ◌-◌, ◌*◌, ◌≤◌, ◌<◌, Bool, true, false, cond, List, [], ◌∷◌, ◌++◌, length, take, Option, Some, None, refl, ap, ap₂, ◌∙◌, sym, subst, arith, length-append, inl, inr}
 use Rattle.std.specs.Prelude.{◌==◌, is_none, is_some, nat_lt, not}
 use Rattle.dbus_names.specs.Names.{is_empty}
@@ -54,7 +54,7 @@ sides_wait old new k = record {
   visible = k.visible;
 }
 
--- of a view in which the same waits
+-- of views in which the same bytes wait
 waits_as : (old mid new : SessionView) → KeepsWaiting mid new → KeepsWaiting old mid → KeepsWaiting old new
 waits_as old mid new k l = record {
   mode = k.mode ∙ l.mode;
@@ -94,7 +94,7 @@ left_weighs policy Bus left n view e = by _ _ _ _ _ e
 pub no_more : (new mid n : ℕ) → new ≡ mid → new ≤ mid + n
 no_more new mid n e = omega arith
 
--- ---- bytes at which nobody looks
+-- ---- raw bytes
 
 raw_grows : (side : Side) (bytes : List ℕ) (view : SessionView) → Grows view (with_raw side bytes view)
 raw_grows Client bytes view = bus_grows view bytes
@@ -125,7 +125,7 @@ left_lighter policy Bus view = by _ _ _ _
     by : (sides left other own : ℕ) → sides + 19 * (other + 0) + own ≤ sides + 19 * (other + left) + own
     by sides left other own = omega arith
 
--- ---- the message in front
+-- ---- the first message
 
 module _ (policy : Policy) (side : Side) where
   abbrev after : Message → List ℕ → SessionView → SessionView
@@ -170,7 +170,7 @@ module _ (policy : Policy) (side : Side) where
   pub step_runs : (view : SessionView) → view.ended ≡ None → (step_of policy side view).1 ≡ true → (step_of policy side view).0.ended ≡ None
   step_runs view runs e = at_runs (stream_of side view).phase view runs e
 
-  -- behind the lines
+  -- after the lines
   behind_step : (view : SessionView) (filter : Bool) → (stream_of side view).phase ≡ InMessages → view.mode.filter ≡ filter
       → step_of policy side view ≡ cond filter (with_front policy side (front (left_of side view)) view) (raw_step side view)
   behind_step view filter e f = ap (λ (p : Phase). step_at policy side p view) e ∙ ap (λ (b : Bool). cond b (with_front policy side (front (left_of side view)) view) (raw_step side view)) f
@@ -216,7 +216,7 @@ module _ (policy : Policy) (side : Side) where
       by : {new mid cut old : ℕ} → mid ≡ cut → cut + 19 * n ≡ old → new ≤ mid + 19 * n → new ≤ old + 19 * 0
       by e f g = omega arith
 
-  -- and nineteen bytes at most come out for each of its own, beside the own calls that were to come
+  -- and at most nineteen bytes are put out for each of its own, beside the own calls that were to be sent
   pub whole_light : (old mid new : SessionView) (frame left : List ℕ) (m : Message) → Takes (left_of side old) frame left m → mid ≡ with_left side left old
       → TookMessage (with_watched_message policy side m mid) mid new → IsLight policy 0 old new
   whole_light old mid new frame left m t is took =
@@ -258,7 +258,7 @@ module _ (policy : Policy) (side : Side) where
   abbrev step : SessionView → SessionView × Bool
   step view = step_of policy side view
 
-  -- where more may follow
+  -- if more may follow
   pub record GoesOn (n : ℕ) (view new : SessionView) : Type 0 where
     pub same : drained policy side (n - 1) new ≡ drained policy side n view
     pub runs : new.ended ≡ None
@@ -276,7 +276,7 @@ module _ (policy : Policy) (side : Side) where
       }
   goes_on (suc n) view new more pos runs (inr refused) e = absurd (let h : true ≡ false = sym e ∙ refused.1 in cc)
 
-  -- where it doesn't
+  -- if it doesn't
   pub stops : (n : ℕ) (first view new : SessionView) (expected : SessionView) (more : Bool) → 0 < n → (k : ℕ) × WentOn policy side k first view → drained policy side n view ≡ expected
       → Stepped (step_of policy side view) view new more → more ≡ false → Took policy side expected first new
   stops zero first view new expected more pos went is s e = absurd (omega (arith, pos))
@@ -406,7 +406,7 @@ module _ (policy : Policy) (side : Side) (bytes : List ℕ) where
   bytes_grow true view = grows_none view
   bytes_grow false view = more_grows view
 
-  -- memory was refused before anything was looked at
+  -- memory was refused before anything was processed
   pub bytes_refused : (old mid new : SessionView) → old.ended ≡ None → mid ≡ old → new ≡ ended_by Memory mid → Took policy side (with_bytes policy side bytes old) (with_pushed side bytes old) new
   bytes_refused old mid new runs same e = inr (record {
     steps = 0;
@@ -451,7 +451,7 @@ closed_grows : (over : Bool) (side : Side) (old view : SessionView) → Grows ol
 closed_grows true side old view g = unless_grows view.ended (finished side) old view g
 closed_grows false side old view g = g
 
--- it only adds to what waits, also where memory was refused in its midst
+-- it only adds to what waits, even if memory was refused in between
 pub piece_grows : (policy : Policy) (side : Side) (piece : List ℕ) (old new : SessionView) → Took policy side (with_piece policy side piece old) (with_pushed side (take (room_of side old) piece) old) new → Grows old new
 piece_grows policy side piece old new (inl done) =
     let bytes : List ℕ = take (room_of side old) piece in

@@ -1,4 +1,4 @@
--- What a session holds when all that stands in front of a side's stream was taken.
+-- What a session holds after all that could be taken of a side's stream was taken.
 use Rattle.std.proofs.Common.{ℕ, zero, suc, ◌≡◌, ◌+◌, ◌-◌, ◌<◌, nat_le, Bool, true, false, cond, List, [], ◌∷◌, ◌++◌, length, Option, Some, None, refl, ap, ◌∙◌, sym, subst, arith, append-nil, append_assoc, length-append, inl, inr}
 use Rattle.std.specs.Prelude.{◌==◌, ◌||◌, ◌⊎◌, not, is_none}
 use Rattle.std.proofs.lemmas.Bool.{eqb-true, eq-eqb, ne_eqb}
@@ -135,7 +135,7 @@ bus_line_holds policy view items taken l s runs h =
       knows = λ e. knows_still policy view _ _ refl refl refl refl (h.knows e);
     })
 
--- ---- bytes at which nobody looks, in their place
+-- ---- raw bytes, in their place
 
 raw_room : (policy : Policy) (view : SessionView) (items : History) (taken : Taken) (side : Side) (bytes : List ℕ) → view.ended ≡ None → Holds policy view items taken → followed_by policy items (Raw side bytes) ≡ Raw side bytes ∷ items
 unfolding due
@@ -169,7 +169,7 @@ no_raw : (side : Side) (view : SessionView) → view ≡ with_raw side [] view
 no_raw Client view = ap (λ (xs : List ℕ). record view { bus_side = xs }) (sym (append-nil view.bus_side))
 no_raw Bus view = ap (λ (xs : List ℕ). record view { client_side = xs }) (sym (append-nil view.client_side))
 
--- where there are any
+-- if there are any
 raw_item_holds : (policy : Policy) (view : SessionView) (items : History) (taken : Taken) (side : Side) (bytes : List ℕ) → view.ended ≡ None → Holds policy view items taken → Holds policy (with_raw side bytes view) (followed_by_all policy items (raw_item side bytes)) taken
 unfolding followed_by_all
 raw_item_holds policy view items taken side [] runs h = subst (λ (v : SessionView). Holds policy v items taken) (no_raw side view) h
@@ -189,7 +189,7 @@ abbrev pub Steps : Policy → Taken → Type 0
 Steps policy taken = (side : Side) (view : SessionView) (items : History) (m : Message) → view.ended ≡ None → Holds policy view items taken → Valid m
     → Holds policy (with_watched_message policy side m view) (followed_by policy items (Msg side m)) taken
 
--- the session holds what its side's stream has beyond these items, and its fault; where it runs, all was taken
+-- the session holds what its side's stream has beyond these items, and its fault; if it runs, all was taken
 pub record Final (policy : Policy) (taken : Taken) (mode : Mode) (side : Side) (gone : List ℕ) (events : List Event) (items : History) (given : List Item) (new : SessionView) : Type 0 where
   pub holds : Holds policy new (followed_by_all policy items (new_in given (reached mode side gone events) ++ fault_end side (fault mode side events))) taken
   pub stands : new.ended ≡ None → StandsAt mode side events (stream_of side new).phase (stream_of side new).left
@@ -197,7 +197,7 @@ pub record Final (policy : Policy) (taken : Taken) (mode : Mode) (side : Side) (
   pub sound : new.ended ≡ None → fault mode side events ≡ None
   pub bytes : new.ended ≡ None → AreBytes (stream_of side new).left
 
--- in the midst of it, where the session runs: of these items it holds the first
+-- in between, if the session runs: it holds the first of these items
 pub record Midst (policy : Policy) (taken : Taken) (mode : Mode) (side : Side) (gone : List ℕ) (events : List Event) (items : History) (given : List Item) (new : SessionView) : Type 0 where
   pub first : List Item
   pub more : List Item
@@ -209,7 +209,7 @@ abbrev pub LastOf : Bool → Policy → Taken → Mode → Side → List ℕ →
 LastOf true policy taken mode side gone events items given new = Final policy taken mode side gone events items given new
 LastOf false policy taken mode side gone events items given new = new.ended ≡ None → Midst policy taken mode side gone events items given new
 
--- what is known of the client's stream, where the bus's is taken
+-- what is known of the client's stream while the bus's is processed
 pub record KnowsClient (mode : Mode) (events : List Event) (s : StreamView) : Type 0 where
   pub lines : mode.auth ≡ true → s.lines ≡ asked (stream Client events)
   pub begun : mode.auth ≡ true → not (is_in_lines s.phase) ≡ begins_in (stream Client events)
@@ -234,7 +234,7 @@ module _ (whole : Bool) (policy : Policy) (taken : Taken) (mode : Mode) (side : 
   unfolding followed_by_all
   none_first view items given h = record { first = []; more = new_in given (reached mode side gone events); parts = refl; holds = h }
 
-  -- nothing more stands in front
+  -- nothing more can be taken
   pub none_last : (view : SessionView) (items : History) (given : List Item) → Holds policy view items taken → Stops mode side gone events given None
       → StandsAt mode side events (stream_of side view).phase (stream_of side view).left → (mode.auth ≡ true → (stream_of side view).lines ≡ lines_in side mode events) → AreBytes (stream_of side view).left → Last items given view
   unfolding followed_by_all
@@ -251,7 +251,7 @@ module _ (whole : Bool) (policy : Policy) (taken : Taken) (mode : Mode) (side : 
       }
       by false = λ r. none_first view items given h
 
-  -- a fault stands in front
+  -- there is a fault at the start
   fault_last : (view : SessionView) (items : History) (given : List Item) (f : Fault) → view.ended ≡ None → Holds policy view items taken → Stops mode side gone events given (Some f) → Last items given (ended_by (malformed side f) view)
   unfolding followed_by_all
   fault_last view items given f runs h stop = by whole
@@ -288,7 +288,7 @@ module _ (whole : Bool) (policy : Policy) (taken : Taken) (mode : Mode) (side : 
       }
       by false f = λ r. let m = f r in record { first = item ∷ m.first; more = m.more; parts = new_item given item begin ∙ ap (λ (xs : List Item). item ∷ xs) m.parts; holds = m.holds }
 
-  -- where the session ended, the others have no effect
+  -- if the session ended, the others have no effect
   ended_last : (items : History) (given : List Item) (item : Item) (new : SessionView) (end : End) → Begins (given ++ item ∷ []) (reached mode side gone events) → new.ended ≡ Some end → Holds policy new (followed_by policy items item) taken → Last items given new
   ended_last items given item new end begin e h = item_last items given item new begin (by whole)
     where
@@ -493,7 +493,7 @@ module _ (whole : Bool) (policy : Policy) (taken : Taken) (steps : Steps policy 
   messages_last None e = no_message_last e (message_fault left_now) refl
   messages_last (Some x) e = message_last x.0 x.1 e (behind_message x.0 x.1).ended refl
 
--- ---- where messages aren't filtered
+-- ---- if messages aren't filtered
 
 module _ (whole : Bool) (policy : Policy) (taken : Taken) (mode : Mode) (side : Side) (gone : List ℕ) (events : List Event) (view : SessionView) (items : History) (given : List Item) (runs : view.ended ≡ None) (at : (stream_of side view).phase ≡ InMessages)
     (g : GoesRaw mode side gone events (stream_of side view) given) (h : Holds policy view items taken) (lines_sound : line_fault mode side events ≡ None) where
@@ -549,7 +549,7 @@ module _ (whole : Bool) (policy : Policy) (taken : Taken) (mode : Mode) (side : 
 
 -- ---- all of it
 
--- behind a side's lines there is no fault in them
+-- after a side's lines there is no fault in them
 lines_are_sound : (mode : Mode) (side : Side) (events : List Event) (bytes : List ℕ) → content mode side events ≡ Some bytes → AllGiven mode side events → line_fault mode side events ≡ None
 unfolding lines content
 lines_are_sound mode Client events bytes is all = by mode.auth is
@@ -578,7 +578,7 @@ lines_are_sound mode Bus events bytes is all = by mode.auth refl is all
         seen true k e = ap fault_of_line (no_bus_fault (asked (stream Client events)) (stream Bus events) (all refl))
 
 module _ (whole : Bool) (policy : Policy) (taken : Taken) (steps : Steps policy taken) (mode : Mode) (gone : List ℕ) (events : List Event) where
-  -- messages, or bytes at which nobody looks
+  -- messages, or raw bytes
   behind_last : (side : Side) (n : ℕ) (view : SessionView) (items : History) (given : List Item) → view.ended ≡ None → view.mode ≡ mode → (stream_of side view).phase ≡ InMessages → (whole ≡ true → length (stream_of side view).left < suc n)
       → GoesInMessages mode side events (stream_of side view) given ⊎ GoesRaw mode side gone events (stream_of side view) given → Holds policy view items taken → AreBytes (stream_of side view).left → KnowsOther mode side events view
       → Others whole policy taken mode side gone events n → (filter : Bool) → mode.filter ≡ filter

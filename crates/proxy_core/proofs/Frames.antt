@@ -1,4 +1,4 @@
--- An answer that holds, seen otherwise.
+-- An answer that holds, under an equal view.
 use Rattle.std.specs.Prelude.{Result, Ok, Err, IfOk}
 
 pub if_ok : {A E : Type 0} (r : Result A E) (P Q : A → Type 0) → ((x : A) → P x → Q x) → IfOk r P → IfOk r Q

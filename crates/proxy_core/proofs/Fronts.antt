@@ -1,4 +1,4 @@
--- What was taken of a session and then waits is a prefix of what its events give, whatever its End.
+-- What was taken of a session and what then waits is a prefix of what its events give, whatever its End.
 use Rattle.std.proofs.Common.{◌≡◌, Bool, true, false, cond, List, [], ◌∷◌, ◌++◌, Some, refl, ap, ◌∙◌, sym, subst, append-nil}
 use Rattle.policy_args.specs.Policy.{Policy}
 use Rattle.policy_view.specs.Elements.{elements}

@@ -1,4 +1,4 @@
--- How far a side's stream was taken, in the midst of a piece.
+-- How far a side's stream was processed, within a piece.
 use Rattle.std.proofs.Common.{ℕ, zero, suc, ◌≡◌, ◌+◌, ◌-◌, ◌≤◌, ◌<◌, Bool, true, false, cond, List, [], ◌∷◌, ◌++◌, length, take, map, Option, Some, None, refl, ap, ◌∙◌, sym, subst, arith, append-nil, append_assoc, length-append, inl, inr}
 use Rattle.std.specs.Prelude.{◌||◌, ◌⊎◌, nat_lt}
 use Rattle.std.specs.List.{list_any}
@@ -30,16 +30,16 @@ use Rattle.proxy_core.proofs.LineCuts.{sound_at, behind, ClientGoes, client_wait
 
 -- ---- where a stream is
 
--- how many lines were counted, of so many that were given
+-- the number of lines that were counted, of those that were given
 abbrev pub Counts : Side → List Event → ℕ → ℕ → Type 0
 Counts Client events n given = n ≡ given - 1
 Counts Bus events n given = (n ≡ given) × (given ≤ asked (stream Client events))
 
--- all items of a side, where of the bytes at which nobody looks these had gone on before
+-- all items of a side, if these raw bytes were passed on before
 abbrev pub reached : Mode → Side → List ℕ → List Event → List Item
 reached mode side gone events = found mode side events ++ raw_item side (new_in gone (raw mode side events))
 
--- in its lines, of which these items came
+-- in its lines, of which these items were taken
 pub record GoesInLines (mode : Mode) (side : Side) (gone : List ℕ) (events : List Event) (s : StreamView) (place : ℕ) (told : Option LineFault) (items : List Item) : Type 0 where
   pub auth : mode.auth ≡ true
   pub quiet : told ≡ None
@@ -49,7 +49,7 @@ pub record GoesInLines (mode : Mode) (side : Side) (gone : List ℕ) (events : L
   pub counts : Counts side events s.lines (length given)
   pub items_are : items ≡ map (Line side) given
 
--- in messages behind them
+-- in messages after the lines
 pub record GoesInMessages (mode : Mode) (side : Side) (events : List Event) (s : StreamView) (items : List Item) : Type 0 where
   pub filters : mode.filter ≡ true
   pub bytes : List ℕ
@@ -60,7 +60,7 @@ pub record GoesInMessages (mode : Mode) (side : Side) (events : List Event) (s :
   pub counts : mode.auth ≡ true → s.lines ≡ lines_in side mode events
   pub items_are : items ≡ map (Line side) (lines mode side events) ++ map (Msg side) given
 
--- or where messages aren't filtered
+-- or if messages aren't filtered
 pub record GoesRaw (mode : Mode) (side : Side) (gone : List ℕ) (events : List Event) (s : StreamView) (items : List Item) : Type 0 where
   pub unfiltered : mode.filter ≡ false
   pub bytes : List ℕ
@@ -77,7 +77,7 @@ GoesAt mode side gone events InMessages s items = GoesInMessages mode side event
 abbrev pub Goes : Mode → Side → List ℕ → List Event → StreamView → List Item → Type 0
 Goes mode side gone events s items = GoesAt mode side gone events s.phase s items
 
--- where nothing more stands in front: all was given, and this is the fault
+-- if nothing more can be taken: all was given, and this is the fault
 pub record Stops (mode : Mode) (side : Side) (gone : List ℕ) (events : List Event) (items : List Item) (f : Option Fault) : Type 0 where
   pub found_is : reached mode side gone events ≡ items
   pub fault_is : fault mode side events ≡ f
@@ -112,7 +112,7 @@ lines_begin side given more ms items e = (
   ap (λ (x : List Item). x ++ ms) (map-append (Line side) given more) ∙ append_assoc (map (Line side) given) (map (Line side) more) ms ∙ ap (λ (x : List Item). x ++ (map (Line side) more ++ ms)) (sym e),
 )
 
--- whatever goes on unseen comes behind them
+-- raw bytes follow the items
 begins_then : (items all more : List Item) → Begins items all → Begins items (all ++ more)
 begins_then items all more (rest, e) = (rest ++ more, ap (λ (xs : List Item). xs ++ more) e ∙ append_assoc items rest more)
 
@@ -145,7 +145,7 @@ found_begins mode side gone events InMessages s items (inr g) =
 pub begins : (mode : Mode) (side : Side) (gone : List ℕ) (events : List Event) (p : Phase) (s : StreamView) (items : List Item) → GoesAt mode side gone events p s items → Begins items (reached mode side gone events)
 begins mode side gone events p s items g = begins_then items (found mode side events) (raw_item side (new_in gone (raw mode side events))) (found_begins mode side gone events p s items g)
 
--- ---- where nothing goes on unseen
+-- ---- if there are no raw bytes
 
 new_nothing : (gone : List ℕ) → new_in gone [] ≡ []
 new_nothing [] = refl
@@ -165,7 +165,7 @@ no_byte : (b : Bool) (bytes : List ℕ) → bytes ≡ [] → cond b [] bytes ≡
 no_byte true bytes e = refl
 no_byte false bytes e = e
 
--- where no byte follows the lines
+-- if no byte follows the lines
 pub quiet_raw : (mode : Mode) (side : Side) (events : List Event) → bytes_in (content mode side events) ≡ [] → raw mode side events ≡ []
 unfolding raw
 quiet_raw mode side events e = no_byte mode.filter (bytes_in (content mode side events)) e
@@ -187,7 +187,7 @@ module _ (mode : Mode) (side : Side) (gone : List ℕ) (events : List Event) (s 
       ∙ ap (fault_in true) g.content_is
       ∙ ap (λ (x : List Message × List ℕ). fault_of (message_fault x.1)) g.split_is
 
-  -- no message stands in front
+  -- no message is first
   pub messages_stop : line_fault mode side events ≡ None → front s.left ≡ None → Stops mode side gone events items (fault_of (message_fault s.left))
   unfolding found
   messages_stop none e =
@@ -212,7 +212,7 @@ module _ (mode : Mode) (side : Side) (gone : List ℕ) (events : List Event) (s 
     g.all,
   )
 
-  -- a message stands in front
+  -- a message is first
   pub message_goes : (m : Message) (left : List ℕ) → front s.left ≡ Some (m, left) → GoesInMessages mode side events (record s { left = left }) (items ++ Msg side m ∷ [])
   message_goes m left e = record {
     filters = g.filters;
@@ -227,7 +227,7 @@ module _ (mode : Mode) (side : Side) (gone : List ℕ) (events : List Event) (s 
         ∙ ap (λ (x : List Item). map (Line side) (lines mode side events) ++ x) (sym (map-append (Msg side) g.given (m ∷ [])));
   }
 
--- ---- where messages aren't filtered
+-- ---- if messages aren't filtered
 
 module _ (mode : Mode) (side : Side) (gone : List ℕ) (events : List Event) (s : StreamView) (items : List Item) (g : GoesRaw mode side gone events s items) where
   raw_is : raw mode side events ≡ gone ++ s.left
@@ -242,7 +242,7 @@ module _ (mode : Mode) (side : Side) (gone : List ℕ) (events : List Event) (s 
       ∙ append-nil (map (Line side) (lines mode side events))
       ∙ sym g.items_are
 
-  -- all that is left is one item, and then nothing more stands in front
+  -- all that is left is one item, and then nothing more can be taken
   pub raw_stops : line_fault mode side events ≡ None → Stops mode side gone events (items ++ raw_item side s.left) None
   unfolding fault
   raw_stops none = record {
@@ -257,9 +257,9 @@ module _ (mode : Mode) (side : Side) (gone : List ℕ) (events : List Event) (s 
   pub raw_stands : StandsAt mode side events InMessages []
   raw_stands = (g.bytes, g.content_is, ap (λ (b : Bool). rest_of b g.bytes) (sym g.unfiltered), g.all)
 
--- ---- behind the lines
+-- ---- after the lines
 
--- where these bytes follow them, of which none was given yet
+-- if these bytes follow them, and none was given yet
 record Behind (mode : Mode) (side : Side) (gone : List ℕ) (events : List Event) (s : StreamView) (items : List Item) : Type 0 where
   none_gone : gone ≡ []
   content_is : content mode side events ≡ Some s.left
@@ -414,7 +414,7 @@ module _ (mode : Mode) (gone : List ℕ) (events : List Event) (s : StreamView) 
   abbrev B : List ℕ
   B = stream Bus events
 
-  -- where no byte follows the lines
+  -- if no byte follows the lines
   bus_content : content mode Bus events ≡ cond begun (some (after_lines n B)) None
   unfolding content
   bus_content = ap (λ (x : Bool). cond x (cond begun (some (after_lines n B)) None) (some B)) g.auth
@@ -488,7 +488,7 @@ module _ (mode : Mode) (gone : List ℕ) (events : List Event) (s : StreamView) 
         items_are = g.items_are ∙ ap (map (Line Bus)) (sym is);
       })
 
-  -- where its lines stop
+  -- if its lines stop
   fails_stop : (f : LineFault) → bus_fault n begun B ≡ Some f → bus_lines n B ≡ g.given → bytes_in (content mode Bus events) ≡ [] → Stops mode Bus gone events items (Some (OfLine f))
   unfolding fault content
   fails_stop f is l quiet = record {
@@ -512,7 +512,7 @@ module _ (mode : Mode) (gone : List ℕ) (events : List Event) (s : StreamView) 
   pub bus_stands : 0 < n - length g.given → (bus_ahead (sound_at place s.left)).lines ≡ [] → (bus_ahead (sound_at place s.left)).fault ≡ None → StandsAt mode Bus events (InLines place None) s.left × (s.lines ≡ length (lines mode Bus events))
   bus_stands pos l e = waits_stand (bus_waits B g.given n begun place s.left g.counts.1 g.follows pos l e)
 
-  -- where all lines were answered, and BEGIN wasn't seen
+  -- if all lines were answered, and BEGIN wasn't seen
   pub early_stops : n - length g.given ≡ 0 → begun ≡ false → 0 < length s.left → Stops mode Bus gone events items (Some (OfLine (record { kind = EarlyBus; at = place })))
   early_stops none unseen some_left =
       let w = bus_early B g.given n begun place s.left g.counts.1 g.follows none unseen some_left in

@@ -1,4 +1,5 @@
--- A piece of a side's messages is lent out of a session in which none of their bytes are left, and its rest is put back.
+-- A piece of a side's messages is processed outside a session in which none of their bytes are left, and its rest is
+-- put back.
 use Rattle.std.proofs.Common.{ℕ, ◌≡◌, ◌+◌, ◌*◌, ◌≤◌, false, true, List, [], ◌++◌, length, None, refl, ap, ap₂, ◌∙◌, sym, subst, arith, length-append}
 use Rattle.std.specs.Prelude.{◌==◌}
 use Rattle.policy_args.specs.Policy.{Policy}

@@ -1,4 +1,5 @@
--- What a message leaves as it was: the mode, the streams, and what waited before it; and how it is without its note and its element.
+-- What a message leaves unchanged: the mode, the streams, and what waited before it; and its effect without its note
+-- and its element.
 use Rattle.std.proofs.Common.{ℕ, ◌≡◌, ◌+◌, Bool, true, false, cond, List, [], ◌∷◌, ◌++◌, length, refl, ap, ap₂, ◌∙◌, sym, append-nil, append_assoc, flat_map, subst}
 use Rattle.std.specs.Prelude.{nat_le, ◌&&◌, is_none}
 use Rattle.dbus_header.specs.Message.{Message, reply_serial, spell}
@@ -38,7 +39,7 @@ front_then xs ys zs p q = record { rest = p.rest ++ q.rest; is = sym (append_ass
 abbrev pub waits : SessionView → List ℕ × List ℕ × List Note × List Element
 waits view = (view.bus_side, view.client_side, view.notes, view.visible)
 
--- of views in which the same waits
+-- of views in which the same bytes wait
 pub grows_as : {a b c d : SessionView} → Grows a b → waits c ≡ waits a → waits d ≡ waits b → Grows c d
 grows_as {a = a} {b = b} {c = c} {d = d} g p q = record {
   for_bus = both (ap (λ w. w.0) p) (ap (λ w. w.0) q) g.for_bus;
@@ -67,7 +68,7 @@ bus_grows view more = record { for_bus = front_more view.bus_side more; for_clie
 pub client_grows : (view : SessionView) (more : List ℕ) → Grows view (record view { client_side = view.client_side ++ more })
 client_grows view more = record { for_bus = front_all view.bus_side; for_client = front_more view.client_side more; noted = front_all view.notes; watched = front_all view.visible }
 
--- where elements are kept too
+-- if elements are kept too
 pub elements_grow : (old new : SessionView) (elements : List Element) → Grows old new → Grows old (with_elements elements new)
 elements_grow old new elements g = record {
   for_bus = g.for_bus;
@@ -78,7 +79,8 @@ elements_grow old new elements g = record {
 
 -- ---- a message
 
--- the same mode and streams, and what waits stands behind what waited before; an End that it brings isn't that of refused memory
+-- the mode and streams are unchanged, and what waits follows what waited before; an End that it brings isn't that of
+-- refused memory
 pub record IsKept (old new : SessionView) : Type 0 where
   pub mode : new.mode ≡ old.mode
   pub watches : new.watches ≡ old.watches
@@ -156,7 +158,7 @@ with_kept kept view = record view { notes = kept.notes; numbered = kept.numbered
 abbrev kept_in : SessionView → Kept
 kept_in view = record { notes = view.notes; numbered = view.numbered; watches = view.watches; visible = view.visible }
 
--- where that stood outside while memory was refused, and was put back, what waits and the streams are what they were
+-- if this was outside while memory was refused, and was put back, what waits and the streams are unchanged
 pub sides_kept : (old mid after new : SessionView) (out put : Kept) → mid ≡ with_kept out old → new ≡ with_kept put after → KeepsSides mid after → put.notes ≡ old.notes → put.numbered ≡ old.numbered → put.watches ≡ old.watches → put.visible ≡ old.visible → KeepsSides old new
 sides_kept old mid after new out put outside inside kept notes numbered watches visible = record {
   mode = same (λ v. v.mode) refl refl kept.mode;
@@ -174,7 +176,7 @@ sides_kept old mid after new out put outside inside kept notes numbered watches 
     same : {A : Type 0} (part : SessionView → A) → part (with_kept put after) ≡ part after → part (with_kept out old) ≡ part old → part after ≡ part mid → part new ≡ part old
     same part after_is old_is kept = ap part inside ∙ after_is ∙ kept ∙ ap part outside ∙ old_is
 
--- whatever that is, a message does the same
+-- whatever this is, the message has the same effect
 either_apart : (kept : Kept) (x y : SessionView) (b : Bool) → cond b (with_kept kept x) (with_kept kept y) ≡ with_kept kept (cond b x y)
 either_apart kept x y true = refl
 either_apart kept x y false = refl
@@ -202,7 +204,7 @@ notes_apart policy side m view notes n =
     kept_apart policy side m view (record { notes = notes; numbered = n; watches = view.watches; visible = view.visible })
     ∙ ap (λ (kept : Kept). record (with_message policy side m view) { notes = notes; numbered = n; watches = kept.watches; visible = kept.visible }) (sym (kept_left policy side m view))
 
--- a note rests on what is noted alone
+-- a note depends only on what is noted
 note_apart : (side : Side) (m : Message) (decision : Decision) (view : SessionView) (watches : Bool) (visible : List Element) →
     with_note_on side m decision (record view { watches = watches; visible = visible }) ≡ record (with_note_on side m decision view) { watches = watches; visible = visible }
 note_apart side m decision view watches visible = by (view.mode.notes && is_none view.ended)

@@ -1,4 +1,4 @@
--- What is expected, as messages are sent and answers come.
+-- What is expected, as messages are sent and answers are received.
 use Rattle.std.proofs.Common.{ℕ, zero, suc, ◌≡◌, ◌≢◌, ◌+◌, ◌≤◌, ◌<◌, nat_eq, nat_le, Bool, true, false, List, [], ◌∷◌, ◌++◌, length, slice_get, Option, Some, None, refl, ap, ◌∙◌, sym, arith, append-nil, append_assoc, length-append}
 use Rattle.std.specs.Prelude.{◌||◌, if◌then◌else◌, option_map}
 use Rattle.std.proofs.lemmas.Bool.Decides.{nat_tests}
@@ -29,11 +29,11 @@ inserted l k r e = let h = get-insert nat_cmp_total l k e r in grind (arith, nat
 removed : (l : FinMap nat_cmp Expected) (k r : ℕ) → get (remove l k) r ≡ (if nat_eq r k then None else get l r)
 removed l k r = let h = get-remove nat_cmp_total l k r in grind (arith, nat_tests, h)
 
--- what the answer to a sent message is for, where one is wanted
+-- what the answer to a sent message is for, if one is wanted
 abbrev pub wanted : Option Sent → Option Expected
 wanted s = option_map expected_of (if_expected s)
 
--- what a place among the sent answers, where it isn't used up
+-- what is answered by a place among the sent messages, if it isn't used up
 abbrev pub answered_in : List ℕ → List Sent → ℕ → Option Expected
 answered_in used sent r = if list_any (nat_eq r) used then None else wanted (sent_at sent r)
 
@@ -61,7 +61,7 @@ none_yet : (l : FinMap nat_cmp Expected) (used : List ℕ) (sent : List Sent) �
 none_yet l used sent each =
     each (length sent + 1) ∙ if_none (list_any (nat_eq (length sent + 1)) used) (sent_at sent (length sent + 1)) (past_none sent (length sent + 1) (omega arith))
 
--- with a message's answer expected at a serial, where it has one
+-- with a message's answer expected at a serial, if it has one
 abbrev awaits : FinMap nat_cmp Expected → ℕ → Sent → FinMap nat_cmp Expected
 awaits l n s = if expects_answer s then insert l n (expected_of s) else l
 

@@ -1,4 +1,4 @@
--- What is left of a side's stream is lent while its first message is taken, and put back then.
+-- What is left of a side's stream is outside the session while its first message is taken, and is then put back.
 use Rattle.std.proofs.Common.{ℕ, ◌≡◌, ◌+◌, ◌*◌, Bool, true, false, cond, List, [], ◌∷◌, length, drop, Option, Some, None, refl, ap, ap₂, ◌∙◌, sym, subst, inl, inr}
 use Rattle.std.specs.Prelude.{nat_le, ◌&&◌, is_none}
 use Rattle.dbus_header.specs.Message.{Message, reply_serial}
@@ -31,7 +31,7 @@ use Rattle.proxy_core.proofs.Draining.{InMessagesNow, left_of, message_step, no_
 use Rattle.proxy_core.proofs.Keeping.{watched_kept}
 use Rattle.proxy_core.proofs.Taking.{spelled_in}
 
--- ---- a message does the same whatever is left of a stream
+-- ---- a message has the same effect, whatever is left of a stream
 
 either_left : (s : Side) (left : List ℕ) (x y : SessionView) (b : Bool) → cond b (with_left s left x) (with_left s left y) ≡ with_left s left (cond b x y)
 either_left s left x y true = refl

@@ -1,4 +1,4 @@
--- What stands in front of a side's lines, by their cut.
+-- The first of a side's lines, and where it is cut off.
 use Rattle.std.proofs.Common.{ℕ, zero, suc, ◌≡◌, ◌+◌, ◌-◌, ◌≤◌, ◌<◌, Bool, true, false, cond, List, [], ◌∷◌, ◌++◌, length, drop, Option, Some, None, refl, ap, ap₂, ◌∙◌, sym, subst, arith, append_assoc, inl, inr}
 use Rattle.std.specs.Prelude.{◌==◌}
 use Rattle.std.proofs.lemmas.Bool.{eqb-true}
@@ -13,7 +13,7 @@ use Rattle.sasl_watch.specs.declared.NextLine.TheVariants.{Nul, Line, Begin, Don
 use Rattle.sasl_watch.proofs.Givens.{client_ahead-lines, same_head}
 use Rattle.sasl_watch.proofs.Followed.{client-next, bus-next}
 
--- ---- the whole line in front of a cut
+-- ---- the whole line before a cut
 
 record FirstLine (refused : List ℕ → Bool) (place : ℕ) (line s l : List ℕ) : Type 0 where
   first : List ℕ
@@ -63,7 +63,7 @@ take_line refused place line (b ∷ s) l ls e = by (byte_fault refused line b) r
     by (Some kind) h e ih = absurd cc
     by None h e ih = by_end (b == 10) refl h e ih
 
--- ---- the watch behind a line
+-- ---- the watch after a line
 
 abbrev pub behind : ℕ → List ℕ → List ℕ → Watch
 behind place left l = record { place = place + length l; left = drop (length l) left; bad = None }
@@ -71,7 +71,7 @@ behind place left l = record { place = place + length l; left = drop (length l) 
 abbrev pub sound_at : ℕ → List ℕ → Watch
 sound_at place left = record { place = place; left = left; bad = None }
 
--- the line in front takes a byte at least
+-- the first line has at least one byte
 taken_of : (ahead : Watch → Cut) (refused : List ℕ → Bool) (place : ℕ) (left l : List ℕ) → (ahead (sound_at place left) ≡ cut_from refused place [] left) → ((rest : List ℕ) → cut_from refused (place + length l) [] rest ≡ ahead (sound_at (place + length l) rest))
     → FirstLine refused place [] left l → (0 < length l) × Takes ahead (sound_at place left) l (behind place left l)
 taken_of ahead refused place left l here there f =
@@ -114,7 +114,7 @@ client_taken (suc n) left l ls e =
     let t = taken_of client_ahead (λ line. false) (suc n) left l here (λ rest. sym (client_ahead-lines (suc n + length l) rest None (omega arith))) f in
     record { some = t.0; takes = t.1; nul = λ z. absurd (omega (arith, z)) }
 
--- what the client's lines are with the one in front
+-- the client's lines, with the first one that is left
 pub record ClientGoes (pushed : List ℕ) (given : List (List ℕ)) (place : ℕ) (left l : List ℕ) : Type 0 where
   pub some : 0 < length l
   pub parts : left ≡ l ++ (behind place left l).left

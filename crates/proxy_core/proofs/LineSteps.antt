@@ -1,4 +1,4 @@
--- Lines taken from the front of a stream.
+-- Lines taken from the start of a stream.
 use Rattle.std.proofs.Common.{ℕ, zero, suc, ◌≡◌, ◌+◌, ◌*◌, ◌≤◌, Bool, true, false, cond, List, [], ◌∷◌, ◌++◌, length, take, drop, Option, Some, None, refl, ap, ◌∙◌, sym, subst, arith, length-append, inl, inr}
 use Rattle.std.specs.Prelude.{◌⊎◌, ◌==◌, ◌||◌, not, codes, bytes_eq, take_while}
 use Rattle.std.specs.List.{prefix_len}
@@ -21,7 +21,7 @@ use Rattle.proxy_core.specs.Sessions.{SessionView}
 use Rattle.proxy_core.specs.Steps.{behind_line, in_messages, with_line_fault, with_lines, with_cut, unanswered, has_begun, with_all_answered, step_at, Grows, Did, own_to_come, weight, IsLight}
 use Rattle.proxy_core.proofs.Keeping.{grows_as, grows_none, grows_then, bus_grows, client_grows, elements_grow}
 
--- ---- what waits behind a line starts with what waited before
+-- ---- what waits after a line starts with what waited before
 
 fault_grows : (side : Side) (place : ℕ) (o : Option LineFault) (view : SessionView) → Grows view (with_line_fault side place o view)
 fault_grows side place None view = grows_none view
@@ -52,7 +52,7 @@ line_grows Client place None policy view = lines_grow Client place (client_ahead
 line_grows Bus place None policy view = bus_line_grows (unanswered view == 0) place view
 line_grows side place (Some f) policy view = fault_grows side place (Some f) view
 
--- ---- where more may follow, the session runs
+-- ---- if more may follow, the session runs
 
 lines_run : (side : Side) (place : ℕ) (ls : List (List ℕ)) (o : Option LineFault) (view : SessionView) → view.ended ≡ None → (with_lines side place ls o view).1 ≡ true → (with_lines side place ls o view).0.ended ≡ None
 lines_run side place [] o view runs e = absurd cc
@@ -71,7 +71,7 @@ line_runs Client place None policy view runs e = lines_run Client place (client_
 line_runs Bus place None policy view runs e = bus_line_runs (unanswered view == 0) (has_begun view) place (early place view) view runs e
 line_runs side place (Some f) policy view runs e = absurd cc
 
--- ---- the stream behind a line
+-- ---- the stream after a line
 
 pub stream_behind : (s : StreamView) (place n : ℕ) (l : List ℕ) (w : Watch) → s.left ≡ l ++ w.left → w ≡ record { place = place + length l; left = w.left; bad = None } →
     record { came = s.came; phase = InLines w.place w.bad; left = w.left; lines = s.lines + n } ≡ behind_line place l n s
@@ -129,7 +129,7 @@ for_bus_within l = begins (bytes_eq (word l) (codes "BEGIN")) refl
         omega (arith, same, part)
     begins false e = asks (bytes_eq (word l) (codes "NEGOTIATE_UNIX_FD")) refl
 
--- ---- how much waits behind a line
+-- ---- how much waits after a line
 
 module _ (policy : Policy) where
   pub client_light : (view old new target : SessionView) (s : StreamView) (l : List ℕ) (goes : Bool) → view ≡ old → view.client.left ≡ l ++ s.left
@@ -164,7 +164,7 @@ module _ (policy : Policy) where
       by : {b s l m o b' l' r m' o' : ℕ} (s' k : ℕ) → b ≡ b' → s ≡ s' + k → m' ≡ k + r → l ≡ l' → m ≡ r → o ≡ o' → b + s + 19 * (l + m) + o ≤ b' + s' + 19 * (l' + m') + o'
       by s' k b s m l r o = omega arith
 
--- what is left behind a line
+-- what is left after a line
 pub client_left_behind : (s new : StreamView) (next : NextLine) (l : List ℕ) → (next ≡ Line l) ⊎ (next ≡ Begin l) → GaveLine ClientGives s next new → s.left ≡ l ++ new.left
 client_left_behind s new next l (inl e) g =
     let h : GaveLine ClientGives s (Line l) new = subst (λ (n : NextLine). GaveLine ClientGives s n new) e g in

@@ -1,4 +1,4 @@
--- A message and the note on it: what the code does with it, and that the session holds the notes of its history then.
+-- A message and the note on it: what the code does with it, and that the session then holds the notes of its history.
 use Rattle.std.proofs.Common.{ℕ, ◌≡◌, ◌+◌, nat_le, Bool, true, false, cond, List, [], ◌∷◌, ◌++◌, length, Option, Some, None, refl, ap, ap₂, ◌∙◌, sym, subst, append_assoc, inl, inr}
 use Rattle.std.specs.Prelude.{◌&&◌, is_none, is_some, not, IsTrue}
 use Rattle.std.proofs.Math.Bool.{and-false}
@@ -23,7 +23,7 @@ use Rattle.proxy_core.proofs.Placing.{HoldsNotes, HoldsSides, followed, knows_st
 use Rattle.proxy_core.proofs.ClientSteps.{client_holds, verdict_is}
 use Rattle.proxy_core.proofs.BusSteps.{bus_holds, showing_is}
 
--- ---- where a note is made
+-- ---- if a note is made
 
 -- by whether the session makes notes, and whether it runs
 noted_by : (side : Side) (m : Message) (decision : Decision) (view : SessionView) (makes runs : Bool) → view.mode.notes ≡ makes → is_none view.ended ≡ runs →
@@ -48,7 +48,7 @@ module _ (policy : Policy) (side : Side) (m : Message) (old : SessionView) where
       subst (λ (v : SessionView). TookMessage v old new)
       (sym (none_made side m (decision_in policy side m old) new_view (ap (λ (x : Mode). x.notes) (message_kept policy side m old).mode ∙ off))) took
 
-  -- the notes stood outside while it was taken
+  -- the notes were outside while it was processed
   apart_as : (mid after : SessionView) → mid ≡ record old { notes = [] } → after ≡ with_message policy side m mid → after ≡ record new_view { notes = []; numbered = old.numbered }
   apart_as mid after out done = done ∙ ap (λ (v : SessionView). with_message policy side m v) out ∙ notes_apart policy side m old [] old.numbered
 
@@ -84,7 +84,7 @@ module _ (policy : Policy) (side : Side) (m : Message) (old : SessionView) where
       )
   put_back mid after new note makes out runs (inr refused) is note_is = absurd (let e : true ≡ false = sym (ap is_some refused.ended) ∙ runs in cc)
 
-  -- or as they were, where the session ended
+  -- or unchanged, if the session ended
   pub given_back : (mid after new : SessionView) → old.mode.notes ≡ true → old.ended ≡ None → mid ≡ record old { notes = [] } → is_some after.ended ≡ true → TookMessage (with_message policy side m mid) mid after →
       new ≡ record after { notes = old.notes } → TookMessage (with_noted_message policy side m old) old new
   given_back mid after new makes runs out ended (inl done) is =
@@ -116,7 +116,7 @@ module _ (policy : Policy) (apart : CoversNoUniqueName policy) (view : SessionVi
   sides : HoldsSides policy view items taken
   sides = sides_of policy view items taken holds
 
-  -- what is known stands for the past
+  -- what is known represents the past
   decided : (s : Side) → decision_in policy s m view ≡ decision_on policy (past policy items) s m
   decided Client = ap Judged (verdict_is policy apart view items taken m runs sides)
   decided Bus = ap Shown (showing_is policy apart view items taken m runs sides)
@@ -135,7 +135,7 @@ module _ (policy : Policy) (apart : CoversNoUniqueName policy) (view : SessionVi
   count_kept : IsTrue new.mode.notes → new.numbered ≡ (numbered policy items).1
   count_kept makes = count_left policy side m view ∙ holds.count (sym (ap (λ (mode : Mode). mode.notes) mode_kept) ∙ makes)
 
-  -- where the message has its place, with one more where the session makes notes
+  -- if the message gets its place, there is one more note if the session makes notes
   placed_holds : (makes : Bool) → new.mode.notes ≡ makes → HoldsSides policy new (Msg side m ∷ items) taken → HoldsNotes policy (with_note_on side m decision new) (Msg side m ∷ items) taken
   unfolding numbered
   placed_holds false off s =
@@ -168,7 +168,7 @@ module _ (policy : Policy) (apart : CoversNoUniqueName policy) (view : SessionVi
         knows = λ e. knows_still policy new _ _ refl refl refl refl (s.knows e);
       })
 
-  -- and none where the session ended in its place
+  -- and none if the session ended instead
   spent_holds : HoldsSides policy new (Ended SerialsSpent ∷ items) taken → HoldsNotes policy (with_note_on side m decision new) (Ended SerialsSpent ∷ items) taken
   unfolding numbered
   spent_holds s =

@@ -1,4 +1,4 @@
--- What stands in an item's place in a history that runs.
+-- What takes an item's place in a history that runs.
 use Rattle.std.proofs.Common.{ℕ, ◌≡◌, ◌+◌, nat_le, true, false, cond, flat_map, List, [], ◌∷◌, ◌++◌, length, Bool, Option, None, refl, ap, ◌∙◌, sym, subst, append-nil}
 use Rattle.std.specs.Prelude.{IsTrue}
 use Rattle.policy_args.specs.Policy.{Policy}
@@ -33,14 +33,14 @@ pub placed_spent : (policy : Policy) (before : Past) (item : Item) →
 unfolding placed
 placed_spent policy before item r = ap (λ (c : Bool). cond c item (Ended SerialsSpent)) r
 
--- what a session holds of a history but for its notes and its elements
+-- what a session holds of a history, without its notes and its elements
 pub record HoldsSides (policy : Policy) (view : SessionView) (items : History) (taken : Taken) : Type 0 where
   pub for_bus : taken.bus_side ++ view.bus_side ≡ bus_bytes policy items
   pub for_client : taken.client_side ++ view.client_side ≡ client_bytes policy items
   pub end_is : view.ended ≡ end_of items
   pub knows : view.ended ≡ None → Knows policy view (past policy items)
 
--- and but for its elements
+-- and without its elements
 pub record HoldsNotes (policy : Policy) (view : SessionView) (items : History) (taken : Taken) : Type 0 where
   pub for_bus : taken.bus_side ++ view.bus_side ≡ bus_bytes policy items
   pub for_client : taken.client_side ++ view.client_side ≡ client_bytes policy items
@@ -67,7 +67,7 @@ pub given_more : (watches : Bool) (policy : Policy) (items : History) (item : It
 given_more true policy items item = sym (elements_step policy items item)
 given_more false policy items item = refl
 
--- where it has none
+-- if it has none
 pub given_none : (watches : Bool) (policy : Policy) (items : History) (item : Item) → flat_map given_of (visible_of policy (past policy items) item) ≡ [] → elements_given watches policy items ≡ elements_given watches policy (item ∷ items)
 given_none watches policy items item none =
     sym (append-nil (elements_given watches policy items)) ∙ ap (λ (es : List Element). elements_given watches policy items ++ es) (sym (none_watched watches none)) ∙ given_more watches policy items item
@@ -76,7 +76,7 @@ given_none watches policy items item none =
     none_watched true e = e
     none_watched false e = refl
 
--- an End follows, where nothing more waits
+-- an End follows, and nothing more waits
 pub ended_sides : (policy : Policy) (view origin : SessionView) (items : History) (taken : Taken) (end : End) → origin.bus_side ≡ view.bus_side → origin.client_side ≡ view.client_side →
     HoldsSides policy view items taken → HoldsSides policy (ended_by end origin) (Ended end ∷ items) taken
 unfolding bus_bytes client_bytes to_bus to_client

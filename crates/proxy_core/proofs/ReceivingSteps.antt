@@ -87,7 +87,7 @@ role_other m answered reply call signal = by (m.kind == 1) call (m.kind == 2) (m
     by false a false false e true f = absurd cc
     by false a false false e false f = refl
 
--- the answer matters to returns and errors alone
+-- the answer matters only to returns and errors
 pub role_unanswered : (m : Message) (one two : Option Expected) → (m.kind == 2 || m.kind == 3) ≡ false → bus_role one m ≡ bus_role two m
 unfolding bus_role kind_of
 role_unanswered m one two e = by (m.kind == 1) (m.kind == 2) (m.kind == 3) (m.kind == 4) e
@@ -99,7 +99,7 @@ role_unanswered m one two e = by (m.kind == 1) (m.kind == 2) (m.kind == 3) (m.ki
     by false false false true e = refl
     by false false false false e = refl
 
--- ---- what a role tells
+-- ---- what is learned in a role
 
 -- an answer is no call
 pub reply_calls : (m : Message) (is_return : Bool) (answered : Option Expected) → called_at m (role_of_reply is_return answered) ≡ []
@@ -156,7 +156,7 @@ used_reply_at m view r e at = by (m.kind == 2) refl (m.kind == 3) refl e
 pub used_reply : (x : Seen) (view : SessionView) (r : ℕ) → (x.kind == 2 || x.kind == 3) ≡ true → x.reply_serial ≡ Some r → used_one view r ≡ with_used (tree x) view
 used_reply x view r reply at = used_reply_at (tree x) view r (replies_is x true reply) (reply_serial_is x ∙ at)
 
--- what an answer tells
+-- what is learned from an answer
 pub learned_answer : (policy : Policy) (x : Seen) (answered : Option Expected) (view : SessionView) → (x.kind == 2 || x.kind == 3) ≡ true →
     with_facts policy (learned_at policy (tree x) (role_of_reply (x.kind == 2) answered)) view ≡ with_told policy (tree x) (bus_role answered (tree x)) view
 learned_answer policy x answered view reply =
@@ -333,7 +333,7 @@ shown_told policy known m role view =
 
 -- ---- what is asked then
 
--- nothing, where it isn't the answer to the proxy's question for the list of names
+-- nothing, if it isn't the answer to the proxy's own ListNames
 none_asked : (policy : Policy) (k : Kind) (m : Message) (o : Option Expected) → own_names o ≡ false → due_at policy m (bus_role_at k m o) ≡ []
 none_asked policy Call m o e = refl
 none_asked policy Return m None e = refl
@@ -407,7 +407,7 @@ took_used m expected other old mid new is same (inr refused) = inr (record {
   };
 })
 
--- where memory sufficed it is what was to be, and else the session ends
+-- if memory sufficed, the result is as expected; else the session ends
 pub took_or_ends : (done : Result (Unit {0}) AllocError) (goes : Bool) (expected old mid new : SessionView) → old.ended ≡ None → OnOk done (mid ≡ expected) → OnErr done (KeepsSides old mid) →
     OnOk done ((goes ≡ true) × (new ≡ mid)) → OnErr done ((goes ≡ false) × (new ≡ ended_by Memory mid)) → TookMessage expected old new
 took_or_ends (Ok x) goes expected old mid new runs ok err on off = inl (on.1 ∙ ok)

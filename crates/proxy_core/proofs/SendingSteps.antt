@@ -172,7 +172,7 @@ pub owners_sent : (view : SessionView) (names : List Text) →
     ≡ with_sent (map OwnOwner names) view
 owners_sent view names = ap (λ (b : Bool). record (with_sent (map OwnOwner names) view) { greeted = b }) (sym (owners_greet names view.greeted))
 
--- where all serials are left, they are sent
+-- if all serials are left, they are sent
 pub sending_fits : (view : SessionView) (due : List Sent) → (view.greeted || has_greeted due) ≡ view.greeted → view.sent + length due ≤ most_sent → with_sent due view ≡ sending due view view
 sending_fits view [] g room =
     ap₂ (λ (w : List ℕ) (n : ℕ). record view { bus_side = w; sent = n; greeted = view.greeted || false }) (append-nil view.bus_side) (omega arith)
@@ -200,7 +200,7 @@ greets_as policy m view hello first =
     no_reply : (m : Message) → is_hello m ≡ true → (m.kind == 2 || m.kind == 3) ≡ false
     no_reply m e = ap (λ (k : ℕ). k == 2 || k == 3) (hello_call m e)
 
--- a message that is no first Hello passes alone
+-- a message that isn't the first Hello is sent without others
 pub alone_as : (policy : Policy) (m : Message) (view : SessionView) → (is_hello m && not view.greeted) ≡ false → with_due (Passed m ∷ []) (replied_on m (client_role m) Pass) view ≡ with_verdict policy m Pass view
 alone_as policy m view e = ap (λ (b : Bool). with_due (Passed m ∷ cond b (own_calls policy) []) (replied_on m (client_role m) Pass) view) (sym e)
 

@@ -1,4 +1,4 @@
--- A message that is taken and what is due for it: what the session holds then is what the history gives.
+-- A message that is taken and what is due for it: what the session then holds is what the history gives.
 use Rattle.std.proofs.Common.{ℕ, ◌≡◌, ◌+◌, ◌≤◌, nat_eq, nat_le, Bool, true, false, cond, List, [], ◌∷◌, ◌++◌, length, Option, Some, None, refl, ap, ap₂, ◌∙◌, sym, subst, arith, append-nil, append_assoc, length-append}
 use Rattle.std.specs.Prelude.{◌||◌}
 use Rattle.std.specs.List.{list_any}
@@ -38,7 +38,8 @@ module _ (policy : Policy) (view : SessionView) (items : History) (taken : Taken
   abbrev behind : Past
   behind = past policy (Msg side m ∷ items)
 
-  -- what the session holds of the message but for what is due: what is expected is so of the messages that were sent before
+  -- what the session holds of the message without what is due: the expected answers are those to the messages that were
+  -- sent before
   pub record Based (base : SessionView) : Type 0 where
     pub ended : base.ended ≡ None
     pub bus_side : base.bus_side ≡ view.bus_side
@@ -67,7 +68,7 @@ module _ (policy : Policy) (view : SessionView) (items : History) (taken : Taken
   unfolding bus_bytes to_bus
   bus_is = refl
 
-  -- where nothing is due
+  -- if nothing is due
   none_due : (base : SessionView) → Based base → due policy before (Msg side m) ≡ [] → HoldsSides policy base (Msg side m ∷ items) taken
   none_due base b d =
       let same : behind.told.sent ≡ before.told.sent = sent_is ∙ ap (λ (ds : List Sent). before.told.sent ++ ds) d ∙ append-nil before.told.sent in
@@ -90,7 +91,7 @@ module _ (policy : Policy) (view : SessionView) (items : History) (taken : Taken
       answers_are (Some r) =
           b.answers r ∙ ap (λ (xs : List Sent). answered_in behind.used xs r) (sym (sent_is ∙ ap (λ (ds : List Sent). before.told.sent ++ ds) d ∙ append-nil before.told.sent)) ∙ sym (answered_is behind r)
 
-  -- where it is sent
+  -- if it is sent
   all_due : (base : SessionView) (ds : List Sent) → Based base → due policy before (Msg side m) ≡ ds → length before.told.sent + length ds ≤ most_sent → HoldsSides policy (with_sent ds base) (Msg side m ∷ items) taken
   all_due base ds b d room =
       let same : behind.told.sent ≡ before.told.sent ++ ds = sent_is ∙ ap (λ (xs : List Sent). before.told.sent ++ xs) d in
@@ -120,7 +121,7 @@ module _ (policy : Policy) (view : SessionView) (items : History) (taken : Taken
           ∙ ap (λ (xs : List Sent). answered_in behind.used xs r) (sym (sent_is ∙ ap (λ (xs : List Sent). before.told.sent ++ xs) d))
           ∙ sym (answered_is behind r)
 
-  -- what is due is sent where serials are left, and else the session ends
+  -- what is due is sent if serials are left; else the session ends
   sending_by : (origin base : SessionView) (s : Sent) (ds : List Sent) → IsOrigin origin → Based base → due policy before (Msg side m) ≡ s ∷ ds → (fits : Bool) → nat_le (origin.sent + length (s ∷ ds)) most_sent ≡ fits →
       HoldsSides policy (cond fits (with_sent (s ∷ ds) base) (ended_by SerialsSpent origin)) (followed_by policy items (Msg side m)) taken
   sending_by origin base s ds o b d true fits =

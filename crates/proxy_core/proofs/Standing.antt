@@ -1,4 +1,4 @@
--- A session that stands for events, and one event more.
+-- A session that represents events, and one more event.
 use Rattle.std.proofs.Common.{ℕ, zero, suc, ◌≡◌, ◌+◌, ◌-◌, ◌<◌, ◌≤◌, Bool, true, false, cond, List, [], ◌∷◌, ◌++◌, length, take, Option, Some, None, refl, ap, ◌∙◌, sym, subst, arith, append-nil, append_assoc, length-append, inl, inr}
 use Rattle.std.specs.Prelude.{nat_lt, min, IsTrue}
 use Rattle.std.specs.FinMap.{empty, get-empty}
@@ -249,7 +249,7 @@ module _ (policy : Policy) (view : SessionView) (events : List Event) (taken : T
   unfolding history
   arrived_holds new items_new is h = subst (λ (xs : List Item). Holds policy new (followed_by_all policy (history policy view.mode events) xs) taken) (sym is) h
 
-  -- where the session runs on, it wasn't closed
+  -- if the session still runs, it wasn't closed
   open_stream : (b : Bool) (v : SessionView) → (closed_if b side v).ended ≡ None → (stream_of side (closed_if b side v) ≡ stream_of side v) × (v.ended ≡ None)
   open_stream false v r = (refl, r)
   open_stream true v r = by v.ended refl r
@@ -258,7 +258,7 @@ module _ (policy : Policy) (view : SessionView) (events : List Event) (taken : T
       by None e r = absurd cc
       by (Some end) e r = (refl, r)
 
-  -- the items of the piece, of which those that were found before are the first
+  -- the items of the piece, which begin with those that were found before
   abbrev now : List Event
   now = Bytes side piece ∷ events
 
@@ -285,7 +285,7 @@ module _ (policy : Policy) (view : SessionView) (events : List Event) (taken : T
           ∙ ap (new_in (found view.mode side events)) (sym (append_assoc (found view.mode side events) (grows view.mode side events piece).items (raw_item side (new_in (raw view.mode side events) (raw view.mode side now)))))
           ∙ ap (λ (xs : List Item). new_in (found view.mode side events) (xs ++ raw_item side (new_in (raw view.mode side events) (raw view.mode side now)))) (sym found_is)
 
-  -- all that stood in front was taken
+  -- all that could be taken was taken
   taken_all : (new : SessionView) → Final policy taken view.mode side (raw view.mode side events) (Bytes side piece ∷ events) (history policy view.mode events) (found view.mode side events) new → IsPieced (closed_if over side new)
   taken_all new f =
       let front = new_in (found view.mode side events) (reached view.mode side (raw view.mode side events) (Bytes side piece ∷ events)) ++ fault_end side (fault view.mode side (Bytes side piece ∷ events)) in
@@ -319,7 +319,7 @@ module _ (policy : Policy) (view : SessionView) (events : List Event) (taken : T
       taken_all view
       (none_last true policy taken view.mode side (raw view.mode side events) (Bytes side piece ∷ events) view (history policy view.mode events) (found view.mode side events) holds (record { found_is = reached_is; fault_is = f.sound }) f.stands f.counts f.bytes)
 
-  -- bytes behind what is left
+  -- bytes after what is left
   abbrev behind_left : StreamView
   behind_left = pushed (take (room_of side view) piece) (stream_of side view)
 
@@ -372,7 +372,7 @@ module _ (policy : Policy) (view : SessionView) (events : List Event) (taken : T
   closed_untouched true old v u = unless_untouched v.ended old v u
   closed_untouched false old v u = u
 
-  -- the mode, whether it watches, the other side's stream, and where the session runs the count of what came
+  -- the mode, whether it watches, the other side's stream, and, if the session runs, the number of received bytes
   record Leaves (new : SessionView) : Type 0 where
     pub mode : new.mode ≡ view.mode
     pub watches : new.watches ≡ view.watches
@@ -449,7 +449,7 @@ module _ (policy : Policy) (view : SessionView) (events : List Event) (taken : T
 
   -- ---- memory that was refused in its midst
 
-  -- when so many lines and messages were taken, the session holds the first of the piece's items
+  -- after this number of lines and messages, the session holds the first of the piece's items
   midst : (n : ℕ) (mid : SessionView) → WentOn policy side n pushed_view mid → mid.ended ≡ None → Midst policy taken view.mode side (raw view.mode side events) (Bytes side piece ∷ events) (history policy view.mode events) (found view.mode side events) mid
   midst n mid went running =
       let same = same_stream side behind_left view in
@@ -469,7 +469,7 @@ module _ (policy : Policy) (view : SessionView) (events : List Event) (taken : T
       ap (λ (v : SessionView). v.mode) (sym (went_drained policy side n pushed_view mid went))
       ∙ (drained_untouched policy side n pushed_view).mode ∙ pushed_mode side behind_left view
 
-  -- all its items, of which these are the first
+  -- all its items, which begin with these
   all_items : (first more : List Item) → new_in (found view.mode side events) (reached view.mode side (raw view.mode side events) (Bytes side piece ∷ events)) ≡ first ++ more →
       IsGrown (followed_by_all policy (history policy view.mode events) first) (history policy view.mode (Bytes side piece ∷ events))
   unfolding history
@@ -516,7 +516,7 @@ module _ (policy : Policy) (view : SessionView) (events : List Event) (taken : T
 
 -- ---- what ended
 
--- a session that has ended stands for whatever follows
+-- a session that has ended represents whatever follows
 pub ended_stands : (policy : Policy) (view : SessionView) (events : List Event) (taken : Taken) (event : Event) (end : End) →
     view.ended ≡ Some end → StandsFor policy view events taken → StandsFor policy view (event ∷ events) taken
 ended_stands policy view events taken event end ended stands =
@@ -540,7 +540,8 @@ ended_stands policy view events taken event end ended stands =
       follows = λ e. let none : Some end ≡ None = sym ended ∙ e in cc;
     }
 
--- an event that only brings an End, of a session that runs: if it is that of refused memory, the session holds all items before it
+-- an event that only brings an End, of a session that runs: if the End is that of refused memory, the session holds all
+-- items before it
 closed_stands : (policy : Policy) (view : SessionView) (events : List Event) (taken : Taken) (event : Event) (end : End) →
     arrived view.mode events event ≡ Ended end ∷ [] → view.ended ≡ None → StandsFor policy view events taken →
     StandsFor policy (ended_by end view) (event ∷ events) taken

@@ -1,4 +1,4 @@
--- Both sides' streams when a piece of one of them comes.
+-- Both sides' streams when a piece of one of them is received.
 use Rattle.std.proofs.Common.{ℕ, zero, suc, ◌≡◌, ◌-◌, ◌≤◌, Bool, true, false, cond, List, [], ◌∷◌, ◌++◌, length, take, map, Option, Some, None, refl, ap, ◌∙◌, sym, subst, arith, append-nil, inl, inr}
 use Rattle.std.specs.Prelude.{◌⊎◌, not}
 use Rattle.std.specs.List.{list_any}
@@ -27,7 +27,7 @@ stream_other : (side : Side) (events : List Event) (piece : List ℕ) → stream
 stream_other Client events piece = bus_stream events piece
 stream_other Bus events piece = client_stream events piece
 
--- the client's bytes leave the bus's where it is
+-- the client's bytes leave the bus's stream where it is
 bus_follows : (mode : Mode) (events : List Event) (piece : List ℕ) (s : StreamView) → FollowsStream mode Bus events s → FollowsStream mode Bus (Bytes Client piece ∷ events) s
 bus_follows mode events piece s f =
     let k = bus_kept mode events piece f.sound in
@@ -131,7 +131,7 @@ begun_by mode events b a is = seen (begins_in (stream Client events)) refl (sym 
     seen true k e = k
     seen false k e = absurd cc
 
--- more lines may come behind those that were given
+-- more lines may follow those that were given
 follows_more : (side : Side) (pushed more : List ℕ) (given : List (List ℕ)) (place : ℕ) (left : List ℕ) → FollowsLines side pushed given (watch_at place None left) → FollowsLines side (pushed ++ more) given (watch_at place None (left ++ more))
 follows_more Client pushed more given place left f = client-pushed pushed given (watch_at place None left) more f
 follows_more Bus pushed more given place left f = bus-pushed pushed given (watch_at place None left) more f
@@ -159,7 +159,7 @@ raw_now : (mode : Mode) (side : Side) (events : List Event) (b : List ℕ) → c
 unfolding raw
 raw_now mode side events b c unfiltered = ap (λ (x : Bool). raw_in x (content mode side events)) unfiltered ∙ ap (raw_in false) c
 
--- before anything of the piece is looked at, the side's items are those of before
+-- before anything of the piece is processed, the side's items are those of before
 pub piece_goes : (mode : Mode) (side : Side) (events : List Event) (piece bytes : List ℕ) (s : StreamView) → FollowsStream mode side events s → taken_of side events piece ≡ bytes
     → Goes mode side (raw mode side events) (Bytes side piece ∷ events) (pushed bytes s) (found mode side events)
 unfolding found

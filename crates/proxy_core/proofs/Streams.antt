@@ -1,4 +1,4 @@
--- What the code's streams give, on what they are seen as.
+-- What the code's streams give, in terms of their models.
 use Rattle.std.proofs.Common.{ℕ, ◌≡◌, ◌+◌, refl, ap, ◌∙◌, sym, subst, arith}
 use Rattle.sasl_watch.specs.Watching.{Watch}
 use Rattle.sasl_watch.specs.declared.NextLine.{NextLine}
@@ -30,7 +30,7 @@ pub lines_gave : (G : Watch → NextLine → Watch → Type 0) (came lines n : �
 lines_gave G came lines n content old new v next is same g count =
     line_gave G came lines n old new v next (ap (λ (c : Content). record { came = came; phase = phase_of c; left = left_in c; lines = lines }) (sym is) ∙ same) g count
 
--- where nothing was counted
+-- if nothing was counted
 pub gave_none : (G : Watch → NextLine → Watch → Type 0) (came lines : ℕ) (new : Watch) (v : StreamView) (next : NextLine) → GaveLine G v next (record { came = came; phase = InLines new.place new.bad; left = new.left; lines = lines + 0 })
     → GaveLine G v next (record { came = came; phase = InLines new.place new.bad; left = new.left; lines = lines })
 gave_none G came lines new v next g =

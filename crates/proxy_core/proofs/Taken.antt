@@ -18,7 +18,7 @@ use Rattle.proxy_core.proofs.Placing.{knows_still}
 taken_on : {A : Type 0} (before first rest waits : List A) → first ++ rest ≡ waits → (before ++ first) ++ rest ≡ before ++ waits
 taken_on before first rest waits e = append_assoc before first rest ∙ ap (λ (w : List _). before ++ w) e
 
--- a session stands on where what it holds of any history is held on
+-- a session keeps what it holds of any history
 abbrev Keeps : Policy → SessionView → SessionView → Taken → Taken → Type 0
 Keeps policy view new taken now = (items : History) → Holds policy view items taken → Holds policy new items now
 

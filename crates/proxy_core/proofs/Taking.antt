@@ -72,7 +72,7 @@ with_reply_bytes x place n spelled has at = by x.reply_serial refl has
         ap₂ (λ o bytes. with_number o place n bytes) (sym (ap (λ (q : Contents). q.order) (seen x))) (bytes_in x spelled)
         ∙ sym (reply_patched n r place (tree x) (spelled (tree x) (read x)).0 (ap (λ (q : Contents). q.parts.reply_serial) (seen x) ∙ is) (ap (λ (q : Contents). q.reply_place) (seen x) ∙ at)).bytes
 
--- where there is a reply serial, its number has a place
+-- if there is a reply serial, its number has a place
 pub has_place : (x : Seen) → IsSome x.reply_serial → x.reply_serial_place ≡ None → ⊥
 has_place x has none = by x.reply_serial refl has
   where
@@ -140,7 +140,7 @@ pub number_is : (o : Option ℕ) → number_or_0 o ≡ unwrap_or o 0
 number_is None = refl
 number_is (Some n) = refl
 
--- what is so where memory sufficed
+-- what holds if memory sufficed
 pub on_ok : {A E : Type 0} (r : Result A E) (P Q : Type 0) → (P → Q) → OnOk r P → OnOk r Q
 on_ok (Ok x) P Q f p = f p
 on_ok (Err e) P Q f p = p

@@ -1,5 +1,5 @@
--- What a piece leaves as it was: the mode, whether the session watches, the other side's stream, and how much came of its own. No End that
--- it brings is that of refused memory.
+-- What a piece leaves unchanged: the mode, whether the session watches, the other side's stream, and the number of
+-- bytes received from its own side. No End that it brings is that of refused memory.
 use Rattle.std.proofs.Common.{ℕ, zero, suc, ◌≡◌, Bool, true, false, cond, List, [], ◌∷◌, Option, Some, None, refl, ap, ◌∙◌}
 use Rattle.std.specs.Prelude.{◌==◌}
 use Rattle.dbus_names.specs.Names.{is_empty}

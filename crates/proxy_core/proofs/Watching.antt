@@ -1,4 +1,5 @@
--- What is left of a message in the visible part: what the code keeps of it, and that the session holds the elements of its history then.
+-- What is left of a message in the visible part: what the code keeps of it, and that the session then holds the
+-- elements of its history.
 use Rattle.std.proofs.Common.{ℕ, ◌≡◌, ◌+◌, nat_le, Bool, true, false, cond, List, [], ◌∷◌, ◌++◌, length, take, flat_map, Option, Some, None, refl, ap, ap₂, ◌∙◌, sym, subst, append-nil, append_assoc, inl, inr}
 use Rattle.std.specs.Prelude.{is_none}
 use Rattle.dbus_header.specs.Message.{Message}
@@ -47,7 +48,7 @@ module _ (policy : Policy) (side : Side) (m : Message) (old : SessionView) where
       subst (λ (v : SessionView). TookMessage v old new) (with_none left noted ((noted_kept policy side m old).watches ∙ off))
       (subst (λ (v : SessionView). TookMessage (with_noted_message policy side m v) v new) same took)
 
-  -- what is kept stood outside while it was taken, and is put back with what is left of the message
+  -- what is kept was outside while the message was processed, and is put back with what is left of the message
   pub put_back : (mid after new : SessionView) (kept : List Element) → old.watches ≡ true → old.ended ≡ None → mid ≡ record old { watches = false; visible = [] } → TookMessage (with_noted_message policy side m mid) mid after →
       kept ≡ old.visible ++ unless_ended after.ended (elements_in policy side m mid) → new ≡ record after { watches = true; visible = kept } → TookMessage (with_watched_message policy side m old) old new
   put_back mid after new kept on runs out (inl done) kept_is is =
@@ -91,7 +92,7 @@ module _ (policy : Policy) (apart : CoversNoUniqueName policy) (view : SessionVi
   sides : HoldsSides policy view items taken
   sides = sides_of policy view items taken holds
 
-  -- what is known stands for the past
+  -- what is known represents the past
   elements_are : (s : Side) → elements_in policy s m view ≡ flat_map given_of (visible_of policy (past policy items) (Msg s m))
   unfolding visible_of
   elements_are Client = refl

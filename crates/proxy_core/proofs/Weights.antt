@@ -1,4 +1,5 @@
--- How much more waits behind a message: nineteen bytes at most for each of its own, beside the own calls, which come once.
+-- How much more waits after a message: at most nineteen bytes for each of its own, beside the own calls, which are sent
+-- once.
 use Rattle.std.proofs.Common.{ℕ, ◌≡◌, ◌+◌, ◌*◌, ◌≤◌, ◌%◌, Bool, true, false, cond, List, [], ◌∷◌, ◌++◌, length, map, Option, Some, None, refl, ap, ◌∙◌, sym, arith, length-append, flat_map, codes, inl, inr}
 use Rattle.std.specs.Int.{w32}
 use Rattle.std.specs.List.{filter}
@@ -189,7 +190,7 @@ module _ (policy : Policy) (m : Message) where
   come_less false true = omega arith
   come_less false false = omega arith
 
-  -- what messages take, with the own calls that are to come behind them
+  -- what messages weigh, with the own calls that are to follow them
   abbrev Cost : ℕ → Bool → List Sent → Type 0
   Cost n greeted due = length (spelled_from n due) + own_to_come policy (greeted || has_greeted due) ≤ own_to_come policy greeted + 19 * length (spell m)
 

@@ -1,4 +1,4 @@
--- The message that came.
+-- The message that was received.
 use Rattle.dbus_header.specs.Message.{Message}
 use Rattle.policy_view.specs.Notes.{message_in}
 use Rattle.proxy_core.specs.declared.incoming.Incoming.{Incoming}

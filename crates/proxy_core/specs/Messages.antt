@@ -1,4 +1,4 @@
--- What a session does with a message, on what it is seen as.
+-- What a session does with a message, as a function on its model.
 use Rattle.std.specs.Prelude.{◌≡◌, ℕ, ◌+◌, ◌&&◌, ◌||◌, ◌==◌, nat_le, Bool, true, false, List, [], ◌∷◌, ◌++◌, length, flat_map, Option, Some, None, is_none, if◌then◌else◌}
 use Rattle.std.specs.Ordering.{nat_cmp}
 use Rattle.std.specs.FinMap.{FinMap, remove}
@@ -45,7 +45,7 @@ known policy view = kept policy view.ids view.ledger.owed
 
 -- ---- messages that are sent
 
--- each with the next serial, and its answer is expected where it has one
+-- each with the next serial; if it wants an answer, that is expected
 abbrev pub with_sent : List Sent → SessionView → SessionView
 with_sent due view = record view {
   bus_side = view.bus_side ++ spelled_from (view.sent + 1) due;
@@ -54,26 +54,26 @@ with_sent due view = record view {
   ledger = record view.ledger { expected = expecting view.ledger.expected (view.sent + 1) due };
 }
 
--- the same without the bytes: serials are given, and answers are expected
+-- the serials are used and the answers expected, without the bytes
 abbrev pub noted : List Sent → SessionView → SessionView
 noted due view = record view {
   sent = view.sent + length due;
   ledger = record view.ledger { expected = expecting view.ledger.expected (view.sent + 1) due };
 }
 
--- one more serial is given
+-- one more serial is used
 abbrev pub counted : SessionView → SessionView
 counted view = record view { sent = view.sent + 1 }
 
--- the answer to a message with the serial that was given last is expected
+-- the answer to a message that has the last serial that was given is expected
 abbrev pub awaiting : Sent → SessionView → SessionView
 awaiting s view = record view { ledger = record view.ledger { expected = expecting view.ledger.expected view.sent (s ∷ []) } }
 
--- and the message goes to the bus with that serial
+-- and the message is sent to the bus with that serial
 abbrev pub queued : Sent → SessionView → SessionView
 queued s view = record (awaiting s view) { bus_side = view.bus_side ++ spelled_from view.sent (s ∷ []) }
 
--- what comes of the view when these messages are due: they are sent, where serials are left for them
+-- the view if these messages are due: they are sent, if serials are left for them
 abbrev pub sending : List Sent → SessionView → SessionView → SessionView
 sending [] view new = new
 sending (s ∷ due) view new =
@@ -81,11 +81,11 @@ sending (s ∷ due) view new =
 
 -- ---- a message of the client
 
--- by what is read of it, a call to the bus that its table of members judges, with this member
+-- from what is read of it, a call to the bus with this member, which the table of the bus's members judges
 abbrev pub is_bus_member_by : Text → Contents → Bool
 is_bus_member_by name x = x.kind == 1 && is_bus_or_absent x.parts.destination && is_bus_or_absent x.parts.interface && has_text x.parts.member name
 
--- one reply less is owed; to an absent name none is
+-- one reply less is owed; none is owed to an absent name
 abbrev pub less_to : Replies → Option Text → ℕ → Replies
 less_to owed None n = owed
 less_to owed (Some peer) n = one_less owed peer n
@@ -109,7 +109,7 @@ with_client_message policy m view = with_verdict policy m (verdict policy (known
 
 -- ---- a message of the bus
 
--- one reply more is owed
+-- one more reply is owed
 abbrev pub more_to : Replies → Option Text → ℕ → Replies
 more_to owed None n = owed
 more_to owed (Some peer) n = one_more owed peer n
@@ -122,7 +122,7 @@ abbrev pub taught : Policy → Ids → List Fact → Ids
 taught policy ids [] = ids
 taught policy ids (fact ∷ facts) = taught policy (learned policy ids fact) facts
 
--- the answer to the proxy's own question for the list of names
+-- the answer to the proxy's own ListNames
 abbrev pub own_names : Option Expected → Bool
 own_names None = false
 own_names (Some (expects.Call serial)) = false
@@ -133,7 +133,7 @@ own_names (Some expects.OwnMatch) = false
 own_names (Some (expects.OwnOwner name)) = false
 own_names (Some expects.OwnNames) = true
 
--- the answer to a question of the proxy's own for an owner
+-- the answer to a GetNameOwner of the proxy's own
 abbrev pub own_owner : Option Expected → Bool
 own_owner None = false
 own_owner (Some (expects.Call serial)) = false
@@ -144,7 +144,7 @@ own_owner (Some expects.OwnMatch) = false
 own_owner (Some (expects.OwnOwner name)) = true
 own_owner (Some expects.OwnNames) = false
 
--- a return or an error uses up what is expected at its REPLY_SERIAL
+-- a return or an error uses up the answer that is expected with its REPLY_SERIAL
 abbrev pub without : FinMap nat_cmp Expected → Option ℕ → FinMap nat_cmp Expected
 without expected None = expected
 without expected (Some r) = remove expected r
@@ -159,7 +159,7 @@ used_up Other r expected = expected
 abbrev pub with_used : Message → SessionView → SessionView
 with_used m view = record view { ledger = record view.ledger { expected = used_up (kind_of m) (reply_serial m) view.ledger.expected } }
 
--- the facts and the calls that it tells
+-- the facts that are learned from it
 abbrev pub with_facts : Policy → List Fact → SessionView → SessionView
 with_facts policy facts view = record view { ids = taught policy view.ids facts }
 
@@ -186,19 +186,19 @@ with_message policy Bus m view = with_bus_message policy m view
 
 -- ---- the note on a message
 
--- what is decided on it, by what is known when it comes
+-- what is decided on it, given what is known when it is received
 abbrev pub decision_in : Policy → Side → Message → SessionView → Decision
 decision_in policy Client m view = Judged (verdict policy (known policy view) m)
 decision_in policy Bus m view = Shown (showing_at policy (known policy view) m (bus_role (expected_at view.ledger.expected (reply_serial m)) m))
 
--- one more note waits
+-- one more note
 abbrev pub with_note : Side → Message → Decision → SessionView → SessionView
 with_note side m decision view = record view {
   notes = view.notes ++ record { number = view.numbered + 1; side = side; frame = spell m; decision = decision } ∷ [];
   numbered = view.numbered + 1;
 }
 
--- a message has a note where the session makes notes; one in whose place the session ended has none
+-- a message has a note if the session makes notes; there is none if the session ended instead
 abbrev pub with_note_on : Side → Message → Decision → SessionView → SessionView
 with_note_on side m decision view = if view.mode.notes && is_none view.ended then with_note side m decision view else view
 
@@ -208,11 +208,11 @@ with_noted_message policy side m view = with_note_on side m (decision_in policy 
 
 -- ---- what is left of a message in the visible part
 
--- of a message of the bus, by its role and by what is shown of it
+-- of a message of the bus, given its role and what is shown of it
 abbrev pub bus_elements : Policy → Ids → Replies → Message → BusRole → List Element
 bus_elements policy ids owed m role = flat_map given_of (visible_as policy (kept_level policy ids) m role (showing_at policy (kept policy ids owed) m role))
 
--- by what is known when it comes: one element or none
+-- given what is known when it is received: one element or none
 abbrev pub elements_by : Policy → Ids → Ledger → Side → Message → List Element
 elements_by policy ids ledger Client m = element.Client (spell m) ∷ []
 elements_by policy ids ledger Bus m = bus_elements policy ids ledger.owed m (bus_role (expected_at ledger.expected (reply_serial m)) m)
@@ -220,7 +220,7 @@ elements_by policy ids ledger Bus m = bus_elements policy ids ledger.owed m (bus
 abbrev pub elements_in : Policy → Side → Message → SessionView → List Element
 elements_in policy side m view = elements_by policy view.ids view.ledger side m
 
--- elements are kept where the session watches
+-- elements are kept if the session watches
 abbrev pub if_watched : Bool → List Element → List Element
 if_watched true elements = elements
 if_watched false elements = []
@@ -228,7 +228,7 @@ if_watched false elements = []
 abbrev pub with_elements : List Element → SessionView → SessionView
 with_elements elements view = record view { visible = view.visible ++ if_watched view.watches elements }
 
--- a message in whose place the session ended leaves none
+-- if the session ended instead of taking the message, it leaves none
 abbrev pub unless_ended : Option End → List Element → List Element
 unless_ended None elements = elements
 unless_ended (Some end) elements = []
@@ -241,7 +241,7 @@ with_watched_message policy side m view =
 
 -- ---- memory that was refused
 
--- what waits for either side, the notes, the elements and the streams are what they were
+-- what waits for either side, the notes, the elements and the streams are unchanged
 pub record KeepsSides (old new : SessionView) : Type 0 where
   pub mode : new.mode ≡ old.mode
   pub client : new.client ≡ old.client

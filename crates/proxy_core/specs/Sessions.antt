@@ -1,4 +1,4 @@
--- What a session is seen as, and when it stands for events.
+-- The model of a session, and when a session represents events.
 use Rattle.std.specs.Prelude.{◌≡◌, ◌≤◌, ◌<◌, ℕ, ◌+◌, Bool, true, false, List, [], ◌∷◌, ◌++◌, length, get_or, IsTrue, if◌then◌else◌, Option, Some, None, Result, Ok, Err}
 use Rattle.std.specs.FinMap.{empty}
 use Rattle.std.specs.Global.{Box}
@@ -25,7 +25,7 @@ use Rattle.reply_ledger.specs.Ledger.{Ledger}
 use Rattle.unique_names.specs.Taught.{Ids}
 use Rattle.verdicts.specs.Kept.{StandFor}
 
--- ---- what a session is seen as
+-- ---- the model of a session
 
 pub record SessionView : Type 0 where
   pub mode : Mode
@@ -33,17 +33,17 @@ pub record SessionView : Type 0 where
   pub bus_side : List ℕ
   pub client_side : List ℕ
   pub ended : Option End
-  -- what came of either side, and how far it was taken
+  -- what was received from either side, and how far it was processed
   pub client : StreamView
   pub bus : StreamView
-  -- how many messages were sent, and whether a Hello is among them
+  -- the number of sent messages, and whether a Hello is among them
   pub sent : ℕ
   pub greeted : Bool
-  -- what answers are expected for, and the replies that are owed
+  -- what the expected answers are for, and the replies that are owed
   pub ledger : Ledger
   -- what is known of unique names
   pub ids : Ids
-  -- the notes that wait, and how many were made
+  -- the notes that wait, and the number of notes that were made
   pub notes : List Note
   pub numbered : ℕ
   -- whether it keeps the elements of the visible part, and those that wait
@@ -71,12 +71,12 @@ at_start mode = record {
   visible = [];
 }
 
--- the elements that wait, where they are kept
+-- the elements that wait, if elements are kept
 abbrev pub waiting_in : Option (Box (List Element)) → List Element
 waiting_in None = []
 waiting_in (Some watch) = watch.value
 
--- one that watches filters, and makes no notes
+-- the mode of a session that watches: it filters, and makes no notes
 abbrev pub watching_mode : Bool → Mode
 watching_mode auth = record { auth = auth; filter = true; notes = false }
 
@@ -91,7 +91,7 @@ abbrev pub waits_for : Side → SessionView → List ℕ
 waits_for Client view = view.client_side
 waits_for Bus view = view.bus_side
 
--- What was taken from a session; and a number of items that it held at some time, any that its history had by then.
+-- What was taken from a session, and a number of items that its history had at some time.
 pub record Taken : Type 0 where
   pub bus_side : List ℕ
   pub client_side : List ℕ
@@ -102,7 +102,7 @@ pub record Taken : Type 0 where
 abbrev pub nothing : Taken
 nothing = record { bus_side = []; client_side = []; notes = []; visible = []; held = 0 }
 
--- ---- what it keeps of the past
+-- ---- what a session keeps of the past
 
 pub record Knows (policy : Policy) (view : SessionView) (before : Past) : Type 0 where
   pub count : view.sent ≡ length before.told.sent
@@ -110,7 +110,7 @@ pub record Knows (policy : Policy) (view : SessionView) (before : Past) : Type 0
   pub greeted : view.greeted ≡ has_greeted before.told.sent
   pub stand : StandFor policy view.ids view.ledger before
 
--- ---- standing for events
+-- ---- representing events
 
 pub record IsFront {A : Type 0} (front whole : List A) : Type 0 where
   pub rest : List A
@@ -131,7 +131,7 @@ is_memory (Some BusWrite) = false
 is_memory (Some BusConnect) = false
 is_memory (Some LogFault) = false
 
--- the Ends for which a session is stopped: a link or the log failed, or memory was refused for a connect
+-- the Ends with which a session is stopped: a link or the log failed, or memory was refused for a connect
 abbrev pub is_from_outside : End → Bool
 is_from_outside (ClientMalformed fault) = false
 is_from_outside (BusMalformed fault) = false
@@ -146,12 +146,12 @@ is_from_outside BusWrite = true
 is_from_outside BusConnect = true
 is_from_outside LogFault = true
 
--- the elements of the visible part that a session gives: all but its End where it watches, and else none
+-- the elements of the visible part that a session gives: if it watches, all but its End, and else none
 abbrev pub elements_given : Bool → Policy → History → List Element
 elements_given watches policy items = if watches then elements policy items else []
 
--- what was taken and then what waits is what a history gives either side, and the notes are its notes where the session
--- makes any, and the elements those of its visible part where it watches; and the session's End is the history's
+-- What was taken and what then waits is what a history gives either side. If the session makes notes, they are the
+-- history's notes; if it watches, the elements are those of its visible part. The session's End is the history's.
 pub record Holds (policy : Policy) (view : SessionView) (items : History) (taken : Taken) : Type 0 where
   pub for_bus : taken.bus_side ++ view.bus_side ≡ bus_bytes policy items
   pub for_client : taken.client_side ++ view.client_side ≡ client_bytes policy items
@@ -161,27 +161,27 @@ pub record Holds (policy : Policy) (view : SessionView) (items : History) (taken
   pub watched : taken.visible ++ view.visible ≡ elements_given view.watches policy items
   pub knows : view.ended ≡ None → Knows policy view (past policy items)
 
--- the lines that were given, of which these are left, are the first of the stream's
+-- the lines that were given are the first of the stream's, and these bytes are left
 abbrev pub FollowsLines : Side → List ℕ → List (List ℕ) → Watch → Type 0
 FollowsLines Client pushed given watch = ClientFollows pushed given watch
 FollowsLines Bus pushed given watch = BusFollows pushed given watch
 
--- how many of a side's lines ask for an answer, or answer
+-- the number of a side's lines that ask for an answer, or that answer
 abbrev pub lines_in : Side → Mode → List Event → ℕ
 lines_in Client mode events = asked (stream Client events)
 lines_in Bus mode events = length (lines mode Bus events)
 
--- messages come from the bus when all lines that were asked for were given
+-- before messages of the bus, all lines that were asked for were given
 abbrev pub AllGiven : Mode → Side → List Event → Type 0
 AllGiven mode Client events = Unit {0}
 AllGiven mode Bus events = mode.auth ≡ true → length (lines mode Bus events) ≡ asked (stream Client events)
 
--- what isn't given of the bytes behind the lines, when all that may be is: nothing where messages aren't filtered
+-- the bytes after the lines that aren't given when all that can be is given: none if messages aren't filtered
 abbrev pub rest_of : Bool → List ℕ → List ℕ
 rest_of filter bytes = if filter then rest bytes else []
 
--- where a stream stands: all whole lines were given and nothing follows them, or all that follows the lines was given, where
--- messages are filtered up to a message that hasn't come whole
+-- where a stream is: all whole lines were given and nothing follows them; or all that follows the lines was given,
+-- except for a last incomplete message if messages are filtered
 abbrev pub StandsAt : Mode → Side → List Event → Phase → List ℕ → Type 0
 StandsAt mode side events (InLines place told) left =
     (mode.auth ≡ true)
@@ -191,7 +191,7 @@ StandsAt mode side events (InLines place told) left =
 StandsAt mode side events InMessages left =
     (bytes : List ℕ) × (content mode side events ≡ Some bytes) × (left ≡ rest_of mode.filter bytes) × AllGiven mode side events
 
--- a side's stream has taken all that may be taken of what came, and no fault stands in it
+-- all that can be taken of what was received from a side was taken, and there is no fault in it
 pub record FollowsStream (mode : Mode) (side : Side) (events : List Event) (s : StreamView) : Type 0 where
   pub came : s.came ≡ length (stream side events)
   pub stands : StandsAt mode side events s.phase s.left
@@ -199,32 +199,33 @@ pub record FollowsStream (mode : Mode) (side : Side) (events : List Event) (s : 
   pub sound : fault mode side events ≡ None
   pub bytes : (i : ℕ) → get_or s.left i 0 < 256
 
--- and so have both of a running session
+-- the same of both sides of a running session
 pub record Follows (view : SessionView) (events : List Event) : Type 0 where
   pub client : FollowsStream view.mode Client events view.client
   pub bus : FollowsStream view.mode Bus events view.bus
 
--- Memory was refused: the session holds the first `done` items of a history, and then that End. Of no later item it has any effect, and
--- it holds all that it held before.
+-- Memory was refused: the session holds the first `done` items of a history, and then that End. No later item has had
+-- any effect, and all that the session held before is kept.
 pub record HoldsFirst (policy : Policy) (view : SessionView) (items : History) (taken : Taken) (done : ℕ) : Type 0 where
   pub before : taken.held ≤ done
   pub within : done ≤ length items
   pub holds : Holds policy view (Ended Memory ∷ first_items done items) taken
 
--- A session stands for events: it holds their history, or the first items of it if memory was refused.
+-- A session represents events: it holds their history, or the first items of it if memory was refused.
 pub record StandsFor (policy : Policy) (view : SessionView) (events : List Event) (taken : Taken) : Type 0 where
   pub holds : is_memory view.ended ≡ false → Holds policy view (history policy view.mode events) taken
   pub refused : is_memory view.ended ≡ true → (done : ℕ) × HoldsFirst policy view (history policy view.mode events) taken done
   pub held : taken.held ≤ length (history policy view.mode events)
   pub follows : view.ended ≡ None → Follows view events
 
--- An event that ends a running session is the one at which the history gets this End; memory that is refused is no part of the history.
+-- An event that ends a running session is the one at which the history gets this End, unless memory was refused, which
+-- is no part of the history.
 abbrev pub Closes : Policy → Event → SessionView → SessionView → Type 0
 Closes policy event old new =
     (events : List Event) (taken : Taken) (end : End) → StandsFor policy old events taken → old.ended ≡ None → new.ended ≡ Some end → is_memory (Some end) ≡ false
     → closing policy new.mode (event ∷ events) ≡ Some (end, length events + 1)
 
--- what a feed answers
+-- the result of feeding a piece
 abbrev pub answer_of : Option End → Result (Unit {0}) End
 answer_of None = Ok tt
 answer_of (Some end) = Err end

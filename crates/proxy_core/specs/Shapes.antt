@@ -1,4 +1,4 @@
--- What a message has that is shown as an answer.
+-- What a message has, by what the client is shown of it: an answer has a REPLY_SERIAL.
 use Rattle.std.specs.Prelude.{◌≡◌, IsSome, codes}
 use Rattle.dbus_header.specs.declared.message.Message.{Message}
 use Rattle.policy_view.specs.declared.Showing.{Showing}

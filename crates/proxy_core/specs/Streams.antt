@@ -1,4 +1,4 @@
--- What a side's stream is seen as: lines first, where the session begins with them, and then messages.
+-- The model of a side's stream: first lines, if the session begins with them, and then messages.
 use Rattle.std.specs.Prelude.{◌≡◌, ◌≤◌, ℕ, ◌+◌, Bool, true, false, List, [], ◌++◌, length, Option, None}
 use Rattle.sasl_watch.specs.declared.LineFault.{LineFault}
 use Rattle.sasl_watch.specs.declared.NextLine.{NextLine}
@@ -8,18 +8,19 @@ use Rattle.policy_view.specs.History.{longest_stream}
 use Rattle.proxy_core.specs.declared.stream.Content.{Content}
 use Rattle.proxy_core.specs.declared.stream.Content.TheVariants as of
 
--- lines come, of which the next begins at the place, and a fault in them may have been told; or messages come
+-- the stream is in its lines, of which the next begins at the place and a fault may have been reported; or in its
+-- messages
 pub data Phase : Type 0 where
   InLines : (place : ℕ) (told : Option LineFault) → Phase
   InMessages : Phase
 
 pub record StreamView : Type 0 where
-  -- how many bytes came
+  -- the number of bytes that were received
   pub came : ℕ
   pub phase : Phase
-  -- those of them that are no whole line or message yet
+  -- those of them that aren't yet a whole line or message
   pub left : List ℕ
-  -- how many lines were given: of the client's without the NUL and BEGIN
+  -- the number of lines that were given: of the client's, without the NUL and BEGIN
   pub lines : ℕ
 
 abbrev pub is_in_lines : Phase → Bool
@@ -33,7 +34,7 @@ first_phase false = InMessages
 abbrev pub new_stream : Bool → StreamView
 new_stream auth = record { came = 0; phase = first_phase auth; left = []; lines = 0 }
 
--- bytes come behind what is left
+-- bytes are appended to what is left
 abbrev pub pushed : List ℕ → StreamView → StreamView
 pushed bytes stream = record stream { came = stream.came + length bytes; left = stream.left ++ bytes }
 

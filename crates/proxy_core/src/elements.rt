@@ -27,7 +27,7 @@ use std::alloc::{AllocError, Global};
 use unique_names::Tracker;
 use verdicts::show;
 
-/// What is left of a message of a side, where anything is, by what is known when it comes.
+/// What is left of a message of a side, if anything, given what is known when it is received.
 pub(crate) fn element(
     alloc: Global,
     policy: &Policy,
@@ -44,7 +44,7 @@ pub(crate) fn element(
     }
 }
 
-/// The bytes of a message, kept.
+/// A copy of the message's bytes.
 fn frame_of(alloc: Global, message: &Message<'_>) -> Result<Bytes, AllocError>
     ensures { IfOk result (λ frame. frame ≡ spell (message_in message.now.bytes.now)) }
 {
@@ -82,14 +82,14 @@ fn shown_element(alloc: Global, message: &Message<'_>) -> Result<Option<Visible>
     Ok(Some(Visible::Shown(frame_of(alloc, message)?)))
 }
 
-/// The place among the messages that were sent to the bus which a message answers.
+/// The place, among the messages that were sent to the bus, of the one that a message answers.
 fn position(message: &Message<'_>) -> u32
     ensures { result ≡ position_of (message_in message.now.bytes.now) }
 {
     message.reply_serial.unwrap_or(0)
 }
 
-/// The message with its list cut to the names that may be seen, and with the REPLY_SERIAL that it came with.
+/// The message with its list of names cut to those that may be seen, and with its original REPLY_SERIAL.
 fn cut_list(
     alloc: Global,
     policy: &Policy,
@@ -106,7 +106,7 @@ fn cut_list(
     Ok(bytes.freeze()?)
 }
 
-/// What is left of a message that the client isn't shown: what it tells as the answer to a call of the proxy's own.
+/// What is left of a message that the client isn't shown: its answer to a call of the proxy's own.
 fn hidden_element(
     alloc: Global,
     policy: &Policy,
@@ -131,21 +131,21 @@ fn hidden_element(
     Ok(None)
 }
 
-/// Whether it is what the answer to a GetNameOwner of the proxy's own is for.
+/// Whether this answers a GetNameOwner of the proxy's own.
 fn is_for_owner(answer: Option<&Kind>) -> bool
     ensures { result ≡ own_owner (option_copied answer.entry) }
 {
     matches!(answer, Some(Kind::OwnOwner(_)))
 }
 
-/// Whether it is what the answer to the proxy's own ListNames is for.
+/// Whether this answers the proxy's own ListNames.
 fn is_for_names(answer: Option<&Kind>) -> bool
     ensures { result ≡ own_names (option_copied answer.entry) }
 {
     matches!(answer, Some(Kind::OwnNames))
 }
 
-/// What a message of the bus answers, where it is a return or an error.
+/// What a message of the bus answers, if it is a return or an error.
 fn answered<'a>(ledger: &'a Ledger, message: &Message<'_>) -> Option<&'a Kind>
     ensures reply { IfSome result (λ _. (message.now.kind == 2 || message.now.kind == 3) ≡ true) }
     ensures role { bus_role (option_copied result) (message_in message.now.bytes.now) ≡ bus_role (expected_at ledger.now.expected (reply_serial_of (message_in message.now.bytes.now))) (message_in message.now.bytes.now) }
@@ -159,7 +159,7 @@ fn answered<'a>(ledger: &'a Ledger, message: &Message<'_>) -> Option<&'a Kind>
     }
 }
 
-/// The name, kept, where there is one.
+/// A copy of the name, if there is one.
 fn kept_name(alloc: Global, name: Option<&str>) -> Result<Option<Name>, AllocError>
     ensures { IfOk result (λ kept. kept ≡ text_seen name.entry) }
 {
@@ -169,7 +169,7 @@ fn kept_name(alloc: Global, name: Option<&str>) -> Result<Option<Name>, AllocErr
     }
 }
 
-/// The names of a list whose owners are asked for, kept, where there is a list.
+/// Copies of those names of a list whose owners are asked for, if there is a list.
 fn names_to_ask(
     alloc: Global,
     policy: &Policy,
@@ -186,7 +186,7 @@ fn names_to_ask(
     }
 }
 
-/// Names, kept in their order.
+/// Copies of names, in their order.
 fn kept_names(alloc: Global, names: &[&str]) -> Result<Vec<Name>, AllocError>
     ensures { IfOk result (λ kept. kept.items ≡ map (λ name. name.now) names.now) }
 {

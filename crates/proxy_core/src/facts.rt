@@ -1,4 +1,4 @@
-//! What messages of the bus tell of names.
+//! What messages of the bus say of names.
 ghost use Rattle.std.specs.Prelude.{◌≡◌};
 ghost use Rattle.dbus_header.specs.Seen.{text_seen};
 ghost use Rattle.policy_view.specs.Past.{if_unique, is_covered as covered, returned_names as names_returned, returned_text};
@@ -9,7 +9,7 @@ use dbus_names::{is_unique, is_well_known};
 use dbus_values::Texts;
 use policy_args::Policy;
 
-/// The text where it is a unique name.
+/// The text, if it is a unique name.
 pub(crate) fn unique(text: Option<&str>) -> Option<&str>
     ensures { text_seen result ≡ if_unique (text_seen text.entry) }
 {
@@ -19,7 +19,7 @@ pub(crate) fn unique(text: Option<&str>) -> Option<&str>
     }
 }
 
-/// The unique name that a return has for its body.
+/// The unique name that is the body of a return.
 pub(crate) fn returned_id<'a>(message: &Message<'a>) -> Option<&'a str>
     ensures { text_seen result ≡ if_unique (returned_text (message_in message.now.bytes.now)) }
 {
@@ -30,7 +30,7 @@ pub(crate) fn returned_id<'a>(message: &Message<'a>) -> Option<&'a str>
     }
 }
 
-/// The list of names that a return has for its body.
+/// The list of names that is the body of a return.
 pub(crate) fn returned_names<'a>(message: &Message<'a>) -> Option<Texts<'a>>
     ensures { result ≡ names_returned (message_in message.now.bytes.now) }
 {
@@ -41,7 +41,7 @@ pub(crate) fn returned_names<'a>(message: &Message<'a>) -> Option<Texts<'a>>
     }
 }
 
-/// The sender of a message where it is a unique name.
+/// The sender of a message, if it is a unique name.
 pub(crate) fn unique_sender<'a>(message: &Message<'a>) -> Option<&'a str>
     ensures { text_seen result ≡ if_unique (text_seen message.now.sender) }
 {

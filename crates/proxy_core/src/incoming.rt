@@ -1,4 +1,4 @@
-//! A message that came, with its bytes where they can go on without a copy.
+//! A message that was received, with its bytes if they can be passed on without a copy.
 ghost use Rattle.std.specs.Prelude.{◌≡◌, IfOk};
 ghost use Rattle.std.specs.Option.{ForSome};
 
@@ -6,7 +6,8 @@ use bytes::Bytes;
 use dbus_header::Message;
 use std::alloc::{AllocError, Global};
 
-/// A message in front of a side's stream. The bytes of a long one are shared: they go on, and are kept, without a copy.
+/// The first message of a side's stream. The bytes of a long one are shared, so that they are passed on and kept
+/// without a copy.
 #[derive(Drop)]
 pub(crate) struct Incoming<'a, 'b> {
     pub(crate) message: &'a Message<'b>,
@@ -15,7 +16,7 @@ pub(crate) struct Incoming<'a, 'b> {
 }
 
 impl<'a, 'b> Incoming<'a, 'b> {
-    /// A message, with its bytes where they are shared.
+    /// A message, with its bytes if they are shared.
     pub(crate) fn new(message: &'a Message<'b>, shared: Option<&'a Bytes>) -> Incoming<'a, 'b>
         requires { ForSome shared (λ bytes. bytes.now ≡ message.now.bytes.now) }
         ensures { result.message.now ≡ message.now }
@@ -23,7 +24,7 @@ impl<'a, 'b> Incoming<'a, 'b> {
         Incoming { message, shared }
     }
 
-    /// Its bytes, as its own owner of them.
+    /// The message's bytes: the shared ones, or a copy.
     pub(crate) fn frame(&self, alloc: Global) -> Result<Bytes, AllocError>
         ensures { IfOk result (λ bytes. bytes ≡ self.now.message.now.bytes.now) }
     {

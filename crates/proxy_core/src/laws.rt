@@ -1,4 +1,4 @@
-//! Sessions that no events make, for tests.
+//! Sessions that no events make, for tests only.
 ghost use Rattle.std.specs.Prelude.{◌≡◌, IfOk, IsTrue, false};
 ghost use Rattle.proxy_core.specs.Sessions.{at_start};
 
@@ -8,7 +8,7 @@ use policy_view::Mode;
 use serial_map::Serials;
 use std::alloc::{AllocError, Global};
 
-/// A session of which the first so many serials count as given, to which nothing came and from which nothing is expected.
+/// A session in which this many serials count as used, and which has received nothing and expects nothing.
 pub fn session_at(
     alloc: Global,
     policy: &Policy,

@@ -1,7 +1,7 @@
-//! The session: what comes of either side goes in, and what is to be sent to either side comes out.
+//! The session: it takes what is received from either side, and has what is to be sent to either side.
 //!
-//! A `Session` is driven by `feed_client` and `feed_bus` with each piece that came; `to_bus` and `to_client` have what waits, and `took_bus` and `took_client`
-//! are told what was written of it.
+//! Pass each received piece to `feed_client` or `feed_bus`. `to_bus` and `to_client` lend the bytes that wait; after a
+//! write, `took_bus` or `took_client` is given the number of bytes that were written.
 #![tactic(auto)]
 
 mod elements;

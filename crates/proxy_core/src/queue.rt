@@ -1,4 +1,4 @@
-//! Messages that are put behind those that wait for a side.
+//! Messages that are appended to the bytes that wait for a side.
 ghost use Rattle.std.specs.Prelude.{◌≡◌, ◌≤◌, ◌<◌, ◌+◌, ◌++◌, IfOk, IsSome, Some, OnOk, OnErr, codes, length, take, drop};
 ghost use Rattle.std.specs.Int.{w32};
 ghost use Rattle.dbus_values.specs.Values.{number_bytes};
@@ -18,14 +18,14 @@ use policy_args::Policy;
 use std::alloc::{AllocError, Global};
 use unique_names::Tracker;
 
-/// A message that is read is valid, and its bytes spell it.
+/// A message that was read is valid, and its bytes spell it.
 pub(crate) fn is_spelled(bytes: &[u8])
     ensures { (m : MessageTree) → message_of bytes.now ≡ Some m → Valid m × (bytes.now ≡ spell m) }
 {
     let _bytes = bytes;
 }
 
-/// A message of its own, with another serial.
+/// A copy of a message, with another serial.
 pub(crate) fn with_serial(
     alloc: Global,
     message: &Message<'_>,
@@ -40,7 +40,7 @@ pub(crate) fn with_serial(
     Ok(bytes)
 }
 
-/// Puts a message behind the others, with another number of four bytes from a place on.
+/// Appends a message with the four-byte number at a place replaced.
 fn push_with(
     queue: &mut OutQueue,
     incoming: &Incoming<'_, '_>,
@@ -58,7 +58,7 @@ fn push_with(
     }
 }
 
-/// Puts a message behind the others, with another serial.
+/// Appends a message with another serial.
 pub(crate) fn push_message(
     queue: &mut OutQueue,
     incoming: &Incoming<'_, '_>,
@@ -71,7 +71,7 @@ pub(crate) fn push_message(
     push_with(queue, incoming, SERIAL_PLACE, serial)
 }
 
-/// Puts an answer behind the others, with another REPLY_SERIAL.
+/// Appends an answer with another REPLY_SERIAL.
 pub(crate) fn push_reply(
     queue: &mut OutQueue,
     incoming: &Incoming<'_, '_>,
@@ -88,7 +88,7 @@ pub(crate) fn push_reply(
     }
 }
 
-/// Puts the bytes of a message behind the others.
+/// Appends the bytes of a message.
 fn push_bytes(queue: &mut OutQueue, incoming: &Incoming<'_, '_>) -> Result<(), AllocError>
     ensures ok { OnOk result (queue.new ≡ queue.old ++ incoming.now.message.now.bytes.now) }
     ensures err { OnErr result (queue.new ≡ queue.old) }
@@ -99,7 +99,7 @@ fn push_bytes(queue: &mut OutQueue, incoming: &Incoming<'_, '_>) -> Result<(), A
     }
 }
 
-/// Puts a message behind the others as it is.
+/// Appends a message unchanged.
 pub(crate) fn push_whole(
     queue: &mut OutQueue,
     incoming: &Incoming<'_, '_>,
@@ -111,7 +111,7 @@ pub(crate) fn push_whole(
     push_bytes(queue, incoming)
 }
 
-/// Puts a message behind the others, with its list of names cut to those that may be seen and with another REPLY_SERIAL.
+/// Appends a message with its list of names cut to those that may be seen, and with another REPLY_SERIAL.
 pub(crate) fn push_cut(
     alloc: Global,
     queue: &mut OutQueue,

@@ -29,7 +29,7 @@ fn has_text(text: Option<&str>, wanted: &str) -> bool
     }
 }
 
-/// Whether it is a call to the bus of this member, with the bus's interface or none.
+/// Whether this is a call to the bus of this member, with the bus's interface or without one.
 fn is_bus_member(message: &Message<'_>, member: &str) -> bool
     ensures { result ≡ is_bus_member_by member.now (message_seen message.now) }
 {
@@ -39,14 +39,14 @@ fn is_bus_member(message: &Message<'_>, member: &str) -> bool
         && has_text(message.member, member)
 }
 
-/// Whether it asks the bus for a unique name (D-Bus Specification, "org.freedesktop.DBus.Hello").
+/// Whether this asks the bus for a unique name (D-Bus Specification, "org.freedesktop.DBus.Hello").
 pub(crate) fn is_hello(message: &Message<'_>) -> bool
     ensures { result ≡ hello (message_in message.now.bytes.now) }
 {
     is_bus_member(message, "Hello")
 }
 
-/// Whether it asks the bus for a list of names (D-Bus Specification, "org.freedesktop.DBus.ListNames" and
+/// Whether this asks the bus for a list of names (D-Bus Specification, "org.freedesktop.DBus.ListNames" and
 /// "org.freedesktop.DBus.ListActivatableNames").
 fn asks_names(message: &Message<'_>) -> bool
     ensures { result ≡ names_asked (message_in message.now.bytes.now) }
@@ -54,7 +54,7 @@ fn asks_names(message: &Message<'_>) -> bool
     is_bus_member(message, "ListNames") || is_bus_member(message, "ListActivatableNames")
 }
 
-/// What the answer to a call that passes is for.
+/// What the answer to a call that passes is used for.
 pub(crate) fn expected(message: &Message<'_>) -> Kind
     ensures { result ≡ expected_of (Passed (message_in message.now.bytes.now)) }
 {

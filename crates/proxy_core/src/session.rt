@@ -1,5 +1,5 @@
-//! The session: pieces of either side's stream are taken, line by line and then message by message, or behind the lines as
-//! they are where messages aren't filtered.
+//! The session: it processes each side's stream line by line and then message by message. If messages aren't filtered,
+//! it passes the bytes after the lines on unread.
 ghost use Rattle.std.specs.Prelude.{◌≡◌, ◌≤◌, ◌<◌, ◌+◌, ◌^◌, ◌∷◌, ◌++◌, ℕ, List, [], Some, None, true, false, IfOk, IfNone, IfSome, OnOk, OnErr, length, take, drop, option_to_list};
 ghost use Rattle.policy_view.specs.History.{Event, Bytes, Finished, Stopped, finished as finished_by, malformed as malformed_by, longest_stream, most_sent};
 ghost use Rattle.dbus_header.specs.Contents.{contents_of};
@@ -38,13 +38,13 @@ use std::collections::VecDeque;
 use std::marker::Model;
 use unique_names::Tracker;
 
-/// How many bytes of a side's stream a session takes at most.
+/// The maximum number of bytes that a session takes of a side's stream.
 pub const LONGEST_STREAM: u64 = 1_152_921_504_606_846_976;
 
-/// How many bytes the proxy's own calls after a Hello have at most: those for 65,535 patterns of names of 255 bytes.
+/// The maximum number of bytes of the proxy's own calls after a Hello: those for 65,535 patterns of names of 255 bytes.
 pub const MOST_OWN_BYTES: u64 = 60_161_266;
 
-/// A session between a client and its bus: bytes that come of either side go in, and bytes for either side come out.
+/// A session between a client and its bus. It takes bytes from either side and gives bytes for either side.
 #[derive(Drop)]
 pub struct Session {
     mode: Mode,
@@ -80,7 +80,7 @@ impl Model for Session {
     ghost view = { λ s. record { mode = s.mode; bus_side = s.to_bus; client_side = s.to_client; ended = s.ended; client = s.client; bus = s.bus; sent = s.serials; greeted = s.greeted; ledger = s.ledger; ids = s.tracker; notes = s.notes.items; numbered = s.numbered; watches = is_some s.watch; visible = waiting_in s.watch } };
 }
 
-/// The end of a side's stream as an End.
+/// The End for the end of a side's stream.
 fn finished(side: Side) -> End
     ensures { result ≡ finished_by side }
 {
@@ -90,7 +90,7 @@ fn finished(side: Side) -> End
     }
 }
 
-/// A fault of a side's stream as an End.
+/// The End for a fault of a side's stream.
 fn malformed(side: Side, fault: Fault) -> End
     ensures { result ≡ malformed_by side fault }
 {
@@ -100,7 +100,7 @@ fn malformed(side: Side, fault: Fault) -> End
     }
 }
 
-/// The first bytes, at most so many.
+/// The first bytes of a piece, at most as many as there is room for.
 fn front_of(room: u64, piece: &[u8]) -> &[u8]
     ensures { result.now ≡ take room piece.now }
 {
@@ -112,7 +112,7 @@ fn front_of(room: u64, piece: &[u8]) -> &[u8]
 }
 
 impl Session {
-    /// A session that has taken nothing. It is for one policy, which its other calls are given again.
+    /// A session that has received nothing. Its other calls must be given the same policy.
     pub fn new(alloc: Global, policy: &Policy, mode: Mode) -> Result<Session, AllocError>
         ensures stands { IfOk result (λ s. StandsFor policy.now s [] nothing) }
         ensures start { IfOk result (λ s. s ≡ at_start mode) }
@@ -138,8 +138,8 @@ impl Session {
         })
     }
 
-    /// A session that filters messages, makes no notes, and keeps the elements of the visible part of its history. Like any other it has
-    /// taken nothing, and is for one policy.
+    /// A session that filters messages, makes no notes, and keeps the elements of the visible part of its history. It
+    /// has received nothing, and its other calls must be given the same policy.
     pub fn watching(alloc: Global, policy: &Policy, auth: bool) -> Result<Session, AllocError>
         ensures stands { IfOk result (λ s. StandsFor policy.now s [] nothing) }
         ensures start { IfOk result (λ s. s ≡ watching_at_start auth) }
@@ -155,10 +155,10 @@ impl Session {
         Ok(session)
     }
 
-    /// Takes a piece that came of the client. Of its messages those wait for the bus that the policy lets pass, with a ping
-    /// in the place of each call that is answered with an error, and with the proxy's own calls behind the first Hello.
-    /// Where messages aren't filtered, its bytes behind the lines wait for the bus as they came.
-    /// Answers the End where the session ended; what comes later has no effect.
+    /// Takes a piece received from the client. The messages that the policy lets pass then wait for the bus, with a
+    /// ping in place of each call that is answered with an error, and with the proxy's own calls after the first Hello.
+    /// If messages aren't filtered, the bytes after the lines wait for the bus unchanged. The error is the End of a
+    /// session that has ended; later pieces have no effect.
     pub fn feed_client(&mut self, policy: &Policy, piece: &[u8]) -> Result<(), End>
         ensures stands { (events : List Event) (taken : Taken) → StandsFor policy.now self.old events taken → StandsFor policy.now self.new (Bytes Side.Client piece.now ∷ events) taken }
         ensures closes { Closes policy.now (Bytes Side.Client piece.now) self.old self.new }
@@ -170,9 +170,10 @@ impl Session {
         self.feed(policy, Side::Client, piece)
     }
 
-    /// Takes a piece that came of the bus. Of its messages those wait for the client that the policy shows: the answers that
-    /// it waits for, each once, calls, and signals. What they tell of names is learned, and what is still to be asked waits
-    /// for the bus. Where messages aren't filtered, its bytes behind the lines wait for the client as they came. Answers the End where the session ended; what comes later has no effect.
+    /// Takes a piece received from the bus. The messages that the policy shows then wait for the client: the answers
+    /// for which it waits, each once, calls, and signals. What the messages say of names is learned, and calls that ask
+    /// for more wait for the bus. If messages aren't filtered, the bytes after the lines wait for the client unchanged.
+    /// The error is the End of a session that has ended; later pieces have no effect.
     pub fn feed_bus(&mut self, policy: &Policy, piece: &[u8]) -> Result<(), End>
         ensures stands { (events : List Event) (taken : Taken) → StandsFor policy.now self.old events taken → StandsFor policy.now self.new (Bytes Side.Bus piece.now ∷ events) taken }
         ensures closes { Closes policy.now (Bytes Side.Bus piece.now) self.old self.new }
@@ -184,7 +185,8 @@ impl Session {
         self.feed(policy, Side::Bus, piece)
     }
 
-    /// The client's stream ended. Answers the session's End, which is an earlier one where there was one.
+    /// Ends the session, because the client's stream ended. Returns its End, which is an earlier one if it had ended
+    /// already.
     pub fn client_ended(&mut self) -> End
         ensures stands { (policy : PolicyValue) (events : List Event) (taken : Taken) → StandsFor policy self.old events taken → StandsFor policy self.new (Finished Side.Client ∷ events) taken }
         ensures closes { (policy : PolicyValue) → Closes policy (Finished Side.Client) self.old self.new }
@@ -195,7 +197,8 @@ impl Session {
         self.end_first(End::ClientEnd)
     }
 
-    /// The bus's stream ended. Answers the session's End, which is an earlier one where there was one.
+    /// Ends the session, because the bus's stream ended. Returns its End, which is an earlier one if it had ended
+    /// already.
     pub fn bus_ended(&mut self) -> End
         ensures stands { (policy : PolicyValue) (events : List Event) (taken : Taken) → StandsFor policy self.old events taken → StandsFor policy self.new (Finished Side.Bus ∷ events) taken }
         ensures closes { (policy : PolicyValue) → Closes policy (Finished Side.Bus) self.old self.new }
@@ -206,8 +209,8 @@ impl Session {
         self.end_first(End::BusEnd)
     }
 
-    /// The session is stopped for what happened to its links or to the log. Answers the session's End, which is an earlier one
-    /// where there was one.
+    /// Ends the session, because of its links or the log. Returns its End, which is an earlier one if it had ended
+    /// already.
     pub fn stop(&mut self, end: End) -> End
         requires { is_from_outside end ≡ true }
         ensures stands { (policy : PolicyValue) (events : List Event) (taken : Taken) → StandsFor policy self.old events taken → StandsFor policy self.new (Stopped end ∷ events) taken }
@@ -219,7 +222,7 @@ impl Session {
         self.end_first(end)
     }
 
-    /// Bytes that wait for the bus, from the first on.
+    /// The first of the bytes that wait for the bus. It is empty only if none wait.
     pub fn to_bus(&self) -> &[u8]
         ensures front { IsFront result.now self.now.bus_side }
         ensures all { length result.now ≡ 0 → self.now.bus_side ≡ [] }
@@ -227,7 +230,7 @@ impl Session {
         self.to_bus.front()
     }
 
-    /// Bytes that wait for the client, from the first on.
+    /// The first of the bytes that wait for the client. It is empty only if none wait.
     pub fn to_client(&self) -> &[u8]
         ensures front { IsFront result.now self.now.client_side }
         ensures all { length result.now ≡ 0 → self.now.client_side ≡ [] }
@@ -235,21 +238,21 @@ impl Session {
         self.to_client.front()
     }
 
-    /// How many bytes wait for the bus.
+    /// The number of bytes that wait for the bus.
     pub fn bus_waits(&self) -> u64
         ensures { result ≡ length self.now.bus_side }
     {
         self.to_bus.len()
     }
 
-    /// How many bytes wait for the client.
+    /// The number of bytes that wait for the client.
     pub fn client_waits(&self) -> u64
         ensures { result ≡ length self.now.client_side }
     {
         self.to_client.len()
     }
 
-    /// The bus was given the first bytes that waited for it.
+    /// Removes the first `n` bytes that wait for the bus, after they were written.
     pub fn took_bus(&mut self, n: usize)
         requires { n ≤ length self.old.bus_side }
         ensures view { self.new ≡ record self.old { bus_side = drop n self.old.bus_side } }
@@ -258,7 +261,7 @@ impl Session {
         self.to_bus.took(n);
     }
 
-    /// The client was given the first bytes that waited for it.
+    /// Removes the first `n` bytes that wait for the client, after they were written.
     pub fn took_client(&mut self, n: usize)
         requires { n ≤ length self.old.client_side }
         ensures view { self.new ≡ record self.old { client_side = drop n self.old.client_side } }
@@ -267,7 +270,7 @@ impl Session {
         self.to_client.took(n);
     }
 
-    /// The next note, where one waits: what was decided on a message, in the order of the messages.
+    /// Takes the next note, if one waits. Notes say what was decided on each message, in the order of the messages.
     pub fn next_note(&mut self) -> Option<Note>
         ensures none { IfNone result ((self.old.notes ≡ []) × (self.new ≡ self.old)) }
         ensures some { IfSome result (λ note. (rest : List NoteValue) × (self.old.notes ≡ note ∷ rest) × (self.new ≡ record self.old { notes = rest })) }
@@ -276,7 +279,7 @@ impl Session {
         self.notes.pop_front()
     }
 
-    /// The message of a note of this session. Its header isn't read again if its stream still knows it.
+    /// Reads the message of a note of this session. Its header isn't checked again if its stream still knows it.
     pub fn message_of<'a>(&self, note: &'a Note) -> Message<'a>
         ensures bytes { result.bytes.now ≡ note.now.frame }
         ensures contents { message_seen result ≡ contents_of (message_in note.now.frame) }
@@ -287,8 +290,8 @@ impl Session {
         }
     }
 
-    /// The next element of the visible part, where one waits, in the order of the history. Only a session that was made by `watching` has
-    /// any; its End is no such element.
+    /// Takes the next element of the visible part, if one waits, in the order of the history. Only a session that was
+    /// made by `watching` has any. The End is no such element.
     pub fn next_visible(&mut self) -> Option<Visible>
         ensures none { IfNone result ((self.old.visible ≡ []) × (self.new ≡ self.old)) }
         ensures some { IfSome result (λ element. (rest : List Element) × (self.old.visible ≡ element ∷ rest) × (self.new ≡ record self.old { visible = rest })) }
@@ -297,28 +300,28 @@ impl Session {
         next_of(&mut self.watch)
     }
 
-    /// Why the session ended.
+    /// The session's End, if it has ended.
     pub fn ended(&self) -> Option<End>
         ensures { result ≡ self.now.ended }
     {
         self.ended
     }
 
-    /// Serials are given from there on.
+    /// Sets the serials that are given from now on.
     pub(crate) fn set_serials(&mut self, serials: Serials)
         ensures { self.new ≡ record self.old { sent = serials } }
     {
         self.serials = serials;
     }
 
-    /// The session ended.
+    /// Ends the session.
     fn end_with(&mut self, end: End)
         ensures { self.new ≡ ended_by end self.old }
     {
         self.ended = Some(end);
     }
 
-    /// Whether the lines of a side's stream come.
+    /// Whether a side's stream is still in its lines.
     fn is_in_lines(&self, side: Side) -> bool
         ensures { result ≡ in_lines (stream_of side self.now).phase }
     {
@@ -328,8 +331,8 @@ impl Session {
         }
     }
 
-    /// Processes the line in front of a side's stream, or all that is left if messages come that aren't filtered; or ends the
-    /// session where a fault stands there. Tells whether more may follow.
+    /// Processes the first line of a side's stream, or all that is left if unfiltered messages follow the lines. Ends
+    /// the session if there is a fault. Returns whether more may follow.
     fn process_front(&mut self, policy: &Policy, side: Side) -> bool
         requires running { self.old.ended ≡ None }
         requires unfiltered { in_lines (stream_of side self.old).phase ≡ false → self.old.mode.filter ≡ false }
@@ -345,7 +348,7 @@ impl Session {
         }
     }
 
-    /// Processes lines and messages from the front of a side's stream, `most` of them at most.
+    /// Processes lines and messages from the start of a side's stream, at most `most` of them.
     fn drain(&mut self, policy: &Policy, side: Side, most: usize)
         requires { self.old.ended ≡ None }
         ensures took { Took policy.now side (drained policy.now side most self.old) self.old self.new }
@@ -364,7 +367,7 @@ impl Session {
         }
     }
 
-    /// How many bytes of a side's stream are no whole line or message yet.
+    /// The number of bytes of a side's stream that aren't yet a whole line or message.
     fn left_len(&self, side: Side) -> usize
         ensures value { result ≡ length (stream_of side self.now).left }
         ensures bound { result < 2 ^ 63 }
@@ -375,7 +378,7 @@ impl Session {
         }
     }
 
-    /// Puts bytes behind what is left of a side's stream.
+    /// Appends bytes to what is left of a side's stream.
     fn push(&mut self, side: Side, bytes: &[u8]) -> Result<(), AllocError>
         requires { (stream_of side self.old).came + length bytes.now ≤ longest_stream }
         ensures ok { OnOk result (self.new ≡ with_stream side (pushed bytes.now (stream_of side self.old)) self.old) }
@@ -387,7 +390,7 @@ impl Session {
         }
     }
 
-    /// Appends bytes to what is left of a side's stream, and processes what is whole then.
+    /// Appends bytes to what is left of a side's stream, and processes what is then whole.
     fn receive_bytes(&mut self, policy: &Policy, side: Side, bytes: &[u8])
         requires running { self.old.ended ≡ None }
         requires room { (stream_of side self.old).came + length bytes.now ≤ longest_stream }
@@ -410,7 +413,7 @@ impl Session {
         }
     }
 
-    /// How many bytes came of a side.
+    /// The number of bytes that were received from a side.
     fn came(&self, side: Side) -> u64
         ensures value { result ≡ (stream_of side self.now).came }
         ensures bound { result ≤ longest_stream }
@@ -434,7 +437,7 @@ impl Session {
         }
     }
 
-    /// Receives a piece of a side's stream, and answers the End of a session that has ended.
+    /// Receives a piece of a side's stream. The error is the End of a session that has ended.
     fn feed(&mut self, policy: &Policy, side: Side, piece: &[u8]) -> Result<(), End>
         ensures stands { (events : List Event) (taken : Taken) → StandsFor policy.now self.old events taken → StandsFor policy.now self.new (Bytes side piece.now ∷ events) taken }
         ensures closes { Closes policy.now (Bytes side piece.now) self.old self.new }
@@ -454,7 +457,7 @@ impl Session {
         }
     }
 
-    /// Ends the session, unless it has ended. Answers its End.
+    /// Ends the session, unless it has ended. Returns its End.
     fn end_first(&mut self, end: End) -> End
         ensures answer { self.new ≡ ended_by result self.old }
         ensures first { self.old.ended ≡ None → result ≡ end }

@@ -1,4 +1,4 @@
-//! The stream of a side: the lines of authentication, where the session begins with them, and then messages.
+//! The stream of a side: the lines of authentication, if the session begins with them, and then messages.
 ghost use Rattle.std.specs.Prelude.{◌≡◌, ◌≤◌, ◌<◌, ◌+◌, ◌^◌, [], true, Some, IsTrue, IfOk, IfErr, OnOk, OnErr, length, take, drop};
 ghost use Rattle.dbus_framing.specs.Framing.{Takes};
 ghost use Rattle.dbus_framing.specs.Knows.{IsWhole};
@@ -20,20 +20,20 @@ use std::alloc::{AllocError, Global};
 use std::marker::Model;
 use std::mem;
 
-/// What is taken from the front of the stream.
+/// What is taken from the start of the stream.
 #[derive(Drop)]
 pub(crate) enum Content {
     Lines(Lines),
     Messages(Framer),
 }
 
-/// The stream of a side. Its lines are the client's up to BEGIN, or the bus's as many as answer the client's.
+/// The stream of a side. Its lines are the client's up to BEGIN, or as many of the bus's as answer the client's.
 #[derive(Drop)]
 pub(crate) struct Stream {
-    /// How many bytes came.
+    /// The number of bytes that were received.
     came: u64,
     content: Content,
-    /// How many lines were given: of the client's without the NUL and BEGIN.
+    /// The number of lines that were taken: of the client's, without the NUL and BEGIN.
     lines: u64,
     /// What is known of the texts in the messages that were read.
     known: KnownTexts,
@@ -51,7 +51,7 @@ impl Model for Stream {
 }
 
 impl Stream {
-    /// A stream to which nothing came.
+    /// A stream from which nothing was received.
     pub(crate) fn new(alloc: Global, auth: bool) -> Stream
         ensures { result ≡ new_stream auth }
     {
@@ -69,7 +69,7 @@ impl Stream {
         }
     }
 
-    /// How many bytes came.
+    /// The number of bytes that were received.
     pub(crate) fn came(&self) -> u64
         ensures value { result ≡ self.now.came }
         ensures bound { result ≤ longest_stream }
@@ -77,14 +77,14 @@ impl Stream {
         self.came
     }
 
-    /// How many lines were given.
+    /// The number of lines that were taken.
     pub(crate) fn lines(&self) -> u64
         ensures { result ≡ self.now.lines }
     {
         self.lines
     }
 
-    /// How many bytes are no whole line or message yet.
+    /// The number of bytes that aren't yet a whole line or message.
     pub(crate) fn len(&self) -> usize
         ensures value { result ≡ length self.now.left }
         ensures bound { result < 2 ^ 63 }
@@ -95,7 +95,7 @@ impl Stream {
         }
     }
 
-    /// Whether lines come.
+    /// Whether the stream is still in its lines.
     pub(crate) fn is_in_lines(&self) -> bool
         ensures { result ≡ in_lines self.now.phase }
     {
@@ -105,7 +105,7 @@ impl Stream {
         }
     }
 
-    /// Puts bytes behind what is left.
+    /// Appends bytes to what is left.
     pub(crate) fn push(&mut self, bytes: &[u8]) -> Result<(), AllocError>
         requires { self.old.came + length bytes.now ≤ longest_stream }
         ensures ok { OnOk result (self.new ≡ pushed bytes.now self.old) }
@@ -119,7 +119,7 @@ impl Stream {
         Ok(())
     }
 
-    /// Takes memory that another stream gave back, while messages come.
+    /// Takes memory that another stream gave back, if the stream is in its messages.
     pub(crate) fn take_room(&mut self, room: &mut Vec<u8>)
         requires { room.old.items ≡ [] }
         ensures same { self.new ≡ self.old }
@@ -130,7 +130,7 @@ impl Stream {
         }
     }
 
-    /// Gives memory back for another stream, while messages come.
+    /// Gives memory back for another stream, if the stream is in its messages.
     pub(crate) fn give_room(&mut self, room: &mut Vec<u8>)
         requires { room.old.items ≡ [] }
         ensures same { self.new ≡ self.old }
@@ -141,7 +141,7 @@ impl Stream {
         }
     }
 
-    /// What stands in front of the client's stream while lines come.
+    /// Takes what is first in the client's stream, which is in its lines.
     pub(crate) fn next_client_line(&mut self) -> Result<NextLine, AllocError>
         requires { in_lines self.old.phase ≡ true }
         ensures ok { IfOk result (λ next. GaveLine ClientGives self.old next self.new) }
@@ -157,8 +157,8 @@ impl Stream {
         Ok(next)
     }
 
-    /// What stands in front of the bus's stream while lines come, where so many lines of the client wait for their answer and the client has
-    /// sent BEGIN or not.
+    /// Takes what is first in the bus's stream, which is in its lines. `unanswered` is the number of the client's lines
+    /// that wait for an answer, and `begun` says whether the client has sent BEGIN.
     pub(crate) fn next_bus_line(
         &mut self,
         unanswered: u64,
@@ -178,7 +178,7 @@ impl Stream {
         Ok(next)
     }
 
-    /// Lends out what is left while messages come. None is left here meanwhile.
+    /// Moves what is left out of the stream, which is in its messages.
     pub(crate) fn lend_messages(&mut self) -> Framer
         requires { self.old.phase ≡ InMessages }
         ensures left { result ≡ self.old.left }
@@ -190,7 +190,8 @@ impl Stream {
         }
     }
 
-    /// Counts a piece of messages as come while none of their bytes are left, and lends it out. It isn't copied.
+    /// Counts a piece of messages as received, while none of their bytes are left, and gives its messages. It isn't
+    /// copied.
     pub(crate) fn lend_piece<'a>(&mut self, piece: &'a [u8]) -> Result<Messages<'a>, AllocError>
         requires messages { self.old.phase ≡ InMessages }
         requires none { self.old.left ≡ [] }
@@ -212,8 +213,8 @@ impl Stream {
         }
     }
 
-    /// The message of as many bytes as its head states, in front of what was lent, or what is wrong with it. What is known of its texts
-    /// is kept here; nothing else changes.
+    /// Reads the first message of what was moved out; its head states its length. What is known of its texts is kept
+    /// here; nothing else changes.
     pub(crate) fn read_message<'a>(
         &mut self,
         lent: &'a Messages<'_>,
@@ -228,7 +229,7 @@ impl Stream {
         lent.message(len, &mut self.known)
     }
 
-    /// The message of a note on one that came in this stream. Its header isn't read again if it is still known.
+    /// Reads the message of a note on one of this stream. Its header isn't checked again if it is still known.
     pub(crate) fn message_of<'a>(&self, note: &'a Note) -> Message<'a>
         ensures bytes { result.bytes.now ≡ note.now.frame }
         ensures contents { message_seen result ≡ contents_of (message_in note.now.frame) }
@@ -236,7 +237,7 @@ impl Stream {
         note.message_knowing(&self.known)
     }
 
-    /// Puts back what is left of what was lent.
+    /// Puts what is left back into the stream.
     pub(crate) fn put_messages(&mut self, framer: Framer)
         requires { self.old.phase ≡ InMessages }
         ensures { self.new ≡ record self.old { left = framer } }
@@ -247,7 +248,7 @@ impl Stream {
         }
     }
 
-    /// All bytes that are left while messages come, whatever they hold. None is left then.
+    /// Takes all bytes that are left, whatever they hold. The stream is in its messages.
     pub(crate) fn left(&mut self) -> Result<Bytes, AllocError>
         requires { self.old.phase ≡ InMessages }
         ensures bytes { IfOk result (λ bytes. bytes ≡ self.old.left) }
@@ -260,7 +261,7 @@ impl Stream {
         }
     }
 
-    /// The lines end here, and messages begin. Where memory is short, bytes may be lost.
+    /// Ends the lines and begins with messages. If memory is short, bytes may be lost.
     pub(crate) fn begin_messages(&mut self) -> Result<(), AllocError>
         requires { in_lines self.old.phase ≡ true }
         ensures ok { OnOk result (self.new ≡ record self.old { phase = InMessages }) }
@@ -270,7 +271,7 @@ impl Stream {
             Content::Lines(lines) => lines.left()?,
             Content::Messages(_) => unreachable!(),
         };
-        // The lines' buffer is given up, so that what is left of it has one owner and isn't copied.
+        // The buffer of the lines is dropped first, so that what is left of it has one owner and isn't copied.
         self.content = Content::Messages(Framer::new(self.alloc));
         self.content = Content::Messages(Framer::with_bytes(self.alloc, left)?);
         Ok(())

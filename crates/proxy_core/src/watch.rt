@@ -9,7 +9,7 @@ use std::alloc::{AllocError, Global};
 use std::collections::VecDeque;
 use std::marker::Model;
 
-/// Elements of a session's visible part that wait, from the first on.
+/// Elements of a session's visible part that wait, in order.
 #[derive(Drop)]
 pub(crate) struct Watch {
     elements: VecDeque<Visible>,
@@ -25,7 +25,7 @@ impl Model for Watch {
 }
 
 impl Watch {
-    /// Nothing waits.
+    /// An empty queue of elements.
     pub(crate) fn new(alloc: Global) -> Watch
         ensures { result ≡ [] }
     {
@@ -34,7 +34,7 @@ impl Watch {
         }
     }
 
-    /// The next element, where one waits.
+    /// Takes the next element, if one waits.
     pub(crate) fn next(&mut self) -> Option<Visible>
         ensures none { IfNone result ((self.old ≡ []) × (self.new ≡ self.old)) }
         ensures some { IfSome result (λ element. self.old ≡ element ∷ self.new) }
@@ -42,14 +42,14 @@ impl Watch {
         self.elements.pop_front()
     }
 
-    /// How many elements wait.
+    /// The number of elements that wait.
     pub(crate) fn len(&self) -> usize
         ensures { result ≡ length self.now }
     {
         self.elements.len()
     }
 
-    /// Puts an element behind the others.
+    /// Appends an element.
     pub(crate) fn push(&mut self, element: Visible) -> Result<(), AllocError>
         ensures ok { OnOk result (self.new ≡ self.old ++ element ∷ []) }
         ensures err { OnErr result (self.new ≡ self.old) }
@@ -58,7 +58,7 @@ impl Watch {
         Ok(())
     }
 
-    /// Puts a line of a side behind the others, as it came.
+    /// Appends a line of a side, as received.
     pub(crate) fn push_line(
         &mut self,
         alloc: Global,
@@ -72,7 +72,7 @@ impl Watch {
         self.push(Visible::Line(side, line))
     }
 
-    /// Leaves the first so many, unless all are to stay.
+    /// Keeps only the first `n` elements, unless all are to stay.
     pub(crate) fn truncate_unless(&mut self, all: bool, n: usize)
         ensures { self.new ≡ if all then self.old else take n self.old }
     {
@@ -82,7 +82,7 @@ impl Watch {
     }
 }
 
-/// The next element of what is kept, where that is and one waits.
+/// Takes the next element, if elements are kept and one waits.
 pub(crate) fn next_of(watch: &mut Option<Box<Watch>>) -> Option<Visible>
     ensures none { IfNone result ((waiting_in watch.old ≡ []) × (waiting_in watch.new ≡ [])) }
     ensures some { IfSome result (λ element. waiting_in watch.old ≡ element ∷ waiting_in watch.new) }

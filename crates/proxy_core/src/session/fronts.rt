@@ -1,5 +1,5 @@
-//! The message in front of a side's stream. What is left of the stream is lent out of the session meanwhile, so that the message is read
-//! where it stands, once.
+//! The first message of a side's stream. The rest of the stream is moved out of the session meanwhile, so that the
+//! message is read in place and once.
 ghost use Rattle.std.specs.Prelude.{◌≡◌, ◌==◌, ◌≤◌, ◌+◌, [], false, true, None, Some, IfOk, IfErr, OnOk, OnErr, length, drop};
 ghost use Rattle.dbus_framing.specs.Framing.{Takes};
 ghost use Rattle.dbus_framing.specs.Knows.{IsWhole};
@@ -21,12 +21,12 @@ use policy_args::Policy;
 use policy_view::{End, Fault, Side};
 use std::alloc::AllocError;
 
-/// One read of a link gives no more bytes. A longer piece may hold long messages, whose bytes are shared if a framer
-/// holds them.
+/// One read of a link gives no more bytes. A longer piece may hold long messages, whose bytes can only be shared if a
+/// framer holds them.
 const LONGEST_IN_PLACE: usize = 65_536;
 
 impl Session {
-    /// Lends out what is left of the messages of a side's stream. None is left in the session meanwhile.
+    /// Moves what is left of the messages of a side's stream out of the session.
     fn lend_messages(&mut self, side: Side) -> Framer
         requires { (stream_of side self.old).phase ≡ InMessages }
         ensures left { result ≡ (stream_of side self.old).left }
@@ -38,8 +38,8 @@ impl Session {
         }
     }
 
-    /// Counts a piece of a side's messages as come while none of their bytes are left, and lends it out. It isn't
-    /// copied.
+    /// Counts a piece of a side's messages as received, while none of their bytes are left, and gives its messages. The
+    /// piece isn't copied.
     fn lend_piece<'a>(&mut self, side: Side, piece: &'a [u8]) -> Result<Messages<'a>, AllocError>
         requires messages { (stream_of side self.old).phase ≡ InMessages }
         requires none { (stream_of side self.old).left ≡ [] }
@@ -54,7 +54,7 @@ impl Session {
         }
     }
 
-    /// The message of as many bytes as its head states, in front of what was lent of a side's stream, or what is wrong with it.
+    /// Reads the first message of what was moved out of a side's stream; its head states its length.
     fn read_message<'a>(
         &mut self,
         side: Side,
@@ -72,7 +72,7 @@ impl Session {
         }
     }
 
-    /// Puts back what is left of what was lent.
+    /// Puts what is left back into the session.
     fn put_messages(&mut self, side: Side, messages: Framer)
         requires { (stream_of side self.old).phase ≡ InMessages }
         ensures { self.new ≡ with_left side messages self.old }
@@ -83,7 +83,7 @@ impl Session {
         }
     }
 
-    /// A fault of a side's stream ends the session. Tells that no more may follow.
+    /// Ends the session with a fault of a side's stream. Returns that no more may follow.
     fn end_malformed(&mut self, side: Side, fault: Malformed) -> bool
         ensures ended { self.new ≡ ended_by (malformed_by side (OfMessage fault)) self.old }
         ensures stops { result ≡ false }
@@ -92,8 +92,8 @@ impl Session {
         false
     }
 
-    /// Processes the message in front, whose head states its length, or ends the session if it is malformed. Answers whether
-    /// more may follow.
+    /// Processes the first message, whose head states its length, or ends the session if it is malformed. Returns
+    /// whether more may follow.
     fn process_stated(
         &mut self,
         policy: &Policy,
@@ -117,8 +117,8 @@ impl Session {
         }
     }
 
-    /// Processes the first of a side's messages, or ends the session if its head is wrong. Answers whether more messages may
-    /// follow.
+    /// Processes the first of a side's messages, or ends the session if its head is wrong. Returns whether more
+    /// messages may follow.
     fn process_first(&mut self, policy: &Policy, side: Side, messages: &mut Messages<'_>) -> bool
         requires { self.old.ended ≡ None }
         ensures { TookFirst policy.now side messages.old messages.new self.old self.new result }
@@ -130,7 +130,7 @@ impl Session {
         }
     }
 
-    /// Processes messages from the front of those of a side's stream, `most` of them at most, until none is whole or the
+    /// Processes messages from the start of those of a side's stream, at most `most`, until none is whole or the
     /// session has ended.
     fn process_messages(
         &mut self,
@@ -155,7 +155,7 @@ impl Session {
         }
     }
 
-    /// Processes messages from the front of a side's stream, `most` of them at most, until none is whole or the session has
+    /// Processes messages from the start of a side's stream, at most `most`, until none is whole or the session has
     /// ended.
     pub(super) fn drain_messages(&mut self, policy: &Policy, side: Side, most: usize)
         requires running { self.old.ended ≡ None }
@@ -171,8 +171,8 @@ impl Session {
         self.put_messages(side, left);
     }
 
-    /// Whether a piece of a side's stream is processed where it lies: messages come that are filtered, and none of
-    /// their bytes are left.
+    /// Whether a piece of a side's stream is processed in place: the stream is in its messages, they are filtered, and
+    /// none of their bytes are left.
     pub(super) fn processes_in_place(&self, side: Side, piece: &[u8]) -> bool
         ensures messages { result ≡ true → (stream_of side self.now).phase ≡ InMessages }
         ensures none { result ≡ true → (stream_of side self.now).left ≡ [] }
@@ -184,8 +184,8 @@ impl Session {
             && self.left_len(side) == 0
     }
 
-    /// Receives a piece of a side's messages while none of their bytes are left. The messages are processed where the
-    /// piece lies, and only the rest is copied.
+    /// Receives a piece of a side's messages while none of their bytes are left. The messages are processed in place,
+    /// and only the rest is copied.
     pub(super) fn receive_in_place(&mut self, policy: &Policy, side: Side, piece: &[u8])
         requires running { self.old.ended ≡ None }
         requires some { (length piece.now == 0) ≡ false }

@@ -1,5 +1,5 @@
-//! What a session does with a line of the authentication protocol: each goes to the other side, whole. A line that is refused memory
-//! has no effect.
+//! What a session does with a line of the authentication protocol: each is sent to the other side, whole. If memory for
+//! a line is refused, it has no effect.
 ghost use Rattle.std.specs.Prelude.{◌≡◌, ◌∷◌, ◌++◌, [], true, false, None, OnOk, OnErr, take};
 ghost use Rattle.sasl_watch.specs.Lines.{for_bus as for_the_bus};
 ghost use Rattle.policy_view.specs.declared.Side.TheVariants as Side;
@@ -17,7 +17,7 @@ use sasl_watch::{NextLine, for_bus};
 use std::alloc::AllocError;
 
 impl Session {
-    /// Goes on where memory sufficed, and ends the session where it was refused.
+    /// Goes on if memory sufficed, and ends the session if it was refused.
     pub(super) fn goes_on(&mut self, done: Result<(), AllocError>) -> bool
         ensures ok { OnOk done ((result ≡ true) × (self.new ≡ self.old)) }
         ensures err { OnErr done ((result ≡ false) × (self.new ≡ ended_by Memory self.old)) }
@@ -29,7 +29,7 @@ impl Session {
         true
     }
 
-    /// Goes on where memory sufficed for a line. Where it was refused, the line is no longer kept, and the session ends.
+    /// Goes on if memory sufficed for a line. If it was refused, the line is no longer kept, and the session ends.
     fn goes_on_from(&mut self, kept: usize, done: Result<(), AllocError>) -> bool
         ensures ok { OnOk done ((result ≡ true) × (self.new ≡ self.old)) }
         ensures err { OnErr done ((result ≡ false) × (self.new ≡ ended_by Memory (record self.old { visible = take kept self.old.visible }))) }
@@ -42,7 +42,7 @@ impl Session {
         true
     }
 
-    /// The client's NUL, kept, and put behind what waits for the bus.
+    /// Keeps the client's NUL, and appends it to what waits for the bus.
     fn put_nul(&mut self) -> Result<(), AllocError>
         ensures ok { OnOk result (self.new ≡ with_elements (element.Line Side.Client (0 ∷ []) ∷ []) (record self.old { bus_side = self.old.bus_side ++ 0 ∷ [] })) }
         ensures err { OnErr result (MayHaveKept self.old self.new) }
@@ -51,7 +51,7 @@ impl Session {
         self.to_bus.push_slice(b"\0")
     }
 
-    /// The client's NUL goes to the bus.
+    /// Sends the client's NUL to the bus.
     fn send_nul(&mut self) -> bool
         ensures { Did (with_elements (element.Line Side.Client (0 ∷ []) ∷ []) (record self.old { bus_side = self.old.bus_side ++ 0 ∷ [] })) self.old self.new result }
     {
@@ -60,7 +60,7 @@ impl Session {
         self.goes_on_from(kept, done)
     }
 
-    /// A line of the client, kept, and as the bus is to have it put behind what waits for the bus.
+    /// Keeps a line of the client, and appends what the bus must get of it to what waits for the bus.
     fn put_line(&mut self, line: &Bytes) -> Result<(), AllocError>
         ensures ok { OnOk result (self.new ≡ with_elements (element.Line Side.Client line.now ∷ []) (record self.old { bus_side = self.old.bus_side ++ for_the_bus line.now })) }
         ensures err { OnErr result (MayHaveKept self.old self.new) }
@@ -70,7 +70,7 @@ impl Session {
         self.to_bus.push(out)
     }
 
-    /// A line of the client goes to the bus.
+    /// Sends a line of the client to the bus.
     fn send_line(&mut self, line: &Bytes) -> bool
         ensures { Did (with_elements (element.Line Side.Client line.now ∷ []) (record self.old { bus_side = self.old.bus_side ++ for_the_bus line.now })) self.old self.new result }
     {
@@ -79,8 +79,8 @@ impl Session {
         self.goes_on_from(kept, done)
     }
 
-    /// BEGIN, kept and put behind what waits for the bus, and messages follow it. The line is given up before what follows it is made
-    /// the messages', so that these have one owner and aren't copied.
+    /// Keeps BEGIN, appends it to what waits for the bus, and goes on with messages. The line is dropped before the
+    /// framer gets what follows it, so that those bytes have one owner and aren't copied.
     fn put_begin(&mut self, line: Bytes) -> Result<(), AllocError>
         requires { in_lines self.old.client.phase ≡ true }
         ensures ok { OnOk result (self.new ≡ with_elements (element.Line Side.Client line ∷ []) (record self.old { bus_side = self.old.bus_side ++ for_the_bus line; client = in_messages self.old.client })) }
@@ -93,7 +93,7 @@ impl Session {
         self.to_bus.push(out)
     }
 
-    /// BEGIN goes to the bus, and messages follow it.
+    /// Sends BEGIN to the bus, and goes on with messages.
     fn send_begin(&mut self, line: Bytes) -> bool
         requires { in_lines self.old.client.phase ≡ true }
         ensures { Did (with_elements (element.Line Side.Client line ∷ []) (record self.old { bus_side = self.old.bus_side ++ for_the_bus line; client = in_messages self.old.client })) self.old self.new result }
@@ -103,7 +103,7 @@ impl Session {
         self.goes_on_from(kept, done)
     }
 
-    /// A line of the bus, kept, and put behind what waits for the client.
+    /// Keeps a line of the bus, and appends it to what waits for the client.
     fn put_bus_line(&mut self, line: &Bytes) -> Result<(), AllocError>
         ensures ok { OnOk result (self.new ≡ with_elements (element.Line Side.Bus line.now ∷ []) (record self.old { client_side = self.old.client_side ++ line.now })) }
         ensures err { OnErr result (MayHaveKept self.old self.new) }
@@ -112,7 +112,7 @@ impl Session {
         self.to_client.push_slice(line.as_slice())
     }
 
-    /// A line of the bus goes to the client.
+    /// Sends a line of the bus to the client.
     fn show_line(&mut self, line: &Bytes) -> bool
         ensures { Did (with_elements (element.Line Side.Bus line.now ∷ []) (record self.old { client_side = self.old.client_side ++ line.now })) self.old self.new result }
     {
@@ -121,7 +121,7 @@ impl Session {
         self.goes_on_from(kept, done)
     }
 
-    /// Messages follow the bus's lines.
+    /// Goes on with messages after the bus's lines.
     fn end_bus_lines(&mut self) -> bool
         requires { in_lines self.old.bus.phase ≡ true }
         ensures { Did (record self.old { bus = in_messages self.old.bus }) self.old self.new result }
@@ -130,7 +130,7 @@ impl Session {
         self.goes_on(done)
     }
 
-    /// How many of the client's lines the bus hasn't answered.
+    /// The number of the client's lines that the bus hasn't answered.
     fn unanswered(&self) -> u64
         ensures { result ≡ unanswered_lines self.now }
     {
@@ -144,7 +144,7 @@ impl Session {
         !self.client.is_in_lines()
     }
 
-    /// Processes the line in front of the client's stream, or ends the session where a fault stands there. Tells whether more
+    /// Processes the first line of the client's stream, or ends the session if there is a fault. Returns whether more
     /// may follow.
     pub(super) fn process_client_line(&mut self, policy: &Policy) -> bool
         requires running { self.old.ended ≡ None }
@@ -170,8 +170,8 @@ impl Session {
         }
     }
 
-    /// Processes the line in front of the bus's stream, or the end of its lines, or ends the session where a fault stands there.
-    /// Tells whether more may follow.
+    /// Processes the first line of the bus's stream, or the end of its lines; or ends the session if there is a fault.
+    /// Returns whether more may follow.
     pub(super) fn process_bus_line(&mut self, policy: &Policy) -> bool
         requires running { self.old.ended ≡ None }
         requires lines { in_lines self.old.bus.phase ≡ true }

@@ -1,5 +1,5 @@
-//! A message and the note on it. The note's memory is taken first, so that a note and what its message does stand
-//! or fall together.
+//! A message and the note on it. The note's memory is taken first, so that either both the note and the message's
+//! effects happen, or neither.
 ghost use Rattle.std.specs.Prelude.{◌≡◌, ◌<◌, ◌∷◌, ◌++◌, [], true, None, IfOk, OnOk, OnErr};
 ghost use Rattle.std.specs.VecDeque.{deque_capacity, deque_len};
 ghost use Rattle.proxy_core.specs.Incoming.{incoming_message};
@@ -16,7 +16,7 @@ use std::collections::VecDeque;
 use std::mem;
 
 impl Session {
-    /// Processes a message of a side. Answers what was decided on it.
+    /// Processes a message of a side. Returns what was decided on it.
     fn process_of_side(
         &mut self,
         policy: &Policy,
@@ -33,8 +33,8 @@ impl Session {
         }
     }
 
-    /// Takes the notes out of the session, with room for one more. They stay outside while a message is taken, and so does
-    /// the room.
+    /// Takes the notes out of the session, with room for one more. They and the room stay outside while a message is
+    /// processed.
     fn reserved_notes(&mut self) -> Result<VecDeque<Note>, AllocError>
         ensures notes { IfOk result (λ queue. queue.items ≡ self.old.notes) }
         ensures room { IfOk result (λ queue. deque_len queue < deque_capacity queue) }
@@ -55,7 +55,7 @@ impl Session {
         self.notes = queue;
     }
 
-    /// Processes a message of a side and makes a note of it. One in whose place the session ended has none.
+    /// Processes a message of a side and makes a note of it. If the session ends instead, there is no note.
     fn process_noted(&mut self, policy: &Policy, side: Side, incoming: &Incoming<'_, '_>)
         requires running { self.old.ended ≡ None }
         requires notes { self.old.mode.notes ≡ true }

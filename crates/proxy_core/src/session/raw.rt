@@ -1,5 +1,5 @@
-//! What a session does with bytes at which nobody looks: where messages aren't filtered, each side's go to the other as they
-//! came.
+//! What a session does with raw bytes: if messages aren't filtered, each side's bytes are sent to the other side
+//! unchanged.
 ghost use Rattle.std.specs.Prelude.{◌≡◌, [], false, None, IfOk, OnOk, OnErr};
 ghost use Rattle.proxy_core.specs.Streams.{InMessages};
 ghost use Rattle.proxy_core.specs.Sessions.{stream_of};
@@ -12,7 +12,7 @@ use policy_view::{End, Side};
 use std::alloc::AllocError;
 
 impl Session {
-    /// All bytes that are left of a side's stream. None is left then.
+    /// Takes all bytes that are left of a side's stream.
     fn take_left(&mut self, side: Side) -> Result<Bytes, AllocError>
         requires { (stream_of side self.old).phase ≡ InMessages }
         ensures bytes { IfOk result (λ bytes. bytes ≡ (stream_of side self.old).left) }
@@ -25,7 +25,7 @@ impl Session {
         }
     }
 
-    /// Bytes of a side go to the other.
+    /// Sends bytes of a side to the other.
     fn put_raw(&mut self, side: Side, bytes: Bytes) -> bool
         ensures { Did (with_raw side bytes self.old) self.old self.new result }
     {
@@ -36,7 +36,7 @@ impl Session {
         self.goes_on(done)
     }
 
-    /// All that is left of a side's stream goes to the other as it came. Tells that no more may follow.
+    /// Sends all that is left of a side's stream to the other side, unchanged. Returns that no more may follow.
     pub(super) fn pass_raw(&mut self, policy: &Policy, side: Side) -> bool
         requires running { self.old.ended ≡ None }
         requires messages { (stream_of side self.old).phase ≡ InMessages }

@@ -1,4 +1,4 @@
-//! What a message of the bus tells, what the client is shown of it, and what the proxy asks then.
+//! What the proxy learns from a message of the bus, what the client is shown of it, and what the proxy then asks.
 ghost use Rattle.std.specs.Prelude.{◌≡◌, ◌≤◌, ◌+◌, ◌==◌, ◌||◌, true, None, All, IfSome, OnOk, OnErr, length, map};
 ghost use Rattle.dbus_header.specs.Message.{reply_serial as reply_serial_of};
 ghost use Rattle.dbus_names.specs.Names.{is_well_known as is_well_known_name};
@@ -31,7 +31,7 @@ use std::alloc::AllocError;
 use verdicts::{is_owner_change, show};
 
 impl Session {
-    /// Learns that a unique name is the client's own, where one is told.
+    /// Learns that a unique name is the client's own, if there is one.
     fn learn_self(&mut self, policy: &Policy, id: Option<&str>) -> Result<(), AllocError>
         ensures ok { OnOk result (self.new ≡ with_facts policy.now (fact_of SelfId (text_seen id.entry)) self.old) }
         ensures err { OnErr result (self.new ≡ self.old) }
@@ -42,7 +42,7 @@ impl Session {
         }
     }
 
-    /// Learns that the client met a unique name, where one is told.
+    /// Learns that the client met a unique name, if there is one.
     fn learn_met(&mut self, policy: &Policy, id: Option<&str>) -> Result<(), AllocError>
         ensures ok { OnOk result (self.new ≡ with_facts policy.now (fact_of Met (text_seen id.entry)) self.old) }
         ensures err { OnErr result (self.new ≡ self.old) }
@@ -53,7 +53,7 @@ impl Session {
         }
     }
 
-    /// Learns who owns a name, or owned it, where that is told.
+    /// Learns that a unique name owns or owned a name, if there is one.
     fn learn_owner(
         &mut self,
         policy: &Policy,
@@ -69,7 +69,7 @@ impl Session {
         }
     }
 
-    /// Learns both owners of a name that changed its owner, where an entry covers it.
+    /// Learns both owners of a name whose owner changed, if an entry covers it.
     fn learn_owners(
         &mut self,
         policy: &Policy,
@@ -88,7 +88,7 @@ impl Session {
         self.learn_owner(policy, name, unique(Some(after)))
     }
 
-    /// Learns what an answer tells: the client's own name, or the owner of a name.
+    /// Learns from an answer: the client's own name, or the owner of a name.
     fn learn_answer(
         &mut self,
         policy: &Policy,
@@ -114,7 +114,7 @@ impl Session {
         }
     }
 
-    /// A call of the bus: the client meets its sender, and owes it a reply where it wants one.
+    /// Learns from a call from the bus: the client meets its sender, and owes it a reply if it wants one.
     fn learn_call(&mut self, policy: &Policy, message: &Message<'_>) -> Result<(), AllocError>
         ensures ok { OnOk result (self.new ≡ with_told policy.now (message_in message.now.bytes.now) CallIn self.old) }
         ensures err { OnErr result (KeepsSides self.old self.new) }
@@ -126,8 +126,8 @@ impl Session {
         }
     }
 
-    /// A signal of the bus: of the bus itself it may tell owners, and else the client meets the sender of one that is
-    /// meant for it.
+    /// Learns from a signal: one of the bus itself may name owners; otherwise the client meets the sender of a signal
+    /// with a DESTINATION.
     fn learn_signal(&mut self, policy: &Policy, message: &Message<'_>) -> Result<(), AllocError>
         ensures ok { OnOk result (self.new ≡ with_told policy.now (message_in message.now.bytes.now) (role_of_signal (message_in message.now.bytes.now)) self.old) }
         ensures err { OnErr result (KeepsSides self.old self.new) }
@@ -141,7 +141,7 @@ impl Session {
         }
     }
 
-    /// Learns what a message of the bus tells, which answers what was expected so.
+    /// Learns from a message of the bus, which answers what was expected.
     fn learn(
         &mut self,
         policy: &Policy,
@@ -162,7 +162,7 @@ impl Session {
         }
     }
 
-    /// What is shown of a message comes to the client.
+    /// Sends the client what it is shown of a message.
     fn show_as(
         &mut self,
         policy: &Policy,
@@ -196,7 +196,7 @@ impl Session {
         }
     }
 
-    /// The owners of the names of a list are asked for, one by one.
+    /// Asks for the owners of these names, one by one.
     fn send_owner_calls(&mut self, names: &[&str]) -> Result<(), AllocError>
         requires room { self.old.sent + length names.now ≤ most_sent }
         requires names { All (λ name. is_well_known_name name.now ≡ true) names.now }
@@ -214,7 +214,7 @@ impl Session {
         self.to_bus.push(calls.freeze()?)
     }
 
-    /// The owners of those names of a list are asked for that the policy lets ask for, where serials are left for all.
+    /// Asks for the owners of the names of a list whose owners are wanted, if serials are left for all of them.
     fn ask_owners(&mut self, policy: &Policy, names: Texts<'_>)
         requires { self.old.ended ≡ None }
         ensures { TookMessage (sending (map OwnOwner (names_asked policy.now names.entry)) self.old self.old) self.old self.new }
@@ -230,7 +230,7 @@ impl Session {
         }
     }
 
-    /// What a message answers is no longer expected.
+    /// Takes what a message answers, which is no longer expected.
     fn take_answer(&mut self, message: &Message<'_>) -> Option<Kind>
         ensures reply { IfSome result (λ _. (message.now.kind == 2 || message.now.kind == 3) ≡ true) }
         ensures role { bus_role result (message_in message.now.bytes.now) ≡ bus_role (expected_at self.old.ledger.expected (reply_serial_of (message_in message.now.bytes.now))) (message_in message.now.bytes.now) }
@@ -245,7 +245,7 @@ impl Session {
         }
     }
 
-    /// Processes the answer to the proxy's own ListNames: the owners of its names are asked for.
+    /// Processes the answer to the proxy's own ListNames: asks for the owners of its names.
     fn process_names(&mut self, policy: &Policy, message: &Message<'_>)
         requires { self.old.ended ≡ None }
         ensures { TookMessage (with_role policy.now (message_in message.now.bytes.now) NamesAnswer self.old) self.old self.new }
@@ -255,7 +255,7 @@ impl Session {
         }
     }
 
-    /// What a message of the bus tells is learned, and what is shown of it comes to the client.
+    /// Learns from a message of the bus, and sends the client what it is shown of it.
     fn learn_and_show(
         &mut self,
         policy: &Policy,
@@ -271,7 +271,7 @@ impl Session {
         self.show_as(policy, incoming, showing)
     }
 
-    /// Applies what is to be shown of a message of the bus, by what it answers.
+    /// Applies what is shown of a message of the bus, given what it answers.
     fn apply_showing(
         &mut self,
         policy: &Policy,
@@ -292,7 +292,7 @@ impl Session {
         self.goes_on(done);
     }
 
-    /// Processes a message of the bus. Answers what the client is shown of it.
+    /// Processes a message of the bus. Returns what the client is shown of it.
     pub(super) fn process_bus_message(
         &mut self,
         policy: &Policy,

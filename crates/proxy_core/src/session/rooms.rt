@@ -1,4 +1,4 @@
-//! Memory that sessions use one after the other: one that nothing waits in keeps little of its own.
+//! Memory that sessions use one after the other. A session in which nothing waits keeps little of its own.
 ghost use Rattle.std.specs.Prelude.{◌≡◌, []};
 
 use crate::session::Session;
@@ -7,7 +7,7 @@ use policy_view::Side;
 use std::alloc::Global;
 use std::collections::VecDeque;
 
-/// Memory for what comes and for what waits, which the sessions of a server use one after the other. No bytes are in it.
+/// Memory for received and waiting bytes, which the sessions of a server use one after the other. It holds no bytes.
 #[derive(Drop)]
 pub struct Room {
     to_bus: BytesMut,
@@ -19,7 +19,7 @@ pub struct Room {
 }
 
 impl Room {
-    /// It has no memory before a session gave some back.
+    /// A room without memory, before a session gives some back.
     pub fn new(alloc: Global) -> Room {
         Room {
             to_bus: BytesMut::new(alloc),
@@ -30,7 +30,8 @@ impl Room {
 }
 
 impl Session {
-    /// Takes the memory that other sessions gave back, for a piece of a side and what it makes wait. Nothing else changes.
+    /// Takes the memory that other sessions gave back, for a piece of a side and for what then waits. Nothing else
+    /// changes.
     pub fn take_room(&mut self, side: Side, room: &mut Room)
         ensures { self.new ≡ self.old }
     {

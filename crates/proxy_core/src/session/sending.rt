@@ -1,5 +1,5 @@
-//! What goes to the bus for a message of the client: the message itself or a ping in its place, and behind the first Hello
-//! the proxy's own calls.
+//! What is sent to the bus for a message of the client: the message itself, or a ping in its place, and after the first
+//! Hello the proxy's own calls.
 ghost use Rattle.std.specs.Prelude.{◌≡◌, ◌≤◌, ◌+◌, ◌&&◌, ◌∷◌, [], true, false, not, None, IfOk, OnOk, OnErr, length};
 ghost use Rattle.policy_view.specs.History.{most_sent};
 ghost use Rattle.policy_view.specs.Past.{replied_on};
@@ -26,7 +26,7 @@ use std::alloc::AllocError;
 use verdicts::judge;
 
 impl Session {
-    /// The answer to a call with the serial that was given last is expected, where one is wanted.
+    /// Expects the answer to a call that has the last serial that was given, if the client wants one.
     fn expect_answer(&mut self, message: &Message<'_>, serial: u32) -> Result<(), AllocError>
         requires { serial ≡ self.old.sent }
         ensures ok { OnOk result (self.new ≡ awaiting (Passed (message_in message.now.bytes.now)) self.old) }
@@ -38,7 +38,7 @@ impl Session {
         Ok(())
     }
 
-    /// The message goes to the bus with the serial that was given last.
+    /// Sends the message to the bus with the last serial that was given.
     fn pass(&mut self, incoming: &Incoming<'_, '_>, serial: u32) -> Result<(), AllocError>
         requires { serial ≡ self.old.sent }
         ensures ok { OnOk result (self.new ≡ queued (Passed (incoming_message incoming.now)) self.old) }
@@ -48,8 +48,8 @@ impl Session {
         push_message(&mut self.to_bus, incoming, serial)
     }
 
-    /// A ping goes to the bus in the call's place with the serial that was given last, and the client is to be answered
-    /// when its answer comes.
+    /// Sends a ping to the bus in the call's place, with the last serial that was given. The client gets its answer
+    /// when the ping's answer is received.
     fn ping(&mut self, message: &Message<'_>, what: Instead, serial: u32) -> Result<(), AllocError>
         requires { serial ≡ self.old.sent }
         ensures ok { OnOk result (self.new ≡ queued (Pinged (message_in message.now.bytes.now) what) self.old) }
@@ -64,7 +64,7 @@ impl Session {
         self.to_bus.push_slice(&ping(serial))
     }
 
-    /// A reply to a call of the bus is no longer owed.
+    /// Counts a reply to a call from the bus as no longer owed.
     fn reply(&mut self, message: &Message<'_>)
         ensures { self.new ≡ with_replied (replied_on (message_in message.now.bytes.now) (client_role (message_in message.now.bytes.now)) Pass) self.old }
     {
@@ -77,7 +77,7 @@ impl Session {
         }
     }
 
-    /// A message that passes is sent alone, where a serial is left.
+    /// Sends a message that passes, if a serial is left. It isn't the first Hello.
     fn send(&mut self, incoming: &Incoming<'_, '_>)
         requires running { self.old.ended ≡ None }
         requires alone { (hello (incoming_message incoming.now) && not self.old.greeted) ≡ false }
@@ -92,7 +92,7 @@ impl Session {
         self.reply(incoming.message);
     }
 
-    /// A ping is sent in a call's place, where a serial is left.
+    /// Sends a ping in a call's place, if a serial is left.
     fn send_ping(&mut self, message: &Message<'_>, what: Instead)
         requires { self.old.ended ≡ None }
         ensures { TookMessage (with_due (Pinged (message_in message.now.bytes.now) what ∷ []) [] self.old) self.old self.new }
@@ -105,7 +105,7 @@ impl Session {
         }
     }
 
-    /// The Hello and the proxy's own calls, in one piece, with the serials from the next one on.
+    /// The Hello and the proxy's own calls as one block of bytes, with the next serials.
     fn greeting(&mut self, policy: &Policy, message: &Message<'_>) -> Result<BytesMut, AllocError>
         requires { self.old.sent + length (Passed (message_in message.now.bytes.now) ∷ calls_of policy.now) ≤ most_sent }
         ensures bytes { IfOk result (λ calls. calls.items ≡ spelled_from (self.old.sent + 1) (Passed (message_in message.now.bytes.now) ∷ calls_of policy.now)) }
@@ -127,7 +127,7 @@ impl Session {
         Ok(calls)
     }
 
-    /// The first Hello goes to the bus, and behind it the proxy's own calls.
+    /// Sends the first Hello to the bus, followed by the proxy's own calls.
     fn send_greeting(&mut self, policy: &Policy, message: &Message<'_>) -> Result<(), AllocError>
         requires room { self.old.sent + length (Passed (message_in message.now.bytes.now) ∷ calls_of policy.now) ≤ most_sent }
         requires hello { hello (message_in message.now.bytes.now) ≡ true }
@@ -140,7 +140,7 @@ impl Session {
         Ok(())
     }
 
-    /// The first Hello and the proxy's own calls are sent, where serials are left for all of them.
+    /// Sends the first Hello and the proxy's own calls, if serials are left for all of them.
     fn greet(&mut self, policy: &Policy, message: &Message<'_>)
         requires running { self.old.ended ≡ None }
         requires hello { hello (message_in message.now.bytes.now) ≡ true }
@@ -154,7 +154,7 @@ impl Session {
         }
     }
 
-    /// A message that passes is sent; the first Hello with the proxy's own calls behind it.
+    /// Sends a message that passes. The first Hello is followed by the proxy's own calls.
     fn pass_on(&mut self, policy: &Policy, incoming: &Incoming<'_, '_>)
         requires { self.old.ended ≡ None }
         ensures { TookMessage (with_verdict policy.now (incoming_message incoming.now) Pass self.old) self.old self.new }
@@ -166,7 +166,7 @@ impl Session {
         }
     }
 
-    /// Applies the verdict on a message of the client: it passes, or a ping takes its place, or it is dropped.
+    /// Applies the verdict on a message of the client: it passes, a ping is sent in its place, or it is dropped.
     fn apply_verdict(&mut self, policy: &Policy, incoming: &Incoming<'_, '_>, verdict: Verdict)
         requires { self.old.ended ≡ None }
         ensures { TookMessage (with_verdict policy.now (incoming_message incoming.now) verdict self.old) self.old self.new }
@@ -178,7 +178,7 @@ impl Session {
         }
     }
 
-    /// Judges a message of the client, and applies the verdict, which is the answer.
+    /// Judges a message of the client, and applies and returns the verdict.
     pub(super) fn process_client_message(
         &mut self,
         policy: &Policy,

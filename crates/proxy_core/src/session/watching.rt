@@ -1,4 +1,4 @@
-//! What is left of lines and messages in the visible part of a session's history, kept where the session watches.
+//! What is left of lines and messages in the visible part of a session's history. A session that watches keeps it.
 ghost use Rattle.std.specs.Prelude.{◌≡◌, ◌∷◌, ◌++◌, [], true, None, OnErr, OnOk, length, take};
 ghost use Rattle.policy_view.specs.Notes.{message_in};
 ghost use Rattle.policy_view.specs.declared.visible.Visible.TheVariants as element;
@@ -16,7 +16,7 @@ use policy_view::{End, Side};
 use std::alloc::AllocError;
 
 impl Session {
-    /// How many elements are kept.
+    /// The number of elements that are kept.
     pub(super) fn kept(&self) -> usize
         ensures { result ≡ length self.now.visible }
     {
@@ -26,7 +26,7 @@ impl Session {
         }
     }
 
-    /// Keeps the first so many elements alone.
+    /// Keeps only the first `n` elements.
     pub(super) fn keep_first(&mut self, n: usize)
         ensures { self.new ≡ record self.old { visible = take n self.old.visible } }
     {
@@ -35,7 +35,7 @@ impl Session {
         }
     }
 
-    /// A line of a side, as it came, is kept where the session watches.
+    /// Keeps a line of a side, as received, if the session watches.
     pub(super) fn keep_line(&mut self, side: Side, line: &[u8]) -> Result<(), AllocError>
         ensures ok { OnOk result (self.new ≡ with_elements (element.Line side line.now ∷ []) self.old) }
         ensures err { OnErr result (self.new ≡ self.old) }
@@ -46,7 +46,7 @@ impl Session {
         }
     }
 
-    /// What is left of a message of a side is kept.
+    /// Keeps what is left of a message of a side.
     fn keep_message(
         &self,
         policy: &Policy,
@@ -70,8 +70,8 @@ impl Session {
         }
     }
 
-    /// Processes a message of a side, and keeps what is left of it. The memory for that is taken first, so that it and what the
-    /// message does stand or fall together; one in whose place the session ended leaves nothing.
+    /// Processes a message of a side, and keeps what is left of it. The memory for that is taken first, so that either
+    /// it is kept and the message has its effects, or neither; if the session ends instead, nothing is kept.
     fn process_watched(
         &mut self,
         policy: &Policy,
@@ -91,15 +91,15 @@ impl Session {
         watch.truncate_unless(self.ended.is_none(), earlier);
     }
 
-    /// Puts back what is kept.
+    /// Puts what is kept back into the session.
     fn put_watch(&mut self, watch: Box<Watch>)
         ensures { self.new ≡ record self.old { watches = true; visible = watch.value } }
     {
         self.watch = Some(watch);
     }
 
-    /// Processes a message of a side, makes a note of it if the session makes notes, and keeps what is left of it if the
-    /// session watches. What is kept stands outside meanwhile.
+    /// Processes a message of a side, makes a note of it if the session makes notes, and keeps what is left of it if
+    /// the session watches. What is kept is outside the session meanwhile.
     pub(super) fn process_message(
         &mut self,
         policy: &Policy,
