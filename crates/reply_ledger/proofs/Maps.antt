@@ -1,4 +1,4 @@
--- Maps by numbers: what stands in one after an entry was put in or taken out, and what may be done in the other order.
+-- Maps with numbers as keys: what is at a key after an insertion or a removal, and which of these can be swapped.
 use Rattle.std.proofs.Common.{◌≡◌, ◌≢◌, ◌==◌, ℕ, Bool, true, false, Some, None, cond, refl, ap, sym, ◌∙◌, arith}
 use Rattle.std.proofs.lemmas.Bool.Decides.{nat_tests, Decides-eqb}
 use Rattle.std.specs.Bool.{if◌then◌else◌}
@@ -6,7 +6,7 @@ use Rattle.std.specs.Ordering.{nat_cmp}
 use Rattle.std.specs.Cmp.{nat_cmp_total, eq_by_cmp_equiv, unsigned_tied}
 use Rattle.std.specs.FinMap.{FinMap, get, insert, remove, get-insert, get-remove, same_map, nat_cmp-IsAntisymmetric}
 
--- by whether two numbers are the same
+-- by whether two numbers are equal
 pub by_number : (P : Bool → Type 0) (n k : ℕ) → (n ≡ k → P true) → P false → P (n == k)
 by_number P n k same other = by (n == k) (Decides-eqb n k).0
   where
@@ -15,7 +15,7 @@ by_number P n k same other = by (n == k) (Decides-eqb n k).0
     by false is = other
 
 module _ {X : Type 0} where
-  -- ---- what stands at a key
+  -- ---- what is at a key
 
   pub at_put : (m : FinMap nat_cmp X) (n : ℕ) (v : X) (k : ℕ) → get (insert m n v) k ≡ (if n == k then Some v else get m k)
   at_put m n v k = get-insert nat_cmp_total m n v k ∙ ap (λ b. cond b (Some v) (get m k)) ((eq_by_cmp_equiv nat_cmp_total).symm k n ∙ unsigned_tied n k)

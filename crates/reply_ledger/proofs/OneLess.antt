@@ -43,7 +43,7 @@ same_forgotten owed s calls t k =
 
 -- ---- one less
 
--- where none is owed nothing changes
+-- if none is owed, nothing changes
 pub same-less : (owed : Replies) (s : Text) (n : ℕ) → count_of owed s n ≡ 0 → owed ≡ one_less owed s n
 same-less owed s n none =
     by_zero (λ b. owed ≡ (if b then owed else with_calls owed s (one_less_in (calls_of owed s) n))) (count_of owed s n) (λ is. refl) (λ lt. absurd (omega arith))

@@ -48,7 +48,7 @@ with_queue-remove m (a ∷ queue) p absent =
     ap (λ n. with_queue n queue) (out_swapped m p a.position a.kind (λ same. absent-first a queue p absent (sym same)))
     ∙ with_queue-remove (insert m a.position a.kind) queue p (absent-rest a queue p absent)
 
--- ---- where a position is
+-- ---- the index of a position
 
 module _ (queue : List Awaited) (p : ℕ) where
   positions_rise : IsAscending queue → IsNonDecreasingBy (λ a. ordering_index (nat_cmp a.position p)) queue
@@ -271,7 +271,7 @@ next_moved m (a ∷ queue) (suc n) = next_moved (insert m a.position a.kind) que
 pub moved_more : (m : Kinds) (queue : List Awaited) (n : ℕ) → with_queue (with_queue m (take n queue)) (take 1 (drop n queue)) ≡ with_queue m (take (n + 1) queue)
 moved_more m queue n = let more : suc n ≡ n + 1 = omega arith in next_moved m queue n ∙ ap (λ k. with_queue m (take k queue)) more
 
--- an entry behind those that were moved keeps its position
+-- an entry after those that were moved keeps its position
 pub moved-position : (queue : List Awaited) (n i : ℕ) → n ≤ i → position_at (drop n queue) (i - n) ≡ position_at queue i
 moved-position queue zero i le = ap (position_at queue) (omega arith)
 moved-position [] (suc n) i le = nothing (i - suc n) ∙ sym (nothing i)

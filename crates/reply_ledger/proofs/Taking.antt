@@ -1,4 +1,4 @@
--- What it costs to take an answer, and what is left where those before it were moved.
+-- The cost of taking an answer, and what is left after those before it were moved.
 use Rattle.std.proofs.Common.{◌≡◌, ◌<◌, ◌≤◌, ◌+◌, ◌-◌, ℕ, zero, suc, Some, List, [], ◌∷◌, length, get_or, map, take, drop, refl, ap, ◌∙◌, arith}
 use Rattle.std.proofs.lemmas.List.{get_or-take, length-map, length-take-le}
 use Rattle.reply_ledger.specs.declared.expected.Awaited.{Awaited}
@@ -15,7 +15,7 @@ found [] i p there = absurd cc
 found (a ∷ queue) zero p there = (a, cc)
 found (a ∷ queue) (suc i) p there = let at = found queue i p there in (at.0, at.1)
 
--- The first n entries of a queue, of which the one at i is to be taken, were moved to the others.
+-- The first n entries of a queue, whose entry at i is to be taken, were moved to the others.
 pub record IsMoved (before : Kinds) (queue : List Awaited) (i p n : ℕ) (others : Kinds) (rest : List Awaited) : Type 0 where
   pub kept : IsInOrder before queue
   pub there : position_at queue i ≡ Some p

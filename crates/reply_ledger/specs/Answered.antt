@@ -1,4 +1,4 @@
--- What becomes of a sender's calls by a reply.
+-- The effect of a reply on a sender's calls.
 use Rattle.std.specs.Prelude.{◌≡◌, ◌<◌, ℕ, None}
 use Rattle.std.specs.FinMap.{empty, get}
 use Rattle.reply_ledger.specs.declared.calls.Answered.{Answered}

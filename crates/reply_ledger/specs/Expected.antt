@@ -24,7 +24,7 @@ with_queue others (first ∷ rest) = with_queue (insert others first.position fi
 abbrev pub position_at : List Awaited → ℕ → Option ℕ
 position_at queue i = option_map (λ a. a.position) (slice_get queue i)
 
--- each position is below those behind it
+-- each position is below those after it
 abbrev pub IsAscending : List Awaited → Type 0
 IsAscending queue = AllPairs (λ a b. a.position < b.position) queue
 
@@ -37,7 +37,7 @@ pub record IsInOrder (others : Kinds) (queue : List Awaited) : Type 0 where
   pub ascending : IsAscending queue
   pub apart : All (λ a. get others a.position ≡ None) queue
 
--- What it takes to find one answer: at most two look-ups, and one for each answer that is passed over. Each of those is
+-- The cost of finding one answer: at most two look-ups, and one for each answer that is passed over. Each of those is
 -- expected, and its message was sent earlier.
 pub record TakeCost (expected : Kinds) (position before after : ℕ) : Type 0 where
   pub passed : List ℕ

@@ -1,4 +1,4 @@
--- What a ledger is seen as.
+-- The model of a ledger.
 use Rattle.std.specs.Ordering.{nat_cmp}
 use Rattle.std.specs.FinMap.{FinMap}
 use Rattle.reply_ledger.specs.declared.kind.Kind.{Kind}

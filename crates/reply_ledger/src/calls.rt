@@ -1,4 +1,4 @@
-//! The calls of one sender.
+//! The calls of one sender to which replies are owed.
 ghost use Rattle.std.specs.Prelude.{◌≡◌, ◌+◌, ◌-◌, ◌^◌, ◌<◌, OnOk, OnErr};
 ghost use Rattle.std.specs.FinMap as map;
 ghost use Rattle.reply_ledger.specs.Answered.{IsAnswered};
@@ -8,20 +8,20 @@ use crate::counts::{Counts, one_more};
 use std::alloc::{AllocError, Global};
 use std::marker::Model;
 
-/// What became of a reply.
+/// The effect of a reply.
 #[derive(Clone, Copy)]
 pub(crate) enum Answered {
-    /// None was owed, and nothing changed.
+    /// No reply was owed, and nothing changed.
     NotOwed,
-    /// One less is owed.
+    /// One reply less is owed.
     Taken,
-    /// It was the only one that was owed to the sender, which is to be forgotten.
+    /// It was the last reply that was owed to the sender, who must be forgotten.
     Last,
 }
 
 /// The calls of one sender to which replies are owed: at least one.
 ///
-/// A sender mostly waits for one reply. The first of its serials stands here, and takes no memory of its own.
+/// A sender mostly waits for one reply. One of its serials is kept here, without memory of its own.
 #[derive(Drop)]
 pub(crate) struct Calls {
     serial: u32,
@@ -46,7 +46,7 @@ impl Model for Calls {
 }
 
 impl Calls {
-    /// One call.
+    /// A sender with one call.
     pub(crate) fn one(alloc: Global, serial: u32) -> Calls
         ensures { result ≡ one_more_in map.empty serial }
     {
@@ -57,7 +57,7 @@ impl Calls {
         }
     }
 
-    /// How many replies are owed to calls with this serial.
+    /// The number of replies that are owed to calls with this serial.
     pub(crate) fn count(&self, serial: u32) -> u64
         ensures { result ≡ count_in self.now serial }
     {
@@ -68,7 +68,7 @@ impl Calls {
         }
     }
 
-    /// One more call.
+    /// Counts one more call.
     pub(crate) fn add(&mut self, serial: u32) -> Result<(), AllocError>
         ensures ok { OnOk result (self.new ≡ one_more_in self.old serial) }
         ensures err { OnErr result (self.new ≡ self.old) }
@@ -81,7 +81,7 @@ impl Calls {
         Ok(())
     }
 
-    /// One reply.
+    /// Counts one reply.
     pub(crate) fn answer(&mut self, serial: u32) -> Answered
         ensures answered { IsAnswered self.old serial self.new result }
         ensures kept { IsKept self.new }

@@ -1,4 +1,4 @@
-//! Serials, and how often each is outstanding.
+//! Serials, and how many replies are outstanding for each.
 ghost use Rattle.std.specs.Prelude.{◌≡◌, ◌+◌, ◌-◌, ◌^◌, ◌<◌, IfOk, IfSome, IfNone, OnOk, OnErr, Some, None, is_some};
 ghost use Rattle.std.specs.FinMap as map;
 ghost use Rattle.reply_ledger.specs.Owed.{count_in, one_less_in, one_more_in};
@@ -7,14 +7,14 @@ use std::alloc::{AllocError, Global};
 use std::collections::BTreeMap;
 use std::marker::Model;
 
-/// The next count. There is no room for one above 2^64 - 1.
+/// The next count, or an error above 2^64 - 1.
 pub(crate) fn one_more(count: u64) -> Result<u64, AllocError>
     ensures { IfOk result (λ more. more ≡ count + 1) }
 {
     count.checked_add(1).ok_or(AllocError)
 }
 
-/// How often each serial is outstanding.
+/// The number of outstanding replies for each serial.
 #[derive(Drop)]
 pub(crate) struct Counts {
     counts: BTreeMap<u32, u64>,
@@ -57,7 +57,7 @@ impl Counts {
         Ok(())
     }
 
-    /// Counts a serial once less, and forgets it at 0. Whether it was there.
+    /// Counts a serial once less, and forgets it at 0. Returns whether it was counted.
     pub(crate) fn take(&mut self, serial: u32) -> bool
         ensures was { result ≡ is_some (map.get self.old serial) }
         ensures left { self.new ≡ one_less_in self.old serial }
@@ -75,7 +75,7 @@ impl Counts {
         }
     }
 
-    /// Takes one serial out.
+    /// Removes one serial with its count.
     pub(crate) fn pop(&mut self) -> Option<(u32, u64)>
         ensures some { IfSome result (λ p. (map.get self.old p.0 ≡ Some p.1) × (self.new ≡ map.remove self.old p.0)) }
         ensures none { IfNone result ((self.old ≡ map.empty) × (self.new ≡ map.empty)) }

@@ -11,7 +11,7 @@ use std::collections::{BTreeMap, VecDeque};
 use std::marker::Model;
 use std::sync::ledger::Ledger as StepLedger;
 
-/// A queue without entries keeps room for at most so many.
+/// The maximum room, in entries, that a queue without entries keeps.
 const KEPT: usize = 64;
 
 /// What the answer to the message with this serial is for.
@@ -23,9 +23,9 @@ pub(crate) struct Awaited {
 
 /// The answers that are expected, by the serials of the messages that were sent.
 ///
-/// Serials are given in ascending order, and a bus mostly answers in that order. So an entry goes to the back of a queue and is
-/// taken from its front, without a search. The others are those that came at a serial below the last one's, and those that the
-/// bus passed over when it answered a later message: each of these is moved once.
+/// Serials are given in ascending order, and a bus mostly answers in that order. So an entry is appended to a queue and
+/// taken from its start, without a search. The others are those that were added with a serial below the last one's, and
+/// those that the bus passed over when it answered a later message: each of these is moved once.
 ///
 /// ```text
 ///   queue, ascending             others
@@ -70,7 +70,7 @@ impl Expected {
         }
     }
 
-    /// The answer to the message with this serial is for this.
+    /// Expects the answer to the message with this serial, for this.
     pub(crate) fn expect<L: StepLedger>(
         &mut self,
         position: u32,
@@ -114,7 +114,7 @@ impl Expected {
         }
     }
 
-    /// Takes what that answer is for: then none is expected there.
+    /// Takes what that answer is for. It is then no longer expected.
     pub(crate) fn take<L: StepLedger>(
         &mut self,
         position: u32,
@@ -129,7 +129,7 @@ impl Expected {
         kind
     }
 
-    /// Frees what a queue without entries doesn't keep.
+    /// Frees the room that a queue without entries doesn't keep.
     fn release(&mut self)
         ensures { self.new ≡ self.old }
     {
@@ -139,7 +139,7 @@ impl Expected {
     }
 }
 
-/// Takes what the answer at a position is for out of a queue and the others.
+/// Removes what the answer at a position is for, from a queue or the others.
 fn remove<L: StepLedger>(
     queue: &mut VecDeque<Awaited>,
     others: &mut BTreeMap<u32, Kind>,
@@ -151,11 +151,11 @@ fn remove<L: StepLedger>(
     ensures was { result ≡ map.get (with_queue (kinds_of others.old.entries) queue.old.items) position }
     ensures left { with_queue (kinds_of others.new.entries) queue.new.items ≡ map.remove (with_queue (kinds_of others.old.entries) queue.old.items) position }
 
-    // An answer that is passed over is a step, ..
+    // An answer that is passed over is a step ..
     ensures cost { TakeCost (with_queue (kinds_of others.old.entries) queue.old.items) position steps.old steps.new }
 
-    // .. and leaves the queue. So each answer is passed over once: all takes together cost at most two steps each, and one
-    // for each answer that was expected.
+    // .. and leaves the queue. So each answer is passed over once: all takes together cost at most two steps each, and
+    // one for each answer that was expected.
     ensures once { steps.new + length queue.new.items ≤ steps.old + 2 + length queue.old.items }
 {
     if is_first(queue, position) {
@@ -167,7 +167,7 @@ fn remove<L: StepLedger>(
     }
     match index_of(queue, position, steps) {
         Some(index) => {
-            // The bus passed over those before it. Where memory for them is refused, they stay where they are.
+            // The bus passed over those before it. If memory for them is refused, they stay in the queue.
             let moved = move_front(queue, others, index, steps);
             kind_of(queue.remove(index - moved))
         }
@@ -175,7 +175,7 @@ fn remove<L: StepLedger>(
     }
 }
 
-/// Whether a position is above all of a queue whose positions ascend.
+/// Whether a position is above all positions of an ascending queue.
 fn is_behind(queue: &VecDeque<Awaited>, position: u32) -> bool
     ensures { IsAscending queue.now.items → (IsTrue result ↔ All (λ a. a.position < position) queue.now.items) }
 {
@@ -185,7 +185,7 @@ fn is_behind(queue: &VecDeque<Awaited>, position: u32) -> bool
     }
 }
 
-/// Whether the first entry of a queue has a position.
+/// Whether the first entry of a queue has this position.
 fn is_first(queue: &VecDeque<Awaited>, position: u32) -> bool
     ensures { IsTrue result ↔ (position_at queue.now.items 0 ≡ Some position) }
 {
@@ -202,7 +202,7 @@ fn kind_of(entry: Option<Awaited>) -> Option<Kind>
     entry.map(|awaited| awaited.kind)
 }
 
-/// Puts an entry in the place of the one at an index, which the queue has.
+/// Replaces the entry at an index of the queue.
 fn replace(queue: &mut VecDeque<Awaited>, index: usize, entry: Awaited)
     requires { index < length queue.old.items }
     ensures { queue.new.items ≡ slice_set queue.old.items index entry }
@@ -210,7 +210,7 @@ fn replace(queue: &mut VecDeque<Awaited>, index: usize, entry: Awaited)
     queue[index] = entry;
 }
 
-/// Whether one of the others has a position.
+/// Whether one of the others has this position.
 fn has<L: StepLedger>(others: &BTreeMap<u32, Kind>, position: u32, steps: &mut Steps<L>) -> bool
     ensures has { result ≡ map.contains_key (kinds_of others.now.entries) position }
     ensures cost { steps.new ≤ steps.old + 1 }
@@ -222,7 +222,7 @@ fn has<L: StepLedger>(others: &BTreeMap<u32, Kind>, position: u32, steps: &mut S
     others.contains_key(&position)
 }
 
-/// Where a position is in a queue whose positions ascend, if it is there.
+/// The index of a position in an ascending queue, if it is there.
 fn index_of<L: StepLedger>(
     queue: &VecDeque<Awaited>,
     position: u32,
@@ -238,7 +238,7 @@ fn index_of<L: StepLedger>(
         .ok()
 }
 
-/// Puts what an answer is for among the others.
+/// Adds what an answer is for to the others.
 fn put<L: StepLedger>(
     others: &mut BTreeMap<u32, Kind>,
     position: u32,
@@ -254,7 +254,7 @@ fn put<L: StepLedger>(
     Ok(())
 }
 
-/// Moves the first entries of a queue to the others: so many, or fewer where memory is refused. It answers how many.
+/// Moves the first `count` entries of a queue to the others, or fewer if memory is refused. Returns how many.
 fn move_front<L: StepLedger>(
     queue: &mut VecDeque<Awaited>,
     others: &mut BTreeMap<u32, Kind>,
@@ -275,7 +275,7 @@ fn move_front<L: StepLedger>(
     count
 }
 
-/// Moves the first entry of a queue to the others, if there is one and memory for it. It answers whether it did.
+/// Moves the first entry of a queue to the others, if there is one and memory for it. Returns whether it did.
 fn move_first(queue: &mut VecDeque<Awaited>, others: &mut BTreeMap<u32, Kind>) -> bool
     ensures queue { IsTrue result → queue.new.items ≡ drop 1 queue.old.items }
     ensures others { IsTrue result → kinds_of others.new.entries ≡ with_queue (kinds_of others.old.entries) (take 1 queue.old.items) }

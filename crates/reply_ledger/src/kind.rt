@@ -3,25 +3,25 @@ use dbus_header::Instead;
 use dbus_names::Name;
 use dbus_values::Order;
 
-/// What the answer to a sent message is for; the numbers are the client's serials.
+/// What the answer to a sent message is for. The numbers are serials of the client.
 #[derive(Debug, Drop)]
 pub enum Kind {
     /// A call of the client that passed.
     Call(u32),
-    /// The client's `Hello`, whose answer tells its unique name.
+    /// The client's `Hello`, whose answer has its unique name.
     Hello(u32),
     /// A call of the client for the bus's list of names, which is cut in the answer.
     Names(u32),
-    /// A ping that was sent in place of a call of the client, which is answered with this in the call's order.
+    /// A ping that was sent in place of a call of the client. The call is answered with this, in the call's byte order.
     Ping {
         serial: u32,
         order: Order,
         what: Instead,
     },
-    /// A match rule of the proxy's own.
+    /// An AddMatch of the proxy's own.
     OwnMatch,
-    /// The proxy's own question who owns a name.
+    /// The proxy's own GetNameOwner for a name.
     OwnOwner(Name),
-    /// The proxy's own question for the list of names.
+    /// The proxy's own ListNames.
     OwnNames,
 }

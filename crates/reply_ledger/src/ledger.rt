@@ -16,8 +16,8 @@ use std::sync::ledger::{Blank, Ledger as StepLedger};
 
 /// The answers of the bus that are expected, and the replies that the client owes.
 ///
-/// It is told what was sent and what came. It takes memory for what is outstanding, and a little more: the queue of what is
-/// expected keeps the room that it grew to until it is empty, and then room for 64 answers at most.
+/// The caller reports what was sent and received. The ledger takes memory for what is outstanding, and a little more:
+/// the queue of expected answers keeps its room until it is empty, and then room for at most 64 answers.
 #[derive(Drop)]
 pub struct Ledger {
     expected: Expected,
@@ -50,7 +50,7 @@ impl Ledger {
         }
     }
 
-    /// The answer to the message that was sent with this serial is for this.
+    /// Expects the answer to the message that was sent with this serial, for this.
     pub fn expect(&mut self, position: u32, kind: Kind) -> Result<(), AllocError>
         ensures ok { OnOk result (self.new ≡ record self.old { expected = map.insert self.old.expected position kind }) }
         ensures err { OnErr result (self.new ≡ self.old) }
@@ -58,7 +58,7 @@ impl Ledger {
         expect_from::<Brand>(self, position, kind, Blank::new(1))
     }
 
-    /// What `expect` does: it takes at most three look-ups.
+    /// Does as `expect` does, with at most three look-ups.
     pub fn expect_counted<L: StepLedger>(
         &mut self,
         position: u32,
@@ -79,7 +79,7 @@ impl Ledger {
         peek_from::<Brand>(self, position, Blank::new(1))
     }
 
-    /// What `peek` answers: it takes at most two look-ups.
+    /// Does as `peek` does, with at most two look-ups.
     pub fn peek_counted<L: StepLedger>(&self, position: u32, steps: &mut Steps<L>) -> Option<&Kind>
         ensures is { option_copied result ≡ map.get self.now.expected position }
         ensures cost { steps.new ≤ steps.old + 2 }
@@ -87,7 +87,7 @@ impl Ledger {
         self.expected.peek(position, steps)
     }
 
-    /// Takes what that answer is for: then none is expected there.
+    /// Takes what that answer is for. It is then no longer expected.
     pub fn take(&mut self, position: u32) -> Option<Kind>
         ensures was { result ≡ map.get self.old.expected position }
         ensures left { self.new ≡ record self.old { expected = map.remove self.old.expected position } }
@@ -95,8 +95,8 @@ impl Ledger {
         take_from::<Brand>(self, position, Blank::new(1))
     }
 
-    /// What `take` does: it takes at most two look-ups, and one for each earlier answer that is passed over. Each is passed
-    /// over once, so all takes together cost no more than two look-ups each and one for each `expect`.
+    /// Does as `take` does, with at most two look-ups, and one for each earlier answer that is passed over. Each is
+    /// passed over once, so all takes together cost no more than two look-ups each and one for each `expect`.
     pub fn take_counted<L: StepLedger>(
         &mut self,
         position: u32,
@@ -109,12 +109,12 @@ impl Ledger {
         self.expected.take(position, steps)
     }
 
-    /// A call came from this sender with this serial, and wants a reply. Where memory is refused, or there is no room for a
-    /// count above 2^64 - 1, nothing changes.
+    /// Counts a call from this sender with this serial that wants a reply. If memory is refused, or the count would
+    /// exceed 2^64 - 1, nothing changes.
     pub fn called(&mut self, sender: &str, serial: u32) -> Result<(), AllocError>
         ensures ok { OnOk result (self.new ≡ record self.old { owed = one_more self.old.owed sender.now serial }) }
 
-        // One reply more is owed to that pair, and to every other as many as before.
+        // One more reply is owed to that pair, and to every other as many as before.
         ensures counted { OnOk result ((s : Text) (n : ℕ) → count_of self.new.owed s n ≡ (if is_pair sender.now serial s n then count_of self.old.owed s n + 1 else count_of self.old.owed s n)) }
 
         // Nothing is kept of a pair or a sender to which nothing is owed.
@@ -133,7 +133,7 @@ impl Ledger {
         self.owed.count(dest, serial) > 0
     }
 
-    /// The client replied: where that was owed, one reply less is, and else nothing changes.
+    /// Counts a reply of the client: if one was owed, one less is; else nothing changes.
     pub fn answer(&mut self, dest: &str, serial: u32) -> bool
         ensures was { result ≡ nat_lt 0 (count_of self.old.owed dest.now serial) }
         ensures left { self.new ≡ record self.old { owed = one_less self.old.owed dest.now serial } }
@@ -151,7 +151,7 @@ impl Ledger {
     }
 }
 
-// One answer more is expected. The steps are counted in a ledger of their own.
+// Expects an answer. The steps are counted in a ledger of their own.
 fn expect_from<L: StepLedger>(
     ledger: &mut Ledger,
     position: u32,
@@ -168,7 +168,7 @@ fn expect_from<L: StepLedger>(
     ledger.expect_counted(position, kind, &mut steps)
 }
 
-// What an answer is for.
+// What an answer is for, with the steps counted in a ledger of their own.
 fn peek_from<L: StepLedger>(ledger: &Ledger, position: u32, blank: Blank) -> Option<&Kind>
     requires name { blank.name ≡ L.name }
     requires parts { blank.parts ≡ L.parts }
@@ -179,7 +179,7 @@ fn peek_from<L: StepLedger>(ledger: &Ledger, position: u32, blank: Blank) -> Opt
     ledger.peek_counted(position, &mut steps)
 }
 
-// An answer is taken.
+// Takes an answer, with the steps counted in a ledger of their own.
 fn take_from<L: StepLedger>(ledger: &mut Ledger, position: u32, blank: Blank) -> Option<Kind>
     requires name { blank.name ≡ L.name }
     requires parts { blank.parts ≡ L.parts }

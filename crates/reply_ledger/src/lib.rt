@@ -1,8 +1,8 @@
-//! What the bus's answers are expected for, and which replies the client owes.
+//! The answers that are expected of the bus, and the replies that the client owes.
 //!
-//! A message that the proxy sent has one answer, which is told by the serial with which it was sent. A call that came from
-//! the bus has one reply of the client, which is told by the call's sender and its serial (D-Bus Specification, "Header
-//! Fields": REPLY_SERIAL). A ledger keeps both, each as often as it is outstanding, and forgets what has come.
+//! A message that the proxy sent has one answer, which names the serial of the message. A call from the bus has one
+//! reply of the client, which names the call's sender and its serial (D-Bus Specification, "Header Fields":
+//! REPLY_SERIAL). A ledger counts both while they are outstanding, and forgets what was answered.
 #![tactic(auto)]
 
 mod calls;

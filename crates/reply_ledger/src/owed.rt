@@ -51,7 +51,7 @@ impl Owed {
         }
     }
 
-    /// One more reply is owed.
+    /// Counts one more owed reply.
     pub(crate) fn add(&mut self, sender: &str, serial: u32) -> Result<(), AllocError>
         ensures counted { OnOk result ((s : Text) (n : ℕ) → count_of self.new s n ≡ (if is_pair sender.now serial s n then count_of self.old s n + 1 else count_of self.old s n)) }
         ensures ok { OnOk result (self.new ≡ one_more self.old sender.now serial) }
@@ -67,7 +67,7 @@ impl Owed {
         Ok(())
     }
 
-    /// One reply less is owed. Whether it was.
+    /// Counts one owed reply less. Returns whether one was owed.
     pub(crate) fn answer(&mut self, sender: &str, serial: u32) -> bool
         ensures was { result ≡ nat_lt 0 (count_of self.old sender.now serial) }
         ensures counted { (s : Text) (n : ℕ) → count_of self.new s n ≡ (if is_pair sender.now serial s n then count_of self.old s n - 1 else count_of self.old s n) }

@@ -63,7 +63,7 @@ returns-in-Some-clause-left g c =
 pub returns-in-Some-clause-cost : goal.returns-in-Some-clause-cost
 returns-in-Some-clause-cost g c = none_passed (with_queue (kinds_of c.args.others.now.entries) c.args.queue.now.items) c.args.position _ _ (omega (arith, c.tick.ensures))
 
--- ---- an entry behind the first
+-- ---- an entry after the first
 
 -- those before the entry were moved, or some of them
 moved : (g : _) (c : goal.After-kind_of-in-Some-index_of g) →
