@@ -43,7 +43,7 @@ below-unless-named e name unnamed =
     by true false f other = refl
     by false s f other = refl
 
--- a name that no entry is exactly for is covered by the subtrees alone
+-- a name that no entry names exactly is only covered by the subtrees
 unnamed-covered : (es : List Entry) (name : Text) → list_any (is_named_by name) es ≡ false → list_any (λ e. covers e.pattern name) es ≡ list_any (is_below name) es
 unnamed-covered [] name none = refl
 unnamed-covered (e ∷ es) name none = by (is_named_by name e) refl none (unnamed-covered es name)

@@ -1,4 +1,4 @@
--- How long the own calls are.
+-- The lengths of the proxy's own calls.
 use Rattle.std.proofs.Common.{◌≡◌, ℕ, ◌+◌, ◌*◌, ◌≤◌, Bool, true, false, cond, List, [], ◌∷◌, ◌++◌, length, map, Some, refl, ap, sym, ◌∙◌, arith, length-append, append-nil}
 use Rattle.std.specs.Int.{w32}
 use Rattle.std.specs.List.{filter, flat_map, list_all, list_any}
@@ -24,7 +24,7 @@ use Rattle.own_calls.proofs.ListedCalls.{asked-well-known}
 use Rattle.own_calls.proofs.SendingLaws.{spelled_from-append}
 use Rattle.own_calls.proofs.NameLengths.{well-known-long}
 
--- ---- the calls behind the first Hello
+-- ---- the calls after the first Hello
 
 name-short : (p : Pattern) → is_pattern p ≡ true → length p.name ≤ 255
 name-short p is = by p.exact is
@@ -36,7 +36,7 @@ name-short p is = by p.exact is
     by true is = short _ is
     by false is = short _ is
 
--- an AddMatch, and a GetNameOwner behind it
+-- an AddMatch, and a GetNameOwner after it
 calls-short : (p : Pattern) (serial : ℕ) → length p.name ≤ 255 → length (spelled_from serial (calls_for p)) ≤ 918
 calls-short p serial short = by p.exact refl
   where

@@ -14,7 +14,7 @@ longer : (c : ℕ) (parts : List Text) (n : ℕ) → total parts + length parts 
 longer c [] n is = absurd (omega arith)
 longer c (part ∷ parts) n is = omega arith
 
--- the parts, and what stands between them
+-- the parts, and the separators between them
 parts-total : (separator : ℕ) (text : Text) → total (parts_at separator text) + length (parts_at separator text) ≡ length text + 1
 parts-total separator [] = refl
 parts-total separator (c ∷ text) = by (c == separator) (parts-total separator text)

@@ -59,7 +59,7 @@ own-count policy k n b le is n_is = omega (arith, n_is, ap length (own-calls pol
 
 -- ---- sending them
 
--- those that are left behind the first patterns
+-- those that are left after the first patterns
 abbrev calls_left : Policy → ℕ → List Sent
 calls_left policy k = flat_map calls_for (drop k (patterns_of policy.entries)) ++ only_if (list_any is_subtree policy.entries) OwnNames
 
@@ -113,7 +113,7 @@ module _ {calls calls_between calls_then : List ℕ} {given given_between given_
       let more = subst (λ (s : List Sent). AreCutOff s calls given ledger calls_then given_then ledger_then) (sym (next-calls policy.entries k p at)) so_far in
       subst (λ (s : List Sent). AreCutOff s calls given ledger calls_then given_then ledger_then) (sym (own-calls-from policy (k + 1))) (cut_first (calls_for_first (k + 1) policy.entries) (calls_left policy (k + 1)) more)
 
-  -- and behind those for all patterns
+  -- and after those for all patterns
   pub cut_behind_patterns : (policy : Policy) (k : ℕ) (b : Bool) → length (patterns_of policy.entries) ≤ k → b ≡ list_any is_subtree policy.entries →
       AreSent (calls_for_first k policy.entries) calls given ledger calls_between given_between ledger_between → AreCutOff (only_if b OwnNames) calls_between given_between ledger_between calls_then given_then ledger_then →
       AreCutOff (own_calls policy) calls given ledger calls_then given_then ledger_then

@@ -85,7 +85,7 @@ later-front : {A : Type 0} (a b : List A) (IsSo IsSoThen : List A → Type 0) �
 later-front a b IsSo IsSoThen goes_on f =
     record { front = a ++ f.front; rest = f.rest; joined = append_assoc a f.front f.rest ∙ ap (λ t. a ++ t) f.joined; is_so = goes_on f.front f.is_so }
 
--- what holds anyhow holds where memory was refused
+-- what always holds also holds if memory was refused
 pub refused : {A E : Type 0} (r : Result A E) {P : Type 0} → P → OnErr r P
 refused (Ok x) p = tt
 refused (Err e) p = p

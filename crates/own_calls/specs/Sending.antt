@@ -11,21 +11,21 @@ abbrev pub expecting : FinMap nat_cmp Kind → ℕ → List Sent → FinMap nat_
 expecting expected n [] = expected
 expecting expected n (s ∷ rest) = expecting (if expects_answer s then insert expected n (expected_of s) else expected) (n + 1) rest
 
--- these messages were sent: their bytes stand behind the calls, they took the next serials, and their answers are expected
+-- these messages were sent: their bytes follow the calls, they took the next serials, and their answers are expected
 pub record AreSent (sent : List Sent) (calls : List ℕ) (given : ℕ) (ledger : Ledger) (calls_then : List ℕ) (given_then : ℕ) (ledger_then : Ledger) : Type 0 where
   pub bytes : calls_then ≡ calls ++ spelled_from (given + 1) sent
   pub serials : given_then ≡ given + length sent
   pub expected : ledger_then ≡ record ledger { expected = expecting ledger.expected (given + 1) sent }
 
--- it is so of a front of the list
+-- it holds of a prefix of the list
 pub record OfFront {A : Type 0} (whole : List A) (IsSo : List A → Type 0) : Type 0 where
   pub front : List A
   pub rest : List A
   pub joined : front ++ rest ≡ whole
   pub is_so : IsSo front
 
--- memory was refused amid these messages: those whose bytes stand behind the calls, those that took their serials and those whose answers are
--- expected are each a front of them
+-- memory was refused between these messages: those whose bytes follow the calls, those that took their serials and
+-- those whose answers are expected are each a prefix of them
 pub record AreCutOff (sent : List Sent) (calls : List ℕ) (given : ℕ) (ledger : Ledger) (calls_then : List ℕ) (given_then : ℕ) (ledger_then : Ledger) : Type 0 where
   pub bytes : OfFront sent (λ front. calls_then ≡ calls ++ spelled_from (given + 1) front)
   pub serials : OfFront sent (λ front. given_then ≡ given + length front)

@@ -1,4 +1,4 @@
-//! The calls right behind the first `Hello`: those for each pattern of the policy, and ListNames where one is `N.*`.
+//! The calls right after the first `Hello`: those for each pattern of the policy, and ListNames if one is `N.*`.
 ghost use Rattle.std.specs.Prelude.{◌≡◌, ◌≤◌, ◌++◌, ◌+◌, OnErr, OnOk, length};
 ghost use Rattle.std.specs.List.{list_any};
 ghost use Rattle.own_calls.specs.Sending.{AreCutOff, expecting};
@@ -14,7 +14,7 @@ use reply_ledger::Ledger;
 use serial_map::Serials;
 use std::alloc::{AllocError, Global};
 
-/// How many calls `after_hello` puts: one or two for each pattern, and one more where a pattern is `N.*`.
+/// The number of calls that `after_hello` appends: one or two for each pattern, and one more if a pattern is `N.*`.
 pub fn count(policy: &Policy) -> u32
     ensures { result ≡ length (own_calls policy.now) }
 {
@@ -29,10 +29,9 @@ pub fn count(policy: &Policy) -> u32
     }
 }
 
-/// Puts the calls that follow the first `Hello` behind the calls: for each pattern of the policy, in order and once, an
-/// AddMatch, and for an exact name a GetNameOwner behind it; where a pattern is `N.*`, a ListNames comes last.
-/// Where memory is refused, the bytes that were put, the serials that were taken and the answers that are expected are each those of a front of
-/// these calls.
+/// Appends the calls that follow the first `Hello`: for each pattern of the policy, in order and once, an AddMatch,
+/// followed by a GetNameOwner if the name is exact; and a ListNames at the end if a pattern is `N.*`. If memory is
+/// refused, the appended bytes, the used serials and the expected answers are each those of a prefix of these calls.
 pub fn after_hello(
     alloc: Global,
     calls: &mut BytesMut,
@@ -55,7 +54,7 @@ pub fn after_hello(
     Ok(())
 }
 
-/// How many patterns the policy has: no more than entries.
+/// The number of patterns of the policy, which is at most that of its entries.
 pub(crate) fn pattern_count(policy: &Policy) -> u32
     ensures count { result ≡ length (patterns_of policy.now.entries) }
     ensures most { result ≤ 65535 }
@@ -76,7 +75,7 @@ fn has_subtree(policy: &Policy) -> bool
     false
 }
 
-/// How many calls learn who owns the names of a pattern.
+/// The number of calls that find who owns the names of a pattern.
 fn calls_for_count(pattern: &Pattern) -> u32
     ensures count { result ≡ length (calls_for pattern.now) }
     ensures few { result ≤ 2 }

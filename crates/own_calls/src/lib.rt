@@ -1,8 +1,8 @@
-//! The proxy's own calls to the bus, by which it learns who owns the names of its policy.
+//! The proxy's own calls to the bus. With them it learns who owns the names of its policy.
 //!
-//! Right behind the first `Hello` that passes it asks for the changes of owners to come (AddMatch), and for the owners of
-//! now (GetNameOwner). The names below an `N.*` it learns from the bus's list of names (ListNames), and asks for the owners of
-//! these when the list has come. Each call takes the next serial, and its answer is expected there.
+//! Right after the first `Hello` that passes, the proxy asks for later changes of owners (AddMatch) and for the current
+//! owners (GetNameOwner). It learns the names below an `N.*` from the bus's list of names (ListNames), and asks for
+//! their owners when the list was received. Each call takes the next serial, with which its answer is expected.
 #![tactic(auto)]
 
 mod hello;

@@ -15,8 +15,8 @@ use reply_ledger::Ledger;
 use serial_map::Serials;
 use std::alloc::{AllocError, Global};
 
-/// The names of a list for whose owners the proxy asks: the well-known ones that an `N.*` of the policy covers and no exact
-/// pattern names, as often and in the order as they stand there.
+/// The names of a list for whose owners the proxy asks: the well-known ones that an `N.*` of the policy covers and no
+/// exact pattern names, in the order of the list and as often as there.
 pub fn asked<'a>(
     alloc: Global,
     policy: &Policy,
@@ -34,8 +34,8 @@ pub fn asked<'a>(
     Ok(asked)
 }
 
-/// Puts a GetNameOwner for each of the names behind the calls. Where memory is refused, the bytes that were put, the serials that were taken
-/// and the answers that are expected are each those of a front of these calls.
+/// Appends a GetNameOwner for each of the names. If memory is refused, the appended bytes, the used serials and the
+/// expected answers are each those of a prefix of these calls.
 pub fn after_names(
     alloc: Global,
     calls: &mut BytesMut,
@@ -63,7 +63,7 @@ fn is_asked(policy: &Policy, name: &str) -> bool
     is_well_known(name.as_bytes()) && is_covered_alone(policy, name)
 }
 
-/// Whether an `N.*` covers a name that no exact pattern names.
+/// Whether an `N.*` covers a name and no exact pattern names it.
 fn is_covered_alone(policy: &Policy, name: &str) -> bool
     ensures { result ≡ is_covered policy.now.entries name.now }
 {

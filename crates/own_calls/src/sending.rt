@@ -1,4 +1,4 @@
-//! Own calls, one at a time: each is put behind the calls before it with the next serial, and its answer is expected.
+//! The proxy's own calls, one at a time: each is appended with the next serial, and its answer is expected.
 ghost use Rattle.std.specs.Prelude.{◌≡◌, ◌≤◌, ◌<◌, ◌+◌, ◌∷◌, [], IfOk, IsTrue, OnErr, OnOk, length};
 ghost use Rattle.std.specs.FinMap as map;
 ghost use Rattle.dbus_names.specs.Names.{is_well_known};
@@ -14,7 +14,7 @@ use reply_ledger::{Kind, Ledger};
 use serial_map::Serials;
 use std::alloc::{AllocError, Global};
 
-/// Puts the calls that learn who owns the names of a pattern: AddMatch, and GetNameOwner for an exact name.
+/// Appends the calls that find who owns the names of a pattern: AddMatch, and GetNameOwner for an exact name.
 pub(crate) fn put_calls_for(
     alloc: Global,
     calls: &mut BytesMut,
@@ -33,7 +33,7 @@ pub(crate) fn put_calls_for(
     Ok(())
 }
 
-/// Puts a call of AddMatch.
+/// Appends a call of AddMatch.
 #[tactic(auto, using(crate::proofs::SendingLaws::cut_given, crate::proofs::SendingLaws::cut_expected))]
 fn put_match(
     calls: &mut BytesMut,
@@ -50,7 +50,7 @@ fn put_match(
     Ok(())
 }
 
-/// Puts a call of GetNameOwner.
+/// Appends a call of GetNameOwner.
 #[tactic(auto, using(crate::proofs::SendingLaws::cut_at_once, crate::proofs::SendingLaws::cut_given, crate::proofs::SendingLaws::cut_expected))]
 pub(crate) fn put_owner(
     alloc: Global,
@@ -70,7 +70,7 @@ pub(crate) fn put_owner(
     Ok(())
 }
 
-/// Puts a call of ListNames.
+/// Appends a call of ListNames.
 #[tactic(auto, using(crate::proofs::SendingLaws::cut_given, crate::proofs::SendingLaws::cut_expected))]
 pub(crate) fn put_names(
     calls: &mut BytesMut,
@@ -86,7 +86,7 @@ pub(crate) fn put_names(
     Ok(())
 }
 
-/// The next serial. The answer to the message that is sent with it is for this.
+/// Takes the next serial. The answer to the message with it is expected, for this.
 fn expect_next(serials: &mut Serials, ledger: &mut Ledger, kind: Kind) -> Result<u32, AllocError>
     requires { serials.old < most_serials }
     ensures serial { IfOk result (λ serial. serial ≡ serials.old + 1) }
