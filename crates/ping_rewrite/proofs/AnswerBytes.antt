@@ -44,7 +44,7 @@ pub big_false : IsTemplate Big False 20 BIG_FALSE
 unfolding spell answer_in_place
 big_false = record { numbered = λ reply serial. refl }
 
--- the same of values that are equal to these
+-- for values that are equal to these
 pub numbered_at : {order o : Order} {what w : Instead} {place p : ℕ} {bytes b : List ℕ} → IsTemplate o w p b → order ≡ o → what ≡ w → place ≡ p → bytes ≡ b →
     (reply serial : ℕ) → with_number order place reply (with_number order 8 serial bytes) ≡ spell (answer_in_place order reply serial what)
 numbered_at t e f g h reply serial = cc (t.numbered reply serial)

@@ -20,14 +20,14 @@ list_names_bytes n = refl
 
 -- ---- calls with a text
 
--- a body of one text has four bytes of length in front of it and a NUL behind it
+-- a body of one text has four bytes of length before it and a NUL after it
 body_length : (text : List ℕ) → length text + 5 ≡ length (spelled_list Little 144 (a_string text ∷ []))
 body_length text = simp length-append (omega arith)
 
 behind_length : (text : List ℕ) → text ++ 0 ∷ [] ≡ (text ++ 0 ∷ []) ++ []
 behind_length text = sym (append-nil (text ++ 0 ∷ []))
 
--- a match rule is its front, the name, and an apostrophe
+-- a match rule is its beginning, the name, and an apostrophe
 rule_length : (p : Pattern) → length (rule_before p.exact) + length p.name + 1 ≡ length (match_text p)
 rule_length p = simp length-append (omega arith)
 
@@ -41,7 +41,7 @@ add_match_bytes serial p =
     ap₂ (λ n behind. front_with serial n ADD_MATCH ++ behind) (rule_length p) (sym (rule_parts p))
     ∙ ap₂ (λ n behind. with_number Little 144 (length (match_text p)) (with_number Little 8 serial (with_number Little 4 n ADD_MATCH)) ++ behind) (body_length (match_text p)) (behind_length (match_text p))
 
--- the same of the parts that the code puts: the front, the rule up to the name, and the name
+-- for the parts that the code appends: the call up to the text, the rule up to the name, and the name
 pub add_match_parts : {front rule name : List ℕ} (serial : ℕ) (p : Pattern) → rule ≡ rule_before p.exact → name ≡ p.name →
     front ≡ front_with serial (length rule + length name + 1) ADD_MATCH → front ++ (rule ++ (name ++ 39 ∷ 0 ∷ [])) ≡ spell (with_serial serial (add_match p))
 add_match_parts serial p r n f =

@@ -1,4 +1,4 @@
--- How long the proxy's own messages are.
+-- The lengths of the proxy's own messages.
 use Rattle.std.proofs.Common.{ℕ, ◌≡◌, ◌+◌, ◌∙◌, List, length, refl, sym, ap, arith, Bool, true, false, if◌then◌else◌}
 use Rattle.dbus_values.specs.declared.Order.{Order}
 use Rattle.dbus_values.specs.declared.Order.TheVariants.{Little, Big}

@@ -1,9 +1,9 @@
--- What stands in front of a call's text, and of a match rule's name.
+-- What comes before a call's text, and before a match rule's name.
 use Rattle.std.specs.Prelude.{ℕ, ◌+◌, Bool, List, ◌++◌, codes, if◌then◌else◌}
 use Rattle.dbus_values.specs.declared.Order.TheVariants.{Little}
 use Rattle.dbus_header.specs.Message.{with_number}
 
--- the front of a call with its serial, and with the lengths of its body and of the body's text
+-- a call up to its text, with its serial and with the lengths of its body and of the body's text
 abbrev pub front_with : ℕ → ℕ → List ℕ → List ℕ
 front_with serial text_len front = with_number Little 144 text_len (with_number Little 8 serial (with_number Little 4 (text_len + 5) front))
 

@@ -1,4 +1,4 @@
--- How many bytes a message has.
+-- The length of a message.
 use Rattle.std.specs.Prelude.{◌≡◌, ℕ, length}
 use Rattle.dbus_header.specs.Message.{Message, spell, spelled_fields}
 

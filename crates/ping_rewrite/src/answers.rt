@@ -1,4 +1,4 @@
-//! The answers to refused calls, each in the place of the bus's answer to the ping that was sent for the call.
+//! The answers to refused calls. Each replaces the bus's answer to the ping that was sent in place of the call.
 ghost use Rattle.std.specs.Prelude.{◌≡◌, ◌≤◌, ◌+◌, ℕ, length};
 ghost use Rattle.dbus_header.specs.Message.{spell, with_number};
 ghost use Rattle.dbus_header.specs.declared.numbers.TheConstants.{SERIAL_PLACE};
@@ -9,7 +9,7 @@ use dbus_header::{Instead, SERIAL_PLACE, write_u32};
 use dbus_values::Order;
 use std::marker::Model;
 
-/// The most bytes that an answer has.
+/// The maximum length of an answer.
 const LONGEST: usize = 142;
 
 const LITTLE_ACCESS_DENIED: [u8; 140] = *b"\
@@ -68,7 +68,7 @@ const BIG_FALSE: [u8; 68] = *b"\
     \x08\x01g\0\x01b\0\0\
     \0\0\0\0";
 
-/// An answer with 0 for its serial and its REPLY_SERIAL, and the place of REPLY_SERIAL's number.
+/// An answer with 0 as its serial and its REPLY_SERIAL, and the place of REPLY_SERIAL's number.
 #[derive(Clone, Copy)]
 struct Template {
     bytes: &'static [u8],
@@ -93,7 +93,7 @@ impl Template {
     }
 }
 
-/// The answer of a kind in an order.
+/// The answer of a kind in a byte order.
 fn template_of(order: Order, what: Instead) -> Template
     ensures { (reply serial : ℕ) → with_number order result.reply_serial_place reply (with_number order SERIAL_PLACE serial result.bytes.now) ≡ spell (in_place order reply serial what) }
 {
@@ -146,7 +146,7 @@ impl AnswerInPlace {
         write_u32(order, &mut self.bytes[..self.len], place, number);
     }
 
-    /// All of them.
+    /// All of the bytes.
     pub fn as_slice(&self) -> &[u8]
         ensures { result.now ≡ self.now }
     {
@@ -154,8 +154,8 @@ impl AnswerInPlace {
     }
 }
 
-/// The answer to a refused call, in the call's order: `reply_serial` is the call's serial, and `serial` that of the
-/// bus's answer to the ping.
+/// The answer to a refused call, in the call's byte order. `reply_serial` is the call's serial, and `serial` that of
+/// the bus's answer to the ping.
 pub fn answer_in_place(order: Order, reply_serial: u32, serial: u32, what: Instead) -> AnswerInPlace
     ensures { result ≡ spell (in_place order reply_serial serial what) }
 {

@@ -12,16 +12,16 @@ use dbus_values::Order;
 use name_patterns::Pattern;
 use std::alloc::AllocError;
 
-/// How many bytes of a call with a text stand in front of the text.
+/// The length of a call with a text, up to the text.
 const FRONT_LEN: usize = 148;
 
-/// The place of the body's length in them.
+/// The place of the body's length in these bytes.
 const BODY_LEN_PLACE: usize = 4;
 
 /// The place of the text's length, with which the body begins.
 const TEXT_LEN_PLACE: usize = 144;
 
-/// How many bytes a body of a text has beside the text: its length, and the NUL behind it.
+/// The length of a body of one text, without the text: the text's length, and the NUL after it.
 const BESIDE_TEXT: u32 = 5;
 
 /// A call of Ping with serial 0.
@@ -32,7 +32,7 @@ const PING: [u8; 120] = *b"\
     \x03\x01s\0\x04\0\0\0Ping\0\0\0\0\
     \x06\x01s\0\x14\0\0\0org.freedesktop.DBus\0\0\0\0";
 
-/// The same of ListNames.
+/// A call of ListNames with serial 0.
 const LIST_NAMES: [u8; 136] = *b"\
     l\x01\0\x01\0\0\0\0\0\0\0\0\x75\0\0\0\
     \x01\x01o\0\x15\0\0\0/org/freedesktop/DBus\0\0\0\
@@ -40,7 +40,7 @@ const LIST_NAMES: [u8; 136] = *b"\
     \x03\x01s\0\x09\0\0\0ListNames\0\0\0\0\0\0\0\
     \x06\x01s\0\x14\0\0\0org.freedesktop.DBus\0\0\0\0";
 
-/// A call of AddMatch up to its text, with 0 for the lengths of its body and its text and for its serial.
+/// A call of AddMatch up to its text, with 0 as the lengths of its body and its text and as its serial.
 const ADD_MATCH: [u8; FRONT_LEN] = *b"\
     l\x01\0\x01\0\0\0\0\0\0\0\0\x7f\0\0\0\
     \x01\x01o\0\x15\0\0\0/org/freedesktop/DBus\0\0\0\
@@ -50,7 +50,7 @@ const ADD_MATCH: [u8; FRONT_LEN] = *b"\
     \x08\x01g\0\x01s\0\0\
     \0\0\0\0";
 
-/// The same of a call of GetNameOwner.
+/// A call of GetNameOwner up to its text, with 0 as the lengths of its body and its text and as its serial.
 const GET_OWNER: [u8; FRONT_LEN] = *b"\
     l\x01\0\x01\0\0\0\0\0\0\0\0\x7f\0\0\0\
     \x01\x01o\0\x15\0\0\0/org/freedesktop/DBus\0\0\0\
@@ -60,10 +60,10 @@ const GET_OWNER: [u8; FRONT_LEN] = *b"\
     \x08\x01g\0\x01s\0\0\
     \0\0\0\0";
 
-/// What stands behind a text in a body.
+/// What follows a text in a body.
 const TEXT_END: &str = "\0";
 
-/// What stands behind the name in a match rule, and then behind the rule.
+/// What follows the name in a match rule, and then the rule.
 const RULE_END: &str = "'\0";
 
 /// A call of org.freedesktop.DBus.Peer.Ping (D-Bus Specification, "org.freedesktop.DBus.Peer").
@@ -84,7 +84,7 @@ pub fn list_names(serial: u32) -> [u8; 136]
     bytes
 }
 
-/// How many bytes the call has that `add_match` puts: at most 268 beside the name.
+/// The length of the call that `add_match` appends: at most 268 bytes beside the name.
 pub fn add_match_len(pattern: &Pattern) -> usize
     ensures len { (serial : ℕ) → result ≡ length (spell (with_serial serial (match_call pattern.now))) }
     ensures short { result ≤ 523 }
@@ -92,10 +92,10 @@ pub fn add_match_len(pattern: &Pattern) -> usize
     FRONT_LEN + rule_front(pattern.is_exact()).len() + pattern.name().len() + RULE_END.len()
 }
 
-/// Puts a call of AddMatch behind the calls, which asks the bus for the signal NameOwnerChanged of the names that the
-/// pattern covers (D-Bus Specification, "org.freedesktop.DBus.AddMatch" and "Match Rules").
+/// Appends a call of AddMatch that asks the bus for the signal NameOwnerChanged of the names that the pattern covers
+/// (D-Bus Specification, "org.freedesktop.DBus.AddMatch" and "Match Rules").
 ///
-/// Where as many bytes are spare as the call has, memory isn't refused.
+/// If as many bytes are spare as the call has, memory isn't refused.
 pub fn add_match(calls: &mut BytesMut, serial: u32, pattern: &Pattern) -> Result<(), AllocError>
     ensures ok { OnOk result (calls.new.items ≡ calls.old.items ++ spell (with_serial serial (match_call pattern.now))) }
     ensures err { OnErr result (calls.new.items ≡ calls.old.items) }
@@ -107,7 +107,7 @@ pub fn add_match(calls: &mut BytesMut, serial: u32, pattern: &Pattern) -> Result
     put(calls, &front, rule, name, RULE_END)
 }
 
-/// How many bytes the call has that `get_owner` puts: 149 beside the name.
+/// The length of the call that `get_owner` appends: 149 bytes beside the name.
 pub fn get_owner_len(name: &str) -> usize
     ensures len { (serial : ℕ) → result ≡ length (spell (with_serial serial (owner_call name.now))) }
     ensures short { IsTrue (is_well_known name.now) → result ≤ 404 }
@@ -115,10 +115,10 @@ pub fn get_owner_len(name: &str) -> usize
     FRONT_LEN + name.len() + TEXT_END.len()
 }
 
-/// Puts a call of GetNameOwner behind the calls, which asks the bus who owns a well-known name (D-Bus Specification,
+/// Appends a call of GetNameOwner that asks the bus who owns a well-known name (D-Bus Specification,
 /// "org.freedesktop.DBus.GetNameOwner").
 ///
-/// Where as many bytes are spare as the call has, memory isn't refused.
+/// If as many bytes are spare as the call has, memory isn't refused.
 pub fn get_owner(calls: &mut BytesMut, serial: u32, name: &str) -> Result<(), AllocError>
     requires { IsTrue (is_well_known name.now) }
     ensures ok { OnOk result (calls.new.items ≡ calls.old.items ++ spell (with_serial serial (owner_call name.now))) }
@@ -129,7 +129,7 @@ pub fn get_owner(calls: &mut BytesMut, serial: u32, name: &str) -> Result<(), Al
     put(calls, &front, "", name, TEXT_END)
 }
 
-/// Puts the parts of a call behind the calls, in one growth.
+/// Appends the parts of a call. Memory is asked for once.
 fn put(
     calls: &mut BytesMut,
     front: &[u8],
@@ -150,7 +150,7 @@ fn put(
     Ok(())
 }
 
-/// The bytes of a call in front of its text.
+/// The bytes of a call up to its text.
 fn call_front(template: &[u8; FRONT_LEN], serial: u32, text_len: usize) -> [u8; FRONT_LEN]
     requires { text_len + BESIDE_TEXT < 2 ^ 32 }
     ensures { result ≡ front_with serial text_len template.now }

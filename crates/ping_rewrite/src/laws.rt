@@ -1,4 +1,4 @@
-//! How long the proxy's own messages are.
+//! The lengths of the proxy's own messages.
 ghost use Rattle.std.specs.Prelude.{◌≡◌, ◌+◌, ℕ, List, true, false, length};
 ghost use Rattle.dbus_header.specs.declared.Instead.TheVariants.{AccessDenied, NameHasNoOwner, ServiceUnknown, False};
 ghost use Rattle.dbus_header.specs.Message.{with_serial};
@@ -7,7 +7,7 @@ ghost use Rattle.name_patterns.specs.Patterns.{Pattern};
 ghost use Rattle.policy_view.specs.Own.{ping, list_names, add_match, get_owner, answer_in_place};
 ghost use Rattle.ping_rewrite.specs.Lengths.{HasLengths};
 
-/// How many bytes the calls have, and how many of them their header fields.
+/// The lengths of the calls, and of their header fields.
 pub fn lengths_of_calls()
     ensures ping { (serial : ℕ) → HasLengths (with_serial serial ping) 120 101 }
     ensures list_names { (serial : ℕ) → HasLengths (with_serial serial list_names) 136 117 }
@@ -16,7 +16,7 @@ pub fn lengths_of_calls()
     ensures get_owner { (serial : ℕ) (name : List ℕ) → HasLengths (with_serial serial (get_owner name)) (149 + length name) 127 }
 {}
 
-/// The same of the answers in place.
+/// The lengths of the answers in place, and of their header fields.
 pub fn lengths_of_answers()
     ensures access_denied { (order : Order) (reply serial : ℕ) → HasLengths (answer_in_place order reply serial AccessDenied) 140 95 }
     ensures name_has_no_owner { (order : Order) (reply serial : ℕ) → HasLengths (answer_in_place order reply serial NameHasNoOwner) 142 103 }
