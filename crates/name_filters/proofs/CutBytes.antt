@@ -18,7 +18,7 @@ use Rattle.name_filters.proofs.ListBodies.{array_spelled, names_array}
 
 -- ---- a number at a place
 
--- the number at a place behind some bytes
+-- the number at a place after some bytes
 pub behind : (o : Order) (n p : ℕ) (before bytes : List ℕ) → with_number o (length before + p) n (before ++ bytes) ≡ before ++ with_number o p n bytes
 behind o n p before bytes =
     ap₂ (λ front rest. front ++ number_bytes o w32 n ++ rest) (take-append-add before bytes p) (ap (λ k. drop k (before ++ bytes)) (add_assoc (length before) p 4) ∙ drop-append-add before bytes (p + 4))
@@ -26,7 +26,7 @@ behind o n p before bytes =
     ∙ append_assoc before (take p bytes) (number_bytes o w32 n ++ drop (p + 4) bytes)
     ∙ ap (λ rest. before ++ rest) (sym (append_assoc (take p bytes) (number_bytes o w32 n) (drop (p + 4) bytes)))
 
--- and in front of others
+-- and before others
 pub in_front : (o : Order) (n p : ℕ) (bytes more : List ℕ) → p + 4 ≤ length bytes → with_number o p n (bytes ++ more) ≡ with_number o p n bytes ++ more
 in_front o n p bytes more le =
     ap₂ (λ front rest. front ++ number_bytes o w32 n ++ rest) (take-append-le p bytes more (omega arith)) (drop-append-le (p + 4) bytes more le)
@@ -42,12 +42,12 @@ pub number_length : (o : Order) (p n : ℕ) (bytes : List ℕ) → p + 4 ≤ len
 number_length o p n bytes le =
     omega (arith, length-append (take p bytes ++ number_bytes o w32 n) (drop (p + 4) bytes), length-append (take p bytes) (number_bytes o w32 n), wide_32.len o n, length-drop (p + 4) bytes, length-take-le p bytes (omega arith))
 
--- ---- the front of a message
+-- ---- the message before its body
 
 abbrev pub fields_of : Message → List ℕ
 fields_of m = spelled_fields m.order m.fields
 
--- what stands in front of a body of so many bytes
+-- what comes before a body of this length
 abbrev pub front : Message → ℕ → List ℕ
 front m n = head m.order m.kind m.flags n m.serial (length (fields_of m)) ++ fields_of m ++ zeros 8 (16 + length (fields_of m))
 

@@ -29,7 +29,7 @@ use Rattle.name_filters.proofs.ListBodies.{IsList, array_spelled, is_list, read_
 
 -- ---- what is read of it
 
--- where a reply serial is read, so is its place
+-- if a reply serial is read, so is its place
 pub place_there : (bytes : List ℕ) (q : Contents) → option_map contents_of (message_of bytes) ≡ Some q → IsSome q.parts.reply_serial → q.reply_place ≡ None → ⊥
 place_there bytes q read some none =
     let found = message-read bytes q read in
@@ -85,7 +85,7 @@ cut-is : (policy : Policy) (ids : Ids) (m : Message) (names : List Text) → tex
 unfolding cut
 cut-is policy ids m names is = ap (λ texts. with_names (cut_names (kept_level policy ids) texts) m) is
 
--- by what was taught, the levels are those of the facts
+-- after the facts were learned, the levels are those of the facts
 pub level-is : (policy : Policy) (ids : Ids) (facts : List Fact) → Taught ids policy facts → kept_level policy ids ≡ level_of policy facts
 level-is policy ids facts taught = fun_ext (λ name. exact-level ids policy facts name taught)
 

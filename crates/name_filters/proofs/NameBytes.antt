@@ -1,4 +1,4 @@
--- How long names are, one after the other.
+-- The lengths of names, one after the other.
 use Rattle.std.proofs.Common.{◌≡◌, ℕ, zero, suc, ◌+◌, ◌-◌, ◌≤◌, Bool, true, false, cond, List, [], ◌∷◌, ◌++◌, length, refl, ap, ap₂, sym, ◌∙◌, arith, append_assoc, length-append, slice_get, Some, drop, take, replicate}
 use Rattle.std.specs.Int.{w32}
 use Rattle.std.specs.List.{filter}
@@ -66,7 +66,7 @@ name-put o place items name gap number gap_is number_is =
 
 -- ---- one name of a list
 
--- what stands behind the bytes in the end, where these names are left
+-- what follows the bytes at the end, if these names are left
 abbrev pub ended : (Text → Bool) → Order → ℕ → List ℕ → List Text → List ℕ
 ended test o start items names = items ++ names_bytes o (length items - start) (filter test names)
 

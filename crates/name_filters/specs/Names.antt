@@ -21,12 +21,12 @@ kept_names policy ids names = filter (is_kept policy ids) names
 abbrev pub names_bytes : Order → ℕ → List Text → List ℕ
 names_bytes order place names = spelled_all order place (values_of (string_values names))
 
--- the front of a message, room for the array's length, and the names that are kept
+-- the beginning of a message, room for the array's length, and the names that are kept
 abbrev pub cut_parts : Policy → Ids → Message → List ℕ → List ℕ
 cut_parts policy ids m front = front ++ (0 ∷ 0 ∷ 0 ∷ 0 ∷ [] ++ names_bytes m.order (length front + 4) (kept_names policy ids (texts_or_none (text_list m))))
 
--- bytes that end with a message whose body begins at a place, with the lengths of its body and of the array that the body
--- is, and with a reply serial at its place
+-- bytes that end with a message whose body begins at a place, with the lengths of its body and of the array that is the
+-- body, and with a reply serial at its place
 abbrev pub with_numbers : Order → ℕ → ℕ → ℕ → ℕ → List ℕ → List ℕ
 with_numbers order start body place serial bytes =
     let len = length bytes - (start + body) in

@@ -1,6 +1,6 @@
-//! Lists of names that the bus answers with, cut to the names that the policy lets the client see.
+//! Lists of names in the bus's answers, cut to the names that the policy lets the client see.
 //!
-//! It is driven by one call of `cut` for each list that comes.
+//! Call `cut` once for each list that was received.
 #![tactic(auto)]
 
 mod lists;

@@ -22,8 +22,8 @@ const BODY_LEN_PLACE: usize = 4;
 /// Room for the length of an array.
 const NO_LEN: [u8; 4] = [0; 4];
 
-/// Puts the message behind the bytes, with its list cut to the names that may be seen and with another REPLY_SERIAL. Its
-/// body is an array of strings, as the bus's answers to ListNames and ListActivatableNames have it (D-Bus Specification,
+/// Appends the message with its list cut to the names that may be seen, and with another REPLY_SERIAL. Its body must be
+/// an array of strings, as in the bus's answers to ListNames and ListActivatableNames (D-Bus Specification,
 /// "org.freedesktop.DBus.ListNames").
 pub fn cut(
     into: &mut BytesMut,
@@ -35,14 +35,14 @@ pub fn cut(
     requires list { message.now.signature.bytes.now ≡ codes "as" }
     requires reply { IsSome message.now.reply_serial }
 
-    // The message that the bytes spell is put as it is defined to be seen, by what the tracker keeps.
+    // The message is appended as it is defined to be seen, given what the tracker keeps.
     ensures ok { OnOk result ((m : MessageTree) → message_of message.now.bytes.now ≡ Some m → into.new.items ≡ into.old.items ++ spell (with_reply_serial reply_serial (cut_by (kept_level policy.now tracker.now) m))) }
 
-    // That is by all facts that the tracker was taught.
+    // So it is seen with all facts that the tracker has learned.
     ensures exact { OnOk result ((facts : List Fact) (m : MessageTree) → Taught tracker.now policy.now facts → message_of message.now.bytes.now ≡ Some m → into.new.items ≡ into.old.items ++ spell (with_reply_serial reply_serial (cut_by (level_of policy.now facts) m))) }
     ensures len { OnOk result (length into.new.items ≤ length into.old.items + length message.now.bytes.now) }
 
-    // Memory is asked for once, and where as many bytes are spare as the message has, it isn't refused.
+    // Memory is asked for once. It isn't refused if as many bytes are spare as the message has.
     ensures err { OnErr result (into.new.items ≡ into.old.items) }
     ensures room { OnErr result (into.old.spare < length message.now.bytes.now) }
 {
@@ -62,8 +62,8 @@ pub fn cut(
     Ok(())
 }
 
-/// Puts the message behind the bytes, with 0 for the length of its list and with the names that are kept. Its body begins
-/// at a place of the message.
+/// Appends the message with 0 as the length of its list and with the names that are kept. Its body begins at a place of
+/// the message.
 fn put_parts(
     into: &mut BytesMut,
     policy: &Policy,
@@ -86,7 +86,7 @@ fn put_parts(
     put_names(into, policy, tracker, message.order, start, names);
 }
 
-/// A message that is read is valid, and its bytes spell it.
+/// A message that was read is valid, and its bytes spell it.
 fn is_spelled(bytes: &[u8])
     ensures { (m : MessageTree) → message_of bytes.now ≡ Some m → Valid m × (bytes.now ≡ spell m) }
 {
@@ -104,8 +104,8 @@ fn place_of(message: &Message<'_>) -> usize
     }
 }
 
-/// Writes the lengths of a message's body and of the array that the body is, and its reply serial at its place. The
-/// message stands at the end of the bytes, and its body begins at a place of the message.
+/// Writes the lengths of a message's body and of the array that is the body, and its reply serial at its place. The
+/// message is at the end of the bytes, and its body begins at a place of the message.
 fn write_numbers(
     into: &mut BytesMut,
     order: Order,

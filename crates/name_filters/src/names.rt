@@ -10,14 +10,14 @@ use dbus_values::{Order, Texts};
 use policy_args::{Level, Policy};
 use unique_names::Tracker;
 
-/// What stands in front of a string that its place isn't a multiple of 4.
+/// The padding before a string whose place isn't a multiple of 4.
 const ZEROS: [u8; 4] = [0; 4];
 
-/// What stands behind a string.
+/// What follows a string.
 const END: [u8; 1] = [0];
 
-/// Puts the names at See or more behind the bytes, as the elements of an array of strings. The message, of which the
-/// array is a part, begins at a place of the bytes.
+/// Appends the names at See or more, as the elements of an array of strings. The message that contains the array begins
+/// at a place of the bytes.
 pub(crate) fn put_names(
     into: &mut BytesMut,
     policy: &Policy,
@@ -38,7 +38,7 @@ pub(crate) fn put_names(
     }
 }
 
-/// Puts a name behind the bytes, as a string of the message that begins at a place of them.
+/// Appends a name, as a string of the message that begins at a place of the bytes.
 fn put_name(into: &mut BytesMut, order: Order, start: usize, name: &str)
     requires start { start ≤ length into.old.items }
     requires room { length (spelled order (length into.old.items - start) (a_string name.now)) ≤ into.old.spare }
