@@ -1,5 +1,5 @@
--- What one call of a net answered. A listener or a connection has its path, an accept its listener and the session's number, and
--- a read or a write its link and the bytes that it gave or took.
+-- The result of one call of a net. A listener or a connection has its path, an accept its listener and the session's
+-- number, and a read or a write its link and the bytes that it gave or took.
 use Rattle.std.specs.Prelude.{ℕ, List}
 use Rattle.link_traits.specs.declared.links.Link.{Link}
 use Rattle.link_traits.specs.declared.links.Ready.{Ready}

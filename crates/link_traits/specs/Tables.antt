@@ -1,4 +1,4 @@
--- What a table shows.
+-- What contracts see of a table.
 use Rattle.std.specs.Prelude.{ℕ, ◌≡◌, ◌≤◌, true, false, ◌||◌, Option, Some, None, slice_get, unwrap_or}
 use Rattle.std.specs.Option.{option_map}
 use Rattle.std.specs.Ordering.{nat_cmp}
@@ -25,7 +25,7 @@ count_in table Waits = table.waits
 count_in table (Listener listener) = unwrap_or (slice_get table.listeners.items listener) table.absent
 count_in table (OfLink link) = unwrap_or (option_map (λ (row : LinkRow). row.faults) (row_in table link)) table.absent
 
--- a link is there, and is to be read or written
+-- a link is there, and is watched for reading or writing
 abbrev pub HasWish : Option Wishes → Type 0
 HasWish None = ⊥
 HasWish (Some wishes) = (wishes.read || wishes.write) ≡ true

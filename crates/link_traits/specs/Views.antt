@@ -1,4 +1,4 @@
--- What contracts see of files, of a sink and of a net, and how that goes on from call to call.
+-- What contracts see of files, of a sink and of a net, and how that changes from call to call.
 use Rattle.std.specs.Prelude.{ℕ, ◌≡◌, ◌≤◌, Bool, false, List, ◌++◌, Option, Some}
 use Rattle.link_traits.specs.Told.{added}
 pub use Rattle.link_traits.specs.Told.{Rose}
@@ -10,11 +10,11 @@ use Rattle.link_traits.specs.declared.links.Wishes.{Wishes}
 -- ---- files
 
 pub record FilesView : Type 0 where
-  -- the bytes of the file at each path, where they are known
+  -- the bytes of the file at each path, if they are known
   pub told : List ℕ → Option (List ℕ)
   -- how many calls have failed, up to the greatest number of the count
   pub faults : ℕ
-  -- the path of each read, in order, whatever the read answered
+  -- the path of each read, in order, whatever its result
   pub reads : List (List ℕ)
 
 -- a call of the files failed: their count of faults rose
@@ -24,7 +24,7 @@ FilesRose old new = Rose old.faults new.faults
 -- ---- a sink
 
 pub record SinkView : Type 0 where
-  -- all bytes that were taken, where they are known
+  -- all bytes that were taken, if they are known
   pub told : Option (List ℕ)
   -- how many writes have failed, up to the greatest number of the count
   pub faults : ℕ
@@ -39,16 +39,16 @@ Appends old new bytes = new.told ≡ added bytes old.told
 
 -- ---- a net
 
--- the journal where the net tells it, its counts, the wishes of each link that was made and isn't
--- shut, and whether its script is done
+-- the journal while it is known, the counts, the wishes of each link that was made and isn't shut, and whether the
+-- script is done
 pub record NetView : Type 0 where
   pub journal : Option Journal
   pub counts : Count → ℕ
   pub wishes : Link → Option Wishes
   pub script_done : Bool
 
--- Where the net still tells its journal, it told it before, and these entries were added. No count
--- falls. A net may cease to tell; one that tells nothing meets this.
+-- If the journal is still known, it was known before, and these entries were added. No count falls. A net may cease to
+-- keep its journal; one that keeps none meets this.
 pub record Adds (old new : NetView) (added : Journal) : Type 0 where
   pub told : (after : Journal) → new.journal ≡ Some after → (before : Journal) × (old.journal ≡ Some before) × (after ≡ added ++ before)
   pub counts : (count : Count) → old.counts count ≤ new.counts count

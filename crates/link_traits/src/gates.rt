@@ -1,9 +1,9 @@
-//! What a job passes before it begins.
+//! Gates that jobs pass before they begin.
 
-/// A gate that jobs enter, each once. It may hold a job up, and changes nothing that a contract speaks of: of `enter` it is
-/// known only that it returns.
+/// A gate that each job enters once. It may hold a job up. No contract speaks of what it changes; of `enter` it is only
+/// known that it returns.
 pub trait Gate {
-    /// Enters, in the job that has this number, from 1.
+    /// Enters the gate, for the job with this number, from 1.
     fn enter(&self, job: u32);
 }
 

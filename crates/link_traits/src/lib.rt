@@ -1,10 +1,10 @@
-//! What a program asks of the outside: files that are read whole or appended to, sinks that bytes are written to, the
-//! links of a proxy's sessions, and gates that jobs pass. All are traits, so that what stands above them is the same
-//! over a disk and sockets and in memory (`memory_links`).
+//! What a program uses of the outside: files that are read whole or appended to, sinks for bytes, the links of a
+//! proxy's sessions, and gates that jobs pass. All are traits, so that the code above them is the same over a disk and
+//! sockets and in memory (`memory_links`).
 //!
 //! A contract speaks of each by its view. The view of files in memory has all their bytes, and that of a disk has none;
-//! sinks are seen in the same way. The view of files has the paths that were read, and the view of a net its journal: what
-//! its calls answered, where that is known. Each view counts faults, so that a contract can say that the outside failed.
+//! so it is with sinks. The view of files has the paths that were read. The view of a net has its journal, the results
+//! of its calls, while that is known. Each view counts faults, so that a contract can say that the outside failed.
 #![tactic(auto)]
 
 pub mod gates;

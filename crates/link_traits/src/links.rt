@@ -27,20 +27,20 @@ pub struct Link {
     pub side: Side,
 }
 
-/// What a wait answers. A listener or a link is a hint: the call that follows may still find nothing.
+/// The result of a wait. A listener or a link is a hint: the call that follows may still find nothing.
 #[derive(Clone, Copy, Debug, PartialEq, Eq)]
 pub enum Ready {
     /// A client may wait at this listener.
     Listener(u32),
     /// This link may be read or written.
     Link(Link),
-    /// Nothing more will come: the script of a net in memory is done, or the starter is gone.
+    /// Nothing more will happen: the script of a net in memory is done, or the starter has closed its end of the pipe.
     Quiet,
     /// The wait failed. The net's own count rises.
     Failed,
 }
 
-/// What an accept answers.
+/// The result of an accept.
 #[derive(Clone, Copy, Debug, PartialEq, Eq)]
 pub enum Accepted {
     /// A client, with the number of its new session.
@@ -53,23 +53,23 @@ pub enum Accepted {
     Memory,
 }
 
-/// What a read answers.
+/// The result of a read.
 #[derive(Clone, Copy, Debug, PartialEq, Eq)]
 pub enum Got {
-    /// So many bytes came.
+    /// This number of bytes was read.
     Bytes(usize),
-    /// No more bytes will come.
+    /// No more bytes will be received.
     Finished,
-    /// No bytes are there yet. The count of waits rises.
+    /// No bytes have been received yet. The count of waits rises.
     NotReady,
     /// The read failed, and gave nothing. The link's count rises.
     Failed,
 }
 
-/// What a write answers.
+/// The result of a write.
 #[derive(Clone, Copy, Debug, PartialEq, Eq)]
 pub enum Took {
-    /// So many bytes were taken.
+    /// This number of bytes was taken.
     Bytes(usize),
     /// No byte can be taken yet. The count of waits rises.
     NotReady,
@@ -77,19 +77,20 @@ pub enum Took {
     Failed,
 }
 
-/// What a net does beside carrying links.
+/// What a net does besides carrying links.
 #[derive(Clone, Copy, Debug, PartialEq, Eq)]
 pub struct Setting {
     /// Whether a listen first removes a socket or an empty regular file at its path.
     pub replaces: bool,
     /// The number of the descriptor of the starter's pipe, or `None` if there is no starter.
     ///
-    /// The starter is the program that started this one and holds the reading end of the pipe (`--fd` in xdg-dbus-proxy(1)).
-    /// One byte in the pipe tells it that clients can connect to all paths, and the run ends when the reading end is closed.
+    /// The starter is the program that started this one and holds the reading end of the pipe (`--fd` in
+    /// xdg-dbus-proxy(1)). One byte in the pipe says that clients can connect to all paths, and the run ends when the
+    /// reading end is closed.
     pub starter: Option<u32>,
 }
 
-/// Why a prepare, a listen or a connect was refused.
+/// Why a prepare, a listen or a connect failed.
 #[derive(Clone, Copy, Debug, PartialEq, Eq, Error)]
 pub enum NetFault {
     /// It failed. The count of the session's bus link rises if it was a connect, and else the net's own count.
@@ -117,7 +118,7 @@ pub enum Call {
     Write(Link),
 }
 
-/// What a net counts, each up to the greatest `u64`.
+/// What a net counts, up to the greatest `u64` each.
 #[derive(Clone, Copy, Debug, PartialEq, Eq)]
 pub enum Count {
     /// Its own faults, those of a prepare, a listen and a wait.
@@ -132,22 +133,22 @@ pub enum Count {
 
 /// The links between a proxy, its clients and the bus.
 pub trait Net {
-    /// What contracts see of the net: its journal where it tells that, its counts, the wishes of each link that was made and
-    /// isn't shut, and whether nothing more will come.
+    /// What contracts see of the net: its journal while that is known, its counts, the wishes of each link that was
+    /// made and isn't shut, and whether nothing more will happen.
     ghost view: { Self → NetView };
 
-    /// What a prepare with this setting that answers `Ok` makes of the net.
+    /// What a prepare with this setting makes of the net, if it succeeds.
     ghost takes: { Self → SettingValue → Self → Type 0 };
 
-    /// Takes the setting. It is called before the first listen.
+    /// Applies the setting. It is called before the first listen.
     fn prepare(&mut self, setting: Setting) -> Result<(), NetFault>
         ensures taken { OnOk result (takes self.old setting self.new) }
         ensures told { Adds (view self.old) (view self.new) [] }
         ensures failed { IsErrOf result NetFault.Failed → RoseAt Count.Own (view self.old) (view self.new) }
         ensures wishes { KeepsWishes (view self.old) (view self.new) };
 
-    /// Listens for clients at a path. Listeners are numbered from 0 in the order of their listens; where no number is left,
-    /// it fails.
+    /// Listens for clients at a path. Listeners are numbered from 0 in the order of their listens; if no number is
+    /// left, it fails.
     fn listen(&mut self, path: &str) -> Result<u32, NetFault>
         ensures told { Adds (view self.old) (view self.new) (listen_entry path.now result ∷ []) }
         ensures numbered { IfOk result (λ listener. (before : Journal) → (view self.old).journal ≡ Some before → listener ≡ listens before) }
@@ -161,8 +162,8 @@ pub trait Net {
         ensures quiet { result ≡ Ready.Quiet → (view self.new).script_done ≡ true }
         ensures wishes { KeepsWishes (view self.old) (view self.new) };
 
-    /// Takes a client that waits at a listener. Sessions are numbered from 1 in the order of their accepts; where no number is
-    /// left, it fails. The new link has no wish.
+    /// Takes a client that waits at a listener. Sessions are numbered from 1 in the order of their accepts; if no
+    /// number is left, it fails. The new link has no wish.
     fn accept(&mut self, listener: u32) -> Accepted
         ensures told { Adds (view self.old) (view self.new) (accept_entry listener result ∷ []) }
         ensures numbered { (session : ℕ) → result ≡ Accepted.New session → (before : Journal) → (view self.old).journal ≡ Some before → session ≡ accepts before + 1 }
@@ -178,13 +179,13 @@ pub trait Net {
         ensures new_wishes { OnOk result ((view self.new).wishes (bus_link session) ≡ Some no_wishes) }
         ensures wishes { KeepsOthers (bus_link session) (view self.old) (view self.new) };
 
-    /// Replaces both wishes of a link that was made and isn't shut. One that isn't there has none.
+    /// Replaces both wishes of a link. It does nothing for a link that wasn't made or is shut.
     fn want(&mut self, link: Link, read: bool, write: bool)
         ensures told { Adds (view self.old) (view self.new) [] }
         ensures own { (view self.new).wishes link ≡ option_map (λ (_ : Wishes). record { read = read; write = write }) ((view self.old).wishes link) }
         ensures wishes { KeepsOthers link (view self.old) (view self.new) };
 
-    /// Reads into the front of a buffer, at least a byte where it has room for one.
+    /// Reads into the start of a buffer, at least one byte if the buffer has room for one.
     fn read(&mut self, link: Link, into: &mut [u8]) -> Got
         ensures told { Adds (view self.old) (view self.new) (read_entry link into.new result ∷ []) }
         ensures within { (n : ℕ) → result ≡ Got.Bytes n → n ≤ length into.new }
@@ -193,7 +194,7 @@ pub trait Net {
         ensures not_ready { result ≡ Got.NotReady → RoseAt Count.Waits (view self.old) (view self.new) }
         ensures wishes { KeepsWishes (view self.old) (view self.new) };
 
-    /// Writes a front of a piece, at least a byte where it has one.
+    /// Writes a prefix of a piece, at least one byte if the piece has one.
     fn write(&mut self, link: Link, piece: &[u8]) -> Took
         ensures told { Adds (view self.old) (view self.new) (write_entry link piece.now result ∷ []) }
         ensures within { (n : ℕ) → result ≡ Took.Bytes n → n ≤ length piece.now }
@@ -202,7 +203,7 @@ pub trait Net {
         ensures not_ready { result ≡ Took.NotReady → RoseAt Count.Waits (view self.old) (view self.new) }
         ensures wishes { KeepsWishes (view self.old) (view self.new) };
 
-    /// Shuts a link. One that isn't there stays so.
+    /// Shuts a link, if it was made and isn't shut.
     fn shut(&mut self, link: Link)
         ensures told { Adds (view self.old) (view self.new) (shut link ∷ []) }
         ensures gone { (view self.new).wishes link ≡ None }

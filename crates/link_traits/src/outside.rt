@@ -1,4 +1,4 @@
-//! Files, sinks, and what is done with them whatever they are.
+//! Files and sinks, and calls that work with any of them.
 ghost use Rattle.std.specs.Prelude.{◌≡◌, ◌≢◌, ◌≤◌, ◌<◌, ◌++◌, ◌∷◌, ℕ, List, [], Option, Err, length, take, OnOk, OnErr, IfOk, IfErr, IfSome, IsErrOf, IsSome};
 ghost use Rattle.link_traits.specs.Told.{added, Part, Given};
 ghost use Rattle.link_traits.specs.Views.{FilesRose, FilesView, SinkRose, SinkView};
@@ -20,19 +20,19 @@ pub enum FileFault {
     Memory,
 }
 
-/// A sink took nothing of a piece that has bytes. Its count of faults rises.
+/// A sink took nothing of a piece that isn't empty. Its count of faults rises.
 #[derive(Clone, Copy, Debug, PartialEq, Eq, Error)]
 #[error("the bytes could not be written")]
 pub struct SinkFault;
 
-/// Files by their paths.
+/// Files, by their paths.
 pub trait Files {
-    /// What contracts see of the files: their bytes where these are known, the count of faults, and the paths that were
+    /// What contracts see of the files: their bytes if these are known, the count of faults, and the paths that were
     /// read.
     ghost view: { Self → FilesView };
 
-    /// Puts the whole file behind what `into` holds, in the caller's memory. A file of more than
-    /// `limit` bytes is refused, and what `into` held stays where a read is refused or fails.
+    /// Appends the whole file to `into`, in the caller's memory. A file of more than `limit` bytes is refused. If a
+    /// read is refused or fails, `into` doesn't change.
     fn read(&mut self, path: &str, limit: usize, into: &mut Vec<u8>) -> Result<(), FileFault>
         ensures given { OnOk result (Given limit ((view self.old).told path.now) into.old.items into.new.items) }
         ensures too_long { IsErrOf result FileFault.TooLong → IfSome ((view self.old).told path.now) (λ bytes. limit < length bytes) }
@@ -42,8 +42,8 @@ pub trait Files {
         ensures kept { (p : List ℕ) → (view self.new).told p ≡ (view self.old).told p }
         ensures path { (view self.new).reads ≡ (view self.old).reads ++ path.now ∷ [] };
 
-    /// Makes the file of a path, or empties the one that is there: after `Ok` it holds no bytes. Where it is refused or
-    /// fails, each path holds what it held. It never answers `TooLong`.
+    /// Makes the file of a path, or empties the existing one: after `Ok` it has no bytes. If it is refused or fails, no
+    /// file changes. It never returns `TooLong`.
     fn create(&mut self, path: &str) -> Result<(), FileFault>
         ensures empty { OnOk result (IfSome ((view self.new).told path.now) (λ bytes. bytes ≡ [])) }
         ensures tells { IsSome ((view self.old).told path.now) → IsSome ((view self.new).told path.now) }
@@ -54,9 +54,8 @@ pub trait Files {
         ensures count { (view self.old).faults ≤ (view self.new).faults }
         ensures unread { (view self.new).reads ≡ (view self.old).reads };
 
-    /// Puts a prefix of the piece at the end of the file of a path, at least a byte if the piece has one, and answers
-    /// how many bytes it put there. Where it is refused or fails, each path holds what it held. It never answers
-    /// `TooLong`.
+    /// Appends a prefix of the piece to the file of a path, at least one byte if the piece has one, and returns its
+    /// length. If it is refused or fails, no file changes. It never returns `TooLong`.
     fn append(&mut self, path: &str, piece: &[u8]) -> Result<usize, FileFault>
         ensures added { IfOk result (λ n. (view self.new).told path.now ≡ added (take n piece.now) ((view self.old).told path.now)) }
         ensures within { IfOk result (λ n. n ≤ length piece.now) }
@@ -69,13 +68,13 @@ pub trait Files {
         ensures unread { (view self.new).reads ≡ (view self.old).reads };
 }
 
-/// Where bytes are written, in pieces.
+/// A place to which bytes are written, in pieces.
 pub trait Sink {
-    /// What contracts see of the sink: all bytes that it took, where these are known, and the count of faults.
+    /// What contracts see of the sink: all bytes that it took, if these are known, and the count of faults.
     ghost view: { Self → SinkView };
 
-    /// Takes a front of the piece, at least a byte where there is one, and answers how many bytes
-    /// it took. Where it fails it took none.
+    /// Takes a prefix of the piece, at least one byte if there is one, and returns its length. If it fails, it took
+    /// nothing.
     fn write(&mut self, piece: &[u8]) -> Result<usize, SinkFault>
         ensures took { IfOk result (λ n. (view self.new).told ≡ added (take n piece.now) (view self.old).told) }
         ensures within { IfOk result (λ n. n ≤ length piece.now) }
@@ -85,7 +84,7 @@ pub trait Sink {
         ensures count { (view self.old).faults ≤ (view self.new).faults };
 }
 
-/// The whole of a file, of at most `limit` bytes.
+/// Reads a whole file, of at most `limit` bytes.
 pub fn read_whole<F: Files>(
     alloc: Global,
     files: &mut F,
@@ -106,7 +105,7 @@ pub fn read_whole<F: Files>(
     }
 }
 
-/// Writes all bytes, in as many pieces as the sink takes. Where it fails, it got a front of them.
+/// Writes all bytes, in as many pieces as the sink takes. If it fails, the sink took a prefix of them.
 pub fn write_all<S: Sink>(sink: &mut S, bytes: &[u8]) -> Result<(), SinkFault>
     ensures ok { OnOk result ((S.view sink.new).told ≡ added bytes.now (S.view sink.old).told) }
     ensures part { Part (S.view sink.old).told (S.view sink.new).told bytes.now }

@@ -1,11 +1,11 @@
-//! What says which files were read. It is there for contracts alone, and takes no memory at run time.
+//! The record of the files that were read. Only contracts use it, and it takes no memory at run time.
 ghost use Rattle.std.specs.Prelude.{◌≡◌, ℕ, List, [], ◌∷◌, ◌++◌};
 ghost use Rattle.std.specs.Borrow.{ftrue};
 
 use std::marker::{Model, PhantomData};
 
-/// The paths of files that were read, in order. What it tells is what `add` was called with, so whoever keeps it for files adds
-/// the path of each read, and reads none that it doesn't add.
+/// The paths of files that were read, in order: those with which `add` was called. So whoever keeps it for files adds
+/// the path of each read, and adds nothing else.
 #[derive(Drop)]
 pub struct ReadPaths {
     marker: PhantomData<u8>,
@@ -17,7 +17,7 @@ impl Model for ReadPaths {
 }
 
 impl ReadPaths {
-    /// No path yet.
+    /// No paths.
     pub fn new() -> ReadPaths
         ensures { result.paths ≡ [] }
     {
@@ -26,7 +26,7 @@ impl ReadPaths {
         }
     }
 
-    /// Another path behind these.
+    /// Appends a path.
     pub fn add(&mut self, _path: &str)
         ensures { self.new.paths ≡ self.old.paths ++ _path.now ∷ [] }
     {}

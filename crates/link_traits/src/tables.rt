@@ -1,5 +1,5 @@
-//! What a net keeps of its listeners and links beside the sockets or the script: how often each failed, and what each link is
-//! watched for.
+//! What a net keeps of its listeners and links beside the sockets or the script: how often each failed, and what each
+//! link is watched for.
 ghost use Rattle.std.specs.Prelude.{◌≡◌, ◌≤◌, ◌<◌, ◌+◌, ◌*◌, ◌^◌, ◌-◌, ℕ, Some, None, length, vec_len, OnOk, OnErr};
 ghost use Rattle.std.specs.Option.{option_map};
 ghost use Rattle.link_traits.specs.Numbers.{number_of as link_number};
@@ -10,7 +10,7 @@ use crate::links::{Count, Link, Side, Wishes};
 use std::alloc::{AllocError, Global};
 use std::collections::BTreeMap;
 
-/// A link's number, which tells it from every other link.
+/// A link's number, which no other link has.
 pub fn number_of(link: Link) -> u64
     ensures number { result ≡ link_number link }
     ensures small { result < 2 ^ 33 }
@@ -22,7 +22,7 @@ pub fn number_of(link: Link) -> u64
     u64::from(link.session) * 2 + side
 }
 
-/// Whether two links are one.
+/// Whether both are the same link.
 pub fn is_same(a: Link, b: Link) -> bool
     ensures { result ≡ same_link a b }
 {
@@ -33,7 +33,7 @@ pub fn is_same(a: Link, b: Link) -> bool
     a.session == b.session && same_side
 }
 
-/// A count one higher, or at its greatest number.
+/// A count plus one, or at most its greatest number.
 fn raised(count: u64) -> u64
     ensures rose { Rose count result }
     ensures grows { count ≤ result }
@@ -46,21 +46,21 @@ fn raised(count: u64) -> u64
 pub struct LinkRow {
     /// What the link is watched for.
     pub wishes: Wishes,
-    /// How often it failed.
+    /// The number of its faults.
     pub faults: u64,
 }
 
 /// The counts of a net and the wishes of its links.
 ///
-/// No count falls: what is counted of a listener or a link that isn't there is `absent`, which is at least what was counted of
-/// any link that was shut, and which a new listener or link begins with. So a link that was shut takes no room.
+/// No count falls: the count of a listener or a link that isn't there is `absent`. That is at least the count of any
+/// link that was shut, and a new listener or link begins with it. So a link that was shut takes no room.
 #[derive(Drop)]
 pub struct LinkTable {
     /// The net's own faults.
     pub own: u64,
     /// Calls that would have waited.
     pub waits: u64,
-    /// What is counted of listeners and links that aren't there.
+    /// The count of each listener and link that isn't there.
     pub absent: u64,
     /// The faults of each listener.
     pub listeners: Vec<u64>,
@@ -74,7 +74,7 @@ impl LinkTable {
     ghost use Rattle.link_traits.specs.declared.links.Count.{Count};
     ghost use Rattle.link_traits.specs.declared.links.Wishes.{Wishes};
 
-    /// No listener and no link.
+    /// A table without listeners and links.
     pub fn new(alloc: Global) -> LinkTable
         ensures listeners { vec_len result.listeners ≡ 0 }
         ensures links { (link : Link) → wishes_in result link ≡ None }
@@ -140,7 +140,7 @@ impl LinkTable {
         }
     }
 
-    /// Makes the next listener.
+    /// Adds the next listener.
     pub fn add_listener(&mut self) -> Result<(), AllocError>
         ensures ok { OnOk result (vec_len self.new.listeners ≡ vec_len self.old.listeners + 1) }
         ensures err { OnErr result (vec_len self.new.listeners ≡ vec_len self.old.listeners) }
@@ -151,7 +151,7 @@ impl LinkTable {
         Ok(())
     }
 
-    /// Makes a link, without a wish.
+    /// Adds a link, without a wish.
     pub fn add_link(&mut self, link: Link) -> Result<(), AllocError>
         ensures own { OnOk result (wishes_in self.new link ≡ Some no_wishes) }
         ensures err { OnErr result (KeepsWishesIn self.old self.new) }
@@ -184,7 +184,7 @@ impl LinkTable {
         }
     }
 
-    /// Removes a link. One that isn't there stays so.
+    /// Removes a link, if it is there.
     pub fn remove_link(&mut self, link: Link)
         ensures gone { wishes_in self.new link ≡ None }
         ensures others { KeepsOthersIn link self.old self.new }
