@@ -1,4 +1,4 @@
--- A file of a list in the place of the first one with a path.
+-- A file replaces the first one with a path in a list.
 use Rattle.std.proofs.Common.{◌≡◌, ◌≢◌, ◌+◌, ℕ, zero, suc, Bool, true, false, List, [], ◌∷◌, ◌++◌, Option, None, Some, refl, ap, sym, ◌∙◌, subst, arith, string_bytes, cond, ◌<◌, length, drop, drop-cons, add-zero}
 use Rattle.std.specs.List.{slice_index_or, slice_set}
 use Rattle.std.specs.Str.{bytes_eq}
@@ -37,7 +37,7 @@ file_of-set_other (f ∷ fs) path zero r g p h e same n =
 file_of-set_other (f ∷ fs) path (suc k) r g p h e same n =
     ap (λ (rest : Option MemFile). cond (bytes_eq (string_bytes f.path) p) (Some f) rest) (file_of-set_other fs path k r g p h.1 e same n)
 
--- what is the same of both is the same of the first file with any path
+-- what is equal for both files is equal for the first file with any path
 pub kept-set : {B : Type 0} (of : Option MemFile → B) (fs : List MemFile) (path : List ℕ) (k : ℕ) (r g : MemFile) (p : List ℕ) → IsPlace fs path k →
     r ≡ slice_index_or fs k r → string_bytes g.path ≡ string_bytes r.path → of (Some g) ≡ of (Some r) → of (file_of (slice_set fs k g) p) ≡ of (file_of fs p)
 kept-set of [] path k r g p h e same both = absurd h

@@ -37,7 +37,8 @@ IsPrepareRefused net = Contains net.script.exceptions.items (PrepareRefused (nex
 abbrev pub IsPrepareFailing : MemNet → Type 0
 IsPrepareFailing net = (IsPrepareRefused net → ⊥) × Contains net.script.exceptions.items (PrepareFails (next_place net.calls.prepares))
 
--- the room isn't spent, the link was made and isn't shut, no exception is of the next read, and what comes next on the link is its end
+-- the room isn't spent, the link was made and isn't shut, the script has no exception for the next read, and the end of
+-- the link is next on it
 pub record HasEndNext (net : MemNet) (link : Link) : Type 0 where
   pub room : is_spent net.transcript ≡ false
   pub made : IsSome (wishes_in net.table link)

@@ -14,7 +14,7 @@ use Rattle.memory_links.specs.declared.scripts.Pace.{Pace}
 use Rattle.memory_links.specs.declared.scripts.Limit.{Limit}
 use Rattle.memory_links.specs.declared.scripts.Script.{Script}
 
--- the place among its kind that a call has after so many others
+-- the number of a call among its kind, after this many others
 abbrev pub next_place : ℕ → ℕ
 next_place calls = min (calls + 1) (2 ^ 64 - 1)
 
@@ -22,8 +22,8 @@ next_place calls = min (calls + 1) (2 ^ 64 - 1)
 abbrev pub step_of : Event → Step
 step_of event = record { event = event; named = false }
 
--- what a script says: what happens in its order, the bytes of its pieces one after another, which calls answer otherwise, and
--- how many bytes links take in a write and in all
+-- what a script says: what happens in its order, the bytes of its pieces one after another, the exceptions, and how
+-- many bytes links take in a write and in all
 pub record ScriptView : Type 0 where
   pub steps : List Step
   pub bytes : List ℕ
@@ -43,26 +43,26 @@ script_of script = record {
 abbrev pub nothing_said : ScriptView
 nothing_said = record { steps = []; bytes = []; exceptions = []; paces = []; limits = [] }
 
--- what a script says with an event more
+-- a script with one more event
 abbrev pub then_happens : Event → ScriptView → ScriptView
 then_happens event script = record script { steps = script.steps ++ step_of event ∷ [] }
 
--- what a script says with a piece more, whose bytes stand behind those of the pieces before; one without bytes is none
+-- a script with one more piece, whose bytes follow those of the pieces before; an empty piece adds nothing
 abbrev pub then_comes : LinkOf → List ℕ → ScriptView → ScriptView
 then_comes link bytes script = if length bytes == 0 then script else record script {
   steps = script.steps ++ step_of (Piece link (length script.bytes) (length script.bytes + length bytes)) ∷ [];
   bytes = script.bytes ++ bytes;
 }
 
--- what a script says with a call more that answers otherwise
+-- a script with one more exception
 abbrev pub then_excepts : Exception → ScriptView → ScriptView
 then_excepts exception script = record script { exceptions = script.exceptions ++ exception ∷ [] }
 
--- what a script says with a link more that takes at most so many bytes a write
+-- a script with one more link that takes at most this number of bytes in a write
 abbrev pub then_paces : LinkOf → ℕ → ScriptView → ScriptView
 then_paces link most script = record script { paces = script.paces ++ (record { link = link; most = most }) ∷ [] }
 
--- what a script says with a link more that takes so many bytes in all
+-- a script with one more link that takes this number of bytes in all
 abbrev pub then_limits : LinkOf → ℕ → ScriptView → ScriptView
 then_limits link left script = record script { limits = script.limits ++ (record { link = link; left = left }) ∷ [] }
 
@@ -81,12 +81,12 @@ is_end (Arrival listener) = false
 is_end (Room at) = false
 is_end Over = false
 
--- whether what comes next on a link is its end
+-- whether the end of a link is next on it
 abbrev pub ends_next : LinkOf → List Step → Bool
 ends_next link [] = false
 ends_next link (step ∷ steps) = if comes_on step.event link then is_end step.event else ends_next link steps
 
--- what a wait names for an event
+-- what a wait returns for an event
 abbrev pub hint_of : Event → Option Ready
 hint_of (Arrival listener) = Some (Listener listener)
 hint_of (Piece at from end) = Some (Link at)
@@ -94,7 +94,7 @@ hint_of (End at) = Some (Link at)
 hint_of (Room at) = Some (Link at)
 hint_of Over = None
 
--- a listener is named, or a link for which there is a wish
+-- a listener is named, or a link with a wish
 abbrev pub IsWished : LinkTable → Ready → Type 0
 IsWished table (Listener listener) = Unit {0}
 IsWished table (Link link) = HasWish (wishes_in table link)

@@ -1,4 +1,4 @@
--- What the notes of a net's calls and their bytes stand for, and how a transcript goes on.
+-- The journal that the notes of a net's calls and their bytes represent, and how a transcript grows.
 use Rattle.std.specs.Prelude.{ℕ, ◌+◌, ◌-◌, Bool, false, ◌==◌, ◌||◌, if◌then◌else◌, List, [], ◌∷◌, length, take, drop}
 use Rattle.link_traits.specs.Entries.{Entry, listened, ready, accepted, connected, read, finished, wrote, not_ready, failed, refused, shut}
 use Rattle.link_traits.specs.Journals.{Journal}
@@ -34,7 +34,7 @@ bytes_of (failed call) = []
 bytes_of (refused call) = []
 bytes_of (shut link) = []
 
--- how many bytes the notes have
+-- the number of bytes of the notes
 abbrev pub bytes_in : List Noted → ℕ
 bytes_in [] = 0
 bytes_in (noted ∷ notes) = noted.length + bytes_in notes
@@ -44,7 +44,7 @@ abbrev pub entries_of : List Noted → List ℕ → Journal
 entries_of [] bytes = []
 entries_of (noted ∷ notes) bytes = entry_of noted.note (take noted.length bytes) ∷ entries_of notes (drop noted.length bytes)
 
--- whether it still tells, its entries with the newest first, and for how many entries and bytes it has room
+-- whether the journal is still kept, its entries with the newest first, and the room for entries and bytes
 pub record TranscriptView : Type 0 where
   pub tells : Bool
   pub entries : List Entry
@@ -55,11 +55,11 @@ pub record TranscriptView : Type 0 where
 abbrev pub is_spent : TranscriptView → Bool
 is_spent transcript = (transcript.entries_left == 0) || (transcript.bytes_left == 0)
 
--- it tells nothing from now on
+-- the journal is no longer kept
 abbrev pub ceased : TranscriptView → TranscriptView
 ceased transcript = record transcript { tells = false }
 
--- an entry more, which takes room for itself and for its bytes
+-- one more entry, which takes room for itself and for its bytes
 abbrev pub with_entry : Entry → TranscriptView → TranscriptView
 with_entry entry transcript = record {
   tells = transcript.tells;
@@ -68,10 +68,10 @@ with_entry entry transcript = record {
   bytes_left = transcript.bytes_left - length (bytes_of entry);
 }
 
--- an entry more where one is left; else it ceases to tell
+-- one more entry if there is room for one; else the journal is no longer kept
 abbrev pub entered : Entry → TranscriptView → TranscriptView
 entered entry transcript = if transcript.entries_left == 0 then ceased transcript else with_entry entry transcript
 
--- an entry more where the room isn't spent; else it ceases to tell
+-- one more entry if the room isn't spent; else the journal is no longer kept
 abbrev pub entered_unless_spent : Entry → TranscriptView → TranscriptView
 entered_unless_spent entry transcript = if is_spent transcript then ceased transcript else with_entry entry transcript

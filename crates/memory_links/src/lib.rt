@@ -1,4 +1,5 @@
-//! Files, a sink and a net in memory, for tests: they meet the traits of `link_traits` and tell all that they hold.
+//! Files, a sink and a net in memory, for tests: they implement the traits of `link_traits`, and all that they hold is
+//! known.
 #![tactic(auto)]
 
 pub mod mem_net;

@@ -1,4 +1,4 @@
-//! A net in memory, which tells what its calls answered.
+//! A net in memory, which keeps a journal of its calls.
 ghost use Rattle.std.specs.Prelude.{◌≡◌, ◌≢◌, ◌≤◌, ◌<◌, ◌+◌, ◌-◌, ◌^◌, ◌↔◌, ◌||◌, nat_lt, [], ◌∷◌, ℕ, Some, None, Err, IfOk, IfSome, IfNone, IsErrOf, IsSome, IsTrue, OnOk, OnErr, length, true, false, vec_len};
 ghost use Rattle.std.specs.Option.{option_map};
 ghost use Rattle.link_traits.specs.Entries.{Entry, ready, accepted, not_ready, failed, refused, shut};
@@ -15,7 +15,7 @@ use link_traits::links::{
 use link_traits::tables::LinkTable;
 use std::alloc::{AllocError, Global};
 
-/// How often each call was made.
+/// The number of calls of each kind.
 #[derive(Clone, Copy)]
 struct Calls {
     prepares: u64,
@@ -27,11 +27,11 @@ struct Calls {
     writes: u64,
 }
 
-/// A net in memory. Its script says what happens, and it tells what its calls answered as long as it has room to.
+/// A net in memory. Its script says what happens, and it keeps its journal as long as there is room.
 ///
-/// A wait names what the script has first, in the script's order, of what wasn't named yet and has its wish. Where it finds
-/// nothing, the script is done. Where the net has no room for an entry or for a byte, `listen`, `accept` and `connect`
-/// answer that memory was refused, and `wait`, `read` and `write` fail.
+/// A wait names the first event in the script's order that wasn't named yet and has its wish. If there is none, the
+/// script is done. If the net has no room for an entry or for a byte, `listen`, `accept` and `connect` answer that
+/// memory was refused, and `wait`, `read` and `write` fail.
 #[derive(Drop)]
 pub struct MemNet {
     transcript: Transcript,
@@ -50,8 +50,8 @@ impl MemNet {
     ghost use Rattle.memory_links.specs.MemNets.{mem_view, IsNew};
     ghost use Rattle.memory_links.specs.Scripts.{script_of};
 
-    /// A net of a script, before anything happened, with room for so many entries of its journal, and for so many bytes of
-    /// paths and of what is read and written. Memory for them is taken at once.
+    /// A net with this script, before anything happened, with room for this number of entries of its journal and of
+    /// bytes of paths and of what is read and written. Memory for them is taken at once.
     pub fn new(
         alloc: Global,
         script: Script,
@@ -84,21 +84,21 @@ impl MemNet {
         })
     }
 
-    /// All bytes that were written to a link, as long as the net tells its journal.
+    /// All bytes that were written to a link, as long as the net keeps its journal.
     pub fn written(&self, alloc: Global, link: Link) -> Result<Vec<u8>, AllocError>
         ensures { IfOk result (λ v. (journal : Journal) → (mem_view self.now).journal ≡ Some journal → v.items ≡ written link journal) }
     {
         self.transcript.written(alloc, link)
     }
 
-    /// The setting of the last prepare that answered `Ok`.
+    /// The setting of the last prepare that succeeded.
     pub fn setting(&self) -> Option<Setting>
         ensures { result ≡ self.now.setting }
     {
         self.setting
     }
 
-    /// Tells an entry, and raises a count.
+    /// Adds an entry to the journal, and raises a count.
     fn tell(&mut self, count: Option<Count>, note: Note, bytes: &[u8])
         requires entry { 0 < self.old.transcript.entries_left }
         requires bytes { length bytes.now ≤ self.old.transcript.bytes_left }
@@ -117,7 +117,7 @@ impl MemNet {
         self.transcript.add(note, bytes);
     }
 
-    /// Fails for want of room, and tells nothing from now on.
+    /// Fails for lack of room. The journal is no longer kept from then on.
     fn fail_spent(&mut self, count: Count)
         ensures transcript { self.new.transcript ≡ ceased self.old.transcript }
         ensures told { (entry : Entry) → Adds (mem_view self.old) (mem_view self.new) (entry ∷ []) }
@@ -129,7 +129,7 @@ impl MemNet {
         self.transcript.cease();
     }
 
-    /// Refuses a call for want of memory. Where no entry is left, nothing is told from now on.
+    /// Refuses a call for lack of memory. If no entry is left, the journal is no longer kept from then on.
     fn refuse(&mut self, call: Call)
         ensures transcript { self.new.transcript ≡ entered (refused call) self.old.transcript }
         ensures told { Adds (mem_view self.old) (mem_view self.new) (refused call ∷ []) }
@@ -193,7 +193,7 @@ impl MemNet {
         Ok(listener)
     }
 
-    /// Makes the next session, where memory allows.
+    /// Makes the next session, if memory allows.
     fn make_session(&mut self, listener: u32) -> Option<u32>
         requires entry { 0 < self.old.transcript.entries_left }
         requires next { self.old.sessions < 4294967295 }
@@ -271,7 +271,7 @@ impl Net for MemNet {
 
     ghost takes = { λ old setting new. new.setting ≡ Some setting };
 
-    /// It fails or is refused memory only if the script says so, and is not told in the journal. It takes no room.
+    /// It fails or is refused memory only if the script says so, and has no entry in the journal. It takes no room.
     fn prepare(&mut self, setting: Setting) -> Result<(), NetFault>
         ensures taken { OnOk result (self.new.setting ≡ Some setting) }
         ensures kept { OnErr result (self.new.setting ≡ self.old.setting) }
@@ -280,7 +280,7 @@ impl Net for MemNet {
         ensures transcript { self.new.transcript ≡ self.old.transcript }
         ensures done { self.new.done ≡ self.old.done }
 
-        // What the trait says.
+        // The clauses of the trait.
         ensures told { Adds (mem_view self.old) (mem_view self.new) [] }
         ensures failed { IsErrOf result NetFault.Failed → RoseAt Count.Own (mem_view self.old) (mem_view self.new) }
         ensures wishes { KeepsWishes (mem_view self.old) (mem_view self.new) }
@@ -298,14 +298,14 @@ impl Net for MemNet {
         Ok(())
     }
 
-    /// It answers that memory was refused where the room is spent, and where it has too little for the path. Such an answer is
-    /// told where an entry is left.
+    /// It answers that memory was refused if the room is spent or too small for the path. Such an answer is entered in
+    /// the journal if an entry is left.
     fn listen(&mut self, path: &str) -> Result<u32, NetFault>
         ensures transcript { self.new.transcript ≡ entered (listen_entry path.now result) self.old.transcript }
         ensures spent { IsTrue (is_spent self.old.transcript) → IsErrOf result NetFault.Memory }
         ensures done { self.new.done ≡ self.old.done }
 
-        // What the trait says.
+        // The clauses of the trait.
         ensures told { Adds (mem_view self.old) (mem_view self.new) (listen_entry path.now result ∷ []) }
         ensures numbered { IfOk result (λ listener. (before : Journal) → (mem_view self.old).journal ≡ Some before → listener ≡ listens before) }
         ensures failed { IsErrOf result NetFault.Failed → RoseAt Count.Own (mem_view self.old) (mem_view self.new) }
@@ -329,14 +329,15 @@ impl Net for MemNet {
         self.make_listener(listener, path)
     }
 
-    /// It fails where the room is spent, and tells nothing from then on. It names a link only for a wish that is true.
+    /// It fails if the room is spent, and the journal is no longer kept from then on. It names a link only for a wish
+    /// that is true.
     fn wait(&mut self) -> Ready
         ensures transcript { self.new.transcript ≡ entered_unless_spent (ready result) self.old.transcript }
         ensures spent { IsTrue (is_spent self.old.transcript) → result ≡ Ready.Failed }
         ensures wished { (link : Link) → result ≡ Ready.Link link → HasWish (wishes_in self.old.table link) }
         ensures done { result ≢ Ready.Quiet → self.new.done ≡ self.old.done }
 
-        // What the trait says.
+        // The clauses of the trait.
         ensures told { Adds (mem_view self.old) (mem_view self.new) (ready result ∷ []) }
         ensures failed { result ≡ Ready.Failed → RoseAt Count.Own (mem_view self.old) (mem_view self.new) }
         ensures quiet { result ≡ Ready.Quiet → (mem_view self.new).script_done ≡ true }
@@ -365,13 +366,14 @@ impl Net for MemNet {
         }
     }
 
-    /// It answers that memory was refused where the room is spent. Such an answer is told where an entry is left.
+    /// It answers that memory was refused if the room is spent. Such an answer is entered in the journal if an entry is
+    /// left.
     fn accept(&mut self, listener: u32) -> Accepted
         ensures transcript { self.new.transcript ≡ entered (accept_entry listener result) self.old.transcript }
         ensures spent { IsTrue (is_spent self.old.transcript) → result ≡ Accepted.Memory }
         ensures done { self.new.done ≡ self.old.done }
 
-        // What the trait says.
+        // The clauses of the trait.
         ensures told { Adds (mem_view self.old) (mem_view self.new) (accept_entry listener result ∷ []) }
         ensures numbered { (session : ℕ) → result ≡ Accepted.New session → (before : Journal) → (mem_view self.old).journal ≡ Some before → session ≡ accepts before + 1 }
         ensures failed { result ≡ Accepted.Failed → RoseAt (Count.Listener listener) (mem_view self.old) (mem_view self.new) }
@@ -405,14 +407,14 @@ impl Net for MemNet {
         }
     }
 
-    /// It answers that memory was refused where the room is spent, and where it has too little for the path. Such an answer is
-    /// told where an entry is left. It fails where the session has a link to its bus.
+    /// It answers that memory was refused if the room is spent or too small for the path. Such an answer is entered in
+    /// the journal if an entry is left. It fails if the session already has a link to its bus.
     fn connect(&mut self, session: u32, path: &str) -> Result<(), NetFault>
         ensures transcript { self.new.transcript ≡ entered (connect_entry session path.now result) self.old.transcript }
         ensures spent { IsTrue (is_spent self.old.transcript) → IsErrOf result NetFault.Memory }
         ensures done { self.new.done ≡ self.old.done }
 
-        // What the trait says.
+        // The clauses of the trait.
         ensures told { Adds (mem_view self.old) (mem_view self.new) (connect_entry session path.now result ∷ []) }
         ensures failed { IsErrOf result NetFault.Failed → RoseAt (Count.Link (bus_link session)) (mem_view self.old) (mem_view self.new) }
         ensures new_wishes { OnOk result ((mem_view self.new).wishes (bus_link session) ≡ Some no_wishes) }
@@ -440,7 +442,7 @@ impl Net for MemNet {
         ensures transcript { self.new.transcript ≡ self.old.transcript }
         ensures done { self.new.done ≡ self.old.done }
 
-        // What the trait says.
+        // The clauses of the trait.
         ensures told { Adds (mem_view self.old) (mem_view self.new) [] }
         ensures own { (mem_view self.new).wishes link ≡ option_map (λ (_ : Wishes). record { read = read; write = write }) ((mem_view self.old).wishes link) }
         ensures wishes { KeepsOthers link (mem_view self.old) (mem_view self.new) }
@@ -448,15 +450,16 @@ impl Net for MemNet {
         self.table.want(link, Wishes { read, write });
     }
 
-    /// It fails where the room is spent, and tells nothing from then on. It fails too where the link isn't there. The end of a
-    /// link is told exactly where it is what the script has next on it, as often as it is read.
+    /// It fails if the room is spent, and the journal is no longer kept from then on. It also fails if the link isn't
+    /// there. It returns the end of a link exactly if the end is next on the link in the script, however often it is
+    /// read.
     fn read(&mut self, link: Link, into: &mut [u8]) -> Got
         ensures transcript { self.new.transcript ≡ entered_unless_spent (read_entry link into.new result) self.old.transcript }
         ensures spent { IsTrue (is_spent self.old.transcript) → result ≡ Got.Failed }
         ensures finished { (result ≡ Got.Finished) ↔ HasEndNext self.old link }
         ensures done { self.new.done ≡ self.old.done }
 
-        // What the trait says.
+        // The clauses of the trait.
         ensures told { Adds (mem_view self.old) (mem_view self.new) (read_entry link into.new result ∷ []) }
         ensures within { (n : ℕ) → result ≡ Got.Bytes n → n ≤ length into.new }
         ensures progress { (n : ℕ) → result ≡ Got.Bytes n → 0 < length into.new → 0 < n }
@@ -496,14 +499,14 @@ impl Net for MemNet {
         }
     }
 
-    /// It fails where the room is spent, and tells nothing from then on. It fails too where the link isn't there, and where it
-    /// took all that its script lets it. It takes no more than there is room for.
+    /// It fails if the room is spent, and the journal is no longer kept from then on. It also fails if the link isn't
+    /// there, and if the link took all that its script allows. It takes no more than there is room for.
     fn write(&mut self, link: Link, piece: &[u8]) -> Took
         ensures transcript { self.new.transcript ≡ entered_unless_spent (write_entry link piece.now result) self.old.transcript }
         ensures spent { IsTrue (is_spent self.old.transcript) → result ≡ Took.Failed }
         ensures done { self.new.done ≡ self.old.done }
 
-        // What the trait says.
+        // The clauses of the trait.
         ensures told { Adds (mem_view self.old) (mem_view self.new) (write_entry link piece.now result ∷ []) }
         ensures within { (n : ℕ) → result ≡ Took.Bytes n → n ≤ length piece.now }
         ensures progress { (n : ℕ) → result ≡ Took.Bytes n → 0 < length piece.now → 0 < n }
@@ -541,13 +544,13 @@ impl Net for MemNet {
         Took::Bytes(n)
     }
 
-    /// Where no entry is left, the net's own count rises, and nothing is told from then on.
+    /// If no entry is left, the net's own count rises, and the journal is no longer kept from then on.
     fn shut(&mut self, link: Link)
         ensures transcript { self.new.transcript ≡ entered (shut link) self.old.transcript }
         ensures unentered { self.old.transcript.entries_left ≡ 0 → RoseAt Count.Own (mem_view self.old) (mem_view self.new) }
         ensures done { self.new.done ≡ self.old.done }
 
-        // What the trait says.
+        // The clauses of the trait.
         ensures told { Adds (mem_view self.old) (mem_view self.new) (shut link ∷ []) }
         ensures gone { (mem_view self.new).wishes link ≡ None }
         ensures wishes { KeepsOthers link (mem_view self.old) (mem_view self.new) }
@@ -561,7 +564,7 @@ impl Net for MemNet {
     }
 }
 
-/// One call more, up to the greatest `u64`.
+/// The number of calls plus one, up to the greatest `u64`.
 fn counted(calls: u64) -> u64
     ensures { result ≡ next_place calls }
 {

@@ -1,4 +1,4 @@
-//! Files and a sink in memory, which tell all that they hold.
+//! Files and a sink in memory. All that they hold is known.
 ghost use Rattle.std.specs.Prelude.{◌≡◌, ◌≢◌, ◌≤◌, ◌<◌, ◌+◌, ◌-◌, ◌^◌, ◌++◌, ◌∷◌, ◌↔◌, ℕ, List, [], Some, None, Err, OnOk, OnErr, IfOk, IfSome, IfNone, IsErr, IsErrOf, IsSome, is_ok, length, take, min, vec_len, vec_capacity, option_map, if◌then◌else◌, false};
 ghost use Rattle.memory_links.specs.Memory.{file_of, told_of, fails_in, IsPlace, is_named, read_of, create_of, append_of, after_append, Answers, Reads, faults_after};
 ghost use Rattle.link_traits.specs.Counts.{one_more};
@@ -11,20 +11,20 @@ use std::alloc::{AllocError, Global};
 /// A file in memory.
 #[derive(Drop)]
 pub struct MemFile {
-    /// The path that it is read and written by.
+    /// The path by which it is read and written.
     pub path: String,
-    /// What it holds.
+    /// The bytes that it holds.
     pub bytes: Vec<u8>,
     /// Whether each call on it fails.
     pub fails: bool,
 }
 
-/// What appends to files in memory answer, by their numbers from 1.
+/// The results of appends to files in memory, by the numbers of the appends, from 1.
 #[derive(Clone, Copy, Debug)]
 pub struct Appends {
-    /// How many were made, up to the greatest `u64`.
+    /// The number of appends that were made, up to the greatest `u64`.
     pub made: u64,
-    /// The most bytes that one takes. One of a piece that has bytes takes at least one byte.
+    /// The maximum number of bytes that one takes. An append of a piece that isn't empty takes at least one byte.
     pub most: usize,
     /// The number of the one that fails, if any.
     pub fails: Option<u64>,
@@ -32,7 +32,7 @@ pub struct Appends {
     pub refused: Option<u64>,
 }
 
-/// Files in memory. Of two with one path the first is read and written.
+/// Files in memory. If two have the same path, the first is read and written.
 #[derive(Drop)]
 pub struct MemFiles {
     /// The files, in order.
@@ -41,12 +41,12 @@ pub struct MemFiles {
     pub faults: u64,
     /// The paths that were read.
     pub reads: ReadPaths,
-    /// What appends answer.
+    /// The results of appends.
     pub appends: Appends,
 }
 
 impl MemFiles {
-    /// These files, on which no call was made. An append takes its whole piece.
+    /// These files, before any call. An append takes its whole piece.
     pub fn new(files: Vec<MemFile>) -> MemFiles
         ensures files { result.files.items ≡ files.items }
         ensures faults { result.faults ≡ 0 }
@@ -95,7 +95,7 @@ fn place_of(files: &[MemFile], path: &str) -> Option<usize>
     None
 }
 
-/// Whether an append that is made at this place is the one that is named.
+/// Whether an append with this number is the one that is named.
 fn is_named(named: Option<u64>, place: u64) -> bool
     ensures { result ≡ is_named named place }
 {
@@ -105,7 +105,7 @@ fn is_named(named: Option<u64>, place: u64) -> bool
     }
 }
 
-/// What an append of this many bytes answers, unless memory is refused.
+/// The result of an append of this many bytes, unless memory is refused.
 fn append_answer(appends: Appends, len: usize, file: Option<&MemFile>) -> Result<usize, FileFault>
     ensures { result ≡ append_of appends len (option_map (λ f. f.now) file.entry) }
 {
@@ -125,7 +125,7 @@ fn append_answer(appends: Appends, len: usize, file: Option<&MemFile>) -> Result
     Ok(len.min(appends.most.max(1)))
 }
 
-/// Whether each call on a file fails, where there is one.
+/// Whether each call on a file fails, if there is one.
 fn is_failing(file: Option<&MemFile>) -> bool
     ensures { result ≡ fails_in (option_map (λ f. f.now) file.entry) }
 {
@@ -135,7 +135,7 @@ fn is_failing(file: Option<&MemFile>) -> bool
     }
 }
 
-/// Puts bytes at the end of the first file with this path, if there is one.
+/// Appends bytes to the first file with this path, if there is one.
 fn extend(files: &mut Vec<MemFile>, path: &str, bytes: &[u8]) -> Result<(), AllocError>
     ensures ok { OnOk result (told_of files.new.items path.now ≡ added bytes.now (told_of files.old.items path.now)) }
     ensures err { OnErr result ((p : List ℕ) → told_of files.new.items p ≡ told_of files.old.items p) }
@@ -164,7 +164,7 @@ fn make_empty(files: &mut Vec<MemFile>, path: &str) -> Result<(), AllocError>
     add_file(files, path)
 }
 
-/// Adds a file that holds no bytes, behind those that are there.
+/// Adds a file without bytes, after the others.
 fn add_file(files: &mut Vec<MemFile>, path: &str) -> Result<(), AllocError>
     requires new { file_of files.old.items path.now ≡ None }
     ensures ok { OnOk result (told_of files.new.items path.now ≡ Some []) }
@@ -185,14 +185,14 @@ fn add_file(files: &mut Vec<MemFile>, path: &str) -> Result<(), AllocError>
 impl Files for MemFiles {
     ghost view = { λ m. record { told = told_of m.files.items; faults = m.faults; reads = m.reads.paths } };
 
-    /// It fails where no file has the path, and where the first that has it fails; else it is refused as too long where
-    /// the file has more bytes than the limit.
+    /// It fails if no file has the path, and if the first file with it fails; otherwise the file is too long if it has
+    /// more bytes than the limit.
     fn read(&mut self, path: &str, limit: usize, into: &mut Vec<u8>) -> Result<(), FileFault>
         ensures reads { Reads (read_of limit (file_of self.old.files.items path.now)) result into.old.items into.new.items }
         ensures faults { self.new.faults ≡ faults_after (read_of limit (file_of self.old.files.items path.now)) self.old.faults }
         ensures files { self.new.files.items ≡ self.old.files.items }
 
-        // What the trait says.
+        // The clauses of the trait.
         ensures given { OnOk result (Given limit (told_of self.old.files.items path.now) into.old.items into.new.items) }
         ensures too_long { IsErrOf result FileFault.TooLong → IfSome (told_of self.old.files.items path.now) (λ bytes. limit < length bytes) }
         ensures cause { IsErrOf result FileFault.Failed → Rose self.old.faults self.new.faults }
@@ -219,7 +219,7 @@ impl Files for MemFiles {
         }
     }
 
-    /// It fails exactly where the first file with the path fails.
+    /// It fails exactly if the first file with the path fails.
     fn create(&mut self, path: &str) -> Result<(), FileFault>
         ensures answer { Answers (create_of (file_of self.old.files.items path.now)) result }
         ensures created { OnOk result (told_of self.new.files.items path.now ≡ Some []) }
@@ -227,7 +227,7 @@ impl Files for MemFiles {
         ensures failing { (p : List ℕ) → fails_in (file_of self.new.files.items p) ≡ fails_in (file_of self.old.files.items p) }
         ensures appends { self.new.appends ≡ self.old.appends }
 
-        // What the trait says.
+        // The clauses of the trait.
         ensures empty { OnOk result (IfSome (told_of self.new.files.items path.now) (λ bytes. bytes ≡ [])) }
         ensures tells { IsSome (told_of self.old.files.items path.now) → IsSome (told_of self.new.files.items path.now) }
         ensures others { (p : List ℕ) → p ≢ path.now → told_of self.new.files.items p ≡ told_of self.old.files.items p }
@@ -247,14 +247,14 @@ impl Files for MemFiles {
         }
     }
 
-    /// It fails where no file has the path, where the first that has it fails, and where it is the one that is to fail.
+    /// It fails if no file has the path, if the first file with it fails, and if it is the append that must fail.
     fn append(&mut self, path: &str, piece: &[u8]) -> Result<usize, FileFault>
         ensures answer { Answers (append_of self.old.appends (length piece.now) (file_of self.old.files.items path.now)) result }
         ensures faults { self.new.faults ≡ faults_after (append_of self.old.appends (length piece.now) (file_of self.old.files.items path.now)) self.old.faults }
         ensures failing { (p : List ℕ) → fails_in (file_of self.new.files.items p) ≡ fails_in (file_of self.old.files.items p) }
         ensures appends { self.new.appends ≡ after_append self.old.appends }
 
-        // What the trait says.
+        // The clauses of the trait.
         ensures added { IfOk result (λ n. told_of self.new.files.items path.now ≡ added (take n piece.now) (told_of self.old.files.items path.now)) }
         ensures within { IfOk result (λ n. n ≤ length piece.now) }
         ensures progress { IfOk result (λ n. 0 < length piece.now → 0 < n) }
@@ -281,12 +281,12 @@ impl Files for MemFiles {
     }
 }
 
-/// A sink in memory. It takes as many bytes as it has room for, and fails where it has none left.
+/// A sink in memory. It takes as many bytes as it has room for, and fails if it has none left.
 #[derive(Drop)]
 pub struct MemSink {
-    /// What was written.
+    /// The bytes that were written.
     pub bytes: Vec<u8>,
-    /// How many bytes it still takes, for which memory is reserved.
+    /// The number of bytes that it still takes. Memory for them is reserved.
     pub room: usize,
     /// How many writes have failed, up to the greatest `u64`.
     pub faults: u64,
@@ -311,7 +311,7 @@ impl MemSink {
 impl Sink for MemSink {
     ghost view = { λ m. record { told = Some m.bytes.items; faults = m.faults } };
 
-    /// It fails where the piece has bytes and no room is left, and else takes as many bytes as there is room for.
+    /// It fails if the piece has bytes and no room is left. Otherwise it takes as many bytes as there is room for.
     fn write(&mut self, piece: &[u8]) -> Result<usize, SinkFault>
         ensures fails { IsErr result ↔ ((0 < length piece.now) × (self.old.room ≡ 0)) }
         ensures answer { IfOk result (λ n. n ≡ min (length piece.now) self.old.room) }
@@ -319,7 +319,7 @@ impl Sink for MemSink {
         ensures room { self.new.room ≡ self.old.room - length piece.now }
         ensures faults { self.new.faults ≡ (if is_ok result then self.old.faults else one_more self.old.faults) }
 
-        // What the trait says.
+        // The clauses of the trait.
         ensures took { IfOk result (λ n. Some self.new.bytes.items ≡ added (take n piece.now) (Some self.old.bytes.items)) }
         ensures within { IfOk result (λ n. n ≤ length piece.now) }
         ensures progress { IfOk result (λ n. 0 < length piece.now → 0 < n) }

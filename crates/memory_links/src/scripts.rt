@@ -1,8 +1,8 @@
-//! What happens at a net in memory.
+//! The scripts of nets in memory.
 //!
-//! A script has steps, in the order in which they happen: clients arrive, bytes come, links end. Beside them stands what goes
-//! otherwise: the first, the second or a later call of a kind fails, is refused memory or isn't ready, and a link takes no more
-//! than so many bytes, in each write or in all.
+//! A script has steps, in the order in which they happen: clients arrive, bytes are received, links end. Beside them it
+//! has exceptions: the first, the second or a later call of a kind fails, is refused memory or isn't ready, and a link
+//! takes at most a certain number of bytes, in each write or in all.
 ghost use Rattle.std.specs.Prelude.{◌≡◌, ◌≢◌, ◌≤◌, ◌<◌, ◌+◌, ◌↔◌, ℕ, false, length, IfSome, IfNone, Contains, IsTrue, OnOk, OnErr};
 ghost use Rattle.memory_links.specs.Scripts.{IsWished, hint_of, comes_on as is_of, is_end, ends_next};
 
@@ -10,10 +10,10 @@ use link_traits::links::{Link, Ready};
 use link_traits::tables::{LinkTable, is_same};
 use std::alloc::{AllocError, Global};
 
-/// A call that answers otherwise than by the steps, told by its place among the calls of its kind on the net, from 1.
+/// A call whose result isn't that of the steps, given by its place among the calls of its kind on the net, from 1.
 ///
-/// A call that fails or is refused memory takes and gives nothing, and is done. One that isn't ready leaves what there is to a
-/// later call, for which it is named again.
+/// A call that fails or is refused memory takes and gives nothing. After one that isn't ready, the event is named
+/// again, for a later call.
 #[derive(Clone, Copy, Debug, PartialEq, Eq)]
 pub enum Exception {
     PrepareFails(u64),
@@ -32,43 +32,43 @@ pub enum Exception {
     WriteNotReady(u64),
 }
 
-/// What happens.
+/// An event.
 #[derive(Clone, Copy)]
 enum Event {
     /// A client arrives at a listener.
     Arrival(u32),
-    /// The bytes of the script between two places come on a link.
+    /// The bytes of the script between two places are received on a link.
     Piece(Link, usize, usize),
     /// A link ends.
     End(Link),
-    /// A link that wasn't ready to be written is.
+    /// A link that wasn't ready to be written is ready again.
     Room(Link),
-    /// Nothing more: it was taken.
+    /// Nothing: the event was taken.
     Over,
 }
 
-/// An event, and whether a wait named it. It is named again where a call left some of it.
+/// An event, and whether a wait named it. It is named again if a call left a part of it.
 #[derive(Clone, Copy)]
 struct Step {
     event: Event,
     named: bool,
 }
 
-/// A link that takes at most so many bytes a write.
+/// A link that takes at most `most` bytes in a write.
 #[derive(Clone, Copy)]
 struct Pace {
     link: Link,
     most: usize,
 }
 
-/// A link that takes so many bytes more, and then fails.
+/// A link that takes `left` more bytes, and then fails.
 #[derive(Clone, Copy)]
 struct Limit {
     link: Link,
     left: usize,
 }
 
-/// What comes of a link.
+/// What is read of a link.
 #[derive(Clone, Copy)]
 pub enum Coming {
     Bytes(usize),
@@ -76,7 +76,7 @@ pub enum Coming {
     Nothing,
 }
 
-/// What happens at a net in memory. It is made step by step, and then given to the net.
+/// What happens at a net in memory. A script is made step by step, and then given to the net.
 #[derive(Drop)]
 pub struct Script {
     bytes: Vec<u8>,
@@ -89,7 +89,7 @@ pub struct Script {
 impl Script {
     ghost use Rattle.memory_links.specs.Scripts.{script_of, nothing_said, then_happens, then_comes, then_excepts, then_paces, then_limits};
 
-    /// Nothing happens, and nothing goes otherwise.
+    /// A script without steps and exceptions.
     pub fn new(alloc: Global) -> Script
         ensures { script_of result ≡ nothing_said }
     {
@@ -113,7 +113,7 @@ impl Script {
         Ok(())
     }
 
-    /// Then a client arrives at a listener.
+    /// Adds a step: a client arrives at a listener.
     pub fn arrival(&mut self, listener: u32) -> Result<(), AllocError>
         ensures ok { OnOk result (script_of self.new ≡ then_happens (Event.Arrival listener) (script_of self.old)) }
         ensures err { OnErr result (script_of self.new ≡ script_of self.old) }
@@ -121,7 +121,7 @@ impl Script {
         self.add(Event::Arrival(listener))
     }
 
-    /// Then a piece comes on a link. Each piece is read by itself. One without bytes is none.
+    /// Adds a step: a piece is received on a link. Each piece is read by itself. An empty piece adds nothing.
     pub fn piece(&mut self, link: Link, bytes: &[u8]) -> Result<(), AllocError>
         ensures ok { OnOk result (script_of self.new ≡ then_comes link bytes.now (script_of self.old)) }
         ensures err { OnErr result (script_of self.new ≡ script_of self.old) }
@@ -140,7 +140,7 @@ impl Script {
         Ok(())
     }
 
-    /// Then a link ends.
+    /// Adds a step: a link ends.
     pub fn end(&mut self, link: Link) -> Result<(), AllocError>
         ensures ok { OnOk result (script_of self.new ≡ then_happens (Event.End link) (script_of self.old)) }
         ensures err { OnErr result (script_of self.new ≡ script_of self.old) }
@@ -148,7 +148,7 @@ impl Script {
         self.add(Event::End(link))
     }
 
-    /// A call answers otherwise.
+    /// Adds an exception.
     pub fn except(&mut self, exception: Exception) -> Result<(), AllocError>
         ensures ok { OnOk result (script_of self.new ≡ then_excepts exception (script_of self.old)) }
         ensures err { OnErr result (script_of self.new ≡ script_of self.old) }
@@ -157,7 +157,7 @@ impl Script {
         Ok(())
     }
 
-    /// A link takes at most so many bytes a write. One that takes none is never ready to be written.
+    /// Lets a link take at most `most` bytes in a write. If it takes none, it is never ready to be written.
     pub fn pace(&mut self, link: Link, most: usize) -> Result<(), AllocError>
         ensures ok { OnOk result (script_of self.new ≡ then_paces link most (script_of self.old)) }
         ensures err { OnErr result (script_of self.new ≡ script_of self.old) }
@@ -166,7 +166,7 @@ impl Script {
         Ok(())
     }
 
-    /// A link takes so many bytes in all, and then each write of it fails.
+    /// Lets a link take this number of bytes in all. Each later write of it fails.
     pub fn limit(&mut self, link: Link, bytes: usize) -> Result<(), AllocError>
         ensures ok { OnOk result (script_of self.new ≡ then_limits link bytes (script_of self.old)) }
         ensures err { OnErr result (script_of self.new ≡ script_of self.old) }
@@ -175,14 +175,14 @@ impl Script {
         Ok(())
     }
 
-    /// Takes the memory for what is added while it runs: a step for each exception.
+    /// Reserves memory for what is added while the net runs: a step for each exception.
     pub(crate) fn reserve(&mut self) -> Result<(), AllocError>
         ensures { script_of self.new ≡ script_of self.old }
     {
         self.steps.reserve(self.exceptions.len())
     }
 
-    /// Whether a call answers otherwise.
+    /// Whether the script has an exception.
     pub(crate) fn has(&self, exception: Exception) -> bool
         ensures { IsTrue result ↔ Contains self.now.exceptions.items exception }
     {
@@ -194,7 +194,7 @@ impl Script {
         false
     }
 
-    /// How many bytes a link takes a write.
+    /// The number of bytes that a link takes in a write.
     fn pace_of(&self, link: Link) -> usize {
         for pace in &self.paces {
             if is_same(pace.link, link) {
@@ -204,7 +204,7 @@ impl Script {
         usize::MAX
     }
 
-    /// How many bytes the next write may take on a link, or `None` where it is to fail.
+    /// The number of bytes that the next write on a link may take, or `None` if it must fail.
     pub(crate) fn room_of(&self, link: Link) -> Option<usize> {
         let most = self.pace_of(link);
         for limit in &self.limits {
@@ -219,7 +219,7 @@ impl Script {
         Some(most)
     }
 
-    /// A write on a link took so many bytes.
+    /// Counts bytes that a write on a link took.
     pub(crate) fn took(&mut self, link: Link, bytes: usize) {
         for place in 0..self.limits.len() {
             let limit = self.limits[place];
@@ -230,7 +230,8 @@ impl Script {
         }
     }
 
-    /// A link that wasn't ready to be written is ready again, once all else was named. It takes no memory where `reserve` took it.
+    /// Adds a step: a link that wasn't ready to be written is ready again, after all else was named. It allocates
+    /// nothing after `reserve`.
     pub(crate) fn again(&mut self, link: Link) {
         let _ = self.steps.push(Step {
             event: Event::Room(link),
@@ -238,7 +239,7 @@ impl Script {
         });
     }
 
-    /// What is named next: the first that wasn't named yet, and for which there is a wish.
+    /// The event that is named next: the first that wasn't named yet and for which there is a wish.
     pub(crate) fn next(&mut self, table: &LinkTable) -> Option<Ready>
         ensures { IfSome result (IsWished table.now) }
     {
@@ -266,7 +267,7 @@ impl Script {
         None
     }
 
-    /// Takes a client that arrived at a listener, and answers whether there was one.
+    /// Takes a client that arrived at a listener, and returns whether there was one.
     pub(crate) fn take_arrival(&mut self, listener: u32) -> bool {
         match self.arrival_at(listener) {
             Some(place) => {
@@ -277,14 +278,14 @@ impl Script {
         }
     }
 
-    /// The first arrival at a listener is named again.
+    /// Lets the first arrival at a listener be named again.
     pub(crate) fn name_arrival_again(&mut self, listener: u32) {
         if let Some(place) = self.arrival_at(listener) {
             self.steps[place].named = false;
         }
     }
 
-    /// What comes next on a link, and its place.
+    /// What is next on a link, and its place.
     fn next_on(&self, link: Link) -> Option<(usize, Event)>
         ensures some { IfSome result (λ next. (next.0 < length self.now.steps.items) × (is_end next.1 ≡ ends_next link self.now.steps.items)) }
         ensures none { IfNone result (ends_next link self.now.steps.items ≡ false) }
@@ -301,14 +302,14 @@ impl Script {
         None
     }
 
-    /// What comes next on a link is named again.
+    /// Lets what is next on a link be named again.
     pub(crate) fn name_again(&mut self, link: Link) {
         if let Some((place, _)) = self.next_on(link) {
             self.steps[place].named = false;
         }
     }
 
-    /// Reads the front of what comes next on a link, at most so many bytes of a piece. The end of a link stays next.
+    /// Reads the beginning of what is next on a link, at most `most` bytes of a piece. The end of a link stays next.
     pub(crate) fn read(&mut self, link: Link, into: &mut [u8], most: usize) -> Coming
         ensures end { (result ≡ Coming.End) ↔ IsTrue (ends_next link self.old.steps.items) }
         ensures within { (n : ℕ) → result ≡ Coming.Bytes n → n ≤ length into.new }
@@ -325,7 +326,7 @@ impl Script {
         }
     }
 
-    /// Reads the front of the bytes between two places, which come at a step, and leaves the rest to it.
+    /// Reads the beginning of the bytes between two places, and leaves the rest to the step.
     fn read_piece(
         &mut self,
         place: usize,
@@ -380,7 +381,7 @@ fn rest_of(link: Link, from: usize, end: usize) -> Step {
     }
 }
 
-/// Whether there is a listener, or a link with the wish, that an event may be named for.
+/// Whether the event has its wish: a listener is there, or a link is watched for it.
 fn is_wished(table: &LinkTable, event: Event) -> bool
     ensures { IsTrue result → IfSome (hint_of event) (IsWished table.now) }
 {
@@ -398,7 +399,7 @@ fn is_wished(table: &LinkTable, event: Event) -> bool
     }
 }
 
-/// What is named for an event.
+/// What a wait returns for an event.
 fn hint(event: Event) -> Option<Ready>
     ensures { result ≡ hint_of event }
 {

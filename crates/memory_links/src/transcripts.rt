@@ -1,4 +1,4 @@
-//! What the calls of a net in memory answered.
+//! The journal of a net in memory.
 ghost use Rattle.std.specs.Prelude.{◌≡◌, ◌≤◌, ◌<◌, ◌-◌, [], ◌∷◌, length, true, false, IfOk};
 ghost use Rattle.link_traits.specs.Journals.{written, written_by};
 ghost use Rattle.memory_links.specs.Transcripts.{entry_of, bytes_of};
@@ -8,7 +8,7 @@ use link_traits::tables::is_same;
 use std::alloc::{AllocError, Global};
 use std::marker::Model;
 
-/// What one call answered, without its path or its bytes.
+/// The result of one call, without its path or its bytes.
 #[derive(Clone, Copy)]
 pub enum Note {
     Listened(u32),
@@ -24,15 +24,15 @@ pub enum Note {
     Shut(Link),
 }
 
-/// A note, and how many bytes it has.
+/// A note, and the number of its bytes.
 #[derive(Clone, Copy)]
 pub struct Noted {
     pub note: Note,
     pub length: usize,
 }
 
-/// The notes of a net's calls, in the order of the calls, and their bytes one after another. Memory for
-/// both is taken when it is made.
+/// The notes of a net's calls, in the order of the calls, and their bytes one after another. Memory for both is taken
+/// when it is made.
 #[derive(Drop)]
 pub struct Transcript {
     notes: Vec<Noted>,
@@ -75,7 +75,7 @@ fn written_part(link: Link, note: Note, bytes: &[u8]) -> &[u8]
 impl Transcript {
     ghost use Rattle.memory_links.specs.Transcripts.{is_spent, ceased, with_entry};
 
-    /// Nothing yet, with room for so many entries and bytes, for which memory is taken at once.
+    /// An empty transcript, with room for this number of entries and bytes. Memory for them is taken at once.
     pub fn new(alloc: Global, entries: usize, bytes: usize) -> Result<Transcript, AllocError>
         ensures { IfOk result (λ t. t ≡ record { tells = true; entries = []; entries_left = entries; bytes_left = bytes }) }
     {
@@ -95,28 +95,28 @@ impl Transcript {
         self.entries_left == 0 || self.bytes_left == 0
     }
 
-    /// For how many entries there is room.
+    /// The number of entries for which there is room.
     pub fn entries_left(&self) -> usize
         ensures { result ≡ self.now.entries_left }
     {
         self.entries_left
     }
 
-    /// For how many bytes there is room.
+    /// The number of bytes for which there is room.
     pub fn bytes_left(&self) -> usize
         ensures { result ≡ self.now.bytes_left }
     {
         self.bytes_left
     }
 
-    /// Tells nothing from now on.
+    /// Ends the journal: it is no longer kept.
     pub fn cease(&mut self)
         ensures { self.new ≡ ceased self.old }
     {
         self.tells = false;
     }
 
-    /// Adds what a call answered, which takes no memory.
+    /// Adds the result of a call, which takes no memory.
     pub fn add(&mut self, note: Note, bytes: &[u8])
         requires entry { 0 < self.old.entries_left }
         requires bytes { length bytes.now ≤ self.old.bytes_left }
