@@ -1,4 +1,4 @@
--- A text in parts: the first, and those behind it.
+-- A text in parts: the first, and those after it.
 use Rattle.std.proofs.Common.{◌≡◌, ℕ, suc, ◌+◌, ◌≤◌, ◌<◌, Bool, true, false, not, cond, ◌||◌, ◌==◌, List, [], ◌∷◌, length, Some, None, refl, ap, sym, ◌∙◌, arith, length-drop}
 use Rattle.std.specs.List.{list_any, after_first, onto_first, position_or_len}
 use Rattle.std.proofs.lemmas.List.{take_all}

@@ -1,4 +1,4 @@
--- The patterns of entries, kept by their keys and the numbers of the entries in which they stand first.
+-- The patterns of entries, kept by their keys and the numbers of the first entries that have them.
 use Rattle.std.proofs.Common.{◌≡◌, ℕ, zero, suc, ◌+◌, ◌-◌, ◌≤◌, ◌<◌, Bool, true, false, ◌||◌, List, [], ◌∷◌, ◌++◌, length, map, Option, Some, None, slice_get, if◌then◌else◌, String, string_bytes, refl, ap, ap₂, sym, ◌∙◌, subst, arith, length-append, add-one}
 use Rattle.std.specs.Prelude.{◌&&◌, not, option_map}
 use Rattle.std.specs.List.{list_all, list_any}
@@ -19,7 +19,7 @@ use Rattle.policy_args.specs.Distinct.{AreOf, Distinct, noted, pattern_at, patte
 
 -- ---- keys
 
--- two patterns are the same where their keys are
+-- two patterns are equal if their keys are
 pub same-key : (a b : Pattern) → same_pattern a b ≡ bytes_eq (pattern_key a) (pattern_key b)
 same-key a b = by a.exact b.exact
   where
@@ -63,7 +63,7 @@ abbrev tail_of : List (Option Pattern) → List (Option Pattern)
 tail_of [] = []
 tail_of (x ∷ xs) = xs
 
--- what stands first stays first
+-- the first entry of a pattern stays the first
 stays : (es : List Entry) (e : Entry) (ns : List ℕ) (ps : List Pattern) → map (pattern_at es) ns ≡ map Some ps → map (pattern_at (es ++ e ∷ [])) ns ≡ map Some ps
 stays es e [] [] same = refl
 stays es e [] (p ∷ ps) same = absurd cc
@@ -98,7 +98,7 @@ still-of es e d are = by (list_any (same_pattern e.pattern) (patterns_with [] es
               ∙ sym (map-append Some (patterns_with [] es) (e.pattern ∷ [])) ∙ ap (map Some) (sym more),
         )
 
--- ---- how many there are, and where each stands
+-- ---- the number of patterns, and the place of each
 
 tail : {A : Type 0} → List A → List A
 tail [] = []
@@ -129,7 +129,7 @@ pub few-patterns : (es : List Entry) → length (patterns_of es) ≤ length es
 unfolding patterns_of
 few-patterns es = let few = no-more [] es in omega arith
 
--- where the entries' patterns are in the grammar, those that are kept are
+-- if the entries' patterns are in the grammar, those that are kept are
 pub patterns-valid : (es : List Entry) → list_all (λ e. is_pattern e.pattern) es ≡ true → list_all is_pattern (patterns_of es) ≡ true
 unfolding patterns_of
 patterns-valid es valid = with-valid [] es refl valid
@@ -144,7 +144,7 @@ patterns-valid es valid = with-valid [] es refl valid
         one true last = kept
         one false last = list_all-append is_pattern ps (e.pattern ∷ []) ∙ and_from _ _ kept (and_from _ _ last refl)
 
--- the entry in which the pattern at a place stands first
+-- the first entry that has the pattern at a place
 pub record FirstAt (es : List Entry) (n : ℕ) (p : Option Pattern) : Type 0 where
   pub entry : Entry
   pub positive : 1 ≤ n
@@ -202,7 +202,7 @@ module _ {Z : Type 0} (keys : List (String Z)) (k : String Z) (key : List ℕ) (
       grown : Distinct
       grown = record { keys = map (λ s. string_bytes s) keys ++ key ∷ []; firsts = firsts ++ number ∷ [] }
 
-  -- one that stands there
+  -- the key is there
   pub key-stands : (d : Distinct) (new : List (String Z)) (firsts : List ℕ) (number : ℕ) → record { keys = map (λ s. string_bytes s) keys; firsts = firsts } ≡ d →
       list_any (string_eq k) keys ≡ true → new ≡ insert_key string_eq keys k → record { keys = map (λ s. string_bytes s) new; firsts = firsts } ≡ noted d key number
   key-stands d new firsts number is there inserted =

@@ -1,4 +1,4 @@
--- A word read, and those behind it.
+-- A word that is read, and those after it.
 use Rattle.std.proofs.Common.{◌≡◌, ℕ, ◌+◌, List, ◌∷◌, Result, Ok, Err, ap}
 use Rattle.policy_args.specs.declared.WordKind.{WordKind}
 use Rattle.policy_args.specs.Words.{◌>>=◌, at_word, each_word}

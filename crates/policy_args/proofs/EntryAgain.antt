@@ -69,7 +69,7 @@ text_other p e = go p.exact e
     go true e = joined_other p.name (and_parts (nat_le 2 (length (parts_at 46 p.name))) (are_joined is_bus_element p.name) (and_parts (is_short p.name) _ e).1).1
     go false e = both_other p.name (codes ".*") (joined_other p.name (and_parts (is_short p.name) (are_joined is_bus_element p.name) e).1) refl
 
--- ---- a text without '=', and one behind it
+-- ---- a text without '=', and one after it
 
 record Cut (name text : List ℕ) : Type 0 where
   stands : list_any is_equals (name ++ 61 ∷ text) ≡ true
@@ -119,7 +119,7 @@ rule_again read p grant r rule e k =
     (then_ok _ (λ y. Ok (record { pattern = p; grant = grant y })) r _
     (ap (λ (b : Bool). or_kind BadRule (cond b (read (after_first is_equals text)) None)) q.stands ∙ ap (λ (t : List ℕ). or_kind BadRule (read t)) q.after ∙ ap (or_kind BadRule) k) refl)
 
--- with entry_word-entry_of: words give one entry exactly where they are equal byte for byte
+-- with entry_word-entry_of: words give the same entry exactly if they are equal byte for byte
 pub entry_of-entry_word : (e : Entry) → InGrammar e → entry_of (entry_word e) ≡ Ok e
 entry_of-entry_word e g = by_word e.grant g.rule g.property_rule
   where

@@ -1,4 +1,4 @@
--- An entry has the word that gave it: so two words give one entry only where they are equal byte for byte.
+-- An entry has the word that gave it: so two words give the same entry only if they are equal byte for byte.
 use Rattle.std.proofs.Common.{◌≡◌, ℕ, suc, ◌+◌, Bool, true, false, cond, List, [], ◌∷◌, ◌++◌, take, drop, Option, Some, None, Result, Ok, Err, refl, sym, ap, ◌∙◌, arith}
 use Rattle.std.specs.Prelude.{codes, not, ◌==◌, ◌||◌}
 use Rattle.std.specs.List.{list_any, before_first, after_first, position_or_len}
@@ -24,7 +24,7 @@ ok x = Ok x
 abbrev some : {A : Type 0} → A → Option A
 some x = Some x
 
--- a text with '=' is what stands before it, '=', and what follows it
+-- a text with '=' is the text before it, '=', and the text after it
 cut_at_equals : (text : List ℕ) → list_any is_equals text ≡ true → before_first is_equals text ++ 61 ∷ after_first is_equals text ≡ text
 cut_at_equals [] e = absurd cc
 cut_at_equals (c ∷ text) e = go (c == 61) refl (cut_at_equals text) e
@@ -59,7 +59,7 @@ or_kind_is : {A : Type 0} (kind : WordKind) (o : Option A) (x : A) → or_kind k
 or_kind_is kind None x e = absurd cc
 or_kind_is kind (Some y) x e = ap (λ z. Some z) (ok_is y x e)
 
--- NAME alone
+-- only NAME
 name_entry_is : (grant : Grant) (front : List ℕ) (h : (p : Pattern) → entry_word (record { pattern = p; grant = grant }) ≡ front ++ pattern_text p) (name : List ℕ) (e : Entry) → name_entry grant name ≡ Ok e → entry_word e ≡ front ++ name
 name_entry_is grant front h name e r =
     result_bind (or_kind BadName (pattern_of name)) (λ p. Ok (record { pattern = p; grant = grant })) e r (λ p ep e1.
@@ -92,7 +92,7 @@ rule_entry_is read text_of spelled grant front h text e k =
     found true q r m = (q, spelled (after_first is_equals text) r m)
     found false q r m = absurd cc
 
--- one front of the table
+-- one prefix of the table
 front_is : (front w : List ℕ) (reading : List ℕ → Result Entry WordKind) (other : Result Entry WordKind) (e : Entry) → ((text : List ℕ) → reading text ≡ Ok e → entry_word e ≡ front ++ text) → (other ≡ Ok e → entry_word e ≡ w) → where_front (behind front w) reading other ≡ Ok e → entry_word e ≡ w
 front_is front w reading other e here there k = go (behind front w) refl k
   where

@@ -13,7 +13,7 @@ use Rattle.name_patterns.specs.Patterns.{covers}
 -- ---- tests of the entries by their numbers
 
 module _ (p test : Entry → Bool) (all : List Entry) where
-  -- the entries from number n on are those of the list that stand behind the first ones
+  -- the entries from number n on are those of the list after the first ones
   IsRest : ℕ → List Entry → Type 0
   IsRest n es = (i : ℕ) → slice_get es i ≡ entry_at all (n + i)
 

@@ -67,6 +67,6 @@ no-equals (c ∷ text) e = go (is_equals c) e (no-equals text)
 pub no-rule : (text : List ℕ) → position_or_len is_equals text ≡ length text → None ≡ rule_behind text
 no-rule text e = ap (λ b. cond b (Some (after_first is_equals text)) None) (sym (no-equals text e))
 
--- the word doesn't have this front
+-- the word doesn't have this prefix
 pub next_front : {A : Type 0} (front : Option (List ℕ)) (reading : List ℕ → Result A WordKind) (other read : Result A WordKind) → None ≡ front → other ≡ read → where_front front reading other ≡ read
 next_front front reading other read none e = ap (λ f. where_front f reading other) (sym none) ∙ e

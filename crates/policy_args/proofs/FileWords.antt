@@ -51,7 +51,7 @@ words-first bytes lt = elim (cases_lt (position_or_len is_nul bytes) (length byt
       ∙ ap₂ (λ (x : List ℕ) (ys : List ℕ). x ∷ without_last_empty (parts_at 0 ys)) (sym all) (sym behind)
 ]
 
--- the first word of a file, and those behind its NUL
+-- the first word of a file, and those after its NUL
 pub words-cut : (bytes word behind : List ℕ) → 0 < length bytes → word ≡ before_first is_nul bytes → behind ≡ after_first is_nul bytes →
     without_last_empty (parts_at 0 bytes) ≡ word ∷ without_last_empty (parts_at 0 behind)
 words-cut bytes word behind some front back =

@@ -1,4 +1,4 @@
--- What digits are worth.
+-- The value of digits.
 use Rattle.std.proofs.Common.{◌≡◌, ℕ, ◌+◌, ◌-◌, ◌*◌, ◌≤◌, ◌<◌, Bool, true, false, not, ◌&&◌, nat_le, nat_lt, ◌≢◌, ◌⊎◌, inl, inr, List, [], ◌∷◌, length, drop, get_or, Some, None, Ok, Err, if◌then◌else◌, refl, ap, ap₂, sym, ◌∙◌, arith}
 use Rattle.std.specs.Char.{is_ascii_digit}
 use Rattle.std.specs.List.{list_all}

@@ -1,4 +1,4 @@
--- What is permitted, by the entries' grants.
+-- What is permitted, in terms of the entries' grants.
 use Rattle.std.proofs.Common.{◌≡◌, Bool, true, false, ◌&&◌, ◌||◌, List, [], ◌∷◌, Some, if◌then◌else◌, refl, ap, ap₂, sym, ◌∙◌}
 use Rattle.std.specs.List.{list_any}
 use Rattle.dbus_names.specs.Names.{is_bus}

@@ -86,7 +86,7 @@ seen_left Own See h = refl
 seen_left Own Talk h = refl
 seen_left Own Own h = refl
 
--- entries give a name a level exactly where one covers it
+-- entries give a name a level exactly if one covers it
 pub seen_where_covered : (es : List Entry) (name : List ℕ) → at_least See (granted es name) ≡ list_any (λ e. covers e.pattern name) es
 seen_where_covered [] name = refl
 seen_where_covered (e ∷ es) name = by (covers e.pattern name) (seen_where_covered es name)

@@ -1,4 +1,4 @@
--- The parts of an address, one after the other, and the bytes that its path stands for.
+-- The parts of an address, one after the other, and the bytes that its path spells.
 use Rattle.std.proofs.Common.{◌≡◌, ℕ, ◌<◌, List, ◌∷◌, ◌++◌, Option, Some, None, refl, ap, sym, ◌∙◌, subst, append_assoc, append-nil}
 use Rattle.std.specs.Option.{option_or}
 use Rattle.policy_args.specs.Addresses.{first_some, join_parts, unescaped, unescaped_from, unescaped_part, unescaped_parts}

@@ -1,4 +1,4 @@
--- The word that gave an entry stands at the entry's place.
+-- The word of an entry is at the entry's place.
 use Rattle.std.proofs.Common.{◌≡◌, ℕ, List, Some, ap, sym, ◌∙◌, map, option_map, slice_get, string_bytes, String}
 use Rattle.std.proofs.lemmas.Option.{slice_get-map}
 use Rattle.policy_args.specs.Policy.{entry_word}

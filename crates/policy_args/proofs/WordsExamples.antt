@@ -65,7 +65,7 @@ beside_a_call : options_of (codes "--call=org.a.C=*" ∷ codes "--property=org.a
 unfolding options_of call_C any property_C
 beside_a_call = refl
 
--- NAME is looked at first, whatever follows
+-- NAME is checked first, whatever follows
 no_entries : map entry_of (codes "--call=org.a.C" ∷ codes "--call=org=x" ∷ codes "--call=org.a.C=Foo" ∷ codes "--see=org" ∷ codes "--talk=*" ∷ codes "--own=:1.5" ∷ codes "--sessions=1" ∷ codes "--filter" ∷ [])
     ≡ Err BadRule ∷ Err BadName ∷ Err BadRule ∷ Err BadName ∷ Err BadName ∷ Err BadName ∷ Err UnknownOption ∷ Err UnknownOption ∷ []
 no_entries = refl
@@ -86,7 +86,7 @@ log_of_filter : options_of (codes "--log" ∷ codes "--filter" ∷ codes "--log"
 unfolding options_of
 log_of_filter = refl
 
--- once or more means the same, and neither is an entry
+-- giving an option twice is the same as once, and neither gives an entry
 truth_values : options_of (codes "--sloppy-names" ∷ codes "--talk=org.a.T" ∷ codes "--sloppy-names" ∷ codes "--known-fields" ∷ codes "--start-called" ∷ []) ≡ Ok (record { filter = false; log = false; policy = policy_with (talk_T ∷ []) true true true })
 unfolding options_of talk_T
 truth_values = refl
@@ -149,7 +149,7 @@ bad_words : map line_of (after (codes "--talk=org" ∷ []) ∷ after (codes "--c
 unfolding line_of is_utf8 chars encode_utf8
 bad_words = refl
 
--- --record stands in any block, and the last one counts; its FILE isn't empty, and it is no word of a policy file
+-- --record may be in any block, and the last one counts; its FILE isn't empty, and it is no word of a policy file
 recorded : line_of (after (codes "--record=/a" ∷ codes "unix:path=/b" ∷ codes "/q" ∷ codes "--record=/b=c" ∷ []))
     ≡ Ok (record { blocks = record { address = codes "/a"; path = codes "/p"; options = record { filter = false; log = false; policy = policy_of [] } } ∷ record { address = codes "/b"; path = codes "/q"; options = record { filter = false; log = false; policy = policy_of [] } } ∷ []; sessions = 4294967295; record_to = Some (codes "/b=c"); starter = None; replaces = false })
 unfolding line_of is_utf8 chars encode_utf8
@@ -159,7 +159,7 @@ not_recorded : map line_of (after (codes "--record=" ∷ []) ∷ after (codes "-
 unfolding line_of is_utf8 chars encode_utf8
 not_recorded = refl
 
--- --fd and --replace stand in any block and before the first, and the last --fd counts
+-- --fd and --replace may be in any block and before the first, and the last --fd counts
 started : line_of (codes "--fd=35" ∷ codes "--replace" ∷ after (codes "--fd=0" ∷ []))
     ≡ Ok (record { blocks = record { address = codes "/a"; path = codes "/p"; options = no_options } ∷ []; sessions = 4294967295; record_to = None; starter = Some 0; replaces = true })
 unfolding line_of is_utf8 chars encode_utf8
@@ -180,7 +180,7 @@ for_all : line_of (codes "--start-called" ∷ codes "--known-fields" ∷ codes "
 unfolding line_of talk_T is_utf8 chars encode_utf8
 for_all = refl
 
--- .. and in a block for it alone
+-- .. and in a block only for that block
 for_one : line_of (codes "--known-fields" ∷ after (codes "--sloppy-names" ∷ codes "unix:path=/b" ∷ codes "/q" ∷ []))
     ≡ Ok (record { blocks = record { address = codes "/a"; path = codes "/p"; options = record { filter = false; log = false; policy = policy_with [] true true false } } ∷ record { address = codes "/b"; path = codes "/q"; options = record { filter = false; log = false; policy = policy_with [] false true false } } ∷ []; sessions = 4294967295; record_to = None; starter = None; replaces = false })
 unfolding line_of is_utf8 chars encode_utf8

@@ -9,7 +9,7 @@ use Rattle.dbus_names.specs.Texts.{behind}
 
 -- ---- %XX
 
--- two hexadecimal digits and then bytes as they are
+-- a byte from two hexadecimal digits, and then bytes as they are
 abbrev pub unescaped_part : List ℕ → Option (List ℕ)
 unescaped_part (a ∷ b ∷ text) = if is_ascii_hexdigit a && is_ascii_hexdigit b then Some ((digit_value a * 16 + digit_value b) ∷ text) else None
 unescaped_part _ = None
@@ -32,12 +32,12 @@ unescaped text = unescaped_from (parts_at 37 text)
 
 -- ---- an address
 
--- the first that a test finds something in
+-- the first result that a test finds
 abbrev pub first_some : {A : Type 0} → (List ℕ → Option A) → List (List ℕ) → Option A
 first_some test [] = None
 first_some test (x ∷ xs) = option_or (test x) (first_some test xs)
 
--- the first path among pairs that commas join
+-- the first path among pairs that are joined by commas
 abbrev pub path_among : List ℕ → Option (List ℕ)
 path_among pairs = first_some (behind (codes "path=")) (parts_at 44 pairs)
 
@@ -52,10 +52,10 @@ is_bus_path path = not (is_empty path) && list_all (nat_lt 0) path && is_utf8 pa
 abbrev pub bus_path_where : List ℕ → Option (List ℕ)
 bus_path_where path = if is_bus_path path then Some path else None
 
--- the path that the text of a path stands for
+-- the path that this text spells
 abbrev pub bus_path_of : List ℕ → Option (List ℕ)
 bus_path_of text = option_and_then bus_path_where (unescaped text)
 
--- the bus's path that a list of addresses gives, which semicolons join
+-- the bus's path in a list of addresses, which are joined by semicolons
 abbrev pub bus_path : List ℕ → Option (List ℕ)
 bus_path text = option_and_then bus_path_of (first_some path_in (parts_at 59 text))

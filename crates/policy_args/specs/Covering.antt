@@ -9,7 +9,7 @@ use Rattle.policy_args.specs.declared.entry.Entry.{Entry}
 abbrev pub AreCovering : List Entry → List ℕ → List ℕ → Type 0
 AreCovering entries name numbers = IsPermutation (numbers_where (λ e. covers e.pattern name) 1 entries) numbers
 
--- the numbers, from one on, of the entries that cover the name, ascending
+-- the numbers, from a number on, of the entries that cover the name, ascending
 abbrev pub covering_from : List Entry → List ℕ → ℕ → List ℕ
 covering_from entries name from = numbers_where (λ e. covers e.pattern name) from (drop (from - 1) entries)
 
@@ -21,7 +21,7 @@ abbrev pub passes : (Entry → Bool) → Option Entry → Bool
 passes test None = false
 passes test (Some e) = test e
 
--- the entry of the number is one that passes the test
+-- the entry with the number passes the test
 abbrev pub passes_at : (Entry → Bool) → List Entry → ℕ → Bool
 passes_at test entries number = passes test (entry_at entries number)
 

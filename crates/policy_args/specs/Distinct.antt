@@ -1,4 +1,4 @@
--- How a policy keeps its patterns: each once, by a key, with the number of the entry in which it stands first.
+-- How a policy keeps its patterns: each once, by a key, with the number of the first entry that has it.
 use Rattle.std.specs.Prelude.{◌≡◌, ℕ, List, [], ◌∷◌, ◌++◌, map, Option, Some, option_map, if◌then◌else◌, bytes_eq}
 use Rattle.std.specs.List.{list_any}
 use Rattle.name_patterns.specs.Patterns.{Pattern}
@@ -16,7 +16,7 @@ pub record Distinct : Type 0 where
 abbrev pub no_patterns : Distinct
 no_patterns = record { keys = []; firsts = [] }
 
--- one key more, unless it stands there already
+-- one more key, unless it is there already
 abbrev pub noted : Distinct → List ℕ → ℕ → Distinct
 noted d key number =
     if list_any (bytes_eq key) d.keys then d else record { keys = d.keys ++ key ∷ []; firsts = d.firsts ++ number ∷ [] }

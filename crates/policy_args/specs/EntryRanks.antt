@@ -1,4 +1,4 @@
--- How a policy's index sees the entries: by their patterns, each with a rank.
+-- The entries as a policy's index has them: their patterns, each with a rank.
 use Rattle.std.specs.Prelude.{ℕ, ◌==◌, map, List, if◌then◌else◌}
 use Rattle.name_patterns.specs.Ranks.{Ranked}
 use Rattle.policy_args.specs.Policy.{given_by}

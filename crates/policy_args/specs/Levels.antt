@@ -1,4 +1,4 @@
--- The level of a name or a unique id by the facts that are known, and the entries that cover it.
+-- The level of a name or a unique name, given the known facts, and the entries that cover it.
 use Rattle.std.specs.Prelude.{ℕ, ◌+◌, Bool, false, ◌&&◌, ◌||◌, List, [], ◌∷◌, if◌then◌else◌}
 use Rattle.std.specs.Str.{bytes_eq}
 use Rattle.std.specs.List.{list_any}

@@ -41,7 +41,7 @@ given_by (to_call r) = See
 given_by (to_broadcast r) = See
 given_by (to_property r) = See
 
--- the word that gives the entry
+-- the word of the entry
 abbrev pub entry_word_by : List ℕ → Grant → List ℕ
 entry_word_by name to_see = codes "--see=" ++ name
 entry_word_by name to_talk = codes "--talk=" ++ name
@@ -53,7 +53,7 @@ entry_word_by name (to_property r) = codes "--property=" ++ name ++ 61 ∷ r.tex
 abbrev pub entry_word : Entry → List ℕ
 entry_word e = entry_word_by (pattern_text e.pattern) e.grant
 
--- an entry that a word can give: its name is one, and its rule is what the rule's text says
+-- an entry that a word can give: its name is in the grammar, and its rule is what the rule's text says
 pub record InGrammar (e : Entry) : Type 0 where
   pub pattern : is_pattern e.pattern ≡ true
   pub rule : (r : Rule) → (e.grant ≡ to_call r) ⊎ (e.grant ≡ to_broadcast r) → rule_of r.text ≡ Some r
@@ -66,7 +66,7 @@ is_given entries e = list_any (λ other. bytes_eq (entry_word other) (entry_word
 abbrev pub with_entry : List Entry → Entry → List Entry
 with_entry entries e = if is_given entries e then entries else entries ++ e ∷ []
 
--- the entry of a number, from 1
+-- the entry with a number, from 1
 abbrev pub entry_at : List Entry → ℕ → Option Entry
 entry_at entries zero = None
 entry_at entries (suc n) = slice_get entries n
@@ -76,7 +76,7 @@ entry_at entries (suc n) = slice_get entries n
 abbrev pub same_pattern : Pattern → Pattern → Bool
 same_pattern a b = bytes_eq a.name b.name && (if a.exact then b.exact else not b.exact)
 
--- one pattern more, unless it stands there already
+-- one more pattern, unless it is there already
 abbrev pub with_pattern : List Pattern → Pattern → List Pattern
 with_pattern patterns p = if list_any (same_pattern p) patterns then patterns else patterns ++ p ∷ []
 
@@ -103,11 +103,11 @@ pub record Policy : Type 0 where
 abbrev pub policy_with : List Entry → Bool → Bool → Bool → Policy
 policy_with entries sloppy known_fields start_called = record { entries = entries; sloppy = sloppy; known_fields = known_fields; start_called = start_called }
 
--- the policy that has these entries, and is nothing else
+-- the policy with these entries and nothing else
 abbrev pub policy_of : List Entry → Policy
 policy_of entries = policy_with entries false false false
 
--- the greatest level that the entries which cover the name give
+-- the greatest level that a covering entry gives the name
 abbrev pub granted : List Entry → List ℕ → Level
 granted [] name = NoLevel
 granted (e ∷ es) name = if covers e.pattern name then greater (given_by e.grant) (granted es name) else granted es name

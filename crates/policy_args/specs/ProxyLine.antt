@@ -24,14 +24,14 @@ digits_worth n (c ∷ text) = digits_worth (n * 10 + (c - 48)) text
 abbrev pub number_of : List ℕ → Option ℕ
 number_of text = if not (is_empty text) && list_all is_ascii_digit text && not (has_leading_zero text) then Some (digits_worth 0 text) else None
 
--- how many sessions are served: 1 to 1,000,000
+-- the number of served sessions: 1 to 1,000,000
 abbrev pub count_of : ℕ → Result ℕ WordKind
 count_of n = if nat_lt 0 n && nat_le n 1000000 then Ok n else Err BadNumber
 
 abbrev pub sessions_of : List ℕ → Result ℕ WordKind
 sessions_of text = or_kind BadNumber (number_of text) >>= count_of
 
--- the number of a file descriptor, which is an int and so 2,147,483,647 at most
+-- the number of a file descriptor, which is an int and so at most 2,147,483,647
 abbrev pub descriptor_within : Option ℕ → Option ℕ
 descriptor_within None = None
 descriptor_within (Some n) = if nat_le n 2147483647 then Some n else None
@@ -47,8 +47,8 @@ pub record BlockValue : Type 0 where
   pub path : List ℕ
   pub options : PolicyOptions
 
--- the blocks, how many sessions are served, the file that they are recorded in, the starter's descriptor, if there are these, and whether
--- sockets are replaced
+-- the blocks, the number of served sessions, the file in which they are recorded and the starter's descriptor, if there
+-- are these, and whether sockets are replaced
 pub record LineValue : Type 0 where
   pub blocks : List BlockValue
   pub sessions : ℕ
@@ -56,13 +56,14 @@ pub record LineValue : Type 0 where
   pub starter : Option ℕ
   pub replaces : Bool
 
--- what the words so far give, the options that a block begins with, and the bus's path of a block whose PATH is next
+-- what the words so far give, the options with which a block begins, and the bus's path of a block whose PATH is next
 pub record SoFar : Type 0 where
   pub line : LineValue
   pub first : PolicyOptions
   pub pending : Option (List ℕ)
 
--- without --sessions as many are served as there may be, without --record none is recorded, and without --fd there is no starter
+-- without --sessions the number of sessions isn't limited, without --record none is recorded, and without --fd there is
+-- no starter
 abbrev pub no_words : SoFar
 no_words = record { line = record { blocks = []; sessions = 4294967295; record_to = None; starter = None; replaces = false }; first = no_options; pending = None }
 
@@ -83,7 +84,7 @@ with_sessions s text = sessions_of text >>= λ n. Ok (record s { line = record (
 abbrev pub with_block_option : SoFar → List ℕ → Result SoFar WordKind
 with_block_option s w = in_last w s.line.blocks >>= λ blocks. Ok (record s { line = record (s.line) { blocks = blocks } })
 
--- the file that the sessions are recorded in
+-- the file in which the sessions are recorded
 abbrev pub with_record : SoFar → List ℕ → Result SoFar WordKind
 with_record s [] = Err UnknownOption
 with_record s (c ∷ path) = Ok (record s { line = record (s.line) { record_to = Some (c ∷ path) } })
@@ -103,7 +104,7 @@ line_option s w None = other_option s w
 
 -- ---- options before the first ADDRESS
 
--- the words that stand there, and then hold for every block
+-- the options that are allowed there and then hold for every block
 abbrev pub is_for_all : List ℕ → Bool
 is_for_all w = list_any (bytes_eq w) (codes "--sloppy-names" ∷ codes "--known-fields" ∷ codes "--start-called" ∷ [])
 
@@ -119,7 +120,8 @@ placed_option s w = if length s.line.blocks == 0 then first_option s w else line
 
 -- ---- options before the first ADDRESS and of any block
 
--- --args=FD is replaced by the words of a file before a line is read. One that still stands is no option, or its FD is no descriptor.
+-- --args=FD is replaced by the words of a file before a line is read. If one is left, it is no option, or its FD is no
+-- descriptor.
 abbrev pub args_option : SoFar → List ℕ → Option (List ℕ) → Result SoFar WordKind
 args_option s w (Some text) = if is_some (descriptor_of text) then placed_option s w else Err BadNumber
 args_option s w None = placed_option s w
@@ -150,13 +152,13 @@ option_word s w = starter_option s w (behind (codes "--fd=") w)
 abbrev pub line_address : SoFar → List ℕ → Result SoFar WordKind
 line_address s address = if length s.line.blocks == 65535 then Err TooMany else Ok (record s { pending = Some address })
 
--- a word where an ADDRESS or an option may stand
+-- a word in place of an ADDRESS or an option
 abbrev pub line_word : SoFar → List ℕ → Result SoFar WordKind
 line_word s w =
     if is_option w then option_word s w
     else (or_kind BadAddress (bus_path w) >>= line_address s)
 
--- a word where a PATH has to stand
+-- a word in place of a PATH
 abbrev pub line_path : SoFar → List ℕ → List ℕ → Result SoFar WordKind
 line_path s address w =
     if is_empty w || is_option w then Err NoPath

@@ -27,7 +27,7 @@ last_seen (Some b) = block_seen b ∷ []
 abbrev pub blocks_seen : List Block → Option Block → List BlockValue
 blocks_seen blocks last = map block_seen blocks ++ last_seen last
 
--- what is seen of a line that is being read, beside its blocks
+-- the model of a line that is being read, without its blocks
 abbrev pub rest_seen : {Z : Type 0} → ℕ → Option (String Z) → Option ℕ → Bool → LineValue
 rest_seen sessions record_to starter replaces = record {
   blocks = [];
@@ -48,6 +48,6 @@ so_far blocks last rest first pending = record {
 abbrev pub with_block : BlockValue → SoFar → SoFar
 with_block b s = record s { line = record (s.line) { blocks = s.line.blocks ++ b ∷ [] }; pending = None }
 
--- digits that are worth this at most
+-- the value of digits, if it is at most this number
 abbrev pub worth_of : ℕ → List ℕ → Option ℕ
 worth_of most digits = if list_all is_ascii_digit digits && nat_le (digits_worth 0 digits) most then Some (digits_worth 0 digits) else None

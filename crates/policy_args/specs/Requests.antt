@@ -1,4 +1,4 @@
--- What may be asked of a name, what a policy permits of it, and when a policy permits nothing that another doesn't.
+-- Requests of a name, what a policy permits of them, and when a policy permits nothing that another doesn't.
 use Rattle.std.specs.Prelude.{◌≡◌, Bool, true, false, not, ◌&&◌, ◌||◌, codes, Option, Some, None}
 use Rattle.std.specs.List.{list_any}
 use Rattle.call_rules.specs.Properties.{property_matches}
@@ -72,7 +72,7 @@ access_property GetAll = None
 abbrev pub may_call : Policy → Text → Text → Option Text → Text → Bool
 may_call policy name path interface member = at_least Talk (level policy name) || has_entry policy name (calls path interface member)
 
--- An entry that covers a name gives it at least the level See, so a rule that matches asks for no level beside it.
+-- An entry that covers a name gives it at least the level See, so a matching rule needs no level besides.
 unfoldable pub permits : Policy → Asked → Bool
 permits policy (Call name path interface member) = may_call policy name path interface member
 permits policy (Signal name) = at_least Talk (level policy name)
@@ -116,8 +116,8 @@ asked_name (Owner name) = name
 asked_name (Broadcast name path interface member) = name
 asked_name (Property name path interface access) = name
 
--- The name is of the grammar of well-known names, of any length, and isn't the bus's own: what is asked of the bus itself is judged by the
--- members of the bus.
+-- The name is in the grammar of well-known names, of any length, and isn't the bus's own: a request to the bus itself
+-- is judged by the bus's members.
 abbrev pub is_request : Asked → Bool
 is_request asked = are_two_joined is_bus_element (asked_name asked) && not (is_bus (asked_name asked))
 

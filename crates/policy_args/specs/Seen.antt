@@ -1,4 +1,4 @@
--- What contracts see of the options, and of an optional text.
+-- The models of the options, and of an optional text.
 use Rattle.std.specs.Prelude.{ℕ, false, List, [], Option, option_map}
 use Rattle.policy_args.specs.declared.options.FirstOptions.{FirstOptions}
 use Rattle.policy_args.specs.declared.options.Options.{Options}

@@ -1,4 +1,4 @@
--- What the private functions do: one more entry, the parts of a word, and one part of a file.
+-- The effects of the private functions: one more entry, the parts of a word, and one part of a file.
 use Rattle.std.specs.Prelude.{ℕ, suc, ◌==◌, Bool, nat_lt, List, [], length, Option, Some, None, Result, Ok, Err, if◌then◌else◌}
 use Rattle.std.specs.List.{list_any, before_first, after_first}
 use Rattle.std.specs.Str.{is_utf8}
@@ -16,7 +16,7 @@ with_one_more policy e =
     let entries = with_entry policy.entries e in
     if nat_lt 65535 (length entries) then Err TooMany else Ok (record policy { entries = entries })
 
--- what stands before the first '=', or all
+-- the text before the first '=', or all
 abbrev pub name_before : List ℕ → List ℕ
 name_before text = before_first is_equals text
 
@@ -28,11 +28,11 @@ abbrev pub name_and_rule : List ℕ → Result (Pattern × List ℕ) WordKind
 name_and_rule text =
     or_kind BadName (pattern_of (name_before text)) >>= λ p. or_kind BadRule (rule_behind text) >>= λ rule. Ok (p, rule)
 
--- what stands before the first place of a byte, or all
+-- the text before the first occurrence of a byte, or all
 abbrev pub front_at : ℕ → List ℕ → List ℕ
 front_at separator text = before_first (λ c. c == separator) text
 
--- what follows that place
+-- the text after it
 abbrev pub behind_at : ℕ → List ℕ → Option (List ℕ)
 behind_at separator text = if list_any (λ c. c == separator) text then Some (after_first (λ c. c == separator) text) else None
 

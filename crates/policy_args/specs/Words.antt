@@ -24,7 +24,7 @@ abbrev pub or_kind : {A : Type 0} → WordKind → Option A → Result A WordKin
 or_kind kind None = Err kind
 or_kind kind (Some x) = Ok x
 
--- the kind of what a word is, at that word's index
+-- what is wrong with a word, with the word's index
 abbrev pub at_word : {A : Type 0} → ℕ → Result A WordKind → Result A BadWord
 at_word index (Ok x) = Ok x
 at_word index (Err kind) = Err (record { index = index; kind = kind })
@@ -52,7 +52,7 @@ name_entry grant name = or_kind BadName (pattern_of name) >>= λ p. Ok (record {
 abbrev pub is_equals : ℕ → Bool
 is_equals c = c == 61
 
--- NAME=RULE, where `read` gives the rule that a text says: NAME ends at the first '=', and is looked at first
+-- NAME=RULE, with `read` for the rule of a text: NAME ends at the first '=', and is checked first
 abbrev pub rule_entry : {R : Type 0} → (List ℕ → Option R) → (R → Grant) → List ℕ → Result Entry WordKind
 rule_entry read grant text = do
   p ← or_kind BadName (pattern_of (before_first is_equals text))
@@ -63,7 +63,7 @@ abbrev pub where_front : {A : Type 0} → Option (List ℕ) → (List ℕ → Re
 where_front None reading other = other
 where_front (Some text) reading other = reading text
 
--- the first front that the word has decides
+-- the first prefix that the word has decides
 abbrev pub first_front : {A : Type 0} → List (List ℕ × (List ℕ → Result A WordKind)) → List ℕ → Result A WordKind
 first_front [] w = Err UnknownOption
 first_front (f ∷ fronts) w = where_front (behind f.0 w) f.1 (first_front fronts w)

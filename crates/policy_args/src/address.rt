@@ -1,4 +1,4 @@
-//! Bus addresses: the path of the Unix socket that they name.
+//! Bus addresses: the paths of the Unix sockets in them.
 ghost use Rattle.std.specs.Prelude.{◌≡◌, ◌<◌, ◌∷◌, ◌&&◌, not, nat_lt, Some as Just, None as Nothing, if◌then◌else◌, option_map, string_bytes, IfOk, IfSome};
 ghost use Rattle.std.specs.Char.{is_ascii_hexdigit, digit_value};
 ghost use Rattle.policy_args.specs.Addresses.{bus_path, bus_path_of, path_among, path_in, first_some, is_bus_path, unescaped, unescaped_part};
@@ -9,9 +9,8 @@ ghost use Rattle.dbus_names.specs.Names.{is_empty, parts_at};
 use crate::entry::behind;
 use std::alloc::{AllocError, Global};
 
-// The path of the bus's socket that a list of addresses gives: that of the first address that
-// begins with `unix:` and has a key `path`, and of that the first `path` (D-Bus Specification,
-// "Server Addresses").
+// The path of the bus's socket in a list of addresses: the first `path` of the first address that begins with `unix:`
+// and has a key `path` (D-Bus Specification, "Server Addresses").
 pub(crate) fn read_address(alloc: Global, text: &str) -> Result<Option<String>, AllocError>
     ensures { IfOk result (λ path. option_map (λ p. string_bytes p) path ≡ bus_path text.now) }
 {
@@ -21,7 +20,7 @@ pub(crate) fn read_address(alloc: Global, text: &str) -> Result<Option<String>, 
     }
 }
 
-// The first path among addresses that semicolons join.
+// The first path among addresses that are joined by semicolons.
 fn first_path(text: &str) -> Option<&str>
     ensures { option_map (λ path. path.now) result ≡ first_some path_in (parts_at 59 text.now) }
 {
@@ -46,7 +45,7 @@ fn path_of(address: &str) -> Option<&str>
     }
 }
 
-// The first path among pairs that commas join.
+// The first path among pairs that are joined by commas.
 fn first_value(pairs: &str) -> Option<&str>
     ensures { option_map (λ path. path.now) result ≡ path_among pairs.now }
 {
@@ -61,7 +60,7 @@ fn first_value(pairs: &str) -> Option<&str>
     None
 }
 
-// What stands before the first place of an ASCII character, and what follows it.
+// The text before the first occurrence of an ASCII character, and the text after it.
 fn part(text: &str, separator: char) -> (&str, Option<&str>)
     requires { separator < 128 }
     ensures front { result.0.now ≡ front_at separator text.now }
@@ -73,7 +72,7 @@ fn part(text: &str, separator: char) -> (&str, Option<&str>)
     }
 }
 
-// The path that its text stands for, where a socket can have it.
+// The path that this text spells, if a socket can have it.
 fn path_text(alloc: Global, text: &str) -> Result<Option<String>, AllocError>
     ensures { IfOk result (λ path. option_map (λ p. string_bytes p) path ≡ bus_path_of text.now) }
 {
@@ -84,7 +83,7 @@ fn path_text(alloc: Global, text: &str) -> Result<Option<String>, AllocError>
     }
 }
 
-// The bytes as a path, where a socket can have it.
+// The bytes as a path, if a socket can have it.
 fn checked(path: Vec<u8>) -> Option<String>
     ensures { option_map (λ p. string_bytes p) result ≡ (if is_bus_path path.items then Just path.items else Nothing) }
 {
@@ -131,7 +130,7 @@ fn unescape(alloc: Global, text: &str) -> Result<Option<Vec<u8>>, AllocError>
     Ok(Some(bytes))
 }
 
-// The byte of the two digits that the bytes begin with, and the bytes behind those.
+// The byte that the first two digits spell, and the bytes after them.
 fn escaped(bytes: &[u8]) -> Option<(u8, &[u8])>
     ensures { option_map (λ p. p.0 ∷ p.1.now) result ≡ unescaped_part bytes.now }
 {
@@ -144,7 +143,7 @@ fn escaped(bytes: &[u8]) -> Option<(u8, &[u8])>
     }
 }
 
-// What a hexadecimal digit is worth.
+// The value of a hexadecimal digit.
 fn digit(byte: u8) -> Option<u8>
     ensures value { result ≡ (if is_ascii_hexdigit byte then Just (digit_value byte) else Nothing) }
     ensures small { IfSome result (λ d. d < 16) }

@@ -1,4 +1,4 @@
-//! The entries of a policy, and how a word gives one.
+//! The entries of a policy, and the words that give them.
 ghost use Rattle.std.specs.Prelude.{◌≡◌, option_map};
 ghost use Rattle.call_rules.specs.Properties.{property_rule_of};
 ghost use Rattle.call_rules.specs.Rules.{rule_of};
@@ -20,26 +20,25 @@ use std::alloc::Global;
 // The interface whose methods read and set properties (D-Bus Specification, "org.freedesktop.DBus.Properties").
 const PROPERTIES: &str = "org.freedesktop.DBus.Properties";
 
-/// What an entry lets be done with the names that its pattern covers (xdg-dbus-proxy(1),
-/// "Options").
+/// What an entry allows with the names that its pattern covers (xdg-dbus-proxy(1), "Options").
 #[derive(Drop)]
 pub enum Grant {
-    /// `--see=NAME`: the names are seen to be there.
+    /// `--see=NAME`: the names are visible.
     See,
-    /// `--talk=NAME`: their methods may be called, and their signals come.
+    /// `--talk=NAME`: their methods may be called, and their signals are passed on.
     Talk,
-    /// `--own=NAME`: they may be owned, too.
+    /// `--own=NAME`: they may also be owned.
     Own,
-    /// `--call=NAME=RULE`: they are seen, and what the rule matches may be called.
+    /// `--call=NAME=RULE`: they are visible, and what the rule matches may be called.
     Call(Rule),
-    /// `--broadcast=NAME=RULE`: they are seen, and their broadcasts that the rule matches come.
+    /// `--broadcast=NAME=RULE`: they are visible, and those of their broadcasts are passed on that the rule matches.
     Broadcast(Rule),
-    /// `--property=NAME=RULE`: they are seen, and the properties that the rule matches may be read and set.
+    /// `--property=NAME=RULE`: they are visible, and the properties that the rule matches may be read and set.
     Property(PropertyRule),
 }
 
 impl Grant {
-    /// The level that the grant gives by itself: `See` where it has a rule.
+    /// The level that the grant gives by itself: `See` if it has a rule.
     pub fn level(&self) -> Level
         ensures { result ≡ given_by self.now }
     {
@@ -50,7 +49,7 @@ impl Grant {
         }
     }
 
-    /// Whether the grant permits, by itself, a request of a name that its entry covers.
+    /// Whether the grant by itself permits a request of a name that its entry covers.
     pub fn permits(&self, asked: &Asked) -> bool
         ensures { result ≡ grant_permits self.now asked.now }
     {
@@ -97,7 +96,7 @@ impl Grant {
         }
     }
 
-    // The same of a broadcast.
+    // Whether the grant's rule matches a broadcast.
     fn broadcasts(&self, path: &str, interface: &str, member: &str) -> bool
         ensures { result ≡ broadcasts path.now interface.now member.now self.now }
     {
@@ -107,7 +106,7 @@ impl Grant {
         }
     }
 
-    // The same of a request of a property, or of all properties of the interface if none is given.
+    // Whether the grant's rule matches a request of a property, or of all properties of the interface if none is given.
     fn accesses(&self, path: &str, interface: &str, property: Option<&str>) -> bool
         ensures { result ≡ accesses path.now interface.now (option_map (λ p. p.now) property.entry) self.now }
     {
@@ -131,9 +130,9 @@ fn text_of(name: &Option<Name>) -> Option<&str>
 /// One entry of a policy.
 #[derive(Drop)]
 pub struct Entry {
-    /// The names that the entry speaks of.
+    /// The names to which the entry applies.
     pub pattern: Pattern,
-    /// What it lets be done with them.
+    /// What it allows with them.
     pub grant: Grant,
 }
 
@@ -162,14 +161,14 @@ pub(crate) fn read_entry(alloc: Global, word: &str) -> Result<Entry, WordRefusal
     Err(WordRefusal::Bad(WordKind::UnknownOption))
 }
 
-// What follows the front of a word.
+// What follows a prefix of a word.
 pub(crate) fn behind<'a>(front: &str, word: &'a str) -> Option<&'a str>
     ensures { option_map (λ text. text.now) result ≡ behind_front front.now word.now }
 {
     word.strip_prefix(front)
 }
 
-// The entry of NAME.
+// The entry of an option with NAME only.
 fn of_name(alloc: Global, name: &str, grant: Grant) -> Result<Entry, WordRefusal>
     ensures { StepGives (λ e. e) result (name_entry grant name.now) }
 {
@@ -180,7 +179,7 @@ fn of_name(alloc: Global, name: &str, grant: Grant) -> Result<Entry, WordRefusal
     }
 }
 
-// The entry of `--call=`, by what follows that.
+// The entry of `--call=`, from what follows.
 fn call(alloc: Global, text: &str) -> Result<Entry, WordRefusal>
     ensures { StepGives (λ e. e) result (rule_entry rule_of to_call text.now) }
 {
@@ -192,7 +191,7 @@ fn call(alloc: Global, text: &str) -> Result<Entry, WordRefusal>
     Ok(Entry { pattern, grant })
 }
 
-// The entry of `--broadcast=`, by what follows that.
+// The entry of `--broadcast=`, from what follows.
 fn broadcast(alloc: Global, text: &str) -> Result<Entry, WordRefusal>
     ensures { StepGives (λ e. e) result (rule_entry rule_of to_broadcast text.now) }
 {
@@ -204,7 +203,7 @@ fn broadcast(alloc: Global, text: &str) -> Result<Entry, WordRefusal>
     Ok(Entry { pattern, grant })
 }
 
-// The entry of `--property=`, by what follows that.
+// The entry of `--property=`, from what follows.
 fn property(alloc: Global, text: &str) -> Result<Entry, WordRefusal>
     ensures { StepGives (λ e. e) result (rule_entry property_rule_of to_property text.now) }
 {
@@ -216,7 +215,7 @@ fn property(alloc: Global, text: &str) -> Result<Entry, WordRefusal>
     Ok(Entry { pattern, grant })
 }
 
-// NAME, and the text of RULE. A bad NAME is told whatever follows it.
+// NAME, and the text of RULE. A bad NAME is reported whatever follows it.
 fn split(alloc: Global, text: &str) -> Result<(Pattern, &str), WordRefusal>
     ensures { StepGives (λ p. (p.0, p.1.now)) result (name_and_rule text.now) }
 {
@@ -232,7 +231,7 @@ fn split(alloc: Global, text: &str) -> Result<(Pattern, &str), WordRefusal>
     }
 }
 
-// What stands before the first `=`, and what follows it.
+// The text before the first `=`, and the text after it.
 fn cut(text: &str) -> (&str, Option<&str>)
     ensures name { result.0.now ≡ name_before text.now }
     ensures rule { option_map (λ rule. rule.now) result.1 ≡ rule_behind text.now }

@@ -1,14 +1,14 @@
-//! What is known of unique names.
+//! Facts about unique names.
 use dbus_names::Name;
 
-/// A fact about a unique name, as a message of the bus tells it (D-Bus Specification, "Message Bus Specification"). A fact
-/// stays one: nothing takes it back.
+/// A fact about a unique name, learned from a message of the bus (D-Bus Specification, "Message Bus Specification"). It
+/// is never withdrawn.
 #[derive(Debug, Drop)]
 pub enum Fact {
-    /// The connection `id` owns the name, or owned it.
+    /// The connection `id` owns the name, or has owned it.
     Owned { name: Name, id: Name },
-    /// It is the client's own.
+    /// The unique name is the client's own.
     SelfId(Name),
-    /// The client met it: it called the client, or sent it a signal of its own.
+    /// The client met this unique name: it called the client, or sent it a signal with a DESTINATION.
     Met(Name),
 }

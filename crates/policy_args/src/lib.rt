@@ -1,7 +1,7 @@
 //! The words of a policy and of a proxy line, and the policy that they give.
 //!
-//! A policy file has one option a word, as xdg-dbus-proxy(1) reads them from its `--args` file. A
-//! proxy line has blocks of a bus address, a path to listen on, and options.
+//! A policy file has one option in each word, as xdg-dbus-proxy(1) reads them from its `--args` file. A proxy line has
+//! blocks of a bus address, a path to listen on, and options.
 #![tactic(auto)]
 
 ghost use Rattle.std.specs.Prelude.{◌≡◌};
@@ -40,11 +40,11 @@ pub use words::words_of;
 pub enum Level {
     /// The name is hidden.
     None,
-    /// The name is seen to be there.
+    /// The name is visible.
     See,
-    /// The name's methods may be called, too.
+    /// The name's methods may also be called.
     Talk,
-    /// The name may be owned, too.
+    /// The name may also be owned.
     Own,
 }
 
@@ -61,7 +61,7 @@ impl Level {
         }
     }
 
-    /// Whether it is this level or a greater one.
+    /// Whether this level is `least` or greater.
     pub fn is_at_least(self, least: Level) -> bool
         ensures { result ≡ at_least least self }
     {
@@ -75,7 +75,7 @@ impl Level {
         }
     }
 
-    // The rank of the level, which is greater where the level is.
+    // The rank of the level. A greater level has a greater rank.
     pub(crate) fn rank(self) -> u8
         ensures { result ≡ rank_of self }
     {
@@ -106,27 +106,27 @@ pub enum WordKind {
     /// The word is no option (xdg-dbus-proxy(1), "Options").
     #[error("unknown option")]
     UnknownOption,
-    /// An option's name is no bus name that the option takes (xdg-dbus-proxy(1), "Filtering"; D-Bus
-    /// Specification, "Valid Names").
+    /// The option's name isn't a bus name that the option takes (xdg-dbus-proxy(1), "Filtering"; D-Bus Specification,
+    /// "Valid Names").
     #[error("the option's name is no bus name that it takes")]
     BadName,
-    /// An option's rule is missing, or none that the option takes (xdg-dbus-proxy(1), `--call`).
+    /// The option's rule is missing, or isn't a rule that the option takes (xdg-dbus-proxy(1), `--call`).
     #[error("the option's rule is no rule that it takes")]
     BadRule,
-    /// A bus address is none (D-Bus Specification, "Server Addresses").
+    /// The bus address isn't valid (D-Bus Specification, "Server Addresses").
     #[error("the word is no bus address with the path of a socket")]
     BadAddress,
     /// No path follows a bus address (xdg-dbus-proxy(1), "Synopsis").
     #[error("no path follows the bus address")]
     NoPath,
-    /// An option of one block stands before the first bus address (xdg-dbus-proxy(1), "Synopsis").
+    /// An option of one block precedes the first bus address (xdg-dbus-proxy(1), "Synopsis").
     #[error("an option stands before the first bus address")]
     OptionBeforeAddress,
-    /// An option's number is none, or out of its range.
+    /// The option's number isn't a number, or is out of its range.
     #[error("the option has no number in its range")]
     BadNumber,
-    /// The word would give one more entry than the 65,535 that a policy may have, or one more block
-    /// than the 65,535 that a line may have.
+    /// The word would give more entries than the 65,535 that a policy may have, or more blocks than the 65,535 that a
+    /// line may have.
     #[error("more than 65,535 entries or blocks")]
     TooMany,
 }
@@ -135,7 +135,7 @@ pub enum WordKind {
 #[derive(Clone, Copy, Debug, PartialEq, Eq, Error)]
 #[error("word {index}: {kind}")]
 pub struct BadWord {
-    /// Its place among the words, from 0. A path or an address that is missing has the place after the last word.
+    /// Its index among the words, from 0. A missing path or address has the index after the last word.
     pub index: usize,
     /// What is wrong with it.
     pub kind: WordKind,

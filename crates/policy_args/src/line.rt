@@ -16,7 +16,7 @@ use std::alloc::{AllocError, Global};
 use std::marker::Model;
 use std::mem;
 
-/// The most blocks that a line has.
+/// The maximum number of blocks of a line.
 const MOST_BLOCKS: usize = 65_535;
 
 /// The greatest number that `--sessions` takes.
@@ -25,16 +25,16 @@ const MOST_SESSIONS: u32 = 1_000_000;
 /// The greatest number of a file descriptor, which is an `int` (POSIX.1-2024, `open`).
 const MOST_DESCRIPTOR: u32 = 2_147_483_647;
 
-/// How many sessions are served where `--sessions` isn't given.
+/// The number of served sessions if `--sessions` isn't given.
 const ALL_SESSIONS: u32 = 4_294_967_295;
 
-/// One proxy: the bus that it stands before, and the socket that it listens on
-/// (xdg-dbus-proxy(1), "Synopsis").
+/// One proxy: the bus to which it connects its clients, and the socket on which it listens (xdg-dbus-proxy(1),
+/// "Synopsis").
 #[derive(Drop)]
 pub struct Block {
     /// The path of the bus's Unix socket, with each `%XX` of its address replaced.
     pub address: String,
-    /// The path of the socket that is listened on.
+    /// The path of the socket on which it listens.
     pub path: String,
     /// What the options of this block ask for.
     pub options: Options,
@@ -45,9 +45,9 @@ pub struct Block {
 pub struct ProxyLine {
     /// The blocks, one or more and at most 65,535, in their order.
     pub blocks: Vec<Block>,
-    /// How many sessions are served in all: 1 to 1,000,000, or 4,294,967,295 where nothing is said.
+    /// The number of sessions that are served in all: 1 to 1,000,000, or 4,294,967,295 if it isn't given.
     pub sessions: u32,
-    /// The path of the file that the sessions are recorded in, where one is given: that of the last `--record=FILE`. It
+    /// The path of the file in which the sessions are recorded, if one is given: that of the last `--record=FILE`. It
     /// isn't empty.
     pub record_to: Option<String>,
     /// The number of the descriptor of the starter's pipe, at most 2,147,483,647, if one is given: that of the last
@@ -57,7 +57,7 @@ pub struct ProxyLine {
     pub replaces: bool,
 }
 
-// What the words so far give. The last block stands by itself, since options are added to it.
+// What the words so far give. The last block is kept apart, since options are added to it.
 #[derive(Drop)]
 struct Reading {
     blocks: Vec<Block>,
@@ -66,9 +66,9 @@ struct Reading {
     record_to: Option<String>,
     starter: Option<u32>,
     replaces: bool,
-    // The options that every block begins with.
+    // The options with which every block begins.
     first: FirstOptions,
-    // The bus's path of a block whose own path comes next.
+    // The bus's path of a block whose own path is the next word.
     pending: Option<String>,
 }
 
@@ -208,7 +208,7 @@ impl Reading {
         self.take_args(alloc, word)
     }
 
-    // Takes an option other than `--fd` and `--replace`. `--args` is none: what is left of it names no file.
+    // Takes an option other than `--fd` and `--replace`. A remaining `--args` is no option, since it names no file.
     fn take_args(&mut self, alloc: Global, word: &str) -> Result<(), WordRefusal>
         ensures { StepGives (λ _. self.new) result (args_word self.old word.now) }
     {
@@ -220,7 +220,7 @@ impl Reading {
         }
     }
 
-    // Takes an option of the last block, or of every block before the first address.
+    // Takes an option of the last block or, before the first address, of every block.
     fn take_placed_option(&mut self, alloc: Global, word: &str) -> Result<(), WordRefusal>
         ensures { StepGives (λ _. self.new) result (placed_option self.old word.now) }
     {
@@ -253,7 +253,7 @@ impl Reading {
         }
     }
 
-    // Takes the file that the sessions are recorded in.
+    // Takes the path of the file in which the sessions are recorded.
     fn take_record(&mut self, alloc: Global, path: &str) -> Result<(), WordRefusal>
         ensures { StepGives (λ _. self.new) result (with_record self.old path.now) }
     {
@@ -269,7 +269,7 @@ impl Reading {
         }
     }
 
-    // Takes how many sessions are served.
+    // Takes the number of served sessions.
     fn take_sessions(&mut self, text: &str) -> Result<(), WordRefusal>
         ensures { StepGives (λ _. self.new) result (with_sessions self.old text.now) }
     {
@@ -296,7 +296,7 @@ impl Reading {
         }
     }
 
-    // How many blocks there are.
+    // The number of blocks.
     fn count(&self) -> usize
         ensures { result ≡ length self.now.line.blocks }
     {
@@ -306,7 +306,7 @@ impl Reading {
         }
     }
 
-    // The line, where no path is missing and there is a block.
+    // The line, if no path is missing and there is a block.
     fn finish(mut self, words: usize) -> Result<ProxyLine, LineRefusal>
         ensures { Gives line_seen result (finished words self) }
     {
@@ -335,7 +335,7 @@ fn bad(index: usize, kind: WordKind) -> LineRefusal
     LineRefusal::Bad(BadWord { index, kind })
 }
 
-// How many sessions: a number from 1 to 1,000,000, in decimal with no zero before it.
+// The number of sessions: from 1 to 1,000,000, in decimal without leading zeros.
 fn read_sessions(text: &str) -> Option<u32>
     ensures { or_kind BadNumber result ≡ sessions_of text.now }
 {
@@ -346,8 +346,8 @@ fn read_sessions(text: &str) -> Option<u32>
     read_digits(digits, MOST_SESSIONS)
 }
 
-/// The number of a file descriptor: a decimal number without leading zeros, at most 2,147,483,647, since a descriptor is
-/// an `int` (POSIX.1-2024, `open`).
+/// Reads the number of a file descriptor: a decimal number without leading zeros, at most 2,147,483,647, since a
+/// descriptor is an `int` (POSIX.1-2024, `open`).
 pub fn read_descriptor(text: &str) -> Option<u32>
     ensures { result ≡ descriptor_of text.now }
 {
@@ -358,7 +358,7 @@ pub fn read_descriptor(text: &str) -> Option<u32>
     read_digits(digits, MOST_DESCRIPTOR)
 }
 
-// Whether digits begin with a zero that more digits follow.
+// Whether digits begin with a zero that is followed by more digits.
 fn has_leading_zero(digits: &[u8]) -> bool
     ensures { result ≡ has_leading_zero digits.now }
 {
@@ -368,7 +368,7 @@ fn has_leading_zero(digits: &[u8]) -> bool
     }
 }
 
-// What decimal digits are worth, up to a greatest number.
+// The value of decimal digits, if it is at most `most`.
 fn read_digits(digits: &[u8], most: u32) -> Option<u32>
     ensures { result ≡ worth_of most digits.now }
 {
@@ -385,23 +385,21 @@ fn read_digits(digits: &[u8], most: u32) -> Option<u32>
     Some(number as u32)
 }
 
-/// The proxy line that the words give, or the first bad word.
+/// Reads a proxy line, or finds its first bad word.
 ///
-/// A line has blocks, each a bus address, a path to listen on, and then options, which begin with
-/// `--` (xdg-dbus-proxy(1), "Synopsis"). The options are those of `read_options`, and `--sessions=N`
-/// and `--record=FILE`, which may stand in any block, and of each of which the last counts; N is 1 to
-/// 1,000,000, and FILE isn't empty.
+/// A line has blocks, each a bus address, a path to listen on, and then options, which begin with `--`
+/// (xdg-dbus-proxy(1), "Synopsis"). The options are those of `read_options`, `--sessions=N` and `--record=FILE`. The
+/// last two may be in any block, and the last one of each counts; N is 1 to 1,000,000, and FILE isn't empty.
 ///
-/// `--fd=FD`, of which the last counts, and `--replace` may stand in any block and before the first one. There
-/// `--sloppy-names`, `--known-fields` and `--start-called` may stand, too, and then every block has them.
+/// `--fd=FD`, of which the last counts, and `--replace` may be in any block and before the first one. `--sloppy-names`,
+/// `--known-fields` and `--start-called` may also be before the first one, and then every block has them.
 ///
-/// Of an address, the `path` of its first part that begins with `unix:` and has one is taken
-/// (D-Bus Specification, "Server Addresses"). `BadAddress` is an address without such a path, or
-/// whose path is empty, holds NUL, isn't UTF-8 or has `%` without two hexadecimal digits, and, at
-/// the index after the last word, one that is missing. `NoPath` is an empty word, an option or the end where the
-/// path has to stand; `OptionBeforeAddress` is any other option before the first block, `BadNumber` a
-/// wrong N, an FD that `read_descriptor` refuses, and `--args=FD` with such an FD, `UnknownOption` an empty FILE, and
-/// `TooMany` the address of block 65,536, too.
+/// Of an address, the `path` of its first part that begins with `unix:` and has one is taken (D-Bus Specification,
+/// "Server Addresses"). `BadAddress` is an address without such a path, or whose path is empty, has a NUL, isn't UTF-8
+/// or has `%` without two hexadecimal digits; or, at the index after the last word, a missing address. `NoPath` is an
+/// empty word, an option or the end in place of the path. `OptionBeforeAddress` is any other option before the first
+/// block. `BadNumber` is a wrong N, an FD that `read_descriptor` refuses, or `--args=FD` with such an FD.
+/// `UnknownOption` is also an empty FILE, and `TooMany` also the address of block 65,536.
 pub fn read_line(alloc: Global, words: &[String]) -> Result<ProxyLine, LineRefusal>
     ensures { Gives line_seen result (line_of (map (λ w. string_bytes w) words.now)) }
 {

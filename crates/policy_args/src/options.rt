@@ -1,4 +1,4 @@
-//! The options that the words of a policy file give.
+//! The options in the words of a policy file.
 ghost use Rattle.std.specs.Prelude.{◌≡◌, map, string_bytes, OnErr};
 ghost use Rattle.policy_args.specs.Gives.{Gives, StepGives};
 ghost use Rattle.policy_args.specs.ProxyLine.{option_for_all};
@@ -16,13 +16,13 @@ use std::alloc::Global;
 pub struct Options {
     /// Whether messages are filtered: `--filter` was among the words.
     pub filter: bool,
-    /// Whether each message that is filtered has a line in the log: `--log` was among the words.
+    /// Whether each filtered message has a line in the log: `--log` was among the words.
     pub log: bool,
-    /// What the other words let be used.
+    /// What the other words allow.
     pub policy: Policy,
 }
 
-// What the options before the first address of a line ask for, of every block.
+// What the options before the first address of a line ask for in every block.
 #[derive(Clone, Copy)]
 pub(crate) struct FirstOptions {
     // `--sloppy-names` was among them.
@@ -55,7 +55,7 @@ impl FirstOptions {
 }
 
 impl Options {
-    // The options that a block begins with.
+    // The options with which a block begins.
     pub(crate) fn begin(alloc: Global, first: FirstOptions) -> Options
         ensures { options_seen result ≡ first_seen first }
     {
@@ -66,7 +66,7 @@ impl Options {
         options
     }
 
-    // The options that no words ask for.
+    // The options without any words.
     pub(crate) fn new(alloc: Global) -> Options
         ensures { options_seen result ≡ no_options }
     {
@@ -109,17 +109,22 @@ impl Options {
     }
 }
 
-/// The options that the words give, or the first bad word (xdg-dbus-proxy(1), "Options").
+/// Reads options, or finds the first bad word (xdg-dbus-proxy(1), "Options").
 ///
-/// `--filter` asks for the filter, and `--log` for a line of the log for each message. With `--sloppy-names` owner changes of
-/// all unique names are shown, and with `--known-fields` messages of the client with a header field of an unknown code are
-/// refused. With `--start-called`, an option of this program too, names at See that a Call entry covers may be started.
+/// `--filter` asks for the filter, and `--log` for a line of the log for each message. With `--sloppy-names`, owner
+/// changes of all unique names are shown. With `--known-fields`, messages of the client with a header field of an
+/// unknown code are refused. With `--start-called`, also an option of this program, names at See that a Call entry
+/// covers may be started.
+///
 /// Each other word gives an entry: `--see=NAME`, `--talk=NAME` and `--own=NAME` a level, and `--call=NAME=RULE`,
-/// `--broadcast=NAME=RULE` and `--property=NAME=RULE` the level `See` and what a rule matches. The first two take the RULE
-/// `[METHOD][@PATH]`, and `--property`, an option of this program, takes `INTERFACE.PROPERTY[@PATH]`: those properties may be
-/// read and set. NAME is a well-known bus name or `N.*`, and before a RULE it ends at the first `=`; any other is a `BadName`,
-/// and then a missing or wrong RULE is a `BadRule`. A word that is none of these is an `UnknownOption`. A word that is given
-/// again adds nothing, and the word that would give entry 65,536 is one of `TooMany`.
+/// `--broadcast=NAME=RULE` and `--property=NAME=RULE` the level `See` and what a rule matches. The RULE of `--call` and
+/// `--broadcast` is `[METHOD][@PATH]`. That of `--property`, an option of this program, is `INTERFACE.PROPERTY[@PATH]`:
+/// those properties may be read and set. NAME is a well-known bus name or `N.*`, and before a RULE it ends at the first
+/// `=`.
+///
+/// Any other NAME is a `BadName`, and after a good NAME a missing or wrong RULE is a `BadRule`. A word that is none of
+/// these is an `UnknownOption`. A repeated word adds nothing, and the word that would give entry 65,536 is one of
+/// `TooMany`.
 pub fn read_options(alloc: Global, words: &[String]) -> Result<Options, LineRefusal>
     ensures { Gives options_seen result (options_of (map (λ w. string_bytes w) words.now)) }
 {

@@ -1,4 +1,4 @@
-//! The patterns that a policy's entries have, each once.
+//! The patterns of a policy's entries, each once.
 ghost use Rattle.std.specs.Prelude.{◌≡◌, ◌<◌, true, IfOk, OnOk, OnErr, Some as Just, length, slice_get, string_bytes};
 ghost use Rattle.name_patterns.specs.Patterns.{is_pattern};
 ghost use Rattle.policy_args.specs.Distinct.{no_patterns, noted, pattern_key};
@@ -8,7 +8,7 @@ use name_patterns::Pattern;
 use std::alloc::{AllocError, Global};
 use std::marker::Model;
 
-// The patterns, in the order of the entries in which they stand first: their keys, and the numbers of those entries.
+// The patterns, in the order of their first entries: their keys, and the numbers of those entries.
 #[derive(Drop)]
 pub(crate) struct Patterns {
     keys: IndexSet<String>,
@@ -25,7 +25,7 @@ impl Model for Patterns {
 }
 
 impl Patterns {
-    // No pattern.
+    // No patterns.
     pub(crate) fn new(alloc: Global) -> Patterns
         ensures { result ≡ no_patterns }
     {
@@ -35,14 +35,14 @@ impl Patterns {
         }
     }
 
-    // How many there are.
+    // The number of patterns.
     pub(crate) fn len(&self) -> usize
         ensures { result ≡ length self.now.firsts }
     {
         self.firsts.len()
     }
 
-    // The number of the entry in which the pattern at a place stands first.
+    // The number of the first entry that has the pattern at a place.
     pub(crate) fn first(&self, index: usize) -> u32
         requires { index < length self.now.firsts }
         ensures { slice_get self.now.firsts index ≡ Just result }
@@ -50,7 +50,7 @@ impl Patterns {
         self.firsts[index]
     }
 
-    // Takes the pattern of the entry with that number. One that stands there already adds nothing.
+    // Adds the pattern of the entry with this number, unless it is there already.
     pub(crate) fn add(
         &mut self,
         alloc: Global,

@@ -1,4 +1,4 @@
-//! A policy: the entries that words gave.
+//! A policy: the entries that were given by words.
 ghost use Rattle.std.specs.Prelude.{◌≡◌, ◌≤◌, ◌<◌, ◌+◌, ◌-◌, ◌==◌, ◌&&◌, ℕ, true, false, List, Some as Just, [], bytes_eq, length, option_map, slice_get, if◌then◌else◌, IfSome, OnErr};
 ghost use Rattle.std.specs.List.{list_all, list_any};
 ghost use Rattle.dbus_names.specs.Names.{is_bus as is_bus_name, is_unique};
@@ -23,15 +23,14 @@ use std::alloc::Global;
 use std::marker::{Brand, Model};
 use std::sync::ledger::{Blank, Ledger};
 
-/// The most entries that a policy has.
+/// The maximum number of entries of a policy.
 const MOST_ENTRIES: usize = 65_535;
 
-/// The most entries that are passed over for a name. Past them the index is quicker, which hashes the name and what
-/// stands before each of its dots.
+/// The maximum number of entries that are tried one by one for a name. With more, the index is quicker, which hashes
+/// the name and its prefixes before each dot.
 const FEW_ENTRIES: usize = 16;
 
-/// What the options let be used: entries, each once, in the order of their first words
-/// (xdg-dbus-proxy(1), "Filtering").
+/// What the options allow: entries, each once, in the order of their first words (xdg-dbus-proxy(1), "Filtering").
 #[derive(Drop)]
 pub struct Policy {
     // The words that gave the entries, in the same order.
@@ -62,7 +61,7 @@ impl Model for Policy {
 }
 
 impl Policy {
-    /// The policy with no entry: only the bus itself may be talked to.
+    /// The policy without entries: only the bus itself may be talked to.
     pub fn new(alloc: Global) -> Policy
         ensures { result ≡ policy_of [] }
     {
@@ -92,8 +91,8 @@ impl Policy {
         self.known_fields
     }
 
-    /// Whether a name at See that a Call entry covers may be started by StartServiceByName. A client of GLib starts the
-    /// service of the name that it wants to call, and doesn't go on where that is refused.
+    /// Whether a name at See that a Call entry covers may be started by StartServiceByName. A client that uses GLib
+    /// starts the service of the name that it wants to call, and gives up if that is refused.
     pub fn start_called(&self) -> bool
         ensures { result ≡ self.now.start_called }
     {
@@ -114,7 +113,7 @@ impl Policy {
         self.known_fields = true;
     }
 
-    // Lets names be started that may be called from now on.
+    // Lets names that may be called be started, from now on.
     pub(crate) fn set_start_called(&mut self)
         ensures { self.new ≡ record self.old { start_called = true } }
     {
@@ -130,7 +129,7 @@ impl Policy {
         self.start_called = start_called;
     }
 
-    /// How many entries the policy has, at most 65,535.
+    /// The number of entries, at most 65,535.
     pub fn len(&self) -> u32
         ensures count { result ≡ length self.now.entries }
         ensures most { result ≤ 65535 }
@@ -145,7 +144,7 @@ impl Policy {
         self.entries.is_empty()
     }
 
-    /// The entry of a number, from 1 to the length.
+    /// The entry with a number, from 1 to `len`.
     pub fn entry(&self, number: u32) -> &Entry
         requires first { 1 ≤ number }
         requires last { number ≤ length self.now.entries }
@@ -154,7 +153,7 @@ impl Policy {
         &self.entries[number as usize - 1]
     }
 
-    /// The word that gives the entry of a number, from 1 to the length.
+    /// The word of the entry with a number, from 1 to `len`.
     pub fn word(&self, number: u32) -> &str
         requires first { 1 ≤ number }
         requires last { number ≤ length self.now.entries }
@@ -166,14 +165,14 @@ impl Policy {
         }
     }
 
-    /// How many patterns the entries have, each counted once.
+    /// The number of patterns of the entries, each counted once.
     pub fn pattern_count(&self) -> u32
         ensures { result ≡ length (patterns_of self.now.entries) }
     {
         self.patterns.len() as u32
     }
 
-    /// The pattern of a number, from 1 to their count, in the order of the entries in which they stand first.
+    /// The pattern with a number, from 1 to their count, in the order of their first entries.
     pub fn pattern(&self, number: u32) -> &Pattern
         requires first { 1 ≤ number }
         requires last { number ≤ length (patterns_of self.now.entries) }
@@ -183,16 +182,16 @@ impl Policy {
         &self.entries[first as usize - 1].pattern
     }
 
-    /// How far a name may be used: the greatest level that an entry gives it, and at least `Talk`
-    /// for the bus itself, `org.freedesktop.DBus` (xdg-dbus-proxy(1), "Filtering").
+    /// How far a name may be used: the greatest level that an entry gives it, and at least `Talk` for the bus itself,
+    /// `org.freedesktop.DBus` (xdg-dbus-proxy(1), "Filtering").
     pub fn level(&self, name: &str) -> Level
         ensures { result ≡ level self.now name.now }
     {
         with_bus(name, self.granted_uncounted(name))
     }
 
-    /// What `level` answers, and how `level` finds it. A step is one look-up in the index, and at most k + 1 are counted
-    /// for a name of k elements.
+    /// Does as `level` does and counts the steps. A step is one look-up in the index, and at most k + 1 are counted for
+    /// a name of k elements.
     pub fn level_counted<L: Ledger>(&self, name: &str, steps: &mut Steps<L>) -> Level
         ensures level { result ≡ level self.now name.now }
         ensures cost { steps.new ≤ steps.old + elements name.now + 1 }
@@ -207,8 +206,8 @@ impl Policy {
         self.granted_uncounted(name).is_at_least(Level::See)
     }
 
-    /// The least number, from one on, of an entry that covers the name. It takes at most one look-up in the index for each
-    /// element of the name.
+    /// The lowest number, from `from` on, of an entry that covers the name. This takes at most one look-up in the index
+    /// for each element of the name.
     pub fn next_covering<L: Ledger>(
         &self,
         name: &str,
@@ -227,7 +226,7 @@ impl Policy {
         }
     }
 
-    // The same, by a pass over the entries.
+    // The lowest number, from `from` on, of an entry that covers the name, found by a pass over the entries.
     fn next_in_pass(&self, name: &str, from: u32) -> Option<u32>
         requires { 1 ≤ from }
         ensures next { result ≡ next_covering_of self.now.entries name.now from }
@@ -242,14 +241,14 @@ impl Policy {
         None
     }
 
-    /// Whether an entry is for the name alone, and not for the names below it too.
+    /// Whether an entry names exactly this name, without the names below it.
     pub fn names(&self, name: &str) -> bool
         ensures { result ≡ list_any (λ e. e.pattern.exact && bytes_eq e.pattern.name name.now) self.now.entries }
     {
         self.index.is_named(name)
     }
 
-    // The greatest level that an entry which covers the name gives.
+    // The greatest level that a covering entry gives the name.
     fn granted<L: Ledger>(&self, name: &str, steps: &mut Steps<L>) -> Level
         ensures level { result ≡ granted_by self.now.entries name.now }
         ensures cost { steps.new ≤ steps.old + elements name.now }
@@ -261,14 +260,14 @@ impl Policy {
         }
     }
 
-    // The same for a caller that counts no steps.
+    // The greatest level that a covering entry gives the name, for a caller that counts no steps.
     fn granted_uncounted(&self, name: &str) -> Level
         ensures { result ≡ granted_by self.now.entries name.now }
     {
         granted_from::<Brand>(NameOf { policy: self, name }, Blank::new(1))
     }
 
-    // The same, by a pass over the entries.
+    // The greatest level that a covering entry gives the name, found by a pass over the entries.
     fn granted_in_pass(&self, name: &str) -> Level
         ensures { result ≡ granted_by self.now.entries name.now }
     {
@@ -281,14 +280,14 @@ impl Policy {
         level
     }
 
-    /// The numbers of all entries that cover the name, each once, in any order. It takes no memory.
+    /// The numbers of all entries that cover the name, each once, in any order. It allocates nothing.
     pub fn covering<'a>(&'a self, name: &'a str) -> Covering<'a>
         ensures { AreCovering self.entry.now.entries name.entry.now result }
     {
         self.index.covering(name)
     }
 
-    /// Whether the policy permits a request. It takes no memory.
+    /// Whether the policy permits a request. It allocates nothing.
     pub fn permits(&self, asked: &Asked) -> bool
         ensures { result ≡ permits self.now asked.now }
     {
@@ -307,7 +306,7 @@ impl Policy {
         false
     }
 
-    /// No entry covers a unique name: what an entry names has elements of well-known names alone.
+    /// No entry covers a unique name: the names of entries only have elements of well-known names.
     pub fn covers_no_unique_name(&self)
         ensures { (name : List ℕ) → is_unique name ≡ true → list_any (λ e. covers e.pattern name) self.now.entries ≡ false }
     {
@@ -321,7 +320,7 @@ impl Policy {
         let _entries = self.entries.len();
     }
 
-    // Takes the entry that a word gave. A word that was taken before adds nothing.
+    // Adds the entry that a word gives. A word that was added before adds nothing.
     pub(crate) fn add(&mut self, alloc: Global, word: &str, entry: Entry) -> Result<(), WordRefusal>
         requires { entry_word entry ≡ word.now }
         ensures exact { StepGives (λ _. self.new) result (with_one_more self.old entry) }
@@ -368,7 +367,7 @@ fn granted_from<L: Ledger>(asked: NameOf, blank: Blank) -> Level
     asked.policy.granted(asked.name, &mut steps)
 }
 
-// The level that entries give the name, or for the bus itself at least `Talk`.
+// The level that entries give the name; for the bus itself at least `Talk`.
 fn with_bus(name: &str, granted: Level) -> Level
     ensures { result ≡ (if is_bus_name name.now then greater Talk granted else granted) }
 {

@@ -7,10 +7,10 @@ use call_rules::BadRule;
 use std::alloc::{AllocError, AllocFailed};
 use thiserror::Error;
 
-/// Why words were not read.
+/// Why words weren't read.
 #[derive(Debug, Drop, Error)]
 pub enum LineRefusal {
-    /// A word is none of the options, or not as its option wants it.
+    /// A word isn't an option, or isn't as its option requires.
     #[error(transparent)]
     Bad(BadWord),
     /// Memory ran out.
@@ -41,14 +41,14 @@ impl<T: Drop> From<AllocFailed<T>> for LineRefusal {
 // Why one word was refused.
 #[derive(Drop)]
 pub(crate) enum WordRefusal {
-    // It is none of the options, or not as its option wants it.
+    // The word isn't an option, or isn't as its option requires.
     Bad(WordKind),
     // Memory ran out.
     Memory,
 }
 
 impl WordRefusal {
-    // The same of the word at an index.
+    // The refusal of the word at an index.
     pub(crate) fn at(self, index: usize) -> LineRefusal
         ensures { result ≡ refusal_at index self }
     {

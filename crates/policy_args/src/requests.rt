@@ -1,4 +1,4 @@
-//! What may be asked of a name.
+//! Requests of names.
 ghost use Rattle.std.specs.Prelude.{◌≡◌, option_map};
 ghost use Rattle.policy_args.specs.Requests.{access_member, access_property, asked_name, level_asked};
 
@@ -26,13 +26,13 @@ pub enum Asked {
         interface: Option<Name>,
         member: Name,
     },
-    /// A signal to the owner of the name alone.
+    /// A signal to the owner of the name only.
     Signal(Name),
-    /// The name is to be owned.
+    /// A request to own the name.
     Own(Name),
-    /// The owner of the name is asked for.
+    /// A request for the owner of the name.
     Owner(Name),
-    /// A signal of the owner of the name that goes to all who match it.
+    /// A signal of the name's owner that is sent to all who match it.
     Broadcast {
         name: Name,
         path: Name,
@@ -72,7 +72,7 @@ impl Access {
 }
 
 impl Asked {
-    /// The name of which it is asked.
+    /// The name to which the request is sent, or that it asks about.
     pub fn name(&self) -> &str
         ensures { result.now ≡ asked_name self.now }
     {

@@ -10,10 +10,10 @@ use crate::refusals::{LineRefusal, WordRefusal};
 use std::alloc::Global;
 use std::str;
 
-/// The words of a file: each ends at a NUL, which the last may lack, so no bytes are no words
+/// The words of a file: each ends at a NUL, which may be absent after the last one, so no bytes are no words
 /// (xdg-dbus-proxy(1), `--args`).
 ///
-/// The first word that is not UTF-8 is an `UnknownOption` at its index, since no option is.
+/// The first word that isn't UTF-8 is an `UnknownOption` at its index, since no option is like that.
 pub fn words_of(alloc: Global, bytes: &[u8]) -> Result<Vec<String>, LineRefusal>
     ensures { Gives (λ v. map (λ w. string_bytes w) v.items) result (words_in bytes.now) }
 {
@@ -30,7 +30,7 @@ pub fn words_of(alloc: Global, bytes: &[u8]) -> Result<Vec<String>, LineRefusal>
     Ok(words)
 }
 
-// The bytes before the first NUL, and those behind it.
+// The bytes before the first NUL, and those after it.
 fn cut(bytes: &[u8]) -> (&[u8], &[u8])
     ensures word { result.0.now ≡ before_first is_nul bytes.now }
     ensures after { result.1.now ≡ after_first is_nul bytes.now }
