@@ -150,7 +150,7 @@ free-at f [] k e h here = absurd cc
 free-at f (d ∷ entries) zero e h here = let same : d ≡ e = cc in ap (λ x. is_among (entry_elements x) f) (sym same) ∙ (among-append (entry_elements d) (elements entries) f h).0
 free-at f (d ∷ entries) (suc k) e h here = free-at f entries k e (among-append (entry_elements d) (elements entries) f h).1 here
 
--- the lowest entry that permits one of an entry's points permits what the point stands for
+-- the lowest entry that permits one of an entry's points permits all requests of which that is the point
 covered-request : (f : Text) (own : Entry) (asked : Asked) (inner bs : List Entry) → AreFit f inner bs →
     list_any (by_itself (point_for f (point_name f own.pattern) own.grant asked)) bs ≡ true → by_itself asked own ≡ true →
     (numbers : List ℕ) → ((n : ℕ) → lowest bs (point_for f (point_name f own.pattern) own.grant asked) ≡ Some n → 1 ≤ n → n < 1 + length bs → has numbers n ≡ true) →

@@ -1,4 +1,5 @@
--- Entries that permit the points of another permit what the other permits; and points are requests that their entry permits.
+-- Entries that permit the points of another permit what the other permits; and an entry permits its points, which are
+-- requests.
 use Rattle.std.proofs.Common.{◌≡◌, ℕ, ◌+◌, ◌<◌, Bool, true, false, cond, nat_le, List, [], ◌∷◌, ◌++◌, length, drop, refl, ap, sym, ◌∙◌, length-append, nat_eq, arith, inl, inr}
 use Rattle.std.specs.Prelude.{◌&&◌, ◌||◌, not, bytes_eq, flat_map, if◌then◌else◌, Option, Some, None}
 use Rattle.std.specs.List.{list_all, list_any, onto_first}
@@ -40,7 +41,7 @@ covers-within f own other name plain free h k =
 pub covers-point : (f : Text) (own : Pattern) → covers own (point_name f own) ≡ true
 covers-point f own = ap (covers own) (point_name-is f own) ∙ point-in_tree 46 f own.name (not own.exact)
 
--- ---- the point stands for the request
+-- ---- the point of a request
 
 pub stands : (f : Text) (own other : Entry) (asked : Asked) → IsPlain f → is_among (entry_elements other) f ≡ false → has_rooted other.grant ≡ true →
     by_itself (point_for f (point_name f own.pattern) own.grant asked) other ≡ true → by_itself asked own ≡ true → by_itself asked other ≡ true

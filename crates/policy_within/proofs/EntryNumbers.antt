@@ -12,7 +12,7 @@ use Rattle.policy_within.specs.Within.{entries_at}
 
 -- ---- the first entry that passes
 
--- its place, and the number that stands first
+-- its place, and the first number
 pub record IsFirst (test : Entry → Bool) (from : ℕ) (entries : List Entry) : Type 0 where
   pub place : ℕ
   pub entry : Entry

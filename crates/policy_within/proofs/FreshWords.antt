@@ -1,4 +1,4 @@
--- The words z0, z1 .. are elements of names, and no separator stands in them.
+-- The words z0, z1 .. are elements of names, and no separator occurs in them.
 use Rattle.std.proofs.Common.{◌≡◌, ℕ, ◌+◌, ◌^◌, ◌<◌, ◌%◌, Bool, true, List, [], ◌∷◌, refl, ◌∙◌, nat_eq, arith}
 use Rattle.std.specs.Prelude.{◌&&◌, not, decimal}
 use Rattle.std.specs.Char.{is_ascii_alphanumeric, is_ascii_digit}

@@ -18,7 +18,7 @@ use Rattle.policy_within.specs.Elements.{grant_elements, is_among}
 use Rattle.policy_within.specs.Points.{all_points, grant_points, point_interface, point_member, point_path}
 use Rattle.policy_within.proofs.Rules.{all-properties-within, member-matched, one-property-within, property-matched, rule-matched, rule-path-within, rule-within}
 
--- ---- the point that stands for a request
+-- ---- the point of a request
 
 abbrev pub access_point : Text → Option Text → Access → Access
 access_point f property (Get named) = Get (point_member f property)
@@ -78,7 +78,7 @@ property_among test f name r (Property given path interface GetAll) h k =
     in_all test name (point_path f r.path r.below) r.interface r.property (and_parts _ _ (and_parts _ _ h).1).1
     (and_parts _ (part_matches r.property None) k).1
 
--- what all points pass, the one that stands for a request passes
+-- what all points pass, the point of a request passes
 pub point_for-among : (test : Asked → Bool) (f name : Text) (g : Grant) (asked : Asked) → list_all test (grant_points f name g) ≡ true →
     grant_permits g asked ≡ true → test (point_for f name g asked) ≡ true
 point_for-among test f name to_see asked h k = (and_parts (test (Owner name)) true h).0
@@ -176,7 +176,7 @@ property-within f own (to_property r) name given path interface (Get p) plain fr
 property-within f own (to_property r) name given path interface (Set p) plain free rooted h k = one-property-within f own r path interface (Some p) plain free rooted h k
 property-within f own (to_property r) name given path interface GetAll plain free rooted h k = all-properties-within f own r path interface plain free rooted h k
 
--- ---- the point stands for the request
+-- ---- a grant and the point of a request
 
 talk-within : (other : Grant) (name : Text) (asked : Asked) → grant_permits other (Signal name) ≡ true → is_other asked ≡ true → grant_permits other asked ≡ true
 talk-within to_see name asked h k = absurd cc

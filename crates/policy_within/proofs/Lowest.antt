@@ -1,4 +1,4 @@
--- The least number that passes a test, whatever the order of the numbers.
+-- The lowest number that passes a test, whatever the order of the numbers.
 use Rattle.std.proofs.Common.{◌≡◌, ℕ, suc, ◌+◌, ◌<◌, ◌≤◌, Bool, true, false, List, [], ◌∷◌, fold, Option, Some, None, refl, ap, ap₂, sym, ◌∙◌, nat_eq, nat_lt, slice_get, arith, inl, inr}
 use Rattle.std.specs.Prelude.{◌⊎◌, ◌&&◌, ◌||◌, if◌then◌else◌}
 use Rattle.std.specs.List.{list_any}
@@ -18,7 +18,7 @@ use Rattle.policy_within.proofs.EntryNumbers.{has}
 
 -- ---- the least of numbers that passes
 
--- no number that passes is below it, and it is one of them or what stood there first
+-- no number that passes is lower, and it is one of them or the one from before
 record IsLeast (test : ℕ → Bool) (before : Option ℕ) (numbers : List ℕ) (least : Option ℕ) : Type 0 where
   low : list_any (λ m. is_below m least && test m) numbers ≡ false
   among : (least ≡ before) ⊎ ((n : ℕ) × (least ≡ Some n) × (list_any (λ m. nat_eq n m && test m) numbers ≡ true))
@@ -95,7 +95,7 @@ ascending test k (x ∷ es) h rest m e i = by (test x) (ascending test (k + 1) e
         omega (arith, first, later)
     by false next bound e = next e i
 
--- the least of ascending numbers stands first
+-- the lowest of ascending numbers is the first
 first-is : (test : Entry → Bool) (es : List Entry) (n : ℕ) → has (numbers_where test 1 es) n ≡ true → list_any (λ m. nat_lt m n) (numbers_where test 1 es) ≡ false → slice_get (numbers_where test 1 es) 0 ≡ Some n
 first-is test es n here low = by (numbers_where test 1 es) refl here low
   where

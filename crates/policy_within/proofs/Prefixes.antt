@@ -1,4 +1,4 @@
--- One element more of a list.
+-- One more element of a list.
 use Rattle.std.proofs.Common.{◌≡◌, ℕ, zero, suc, ◌+◌, Bool, true, List, [], ◌∷◌, ◌++◌, take, Some, refl, ap, sym, ◌∙◌, append-nil, append_assoc, slice_get, add-one}
 use Rattle.std.specs.Prelude.{flat_map}
 use Rattle.std.specs.List.{list_all}

@@ -46,7 +46,7 @@ whole-among s f e = ap (λ parts. is_among parts f) (parts-lacking s f e) ∙ or
 
 -- ---- trees
 
--- the text is the root or, where those below are meant, below it
+-- the text is the root or, if those below are meant, below it
 abbrev pub in_tree : ℕ → List ℕ → Bool → List ℕ → Bool
 in_tree s root below text = bytes_eq text root || (below && begins_with (root ++ s ∷ []) text)
 
@@ -96,7 +96,7 @@ not_lacking s (c ∷ q) rest = by (not (nat_eq c s)) (not_lacking s q rest)
     by true h = h
     by false h = refl
 
--- a text with what follows a separator: where it goes on from another text, it is that text or below it
+-- a text, a separator and what follows: if it continues another text, it is that text or below it
 pub prefix-cases : (s : ℕ) (q n f rest : List ℕ) → lacks s f ≡ true → q ++ s ∷ rest ≡ n ++ s ∷ f → (q ≡ n) ⊎ ((r : List ℕ) × (n ≡ q ++ s ∷ r))
 prefix-cases s [] [] f rest l e = inl refl
 prefix-cases s [] (c ∷ n) f rest l e = let head : c ≡ s = cc in inr (n, ap (λ d. d ∷ n) head)

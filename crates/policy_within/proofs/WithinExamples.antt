@@ -116,7 +116,7 @@ property_rules : one_in_one (properties (Some (codes "Volume"))) (properties Non
 unfolding first_refused covered_by fresh permits level digits
 property_rules = refl
 
--- each kind of request by its own entry, and the lowest entries alone
+-- each kind of request by its own entry, and only the lowest entries
 by_entries : answer_of (policy_of (properties None ∷ of_c to_see ∷ [])) (policy_of (subtree (codes "org.b") to_talk ∷ calls_of (codes "Set") ∷ calls_of (codes "GetAll") ∷ calls_of (codes "Get") ∷ calls_of (codes "Set") ∷ []))
     ≡ Yes (record { entry = 1; by = 2 ∷ 3 ∷ 4 ∷ [] } ∷ record { entry = 2; by = 2 ∷ [] } ∷ [])
 unfolding first_refused covered_by fresh permits level digits

@@ -31,7 +31,7 @@ text-inserted keys key text is =
     by true = refl
     by false = map-append (λ k. string_bytes k) keys (key ∷ [])
 
--- what stands there afterwards
+-- what is there afterwards
 among-with_text : (words : List Text) (text word : Text) → is_among (with_text words text) word ≡ (is_among words word || bytes_eq word text)
 among-with_text words text word = by (is_among words text) refl
   where

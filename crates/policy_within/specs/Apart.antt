@@ -9,7 +9,7 @@ use Rattle.policy_args.specs.declared.entry.Grant.{Grant}
 use Rattle.policy_args.specs.declared.entry.Grant.TheVariants.{See as to_see, Talk as to_talk, Own as to_own, Call as to_call, Broadcast as to_broadcast, Property as to_property}
 use Rattle.policy_within.specs.Elements.{elements, is_among}
 
--- the separator doesn't stand in the text
+-- the separator doesn't occur in the text
 abbrev pub lacks : ℕ → Text → Bool
 lacks separator text = list_all (λ c. not (nat_eq c separator)) text
 

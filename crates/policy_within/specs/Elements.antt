@@ -48,11 +48,11 @@ pub record IsFirstFree (taken : List Text) (word : Text) : Type 0 where
   pub free : is_among taken word ≡ false
   pub below : (k : ℕ) → k < number → is_among taken (z_word k) ≡ true
 
--- the first from zK on that isn't taken, of at most one more than the first number
+-- the first from zK on that isn't taken, of at most this many words and one more
 abbrev pub fresh_from : ℕ → ℕ → List Text → Text
 fresh_from zero k taken = z_word k
 fresh_from (suc more) k taken = if is_among taken (z_word k) then fresh_from more (k + 1) taken else z_word k
 
--- Of one word more than there are elements, one is no element.
+-- At least one of the words is no element, since there is one word more than there are elements.
 unfoldable pub fresh : List Entry → Text
 fresh entries = fresh_from (length (elements entries)) 0 (elements entries)

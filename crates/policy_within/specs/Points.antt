@@ -1,4 +1,5 @@
--- The requests by which a policy is compared with another: for each entry a few, which use an element that the other doesn't name.
+-- The requests by which a policy is compared with another: a few for each entry, which use an element that the other
+-- doesn't name.
 use Rattle.std.specs.Prelude.{◌&&◌, List, [], ◌∷◌, ◌++◌, Option, Some, None, Bool, unwrap_or, if◌then◌else◌}
 use Rattle.call_rules.specs.Properties.{PropertyRule}
 use Rattle.dbus_names.specs.Names.{is_bus}
@@ -23,7 +24,7 @@ point_path f (Some path) below = if below then path ++ 47 ∷ f else path
 abbrev pub point_interface : Text → Option Text → Text
 point_interface f interface = unwrap_or interface (f ++ 46 ∷ f)
 
--- of a member or a property
+-- the member or the property
 abbrev pub point_member : Text → Option Text → Text
 point_member f member = unwrap_or member f
 
@@ -47,6 +48,6 @@ grant_points f name (to_call r) = Call name (point_path f r.path r.below) (Some 
 grant_points f name (to_broadcast r) = Broadcast name (point_path f r.path r.below) (point_interface f r.interface) (point_member f r.member) ∷ []
 grant_points f name (to_property r) = property_points f name r
 
--- An entry of the bus's own name alone has none.
+-- An entry of exactly the bus's own name has none.
 abbrev pub points : Text → Entry → List Asked
 points f e = if e.pattern.exact && is_bus e.pattern.name then [] else grant_points f (point_name f e.pattern) e.grant

@@ -1,4 +1,5 @@
--- What the private functions do: the elements that begin with `z`, one entry's points, and the lowest of numbers.
+-- The effects of the private functions: the elements that begin with `z`, one entry's points, and the lowest of
+-- numbers.
 use Rattle.std.specs.Prelude.{ℕ, ◌==◌, Bool, true, ◌&&◌, nat_lt, List, [], ◌∷◌, ◌++◌, find, Option, Some, None, Result, Ok, Err, codes, if◌then◌else◌}
 use Rattle.dbus_names.specs.Texts.{Text, begins_with}
 use Rattle.policy_args.specs.Policy.{Policy}
@@ -18,7 +19,7 @@ with_z words text = if begins_with (codes "z") text then with_text words text el
 
 -- ---- numbers
 
--- an ascending list with one number more
+-- an ascending list with one more number
 abbrev pub with_number : ℕ → List ℕ → List ℕ
 with_number n [] = n ∷ []
 with_number n (k ∷ numbers) = if nat_lt n k then n ∷ k ∷ numbers else (if n == k then k ∷ numbers else k ∷ with_number n numbers)
@@ -27,7 +28,7 @@ abbrev pub is_below : ℕ → Option ℕ → Bool
 is_below n None = true
 is_below n (Some least) = nat_lt n least
 
--- the least number so far that passes, with one number more
+-- the lowest number so far that passes, after one more number
 abbrev pub with_lower : (ℕ → Bool) → Option ℕ → ℕ → Option ℕ
 with_lower test least n = if is_below n least && test n then Some n else least
 

@@ -1,4 +1,5 @@
--- Whether one policy is within another: the first request that it isn't, or the entries of the other that permit what each entry permits.
+-- Whether one policy is within another: the first request that only it permits, or the entries of the other that permit
+-- what each entry permits.
 use Rattle.std.specs.Prelude.{◌≡◌, ℕ, ◌+◌, ◌==◌, Bool, true, false, not, ◌&&◌, List, [], ◌∷◌, length, filter, flat_map, find, Option, Some, None, slice_get, option_to_list}
 use Rattle.std.specs.List.{list_any, range_with_len}
 use Rattle.name_patterns.specs.Patterns.{covers}
@@ -20,7 +21,7 @@ use Rattle.policy_within.specs.declared.answer.WithinAnswer.TheVariants.{Yes, No
 abbrev pub by_itself : Asked → Entry → Bool
 by_itself asked e = covers e.pattern (asked_name asked) && grant_permits e.grant asked
 
--- the least number, from 1, of an entry that permits the request by itself
+-- the lowest number, from 1, of an entry that permits the request by itself
 abbrev pub lowest : List Entry → Asked → Option ℕ
 lowest entries asked = slice_get (numbers_where (by_itself asked) 1 entries) 0
 

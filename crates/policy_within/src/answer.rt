@@ -1,10 +1,10 @@
-//! What the comparison of two policies answers.
+//! The answer of the comparison of two policies.
 ghost use Rattle.std.specs.Prelude.{◌≡◌};
 
 use policy_args::Asked;
 use std::marker::Model;
 
-/// Numbers of entries, from 1, ascending, each once.
+/// Numbers of entries, from 1, ascending and each once.
 #[derive(Drop)]
 pub struct Numbers {
     items: Vec<u32>,
@@ -19,7 +19,7 @@ impl Model for Numbers {
 }
 
 impl Numbers {
-    /// The numbers of a vector. They keep its memory.
+    /// The numbers of a vector, in its memory.
     pub fn new(items: Vec<u32>) -> Numbers
         ensures { result ≡ items.items }
     {
@@ -34,7 +34,7 @@ impl Numbers {
     }
 }
 
-/// An entry of the inner policy, and entries of the outer policy that permit what it permits.
+/// An entry of the inner policy, with entries of the outer policy that permit what it permits.
 #[derive(Drop)]
 pub struct CoveredEntry {
     /// The number of the entry, from 1.
@@ -74,11 +74,11 @@ impl CoveredEntries {
     }
 }
 
-/// The answer to whether a policy, the inner one, permits no request that another, the outer one, doesn't permit.
+/// The answer to whether one policy, the inner one, permits a request that another, the outer one, doesn't permit.
 #[derive(Drop)]
 pub enum WithinAnswer {
-    /// It permits none: its entries, each with entries of the outer policy that permit what it permits.
+    /// It permits none. Each of its entries has entries of the outer policy that permit what it permits.
     Yes(CoveredEntries),
-    /// A request that the inner policy permits and the outer policy doesn't.
+    /// It permits this request, and the outer policy doesn't.
     No(Asked),
 }

@@ -10,7 +10,8 @@ use crate::z_words::fresh_element;
 use policy_args::Policy;
 use std::alloc::{AllocError, Global};
 
-/// The first point of the inner policy's entries that the outer policy doesn't permit, or the entries of the outer policy that permit them.
+/// Finds the first point of the inner policy's entries that the outer policy doesn't permit, or else the entries of the
+/// outer policy that permit them.
 pub(crate) fn compare(
     alloc: Global,
     inner: &Policy,

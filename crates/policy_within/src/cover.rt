@@ -11,7 +11,8 @@ use crate::points::points;
 use policy_args::{Asked, Entry, Policy, covering_numbers_have_entries, permits_by_entries};
 use std::alloc::{AllocError, Global};
 
-/// The lowest entries of a policy that permit the points of an entry, or the first point that the policy doesn't permit.
+/// The lowest entries of a policy that permit the points of an entry, or the first point that the policy doesn't
+/// permit.
 pub(crate) fn cover(
     alloc: Global,
     fresh: &str,
@@ -33,7 +34,7 @@ pub(crate) fn cover(
     Ok(Ok(Numbers::new(numbers)))
 }
 
-// The least number of an entry that permits a request by itself.
+// The lowest number of an entry that permits a request by itself.
 fn lowest(policy: &Policy, asked: &Asked) -> Option<u32>
     ensures { result ≡ lowest_number policy.now.entries asked.now }
 {
@@ -47,7 +48,7 @@ fn lowest(policy: &Policy, asked: &Asked) -> Option<u32>
     least
 }
 
-// Whether the entry of a number is before the least so far, and its grant permits the request.
+// Whether the entry with a number precedes the lowest so far, and its grant permits the request.
 fn is_lower(policy: &Policy, asked: &Asked, number: u32, least: Option<u32>) -> bool
     requires { is_number (length policy.now.entries) number ≡ true }
     ensures { result ≡ (is_number_below number least && passes_at (λ e. grant_permits e.grant asked.now) policy.now.entries number) }
@@ -64,7 +65,7 @@ fn is_below(number: u32, least: Option<u32>) -> bool
     }
 }
 
-// Puts a number in its place among ascending ones. One that is there already adds nothing.
+// Inserts a number among ascending ones, unless it is there already.
 fn add(numbers: &mut Vec<u32>, number: u32) -> Result<(), AllocError>
     ensures { OnOk result (numbers.new.items ≡ with_number number numbers.old.items) }
 {

@@ -17,18 +17,19 @@ use compare::{check_patterns, compare};
 use policy_args::{Policy, permits_by_entries};
 use std::alloc::{AllocError, Global};
 
-/// Whether each request that the inner policy permits is permitted by the outer policy.
+/// Whether the outer policy permits each request that the inner policy permits.
 ///
-/// A request is one of a well-known name other than the bus's own. The filter and the logs of the options are not compared.
+/// Only requests of well-known names other than the bus's own count. The filter and the logs of the options aren't
+/// compared.
 pub fn within(alloc: Global, inner: &Policy, outer: &Policy) -> Result<WithinAnswer, AllocError>
     // The points use the first of z0, z1 .. that the outer policy doesn't name.
     ensures exact { IfOk result (λ answer. answer ≡ answer_of inner.now outer.now) }
     ensures free { OnOk result (IsFirstFree (elements outer.now.entries) (fresh outer.now.entries)) }
 
-    // It is Yes exactly where all that is permitted is permitted by the other.
+    // It is Yes exactly if the outer policy permits all that the inner one permits.
     ensures yes { IfOk result (λ answer. IsTrue (is_yes answer) ↔ Within inner.now outer.now) }
 
-    // A No has a request that separates them, and a Yes the entries that permit what each entry permits.
+    // A No has a request that only the inner policy permits, and a Yes the entries that permit what each entry permits.
     ensures tells { IfOk result (λ answer. Tells inner.now outer.now answer) }
 {
     permits_by_entries();

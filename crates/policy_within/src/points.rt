@@ -11,7 +11,8 @@ use name_patterns::Pattern;
 use policy_args::{Access, Asked, Entry, Grant};
 use std::alloc::{AllocError, Global};
 
-/// The points of an entry, which use an element where the entry leaves a part open. An entry of the bus's own name alone has none.
+/// The points of an entry. If the entry leaves a part open, they use an element that is `fresh` to the other policy. An
+/// entry of exactly the bus's own name has none.
 pub(crate) fn points(alloc: Global, fresh: &str, entry: &Entry) -> Result<Vec<Asked>, AllocError>
     ensures points { IfOk result (λ v. v.items ≡ points_of fresh.now entry.now) }
     ensures grammar { is_pattern entry.now.pattern ≡ true }
@@ -128,7 +129,7 @@ fn interface(alloc: Global, fresh: &str, interface: Option<&str>) -> Result<Name
     }
 }
 
-// Of a member or a property.
+// The member or the property.
 fn member(alloc: Global, fresh: &str, member: Option<&str>) -> Result<Name, AllocError>
     ensures { IfOk result (λ m. m ≡ point_member fresh.now (option_map (λ t. t.now) member.entry)) }
 {

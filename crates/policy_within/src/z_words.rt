@@ -35,7 +35,7 @@ impl ZWords {
         }
     }
 
-    // Takes the elements of an entry.
+    // Adds the elements of an entry.
     fn add_entry(&mut self, alloc: Global, entry: &Entry) -> Result<(), AllocError>
         ensures words { OnOk result (self.new ≡ fold with_z self.old (entry_elements entry.now)) }
         ensures rooted { OnOk result (has_rooted entry.now.grant ≡ true) }
@@ -48,7 +48,7 @@ impl ZWords {
         }
     }
 
-    // Takes the elements of a rule of calls or broadcasts.
+    // Adds the elements of a rule of calls or broadcasts.
     fn add_rule(&mut self, alloc: Global, rule: &Rule) -> Result<(), AllocError>
         ensures words { OnOk result (self.new ≡ fold with_z self.old (rule_elements rule.now.interface rule.now.member rule.now.path)) }
         ensures rooted { OnOk result (is_rooted rule.now.path ≡ true) }
@@ -60,7 +60,7 @@ impl ZWords {
         self.add_part(alloc, rule.path(), '/')
     }
 
-    // Takes the elements of a rule of properties.
+    // Adds the elements of a rule of properties.
     fn add_property_rule(&mut self, alloc: Global, rule: &PropertyRule) -> Result<(), AllocError>
         ensures words { OnOk result (self.new ≡ fold with_z self.old (rule_elements (Just rule.now.interface) rule.now.property rule.now.path)) }
         ensures rooted { OnOk result (is_rooted rule.now.path ≡ true) }
@@ -71,7 +71,7 @@ impl ZWords {
         self.add_part(alloc, rule.path(), '/')
     }
 
-    // Takes the elements of a part, if there is one.
+    // Adds the elements of a part, if there is one.
     fn add_part(
         &mut self,
         alloc: Global,
@@ -87,7 +87,7 @@ impl ZWords {
         }
     }
 
-    // Takes the elements that a separator joins.
+    // Adds the elements that are joined by a separator.
     fn add_parts(&mut self, alloc: Global, text: &str, separator: char) -> Result<(), AllocError>
         requires { separator < 128 }
         ensures { OnOk result (self.new ≡ fold with_z self.old (parts_at separator text.now)) }
@@ -98,7 +98,7 @@ impl ZWords {
         Ok(())
     }
 
-    // Takes an element if it begins with `z`.
+    // Adds an element, if it begins with `z`.
     fn add(&mut self, alloc: Global, element: &str) -> Result<(), AllocError>
         ensures { OnOk result (self.new ≡ with_z self.old element.now) }
     {
@@ -129,7 +129,8 @@ fn z_word(alloc: Global, number: usize) -> Result<String, AllocError>
     Ok(format!(in alloc; "z{number}")?)
 }
 
-/// The first of `z0`, `z1` .. that is no element of a name, an interface, a member, a property or a path of the policy's entries.
+/// The first of `z0`, `z1` .. that isn't an element of a name, an interface, a member, a property or a path of the
+/// policy's entries.
 pub(crate) fn fresh_element(alloc: Global, policy: &Policy) -> Result<String, AllocError>
     ensures fresh { IfOk result (λ word. string_bytes word ≡ fresh policy.now.entries) }
     ensures free { OnOk result (IsFirstFree (elements policy.now.entries) (fresh policy.now.entries)) }
