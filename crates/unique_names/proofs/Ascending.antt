@@ -1,4 +1,4 @@
--- Numbers that ascend, and what becomes of them where others are inserted.
+-- Ascending numbers, and the insertion of others.
 use Rattle.std.proofs.Common.{◌≡◌, ◌≢◌, ℕ, zero, suc, ◌+◌, ◌≤◌, ◌<◌, nat_lt, Bool, true, false, ◌||◌, List, [], ◌∷◌, length, take, get_or, Result, Ok, Err, if◌then◌else◌, refl, ap, ap₂, sym, subst, ◌∙◌, arith, add-one}
 use Rattle.std.specs.Prelude.{◌==◌, nat_le, not, is_err, MatchResult}
 use Rattle.std.specs.List.{insert}
@@ -54,7 +54,7 @@ rises low (n ∷ ns) zero (suc j) a le within =
     omega arith
 rises low (n ∷ ns) (suc i) (suc j) a le within = rises (n + 1) ns i j (ascending-parts low n ns a).1 (omega arith) (omega arith)
 
--- ---- where a number stands
+-- ---- the place of a number
 
 counted : (n : ℕ) (known : List ℕ) (i : ℕ) → i ≤ length known → ((j : ℕ) → j < i → get_or known j 0 < n) → (i < length known → n ≤ get_or known i 0) → i ≡ count_below n known
 counted n [] zero le low high = refl
@@ -126,7 +126,7 @@ few-below n (k ∷ known) = by (few-below n known) (nat_lt k n)
     by few true = omega arith
     by few false = omega arith
 
--- one that stands there isn't inserted
+-- one that is there isn't inserted
 in-low : (low n : ℕ) (known : List ℕ) → ascends_from low known ≡ true → is_in n known ≡ true → low ≤ n
 in-low low n [] a is = absurd cc
 in-low low n (k ∷ known) a is = by (in-low (k + 1) n known (ascending-parts low k known a).1) (ascending-parts low k known a).0 (k == n) refl is
@@ -183,7 +183,7 @@ all-ascend low (n ∷ ns) known more a =
     let least : low ≤ n = p.0 in
     all-ascend low ns (with_number n known) (weaker low (n + 1) ns (omega arith) p.1) (with-ascends low n known p.0 a)
 
--- what stands before all of them stays in front
+-- what precedes all of them stays first
 pub in-front : (n : ℕ) (ns known : List ℕ) → ascends_from (n + 1) ns ≡ true → with_numbers ns (n ∷ known) ≡ n ∷ with_numbers ns known
 in-front n [] known a = refl
 in-front n (m ∷ ns) known a =

@@ -1,4 +1,4 @@
--- What a tracker that was taught facts answers, and what it was taught when it has learned one fact more.
+-- What a tracker that has learned facts answers, and what it has learned after one more fact.
 use Rattle.std.proofs.Common.{◌≡◌, ℕ, Bool, true, false, cond, ◌||◌, List, [], ◌∷◌, ◌++◌, length, Option, Some, None, if◌then◌else◌, refl, ap, ap₂, sym, ◌∙◌, subst, arith}
 use Rattle.std.specs.Prelude.{◌&&◌}
 use Rattle.std.specs.List.{list_any}
@@ -117,13 +117,13 @@ start-fits policy = record { each = λ id k at. absurd (let no : None ≡ Some k
 
 -- ---- one fact more
 
--- what stands at a text after an insertion
+-- what is at a text after an insertion
 pub inserted : (ids : Ids) (id : Text) (k : Known) (q : Text) → get (insert ids id k) q ≡ (if bytes_eq id q then Some k else get ids q)
 inserted ids id k q =
     get-insert nat_list_cmp_total ids id k q
     ∙ ap (λ b. cond b (Some k) (get ids q)) (sym (sym (is_eq-slice_cmp id q) ∙ (eq_by_cmp_equiv nat_list_cmp_total).symm id q))
 
--- what is known of an id of which the fact tells nothing
+-- what is known of a unique name that the fact isn't about
 untold : (policy : Policy) (facts : List Fact) (fact : Fact) (q : Text) → level_by policy q fact ≡ Hidden → Agree (λ e. covers_name_of e q fact || list_any (covers_name_of e q) facts) (λ e. list_any (covers_name_of e q) facts) policy.entries →
     known_of policy (facts ++ fact ∷ []) q ≡ known_of policy facts q
 unfolding made
@@ -146,7 +146,7 @@ seen-with Own See e = refl
 seen-with Own Talk e = refl
 seen-with Own Own e = refl
 
--- what is known of the id of which it tells
+-- what is known of the unique name that the fact is about
 told : (ids : Ids) (policy : Policy) (facts : List Fact) (fact : Fact) (id : Text) (k : Known) (l : Level) (ns : List ℕ) → Taught ids policy facts →
     level_by policy id fact ≡ l → at_least See l ≡ true → k ≡ record { level = greater (known_level (get ids id)) l; numbers = ns } → owned_numbers policy (facts ++ fact ∷ []) id ≡ ns →
     Some k ≡ known_of policy (facts ++ fact ∷ []) id
@@ -245,7 +245,7 @@ learned-fits ids policy (Owned name id) fits = by (at_least See (level policy na
 
 -- ---- what is known already
 
--- an id of which the same is known is as it was
+-- if the same is known of a unique name, nothing changes
 pub unchanged : (ids : Ids) (id : Text) (k : Known) → get ids id ≡ Some k → ids ≡ insert ids id k
 unchanged ids id k is = same_map nat_list_cmp_total exact_bytes ids (insert ids id k) (λ q. at q (bytes_eq id q) refl ∙ sym (inserted ids id k q))
   where

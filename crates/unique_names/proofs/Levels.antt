@@ -88,7 +88,7 @@ uncovered policy name e = by (is_bus name) e
 
 -- ---- the entries of an id
 
--- a fact adds no entry where none covers its name
+-- a fact adds no entry if none covers its name
 without : (test : Entry → Bool) (name : Text) (same : Bool) (es : List Entry) → Agree (λ e. covers e.pattern name) (λ e. false) es → Agree (λ e. (same && covers e.pattern name) || test e) test es
 without test name same [] none = tt
 without test name true (e ∷ es) none = (ap (λ b. b || test e) none.0, without test name true es none.1)

@@ -19,7 +19,7 @@ use Rattle.unique_names.proofs.Ascending.{all-ascend, ascending-of, ascending-pa
 
 -- ---- tests on entries
 
--- two tests give the same of each entry
+-- two tests have the same result for each entry
 abbrev pub Agree : (Entry → Bool) → (Entry → Bool) → List Entry → Type 0
 Agree p q [] = Unit {0}
 Agree p q (e ∷ es) = (p e ≡ q e) × Agree p q es
@@ -44,7 +44,7 @@ later test n m (e ∷ es) lt = by (later test n (m + 1) es (omega arith)) (test 
     by others true = ne_eqb m n (λ same. absurd (omega arith))
     by others false = others
 
--- the numbers of the entries that cover the name or pass the test, where those that pass it are known
+-- the numbers of the entries that cover the name or pass the test, if those that pass it are known
 pub merged-numbers : (name : Text) (test : Entry → Bool) (n : ℕ) (es : List Entry) →
     merged_from name n es (numbers_where test n es) ≡ numbers_where (λ e. covers e.pattern name || test e) n es
 merged-numbers name test n [] = refl
@@ -141,7 +141,7 @@ none-known n last (k ∷ known) past = by (nat_le n k) refl (nat_le k last) refl
     by true low false high = refl
     by false low b high = refl
 
--- the first number is no greater than what is found behind it
+-- the first number is no greater than what is found after it
 lesser-left : (n : ℕ) (other : Option ℕ) → MatchOption other (n ≡ n) (λ m. n ≤ m) → lesser_of (Some n) other ≡ Some n
 lesser-left n None le = refl
 lesser-left n (Some m) le = ap (λ b. if b then Some n else Some m) (le-leb n m le)

@@ -1,4 +1,4 @@
--- How many look-ups a walk over the numbers of a name takes.
+-- The number of look-ups of a walk over the numbers of a name.
 use Rattle.std.proofs.Common.{◌≡◌, ◌+◌, ◌*◌, ℕ, suc, List, [], ◌∷◌, length, ap, ◌∙◌, arith}
 use Rattle.std.proofs.Math.Nat.{one-mul, suc-mul}
 use Rattle.dbus_names.specs.Texts.{Text}

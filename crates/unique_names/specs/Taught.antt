@@ -1,4 +1,4 @@
--- When a tracker was taught facts, and what it answers then.
+-- When a tracker has learned facts, and what it then answers.
 use Rattle.std.specs.Prelude.{◌≡◌, ℕ, true, List, [], Option, Some, None, length, if◌then◌else◌}
 use Rattle.std.specs.List.{list_all, list_any}
 use Rattle.std.specs.Ordering.{nat_cmp}
@@ -16,22 +16,22 @@ use Rattle.policy_args.specs.declared.fact.Fact.TheVariants.{Owned, SelfId, Met}
 use Rattle.unique_names.specs.Known.{Known}
 use Rattle.unique_names.specs.Merged.{merged_from}
 
--- what a tracker is seen as: what is known of each id
+-- the model of a tracker: what is known of each unique name
 abbrev pub Ids : Type 0
 Ids = FinMap (slice_cmp nat_cmp) Known
 
--- ---- what facts tell of an id
+-- ---- what follows from facts for a unique name
 
--- the numbers of the entries that cover a name which it owned
+-- the numbers of the entries that cover a name that it has owned
 abbrev pub owned_numbers : Policy → List Fact → Text → List ℕ
 owned_numbers policy facts id = numbers_where (λ e. list_any (covers_name_of e id) facts) 1 policy.entries
 
--- nothing is kept of an id to which the facts give no level
+-- nothing is kept of a unique name to which the facts give no level
 abbrev pub known_of : Policy → List Fact → Text → Option Known
 known_of policy facts id =
     if at_least See (level_of_id policy facts id) then Some (record { level = level_of_id policy facts id; numbers = owned_numbers policy facts id }) else None
 
--- the tracker was taught these facts, in any order, under the policy
+-- the tracker has learned these facts, in any order, under the policy
 pub record Taught (ids : Ids) (policy : Policy) (facts : List Fact) : Type 0 where
   pub each : (id : Text) → get ids id ≡ known_of policy facts id
 
@@ -56,18 +56,18 @@ abbrev pub kept_level : Policy → Ids → Text → Level
 kept_level policy ids text =
     if is_well_known text then level policy text else (if is_unique text then known_level (get ids text) else Hidden)
 
--- the numbers of the entries of a text: of a unique name those that are kept
+-- the numbers of the entries of a text: of a unique name, those that are kept
 abbrev pub kept_numbers : Policy → Ids → Text → List ℕ
 kept_numbers policy ids text =
     if is_unique text then known_numbers (get ids text) else merged_from text 1 policy.entries (known_numbers (get ids text))
 
 -- ---- what it learns
 
--- what is known of an id of which nothing was learned
+-- what is known of a unique name about which nothing was learned
 abbrev pub nothing_known : Known
 nothing_known = record { level = Hidden; numbers = [] }
 
--- at least this level, and no entry more
+-- at least this level, and no more entries
 abbrev pub raised : Level → Option Known → Known
 raised level k = record { level = greater (known_level k) level; numbers = known_numbers k }
 
@@ -75,7 +75,7 @@ raised level k = record { level = greater (known_level k) level; numbers = known
 abbrev pub owning : Policy → Text → Option Known → Known
 owning policy name k = record { level = greater (known_level k) (level policy name); numbers = merged_from name 1 policy.entries (known_numbers k) }
 
--- a name to which the policy gives no level tells nothing
+-- nothing is learned from the owner of a name to which the policy gives no level
 abbrev pub learned : Policy → Ids → Fact → Ids
 learned policy ids (Owned name id) = if at_least See (level policy name) then insert ids id (owning policy name (get ids id)) else ids
 learned policy ids (SelfId id) = insert ids id (raised Talk (get ids id))

@@ -1,4 +1,4 @@
-//! The numbers of a name's entries, one after the other.
+//! The numbers of a name's entries, in order.
 ghost use Rattle.std.specs.Prelude.{◌≡◌, ◌≤◌, ◌<◌, ◌+◌, ◌-◌, ◌∷◌, [], MatchOption, drop, length};
 ghost use Rattle.std.specs.Iterator.{YieldsFirst};
 ghost use Rattle.name_patterns.specs.Ranks.{elements};
@@ -9,17 +9,17 @@ use policy_args::Policy;
 use std::marker::{Brand, Model};
 use std::sync::ledger::{Blank, Ledger};
 
-/// The numbers of the entries that speak of a name, from 1, ascending and each once. Each is found by at most one look-up
-/// for each element of the name.
+/// An iterator over the numbers of the entries that apply to a name, from 1, ascending and each once. Finding each
+/// takes at most one look-up for each element of the name.
 #[derive(Drop)]
 pub struct Entries<'a> {
     policy: &'a Policy,
     name: &'a str,
-    /// The number of the first entry that wasn't looked at.
+    /// The number of the first entry that wasn't tested yet.
     number: u32,
-    /// The known numbers from there on.
+    /// The known numbers from that number on.
     known: &'a [u32],
-    /// Whether entries are looked at, or the known numbers are all.
+    /// Whether entries are tested, or the known numbers are all.
     looks: bool,
 }
 
@@ -49,7 +49,7 @@ impl<'a> Entries<'a> {
         }
     }
 
-    /// The known numbers.
+    /// The known numbers only.
     pub(crate) fn known(policy: &'a Policy, name: &'a str, known: &'a [u32]) -> Entries<'a>
         ensures name { result.name ≡ name.entry.now }
         ensures numbers { result.numbers ≡ known.entry.now }
@@ -65,7 +65,7 @@ impl<'a> Entries<'a> {
 }
 
 impl Entries<'_> {
-    /// What `next` gives.
+    /// Does as `next` does, and counts the steps.
     pub fn next_counted<L: Ledger>(&mut self, steps: &mut Steps<L>) -> Option<u32>
         ensures gives { YieldsFirst (λ e. e.numbers) self.old result self.new }
         ensures name { self.new.name ≡ self.old.name }
@@ -110,7 +110,7 @@ fn next_from<L: Ledger>(entries: &mut Entries<'_>, blank: Blank) -> Option<u32>
     entries.next_counted(&mut steps)
 }
 
-// The known numbers without the first, where that is this one.
+// The known numbers without the first, if that is this one.
 fn passed(number: u32, known: &[u32]) -> &[u32]
     ensures { result.now ≡ passed_in number known.now }
 {
@@ -120,7 +120,7 @@ fn passed(number: u32, known: &[u32]) -> &[u32]
     }
 }
 
-// The lowest number, from one on, that is known or whose entry covers the name.
+// The lowest number, from a number on, that is known or whose entry covers the name.
 fn find<L: Ledger>(
     policy: &Policy,
     name: &str,
@@ -138,7 +138,7 @@ fn find<L: Ledger>(
     lesser(first_within(known, from, policy.len()), covering)
 }
 
-// The first of the known numbers, where it lies between these two.
+// The first of the known numbers, if it is between these two.
 fn first_within(known: &[u32], from: u32, last: u32) -> Option<u32>
     ensures { result ≡ first_known known.now from last }
 {
@@ -148,7 +148,7 @@ fn first_within(known: &[u32], from: u32, last: u32) -> Option<u32>
     }
 }
 
-// The lesser of two numbers, of which each may be missing.
+// The lower of two numbers, each of which may be absent.
 fn lesser(left: Option<u32>, right: Option<u32>) -> Option<u32>
     ensures { result ≡ lesser_of left right }
 {

@@ -43,28 +43,28 @@ impl Known {
         }
     }
 
-    /// How far it may be used.
+    /// How far the name may be used.
     pub(crate) fn level(&self) -> Level
         ensures { result ≡ self.now.level }
     {
         self.level
     }
 
-    /// The numbers of the entries that cover a name which it owned, ascending.
+    /// The numbers of the entries that cover a name that it has owned, ascending.
     pub(crate) fn numbers(&self) -> &[u32]
         ensures { result.now ≡ self.now.numbers }
     {
         &self.numbers
     }
 
-    /// It has at least this level.
+    /// Raises the level to at least this one.
     pub(crate) fn raise(&mut self, level: Level)
         ensures { self.new ≡ raised level (Some self.old) }
     {
         self.level = self.level.max_with(level);
     }
 
-    /// It owns a name, too, to which the policy gives this level. Where memory is refused, nothing changes.
+    /// Adds a name that it owns, to which the policy gives this level. If memory is refused, nothing changes.
     pub(crate) fn own<L: Ledger>(
         &mut self,
         policy: &Policy,
@@ -75,7 +75,7 @@ impl Known {
         requires { level ≡ policy_level policy.now name.now }
         ensures ok { OnOk result (self.new ≡ owning policy.now name.now (Some self.old)) }
 
-        // Where all its entries are known, it takes no memory.
+        // If all its entries are known, it takes no memory.
         ensures known { missing_in self.old.numbers (merged_from name.now 1 policy.now.entries []) ≡ 0 → IsOk result }
         ensures err { OnErr result (self.new ≡ self.old) }
         ensures cost { steps.new ≤ steps.old + 2 * look_ups name.now (merged_from name.now 1 policy.now.entries []) }
@@ -96,7 +96,7 @@ pub(crate) fn level_in(known: Option<&Known>) -> Level
     }
 }
 
-/// The numbers of its entries.
+/// The numbers of the entries of a unique name.
 pub(crate) fn numbers_in(known: Option<&Known>) -> &[u32]
     ensures { result.now ≡ known_numbers (option_copied known.entry) }
 {

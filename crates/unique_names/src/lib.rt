@@ -1,7 +1,7 @@
-//! What is known of unique names: how far each may be used, and which entries of the policy speak of it.
+//! What is known of unique names: how far each may be used, and which entries of the policy apply to it.
 //!
-//! A bus gives each connection a unique name, and tells who owns which well-known name. A tracker is taught such facts as
-//! messages tell them, and answers by all of them: nothing is taken back (xdg-dbus-proxy(1), "Filtering").
+//! A bus gives each connection a unique name, and says who owns which well-known name. A tracker learns such facts from
+//! messages, and answers from all of them: no fact is withdrawn (xdg-dbus-proxy(1), "Filtering").
 #![tactic(auto)]
 
 mod entries;

@@ -14,7 +14,7 @@ use name_patterns::Steps;
 use policy_args::{Level, Policy};
 use std::sync::ledger::Ledger;
 
-/// A bus name under a policy. What is known of a unique one was looked up, once for all that is asked of it.
+/// A bus name under a policy. What is known of a unique name was looked up once, for all questions about it.
 #[derive(Clone, Copy)]
 pub struct LookedUp<'a> {
     tracker: &'a Tracker,
@@ -55,7 +55,7 @@ impl<'a> LookedUp<'a> {
         }
     }
 
-    /// How far it may be used, as `Tracker::level` says.
+    /// How far the name may be used, as `Tracker::level` says.
     pub fn level<L: Ledger>(self, steps: &mut Steps<L>) -> Level
         ensures level { result ≡ kept_level self.entry.policy.now self.entry.tracker.now self.entry.name.now }
         ensures cost { steps.new ≤ steps.old + elements self.entry.name.now + 1 }
@@ -67,7 +67,7 @@ impl<'a> LookedUp<'a> {
         }
     }
 
-    /// The numbers of its entries, as `Tracker::entries` says.
+    /// The numbers of the name's entries, as `Tracker::entries` says.
     pub fn entries<L: Ledger>(self, steps: &mut Steps<L>) -> Entries<'a>
         ensures name { result.name ≡ self.entry.name.now }
         ensures numbers { result.numbers ≡ kept_numbers self.entry.policy.now self.entry.tracker.now self.entry.name.now }

@@ -1,4 +1,4 @@
-//! Ascending numbers of entries, which are changed in place.
+//! Ascending numbers of entries, changed in place.
 ghost use Rattle.std.specs.Prelude.{◌≡◌, ◌≤◌, ◌<◌, ◌+◌, ◌*◌, [], if◌then◌else◌, true, false, IsOk, OnErr, OnOk, vec_capacity, vec_len};
 ghost use Rattle.unique_names.specs.Inserted.{ascends_from, is_in, missing_in, place_of, with_number, with_numbers};
 ghost use Rattle.unique_names.specs.Merged.{look_ups, merged_from};
@@ -9,8 +9,8 @@ use policy_args::Policy;
 use std::alloc::AllocError;
 use std::sync::ledger::Ledger;
 
-/// Inserts the numbers of the entries that cover a name, and lets those go that are of no entry. Where memory is refused,
-/// nothing changes.
+/// Inserts the numbers of the entries that cover a name, and removes those that aren't numbers of entries. If memory is
+/// refused, nothing changes.
 pub(crate) fn merge<L: Ledger>(
     policy: &Policy,
     name: &str,
@@ -20,7 +20,7 @@ pub(crate) fn merge<L: Ledger>(
     requires { ascends_from 1 numbers.old.items ≡ true }
     ensures ok { OnOk result (numbers.new.items ≡ merged_from name.now 1 policy.now.entries numbers.old.items) }
 
-    // Where all stand there, it takes no memory.
+    // If all are there already, it takes no memory.
     ensures known { missing_in numbers.old.items (merged_from name.now 1 policy.now.entries []) ≡ 0 → IsOk result }
     ensures err { OnErr result (numbers.new.items ≡ numbers.old.items) }
 
@@ -57,7 +57,7 @@ fn insert_missing<L: Ledger>(
     Ok(())
 }
 
-// How many entries cover a name whose numbers don't stand there.
+// The number of entries that cover a name and whose numbers aren't there yet.
 fn count_missing<L: Ledger>(
     policy: &Policy,
     name: &str,
@@ -78,7 +78,7 @@ fn count_missing<L: Ledger>(
     count
 }
 
-// Inserts the numbers of the entries that cover a name, for which memory was taken.
+// Inserts the numbers of the entries that cover a name. Memory for them was reserved.
 fn insert_covering<L: Ledger>(
     policy: &Policy,
     name: &str,
@@ -96,7 +96,7 @@ fn insert_covering<L: Ledger>(
     }
 }
 
-// Inserts a number at its place, unless it stands there.
+// Inserts a number at its place, unless it is there already.
 fn insert(numbers: &mut Vec<u32>, number: u32)
     requires ascending { ascends_from 1 numbers.old.items ≡ true }
     requires room { is_in number numbers.old.items ≡ false → vec_len numbers.old < vec_capacity numbers.old }
@@ -112,7 +112,7 @@ fn insert(numbers: &mut Vec<u32>, number: u32)
     }
 }
 
-// Where a number stands, or else where it would stand.
+// The place of a number, or else the place at which it would be inserted.
 fn place(numbers: &[u32], number: u32) -> Result<usize, usize>
     requires { ascends_from 1 numbers.now ≡ true }
     ensures { result ≡ place_of number numbers.now }

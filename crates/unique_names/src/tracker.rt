@@ -22,9 +22,9 @@ use std::collections::BTreeMap;
 use std::marker::{Brand, Model};
 use std::sync::ledger::{Blank, Ledger};
 
-/// What is known of unique names, by the facts that it was taught under one policy.
+/// What is known of unique names, from the facts that were learned under one policy.
 ///
-/// It is given that policy with each call. What is known of a unique name takes memory once.
+/// Each call must be given the same policy. What is known of a unique name takes memory once.
 #[derive(Drop)]
 pub struct Tracker {
     ids: BTreeMap<String, Known>,
@@ -49,7 +49,7 @@ impl Model for Tracker {
 }
 
 impl Tracker {
-    /// Nothing is known.
+    /// A tracker that knows nothing.
     pub fn new(alloc: Global) -> Tracker
         ensures empty { result ≡ map.empty }
         ensures taught { (policy : PolicyValue) → Taught result policy [] }
@@ -58,11 +58,11 @@ impl Tracker {
         Tracker::empty(alloc)
     }
 
-    /// How far a name of either kind may be used: `None` for any other text.
+    /// How far a name, unique or well-known, may be used: `None` for any other text.
     pub fn level(&self, policy: &Policy, name: &str) -> Level
         ensures kept { result ≡ kept_level policy.now self.now name.now }
 
-        // For all facts that were taught, it is the level by them.
+        // It is the level that follows from all facts that were learned.
         ensures exact { (facts : List FactValue) → Taught self.now policy.now facts → result ≡ level_of policy.now facts name.now }
     {
         let asked = AskedName {
@@ -73,7 +73,7 @@ impl Tracker {
         level_from::<Brand>(asked, Blank::new(1))
     }
 
-    /// What `level` answers: it takes at most one look-up for each element of the name and one more.
+    /// Does as `level` does, with at most one look-up for each element of the name and one more.
     pub fn level_counted<L: Ledger>(
         &self,
         policy: &Policy,
@@ -86,7 +86,7 @@ impl Tracker {
         self.level_of(policy, name, steps)
     }
 
-    /// The numbers of the entries that cover a name, or a name that it owned, from 1, ascending and each once.
+    /// The numbers of the entries that cover a name, or a name that it has owned, from 1, ascending and each once.
     pub fn entries<'a>(&'a self, policy: &'a Policy, name: &'a str) -> Entries<'a>
         ensures name { result.name ≡ name.entry.now }
         ensures kept { result.numbers ≡ kept_numbers policy.entry.now self.entry.now name.entry.now }
@@ -97,7 +97,7 @@ impl Tracker {
         self.entries_of(policy, name)
     }
 
-    /// A bus name, with what is known of it. It is looked up once for all that is asked of it.
+    /// Looks up what is known of a bus name, once for all questions about it.
     pub fn look_up<'a, L: Ledger>(
         &'a self,
         policy: &'a Policy,
@@ -112,8 +112,8 @@ impl Tracker {
         LookedUp::new(self, policy, name, steps)
     }
 
-    /// Learns a fact. One that is known already adds nothing, and one that gives no level keeps nothing. Where memory is
-    /// refused, nothing changes.
+    /// Learns a fact. A fact that is known already adds nothing, and nothing is kept of one that gives no level. If
+    /// memory is refused, nothing changes.
     pub fn learn(&mut self, policy: &Policy, fact: Fact) -> Result<(), AllocError>
         ensures learned { OnOk result (self.new ≡ learned policy.now self.old fact) }
         ensures taught { OnOk result ((facts : List FactValue) → Taught self.old policy.now facts → Taught self.new policy.now (facts ++ fact ∷ [])) }
@@ -127,7 +127,7 @@ impl Tracker {
         }
     }
 
-    /// Learns that a unique name owns a name, or owned it.
+    /// Learns that a unique name owns a name, or has owned it.
     pub fn learn_owner(&mut self, policy: &Policy, name: &str, id: &str) -> Result<(), AllocError>
         ensures learned { OnOk result (self.new ≡ learned policy.now self.old (Owned name.now id.now)) }
         ensures taught { OnOk result ((facts : List FactValue) → Taught self.old policy.now facts → Taught self.new policy.now (facts ++ Owned name.now id.now ∷ [])) }
@@ -137,8 +137,8 @@ impl Tracker {
         self.own(policy, name, id)
     }
 
-    /// What `learn_owner` learns: it takes the look-ups of the name and of the unique one, and twice those of the entries that
-    /// cover the name.
+    /// Does as `learn_owner` does, with the look-ups of the name and of the unique name, and twice those of the entries
+    /// that cover the name.
     pub fn learn_owner_counted<L: Ledger>(
         &mut self,
         policy: &Policy,
@@ -191,7 +191,7 @@ impl Tracker {
         self.ids.get(id)
     }
 
-    // The level of a name, by what is kept.
+    // The level of a name, from what is kept.
     fn level_of<L: Ledger>(&self, policy: &Policy, name: &str, steps: &mut Steps<L>) -> Level
         ensures level { result ≡ kept_level policy.now self.now name.now }
         ensures cost { steps.new ≤ steps.old + elements name.now + 1 }
@@ -206,7 +206,7 @@ impl Tracker {
         }
     }
 
-    // The entries of a name, by what is kept.
+    // The entries of a name, from what is kept.
     fn entries_of<'a>(&'a self, policy: &'a Policy, name: &'a str) -> Entries<'a>
         ensures name { result.name ≡ name.entry.now }
         ensures numbers { result.numbers ≡ kept_numbers policy.entry.now self.entry.now name.entry.now }
@@ -219,7 +219,7 @@ impl Tracker {
         }
     }
 
-    // A unique name owns a name, for a caller that counts no steps.
+    // Learns that a unique name owns a name, for a caller that counts no steps.
     fn own(&mut self, policy: &Policy, name: &str, id: &str) -> Result<(), AllocError>
         ensures ok { OnOk result (self.new ≡ learned policy.now self.old (Owned name.now id.now)) }
         ensures err { OnErr result (self.new ≡ self.old) }
@@ -228,7 +228,7 @@ impl Tracker {
         own_from::<Brand>(self, owned, Blank::new(1))
     }
 
-    // A unique name owns a name. What is known of it is looked up, which is a step.
+    // Learns that a unique name owns a name. Looking up what is known of it is a step.
     fn own_counted<L: Ledger>(
         &mut self,
         policy: &Policy,
@@ -255,7 +255,7 @@ impl Tracker {
         }
     }
 
-    // A unique name has at least this level.
+    // Raises the level of a unique name to at least this one.
     fn raise(&mut self, id: &str, level: Level) -> Result<(), AllocError>
         ensures ok { OnOk result (self.new ≡ map.insert self.old id.now (raised_from level (map.get self.old id.now))) }
         ensures err { OnErr result (self.new ≡ self.old) }
@@ -284,7 +284,7 @@ impl Tracker {
     }
 }
 
-// A name of either kind, under a policy.
+// A name, unique or well-known, under a policy.
 #[derive(Drop)]
 struct AskedName<'a> {
     tracker: &'a Tracker,
@@ -311,7 +311,7 @@ struct OwnedName<'a> {
     id: &'a str,
 }
 
-// A unique name owns a name. The steps are counted in a ledger of their own.
+// Learns that a unique name owns a name. The steps are counted in a ledger of their own.
 fn own_from<L: Ledger>(
     tracker: &mut Tracker,
     owned: OwnedName<'_>,
