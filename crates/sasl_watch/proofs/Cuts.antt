@@ -1,4 +1,4 @@
--- What the line in front of some bytes is, by its plain bytes and the one or two that follow them.
+-- The first line of some bytes, from its plain bytes and the one or two that follow them.
 use Rattle.std.proofs.Common.{◌≡◌, ◌≢◌, ℕ, zero, suc, ◌+◌, ◌-◌, ◌≤◌, ◌<◌, Bool, true, false, cond, List, [], ◌∷◌, ◌++◌, length, take, drop, slice_index, Option, Some, None, refl, sym, ap, ap₂, ◌∙◌, append_assoc, append-nil, arith, lit<}
 use Rattle.std.specs.Prelude.{not, ◌&&◌, ◌||◌, ◌==◌, nat_eq}
 use lib.Pointwise.{pointwise}
@@ -34,7 +34,7 @@ not-eq a b ne = grind (arith, nat_tests)
 plain-not : (b c : ℕ) → is_plain b ≡ true → c < 32 → (b == c) ≡ false
 plain-not b c p l = grind (arith, nat_tests)
 
--- ---- behind which bytes a CR stands
+-- ---- after which bytes there is a CR
 
 last-byte : (line : List ℕ) (b : ℕ) → drop (length (line ++ b ∷ []) - 1) (line ++ b ∷ []) ≡ b ∷ []
 last-byte line b = drop_at line (b ∷ []) (length (line ++ b ∷ []) - 1) (omega (arith, length-append line (b ∷ [])))
@@ -45,7 +45,7 @@ behind-byte line b = ap (pointwise nat_eq (13 ∷ [])) (last-byte line b)
 behind-plain : (line : List ℕ) (b : ℕ) → is_plain b ≡ true → is_behind_cr (line ++ b ∷ []) ≡ false
 behind-plain line b p = behind-byte line b ∙ grind (arith, nat_tests)
 
--- ---- plain bytes in front
+-- ---- plain bytes at the start
 
 abbrev AllPlain : List ℕ → Type 0
 AllPlain [] = Unit {0}
@@ -67,7 +67,7 @@ cut-plain refused (b ∷ p) s place line a h l =
     F : List ℕ → Cut
     F next = cut_from refused (place + 1) next (p ++ s)
 
--- ---- the front, by how many bytes are plain
+-- ---- the start, by its number of plain bytes
 
 module _ (left : List ℕ) (n : ℕ) (front : PlainFront n left) where
   plain_part : AllPlain (take n left)
@@ -76,7 +76,7 @@ module _ (left : List ℕ) (n : ℕ) (front : PlainFront n left) where
   plain_length : length (take n left) ≡ n
   plain_length = length-take-le n left front.plain.within
 
-  -- no CR stands before the next byte
+  -- there is no CR before the next byte
   no_ret : is_behind_cr (take n left) ≡ false
   no_ret = go n front
     where
@@ -102,7 +102,7 @@ module _ (left : List ℕ) (n : ℕ) (front : PlainFront n left) where
         ≡ at_byte (byte_fault refused (take n left) (slice_index left n)) (place + n) (slice_index left n) (take n left) (λ next. cut_from refused (place + n + 1) next (drop (n + 1) left))
     cut-byte l = cut-front ∙ ap (cut_from refused (place + n) (take n left)) (drop_more left n 0 l)
 
-    -- behind a CR
+    -- after a CR
     cut-ret : n < length left → n < 16383 → slice_index left n ≡ 13 → cut_from refused place [] left ≡ cut_from refused (place + (n + 1)) (take (n + 1) left) (drop (n + 1) left)
     cut-ret l few is =
         cut-byte l

@@ -1,4 +1,4 @@
--- What was given of a side's stream stays what all that was pushed holds, at each push and at each answer.
+-- What was given of a side's stream agrees with all that was pushed, after each push and each answer.
 use Rattle.std.proofs.Common.{◌≡◌, ℕ, ◌+◌, ◌-◌, ◌≤◌, ◌<◌, Bool, true, false, cond, List, [], ◌∷◌, ◌++◌, length, take, drop, Option, Some, None, refl, sym, ap, ap₂, subst, ◌∙◌, append_assoc, append-nil, arith, inl, inr}
 use Rattle.std.specs.Prelude.{◌||◌, ◌==◌, nat_lt}
 use Rattle.std.specs.List.{list_any}
@@ -103,7 +103,7 @@ module _ (pushed : List ℕ) (given : List (List ℕ)) (old : Watch) (s : Client
     told = λ f e. absurd (not_told new.bad f (ap (λ (w : Watch). w.bad) t.is) e);
   }
 
-  -- the lines, where what is left has these
+  -- the lines, if what is left has these
   client-lines : (c : Cut) → client_ahead old ≡ c → client_lines pushed ≡ given ++ through is_begin c.lines
   client-lines c e = ap (λ (c : Cut). through is_begin c.lines) (s.cut ∙ ap (behind given) e) ∙ through-given is_begin given c.lines s.unbegun
 
@@ -235,7 +235,7 @@ module _ (pushed : List ℕ) (given : List (List ℕ)) (old : Watch) (s : BusFol
     told = λ f e. absurd (not_told new.bad f (ap (λ (w : Watch). w.bad) t.is) e);
   }
 
-  -- more lines are asked for than were given, and no more stand
+  -- more lines are asked for than were given, and there are no more
   module _ (n : ℕ) (f : Option LineFault) (less : length given < n) (ahead : bus_ahead old ≡ record { lines = []; fault = f }) where
     few-lines : bus_lines n pushed ≡ given
     few-lines = ap (λ (c : Cut). take n c.lines) (s.cut ∙ ap (behind given) ahead) ∙ ap (take n) (append-nil given) ∙ take_all n given (omega (arith, less))
@@ -371,7 +371,7 @@ bus-next pushed given n begun old (Bad f) new le s (inr (inr t)) = bus-tells_ear
 bus-next pushed given n begun old Nul new le s g = absurd g
 bus-next pushed given n begun old (Begin line) new le s g = absurd g
 
--- ---- a fault is told again
+-- ---- a fault is reported again
 
 abbrev the_bad : LineFault → NextLine
 the_bad f = Bad f

@@ -1,4 +1,4 @@
--- The lines that were given stand in front of any stream that goes on in another way.
+-- A stream that begins with the given lines has these lines, whatever follows them.
 use Rattle.std.proofs.Common.{◌≡◌, ℕ, ◌+◌, ◌<◌, Bool, true, false, cond, List, [], ◌∷◌, ◌++◌, length, Option, Some, None, refl, sym, ap, ap₂, ◌∙◌, append_assoc, append-nil, arith}
 use Rattle.std.specs.Prelude.{◌==◌}
 use Rattle.std.proofs.lemmas.List.{length-append, append_cancel_left}
@@ -35,7 +35,7 @@ line-longer refused (b ∷ s) place line first others e = at_it (λ next. line-l
     at_it ih (Some kind) h = absurd cc
     at_it ih None h = ended (b == 10) ih h
 
--- the first line stands there whatever follows it
+-- the first line is there whatever follows it
 line-first : (refused : List ℕ → Bool) (p rest : List ℕ) (place : ℕ) (line : List ℕ) (others : List (List ℕ)) → (cut_from refused place line (p ++ rest)).lines ≡ (line ++ p) ∷ others
     → (x : List ℕ) → cut_from refused place line (p ++ x) ≡ with_line (line ++ p) (cut_from refused (place + length p) [] x)
 line-first refused [] rest place line others e x = absurd (omega (arith, line-longer refused rest place line (line ++ []) others e, ap length (append-nil line)))
@@ -90,14 +90,14 @@ cut-given refused (line ∷ given) place rest others e x =
     ∙ ap (with_line line) (cut-given refused given (place + length line) rest others later x)
     ∙ ap (λ (n : ℕ). behind (line ∷ given) (cut_from refused n [] x)) place_is
 
--- behind the NUL the client's lines are cut as any
+-- after the NUL the client's lines are cut as any others
 pub client_ahead-lines : (place : ℕ) (left : List ℕ) (bad : Option LineFault) → 0 < place → client_ahead (record { place = place; left = left; bad = bad }) ≡ cut_from (λ line. false) place [] left
 client_ahead-lines place left bad h = ap (λ (b : Bool). cond b (client_cut left) (cut_from (λ line. false) place [] left)) (not_zero place h)
   where
     not_zero : (n : ℕ) → 0 < n → (n == 0) ≡ false
     not_zero n h = grind (arith, nat_tests)
 
--- the client's lines, of which the first is its NUL
+-- the client's lines, whose first is its NUL
 pub client-given : (given : List (List ℕ)) (rest : List ℕ) (others : List (List ℕ)) → (client_cut (joined given ++ rest)).lines ≡ given ++ others
     → (x : List ℕ) (bad : Option LineFault) → client_cut (joined given ++ x) ≡ behind given (client_ahead (record { place = length (joined given); left = x; bad = bad }))
 client-given [] rest others e x bad = refl

@@ -18,7 +18,7 @@ use Rattle.sasl_watch.proofs.LinesGrow.{if_all_is, all_or_fewer, early}
 
 -- ---- one byte more
 
--- what the lines of bytes are, and the line that is open behind them
+-- the lines of some bytes, and the unfinished line after them
 record At (before line : List ℕ) (lines : List (List ℕ)) : Type 0 where
   line_is : open_line before ≡ line
   lines_are : ended_lines before ≡ lines
@@ -83,7 +83,7 @@ bus_byte n begun before line lines b a h =
     ∙ ap (λ (l : List ℕ). by_rows (is_too_long l b) (is_bad_byte l b) (is_agreed l b)) a.line_is
     ∙ byte_rows agrees line b
 
--- behind all lines
+-- after all lines
 behind_byte : (n : ℕ) (begun : Bool) (before : List ℕ) (b : ℕ) → in_bus_line n before ≡ false → kind_by (bus_table n begun) before b ≡ cond begun None (Some EarlyBus)
 behind_byte n begun before b h =
     ap (λ (w : Bool). cond (not w && not begun) (Some EarlyBus) (by_rows (w && is_too_long (open_line before) b) (w && is_bad_byte (open_line before) b) (w && is_agreed (open_line before) b))) h ∙ go begun
@@ -104,7 +104,7 @@ nothing_behind n before (b ∷ s) h =
     ap (λ (k : Option LineKind). unless_found k (length before) (first_from (bus_table n true) (before ++ b ∷ []) s)) (behind_byte n true before b h)
     ∙ nothing_behind n (before ++ b ∷ []) s (still_behind n before b h)
 
--- what the definition finds from a line's first byte on, where k lines are awaited
+-- what the definition finds from a line's first byte on, if k lines are awaited
 abbrev out : ℕ → Bool → ℕ → List ℕ → Cut → Option LineFault
 out k begun start bytes c =
     cond (nat_lt (length (take k c.lines)) k) c.fault
@@ -120,7 +120,7 @@ suc_lt a k = go (nat_lt a k) refl
     go true h = lt-ltb (suc a) (suc k) (omega (arith, ltb-true a k h))
     go false h = le-ltb (suc a) (suc k) (omega (arith, ltb-false a k h))
 
--- a whole line in front
+-- a whole line is first
 out_line : (k : ℕ) (begun : Bool) (start : ℕ) (line s : List ℕ) (c : Cut) → out (suc k) begun start (line ++ s) (with_line line c) ≡ out k begun (start + length line) s c
 out_line k begun start line s c =
     let rest = joined (take k c.lines) in
@@ -205,7 +205,7 @@ client_byte before line lines b a h =
     ∙ ap (by_rows (is_too_long line b) (is_bad_byte line b)) (sym (and-false (is_ending line b)))
     ∙ byte_rows (λ l. false) line b
 
--- behind BEGIN nothing is a fault
+-- after BEGIN nothing is a fault
 nothing_after : (before s : List ℕ) → list_any is_begin (ended_lines before) ≡ true → first_from client_table (0 ∷ before) s ≡ None
 nothing_after before [] h = refl
 nothing_after before (b ∷ s) h =
@@ -272,7 +272,7 @@ client_fault-table (b ∷ s) = go (b == 0) refl
 
 -- ---- what a table finds is the first faulty byte
 
--- the same behind other bytes
+-- after other bytes
 record FirstBehind (rows : List Row) (pre stream : List ℕ) (f : LineFault) : Type 0 where
   before : List ℕ
   byte : ℕ
@@ -349,7 +349,7 @@ none_behind rows (b ∷ s) pre e p q c h = go (kind_by rows pre b) refl e (none_
         let rest : s ≡ p ++ c ∷ q = cc in
         ap (λ (x : ℕ). kind_by rows (pre ++ x ∷ p) c) (sym same) ∙ ap (λ (t : List ℕ). kind_by rows t c) (sym (append_assoc pre (b ∷ []) p)) ∙ ih e p q c rest
 
--- where a table finds nothing, no byte has a kind
+-- if a table finds nothing, no byte has a kind
 pub first_in-none : (rows : List Row) (s : List ℕ) → first_in rows s ≡ None → (p q : List ℕ) (c : ℕ) → s ≡ p ++ c ∷ q → kind_by rows p c ≡ None
 first_in-none rows s e p q c h = none_behind rows s [] e p q c h
 

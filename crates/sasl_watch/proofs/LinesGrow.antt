@@ -1,4 +1,4 @@
--- The lines of a stream that goes on: what stands is kept, a fault stays, and bytes behind the lines come behind.
+-- The lines of a stream that goes on: lines are kept, a fault stays, and bytes after the lines are only added to.
 use Rattle.std.proofs.Common.{◌≡◌, ℕ, zero, suc, ◌+◌, ◌-◌, ◌≤◌, ◌<◌, Bool, true, false, cond, List, [], ◌∷◌, ◌++◌, length, take, drop, Option, Some, None, refl, sym, ap, ◌∙◌, append_assoc, append-nil, arith}
 use Rattle.std.specs.Prelude.{not, ◌&&◌, ◌||◌, ◌==◌, nat_lt}
 use Rattle.std.specs.List.{list_any}
@@ -108,7 +108,7 @@ any-append test (line ∷ lines) more e = go (test line) (any-append test lines 
     go true ih h = refl
     go false ih h = ih h
 
--- nothing comes behind the first line that passes
+-- nothing follows the first line that passes
 through-stays : (test : List ℕ → Bool) (lines more : List (List ℕ)) → list_any test (through test lines) ≡ true → through test (lines ++ more) ≡ through test lines
 through-stays test [] more e = absurd cc
 through-stays test (line ∷ lines) more e = go (test line) refl (through-stays test lines more) e
@@ -236,7 +236,7 @@ early begun n s = cond (not begun && nat_lt 0 (length (after_lines n s))) (line_
 pub all_or_fewer : (n : ℕ) (s : List ℕ) → nat_lt (length (bus_lines n s)) n ≡ false → length (bus_lines n s) ≡ n
 all_or_fewer n s e = omega (arith, ltb-false (length (bus_lines n s)) n e, length-take n (bus_cut s).lines)
 
--- where fewer lines have come, nothing follows them yet
+-- if there are fewer lines, nothing follows them yet
 pub fewer_then_none : (n : ℕ) (s : List ℕ) → nat_lt (length (bus_lines n s)) n ≡ true → after_lines n s ≡ []
 fewer_then_none n s e = go (length (bus_lines n s) == n) refl
   where
@@ -291,7 +291,7 @@ bus_fault-stays n begun s x f e = go (nat_lt (length (bus_lines n s)) n) refl e
     go true h e = in_cut h e
     go false h e = behind_lines h begun refl e
 
--- behind all its lines, a bus that may speak is at no fault here
+-- after all its lines, a bus that may speak is at no fault here
 pub no_bus_fault : (n : ℕ) (s : List ℕ) → length (bus_lines n s) ≡ n → bus_fault n true s ≡ None
 no_bus_fault n s e = ap (λ (b : Bool). cond b (bus_cut s).fault no_fault) (le-ltb (length (bus_lines n s)) n (omega (arith, e)))
 

@@ -1,4 +1,4 @@
--- A line's word is the text with which the line begins where no byte of a word follows it.
+-- A line's word is the text with which the line begins, if no byte of a word follows it.
 use Rattle.std.proofs.Common.{◌≡◌, ℕ, Bool, true, false, cond, List, [], ◌∷◌, length, take, drop, refl, sym, ap, ◌∙◌}
 use Rattle.std.specs.Prelude.{not, ◌&&◌, ◌||◌, ◌==◌, nat_eq, bytes_eq}
 use Rattle.std.specs.List.{list_all}

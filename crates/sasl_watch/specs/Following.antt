@@ -1,4 +1,4 @@
--- What was given of a side's stream, and what all that was pushed holds.
+-- What was given of a side's stream, and how that relates to all that was pushed.
 use Rattle.std.specs.Prelude.{◌≡◌, ℕ, ◌-◌, ◌<◌, ◌≤◌, Bool, true, false, List, [], ◌∷◌, ◌++◌, length, Some, None, ◌⊎◌}
 use Rattle.std.specs.List.{list_any}
 use Rattle.sasl_watch.specs.declared.LineKind.TheVariants.{EarlyBus}
@@ -18,7 +18,7 @@ only_fault f = record { lines = []; fault = Some f }
 
 -- ---- the client
 
--- of all that was pushed these lines were given, none of them BEGIN, and what is left has the others and the fault
+-- of all that was pushed these lines were given, none of which is BEGIN, and what is left has the others and the fault
 pub record ClientFollows (pushed : List ℕ) (given : List (List ℕ)) (w : Watch) : Type 0 where
   pub parts : pushed ≡ joined given ++ w.left
   pub place : w.place ≡ length (joined given)
@@ -50,7 +50,7 @@ pub record ClientFails (pushed : List ℕ) (given : List (List ℕ)) (f : LineFa
   pub fault : client_fault pushed ≡ Some f
   pub told : new.bad ≡ Some f
 
--- what is given next is the next line of all that was pushed, or there is none, and its fault is told
+-- what is given next is the next line of all that was pushed; or there is none, and its fault is reported
 abbrev pub ClientTells : List ℕ → List (List ℕ) → NextLine → Watch → Type 0
 ClientTells pushed given Nul new = (given ≡ []) × ClientFollows pushed ((0 ∷ []) ∷ []) new
 ClientTells pushed given (Line line) new = ClientFollows pushed (given ++ line ∷ []) new
@@ -61,7 +61,7 @@ ClientTells pushed given Done new = ⊥
 
 -- ---- the bus
 
--- the fault of what is left, or of its first byte, which came too early
+-- the fault of what is left, or of its first byte, which was too early
 abbrev pub IsTold : Watch → LineFault → Type 0
 IsTold w f = (bus_ahead w ≡ only_fault f) ⊎ ((0 < length w.left) × (f ≡ record { kind = EarlyBus; at = w.place }))
 
@@ -72,7 +72,7 @@ pub record BusFollows (pushed : List ℕ) (given : List (List ℕ)) (w : Watch) 
   pub cut : bus_cut pushed ≡ behind given (bus_ahead w)
   pub told : (f : LineFault) → w.bad ≡ Some f → IsTold w f
 
--- all that were asked for were given
+-- all lines that were asked for were given
 pub record BusEnds (pushed : List ℕ) (given : List (List ℕ)) (n : ℕ) (begun : Bool) (new : Watch) : Type 0 where
   pub follows : BusFollows pushed given new
   pub all : length given ≡ n
@@ -88,7 +88,7 @@ pub record BusWaits (pushed : List ℕ) (given : List (List ℕ)) (n : ℕ) (beg
   pub sound : bus_fault n begun pushed ≡ None
   pub none_left : after_lines n pushed ≡ []
 
--- a fault is the stream's where it is told first, for the lines asked for then; later it is told again
+-- the first reported fault is the stream's, for the lines that were asked for then; later it is reported again
 pub record BusFails (pushed : List ℕ) (given : List (List ℕ)) (n : ℕ) (begun : Bool) (old : Watch) (f : LineFault) (new : Watch) : Type 0 where
   pub follows : BusFollows pushed given new
   pub told : new.bad ≡ Some f
@@ -96,7 +96,7 @@ pub record BusFails (pushed : List ℕ) (given : List (List ℕ)) (n : ℕ) (beg
   pub lines : old.bad ≡ None → bus_lines n pushed ≡ given
   pub again : (g : LineFault) → old.bad ≡ Some g → g ≡ f
 
--- what is given next, where n lines were asked for and BEGIN was seen or not
+-- what is given next, if n lines were asked for and BEGIN was seen or not
 abbrev pub BusTells : List ℕ → List (List ℕ) → ℕ → Bool → Watch → NextLine → Watch → Type 0
 BusTells pushed given n begun old (Line line) new = (length (given ++ line ∷ []) ≤ n) × BusFollows pushed (given ++ line ∷ []) new
 BusTells pushed given n begun old Done new = BusEnds pushed given n begun new
@@ -105,8 +105,8 @@ BusTells pushed given n begun old (Bad f) new = BusFails pushed given n begun ol
 BusTells pushed given n begun old Nul new = ⊥
 BusTells pushed given n begun old (Begin line) new = ⊥
 
--- a fault that was told is the stream's wherever more lines were asked for than were given, or it came too early:
--- where no more were, and BEGIN wasn't seen
+-- a reported fault is the stream's whenever more lines were asked for than were given; or the byte was too early: no
+-- more were asked for, and BEGIN wasn't seen
 abbrev pub BusFault : List ℕ → List (List ℕ) → LineFault → Type 0
 BusFault pushed given f =
     ((n : ℕ) (begun : Bool) → length given < n → (bus_fault n begun pushed ≡ Some f) × (bus_lines n pushed ≡ given))

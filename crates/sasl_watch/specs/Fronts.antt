@@ -1,4 +1,4 @@
--- What stands in front of the bytes that are left.
+-- What is first in the bytes that are left.
 use Rattle.std.specs.Prelude.{◌≡◌, ℕ, ◌+◌, ◌-◌, ◌<◌, ◌≤◌, Bool, true, false, if◌then◌else◌, List, [], length, take, drop, slice_index, None}
 use Rattle.std.specs.Int.{is_in_range}
 use Rattle.sasl_watch.specs.declared.LineKind.{LineKind}
@@ -11,7 +11,7 @@ use Rattle.sasl_watch.specs.Lines.{Cut, with_line, cut_from, line_fault}
 abbrev pub is_plain : ℕ → Bool
 is_plain b = is_in_range 0x20 0x7E b
 
--- so many bytes in front are plain, and one more could still end a line
+-- this number of first bytes are plain, and one more could still end a line
 pub record Plain (count : ℕ) (left : List ℕ) : Type 0 where
   pub few : count ≤ 16383
   pub within : count ≤ length left
@@ -41,7 +41,7 @@ pub record IsFaulty (kind : LineKind) (ahead : ℕ) (left : List ℕ) : Type 0 w
   pub within : ahead < length left
   pub cut : (refused : List ℕ → Bool) (place : ℕ) → cut_from refused place [] left ≡ faulty kind (place + ahead)
 
--- what the lines of these bytes begin with, whichever are refused and wherever they stand
+-- what the lines of these bytes begin with, whichever lines are refused and wherever they are
 abbrev pub IsFront : List ℕ → Front → Type 0
 IsFront left Partial = (refused : List ℕ → Bool) (place : ℕ) → cut_from refused place [] left ≡ nothing
 IsFront left (Whole len) = IsWhole len left

@@ -9,9 +9,9 @@ use Rattle.sasl_watch.specs.declared.LineKind.TheVariants.{NoNul, LineTooLong, B
 use Rattle.sasl_watch.specs.declared.LineFault.{LineFault}
 use Rattle.sasl_watch.specs.Lines.{line_fault, is_begin, agrees, is_behind_cr}
 
--- ---- where a byte stands
+-- ---- the place of a byte
 
--- the lines that these bytes end, each with its LF, where those of a first line came before
+-- the lines that these bytes end, each with its LF, after the first bytes of a line
 abbrev pub ended_from : List ℕ → List ℕ → List (List ℕ)
 ended_from line [] = []
 ended_from line (b ∷ bytes) = if b == 10 then (line ++ b ∷ []) ∷ ended_from [] bytes else ended_from (line ++ b ∷ []) bytes
@@ -27,7 +27,7 @@ ended_lines bytes = ended_from [] bytes
 abbrev pub open_line : List ℕ → List ℕ
 open_line bytes = open_from [] bytes
 
--- ---- a byte behind the bytes of its line
+-- ---- a byte after the bytes of its line
 
 -- it ends the line, whose other bytes end in CR
 abbrev pub is_ending : List ℕ → ℕ → Bool
@@ -37,7 +37,7 @@ is_ending line b = is_behind_cr line && b == 10
 abbrev pub is_too_long : List ℕ → ℕ → Bool
 is_too_long line b = length line == 16383 && not (is_ending line b)
 
--- behind a CR a byte that isn't LF; elsewhere one that isn't CR, and outside 0x20 to 0x7E
+-- after a CR, a byte that isn't LF; elsewhere, a byte that is neither CR nor in 0x20 to 0x7E
 abbrev pub is_bad_byte : List ℕ → ℕ → Bool
 is_bad_byte line b = if is_behind_cr line then not (b == 10) else not (is_in_range 0x20 0x7E b || b == 13)
 
@@ -51,7 +51,7 @@ is_agreed line b = is_ending line b && agrees (line ++ b ∷ [])
 abbrev pub Row : Type 0
 Row = LineKind × (List ℕ → ℕ → Bool)
 
--- the byte belongs to the client's lines: NUL stands, and BEGIN hasn't ended
+-- the byte belongs to the client's lines: the NUL was received, and BEGIN hasn't ended
 abbrev pub in_client_line : List ℕ → Bool
 in_client_line before = not (is_empty before) && not (list_any is_begin (ended_lines (drop 1 before)))
 
@@ -85,7 +85,7 @@ abbrev pub unless_found : Option LineKind → ℕ → Option LineFault → Optio
 unless_found (Some kind) place later = line_fault kind place
 unless_found None place later = later
 
--- the first byte that has a kind, where these bytes came before
+-- the first byte that has a kind, after these bytes
 abbrev pub first_from : List Row → List ℕ → List ℕ → Option LineFault
 first_from rows before [] = None
 first_from rows before (b ∷ stream) = unless_found (kind_by rows before b) (length before) (first_from rows (before ++ b ∷ []) stream)
@@ -93,7 +93,7 @@ first_from rows before (b ∷ stream) = unless_found (kind_by rows before b) (le
 abbrev pub first_in : List Row → List ℕ → Option LineFault
 first_in rows stream = first_from rows [] stream
 
--- the fault of a byte of the stream, before which no byte has one
+-- the fault of a byte of the stream; no byte before it has one
 pub record IsFirst (rows : List Row) (stream : List ℕ) (f : LineFault) : Type 0 where
   pub before : List ℕ
   pub byte : ℕ

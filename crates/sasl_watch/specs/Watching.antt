@@ -1,4 +1,4 @@
--- What is taken from the lines of a side, and what is seen of them before and after.
+-- What is taken from the lines of a side, and what contracts see of the side before and after.
 use Rattle.std.specs.Prelude.{◌≡◌, ℕ, ◌+◌, ◌<◌, Bool, true, false, ◌==◌, if◌then◌else◌, List, [], ◌∷◌, ◌++◌, length, Option, Some, None, ◌⊎◌}
 use Rattle.sasl_watch.specs.declared.LineKind.TheVariants.{EarlyBus}
 use Rattle.sasl_watch.specs.declared.LineFault.{LineFault}
@@ -6,7 +6,7 @@ use Rattle.sasl_watch.specs.declared.NextLine.{NextLine}
 use Rattle.sasl_watch.specs.declared.NextLine.TheVariants.{Nul, Line, Begin, Done, Rest, Bad}
 use Rattle.sasl_watch.specs.Lines.{Cut, with_line, cut_from, client_cut, is_begin, agrees}
 
--- how many bytes of the stream were given, those that came behind them, and the fault that was told
+-- the number of bytes that were taken, the bytes received after them, and the fault that was reported
 pub record Watch : Type 0 where
   pub place : ℕ
   pub left : List ℕ
@@ -22,7 +22,7 @@ client_ahead w = if w.place == 0 then client_cut w.left else cut_from (λ line. 
 abbrev pub bus_ahead : Watch → Cut
 bus_ahead w = cut_from agrees w.place [] w.left
 
--- a line in front is taken
+-- the first line is taken
 pub record Takes (ahead : Watch → Cut) (old : Watch) (line : List ℕ) (new : Watch) : Type 0 where
   pub sound : old.bad ≡ None
   pub parts : old.left ≡ line ++ new.left
@@ -35,17 +35,17 @@ pub record Waits (ahead : Watch → Cut) (old new : Watch) : Type 0 where
   pub same : new ≡ old
   pub cut : ahead old ≡ record { lines = []; fault = None }
 
--- a fault that was told
+-- a fault that was reported before
 abbrev pub TellsAgain : Watch → LineFault → Watch → Type 0
 TellsAgain old f new = (old.bad ≡ Some f) × (new ≡ old)
 
--- a fault that stands before the end of the line in front
+-- a fault before the end of the first line
 pub record Tells (ahead : Watch → Cut) (old : Watch) (f : LineFault) (new : Watch) : Type 0 where
   pub sound : old.bad ≡ None
   pub cut : ahead old ≡ record { lines = []; fault = Some f }
   pub is : new ≡ record old { bad = Some f }
 
--- a byte of the bus came where no line waits for its answer and BEGIN wasn't seen
+-- the bus sent a byte when no line waited for its answer and BEGIN wasn't seen
 pub record TellsEarly (unanswered : ℕ) (begun : Bool) (old : Watch) (f : LineFault) (new : Watch) : Type 0 where
   pub none : unanswered ≡ 0
   pub unseen : begun ≡ false
@@ -54,7 +54,7 @@ pub record TellsEarly (unanswered : ℕ) (begun : Bool) (old : Watch) (f : LineF
   pub early : f ≡ record { kind = EarlyBus; at = old.place }
   pub is : new ≡ record old { bad = Some f }
 
--- no byte came where no line waits for its answer and BEGIN wasn't seen
+-- no byte was received, no line waits for its answer, and BEGIN wasn't seen
 pub record WaitsForBegin (unanswered : ℕ) (begun : Bool) (old new : Watch) : Type 0 where
   pub none : unanswered ≡ 0
   pub unseen : begun ≡ false
@@ -69,7 +69,7 @@ pub record Ends (unanswered : ℕ) (begun : Bool) (old new : Watch) : Type 0 whe
   pub sound : old.bad ≡ None
   pub same : new ≡ old
 
--- whether bytes are taken with an answer
+-- whether a result takes bytes
 abbrev pub is_taken : NextLine → Bool
 is_taken Nul = true
 is_taken (Line line) = true
@@ -78,7 +78,7 @@ is_taken Done = false
 is_taken Rest = false
 is_taken (Bad f) = false
 
--- how many bytes of the stream came
+-- the number of bytes of the stream that were received
 abbrev pub came : Watch → ℕ
 came w = w.place + length w.left
 
@@ -91,7 +91,7 @@ ClientGives old Rest new = Waits client_ahead old new
 ClientGives old (Bad f) new = TellsAgain old f new ⊎ Tells client_ahead old f new
 ClientGives old Done new = ⊥
 
--- what the bus's lines give, where so many lines of the client wait for their answer, and BEGIN was seen or not
+-- what the bus's lines give, if this number of the client's lines wait for their answer, and BEGIN was seen or not
 abbrev pub BusGives : ℕ → Bool → Watch → NextLine → Watch → Type 0
 BusGives unanswered begun old (Line line) new = (0 < unanswered) × Takes bus_ahead old line new
 BusGives unanswered begun old Done new = Ends unanswered begun old new

@@ -9,10 +9,10 @@ use crate::{LineKind, Lines, NextLine};
 use std::alloc::AllocError;
 
 impl Lines {
-    /// What stands in front, where so many lines of the client wait for their answer and the client has sent BEGIN or
-    /// not. What is given is taken; at `Rest` and `Done` nothing changes, and after `Bad` each answer is the same.
-    /// `Nul` and `Begin` are never answered. An error says that memory ran out for a line that is given; then nothing changes, and no
-    /// fault was told.
+    /// Takes what is first in the stream. `unanswered` is the number of the client's lines that wait for an answer, and
+    /// `begun` says whether the client has sent BEGIN. At `Rest` and `Done` nothing changes, and after `Bad` each
+    /// answer is the same. `Nul` and `Begin` are never returned. An error says that memory ran out for a line; then
+    /// nothing changes, and no fault was reported.
     pub fn next_of_bus(&mut self, unanswered: u64, begun: bool) -> Result<NextLine, AllocError>
         ensures gives { IfOk result (λ next. BusGives unanswered begun self.old next self.new) }
         ensures shorter { IfOk result (λ next. is_taken next ≡ true → length self.new.left < length self.old.left) }
@@ -35,7 +35,7 @@ impl Lines {
         }
     }
 
-    /// Where no line waits for its answer.
+    /// Takes what is first if no line waits for its answer.
     fn next_unasked(&mut self, begun: bool) -> NextLine
         requires sound { self.old.bad ≡ None }
         ensures gives { BusGives 0 begun self.old result self.new }
@@ -51,7 +51,7 @@ impl Lines {
         }
     }
 
-    /// The whole line in front, of that length, where a line waits for its answer.
+    /// Takes the first line, which is whole and has this length, if a line waits for its answer.
     fn next_answer(&mut self, len: usize) -> Result<NextLine, AllocError>
         requires sound { self.old.bad ≡ None }
         requires whole { IsWhole len self.old.left }

@@ -8,9 +8,9 @@ use crate::{LineKind, Lines, NextLine};
 use std::alloc::AllocError;
 
 impl Lines {
-    /// What stands in front: the NUL, and then each line up to the one whose word is `BEGIN`. What is given is taken;
-    /// at `Rest` nothing changes, and after `Bad` each answer is the same. `Done` is never answered.
-    /// An error says that memory ran out for a line that is given; then nothing changes, and no fault was told.
+    /// Takes what is first in the stream: the NUL, and then each line up to the one whose word is `BEGIN`. At `Rest`
+    /// nothing changes, and after `Bad` each answer is the same. `Done` is never returned. An error says that memory
+    /// ran out for a line; then nothing changes, and no fault was reported.
     pub fn next_of_client(&mut self) -> Result<NextLine, AllocError>
         ensures gives { IfOk result (λ next. ClientGives self.old next self.new) }
         ensures shorter { IfOk result (λ next. is_taken next ≡ true → length self.new.left < length self.old.left) }
@@ -39,7 +39,7 @@ impl Lines {
         }
     }
 
-    /// The byte before the first line.
+    /// Takes the byte before the first line.
     fn next_nul(&mut self) -> NextLine
         requires start { self.old.place ≡ 0 }
         requires sound { self.old.bad ≡ None }

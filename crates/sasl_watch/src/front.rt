@@ -1,21 +1,21 @@
-//! The line in front of a stream.
+//! The first line of a stream.
 ghost use Rattle.std.specs.Prelude.{◌≡◌, ◌<◌, ◌≤◌, ◌+◌, true, false, length, slice_index};
 ghost use Rattle.sasl_watch.specs.Fronts.{is_plain as is_plain_byte, Plain, PlainFront, IsFront};
 
 use crate::LineKind;
 
-/// The most bytes that a line may have, with its CR LF: far more than any mechanism's data, and few enough to be held
-/// for each connection.
+/// The maximum length of a line with its CR LF: far more than any mechanism's data, and short enough to be kept for
+/// each connection.
 const LINE_LIMIT: usize = 16_384;
 
-/// What stands in front of a stream.
+/// What is first in a stream.
 #[derive(Clone, Copy)]
 pub(crate) enum Front {
     /// No whole line yet, and no fault.
     Partial,
-    /// A line of so many bytes, with its CR LF.
+    /// A line of this length, with its CR LF.
     Whole(usize),
-    /// Behind so many bytes a faulty one.
+    /// A faulty byte after this number of bytes.
     Faulty(LineKind, usize),
 }
 
@@ -27,7 +27,8 @@ fn is_plain(byte: u8) -> bool
     matches!(byte, 0x20..=0x7E)
 }
 
-/// How many bytes in front are plain, up to those that a line may have before its last, where so many are known to be.
+/// The number of plain bytes at the start, up to those that a line may have before its last byte; `known` are known to
+/// be plain.
 pub(crate) fn plain_len(left: &[u8], known: usize) -> usize
     requires { Plain known left.now }
     ensures { PlainFront result left.now }
@@ -41,7 +42,7 @@ pub(crate) fn plain_len(left: &[u8], known: usize) -> usize
     end
 }
 
-/// What stands in front, where so many bytes are plain.
+/// What is first in the stream if it begins with `plain` plain bytes.
 pub(crate) fn line_in_front(left: &[u8], plain: usize) -> Front
     requires { PlainFront plain left.now }
     ensures { IsFront left.now result }

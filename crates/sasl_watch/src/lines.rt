@@ -1,4 +1,4 @@
-//! The lines of a side: the bytes that came and weren't given yet.
+//! The lines of a side: the bytes that were received and not taken yet.
 ghost use Rattle.std.specs.Prelude.{◌≡◌, ◌^◌, ◌<◌, ◌≤◌, ◌+◌, ◌++◌, [], Some, None, IfOk, OnOk, OnErr, length, take, drop, slice_get};
 ghost use Rattle.sasl_watch.specs.Watching.{at_start, came};
 ghost use Rattle.sasl_watch.specs.Fronts.{IsFront};
@@ -9,13 +9,13 @@ use bytes::{Bytes, BytesMut};
 use std::alloc::{AllocError, Global};
 use std::marker::Model;
 
-/// So many bytes at least are given from one buffer before what is left moves to another: moves are rare, and a
-/// stream that has given many lines doesn't keep their memory.
+/// Once at least this many bytes were taken from one buffer, what is left moves to another: moves are rare, and a
+/// stream of many lines doesn't keep their memory.
 const RENEWAL: usize = 65_536;
 
-/// A side of the authentication phase (D-Bus Specification, "Authentication Protocol"): pieces of its stream come in by `push`. Of the
-/// client's, the NUL and the lines up to BEGIN are taken by `next_of_client`; of the bus's, the lines by which it answers them by
-/// `next_of_bus`.
+/// A side of the authentication phase (D-Bus Specification, "Authentication Protocol"). `push` adds a piece of its
+/// stream. Of the client's stream, `next_of_client` takes the NUL and the lines up to BEGIN; of the bus's,
+/// `next_of_bus` takes the lines that answer them.
 ///
 /// ```text
 ///   given   line in front         what follows
@@ -27,13 +27,13 @@ const RENEWAL: usize = 65_536;
 #[derive(Drop)]
 pub struct Lines {
     bytes: BytesMut,
-    /// How many bytes of the stream were given.
+    /// The number of bytes of the stream that were taken.
     place: u64,
-    /// How many bytes in front are known to be plain, so that each is looked at once.
+    /// The number of first bytes that are known to be plain, so that each is read once.
     plain: usize,
-    /// The fault that was told.
+    /// The fault that was reported.
     bad: Option<LineFault>,
-    /// How many bytes were given from the buffer that `bytes` has now.
+    /// The number of bytes that were taken from the present buffer.
     used: usize,
     alloc: Global,
 }
@@ -51,8 +51,8 @@ impl Model for Lines {
     ghost invariant = { λ s. (s.place + length s.bytes.items < 2 ^ 64) × Plain s.plain s.bytes.items };
 }
 
-/// Moves what is left into a buffer of its own, where more was given from the old one than has to be copied. Where
-/// memory is short the old buffer serves on. It returns how many bytes were given from the buffer that stands now.
+/// Moves what is left into a buffer of its own, if more was taken from the old one than must be copied. If memory is
+/// short, the old buffer is kept. Returns how many bytes were taken from the buffer that is now used.
 fn renew(alloc: Global, bytes: &mut BytesMut, used: usize) -> usize
     ensures { bytes.new.items ≡ bytes.old.items }
 {
@@ -69,7 +69,7 @@ fn renew(alloc: Global, bytes: &mut BytesMut, used: usize) -> usize
 }
 
 impl Lines {
-    /// It takes no memory before the first piece.
+    /// An empty stream. It allocates nothing until the first piece.
     pub fn new(alloc: Global) -> Lines
         ensures { result ≡ at_start }
     {
@@ -83,7 +83,7 @@ impl Lines {
         }
     }
 
-    /// How many bytes came and weren't given yet.
+    /// The number of bytes that were received and not taken yet.
     pub fn len(&self) -> usize
         ensures value { result ≡ length self.now.left }
         ensures bound { result < 2 ^ 63 }
@@ -91,28 +91,28 @@ impl Lines {
         self.bytes.len()
     }
 
-    /// How many bytes were given.
+    /// The number of bytes that were taken.
     pub(crate) fn place(&self) -> u64
         ensures { result ≡ self.now.place }
     {
         self.place
     }
 
-    /// The fault that was told.
+    /// The fault that was reported.
     pub(crate) fn bad(&self) -> Option<LineFault>
         ensures { result ≡ self.now.bad }
     {
         self.bad
     }
 
-    /// The byte in front.
+    /// The first byte.
     pub(crate) fn first(&self) -> Option<u8>
         ensures { result ≡ slice_get self.now.left 0 }
     {
         self.bytes.as_slice().first().copied()
     }
 
-    /// The first bytes, so many.
+    /// The first `len` bytes.
     pub(crate) fn line(&self, len: usize) -> &[u8]
         requires { len ≤ length self.now.left }
         ensures { result.now ≡ take len self.now.left }
@@ -120,7 +120,7 @@ impl Lines {
         &self.bytes.as_slice()[..len]
     }
 
-    /// Puts a piece of the stream behind what came before. An error says that memory ran out; then nothing changes.
+    /// Appends a piece of the stream. An error says that memory ran out; then nothing changes.
     pub fn push(&mut self, piece: &[u8]) -> Result<(), AllocError>
         requires { came self.old + length piece.now < 2 ^ 64 }
         ensures ok { OnOk result (self.new ≡ record self.old { left = self.old.left ++ piece.now }) }
@@ -129,7 +129,7 @@ impl Lines {
         self.bytes.extend_from_slice(piece)
     }
 
-    /// What stands in front. Nothing that is seen changes.
+    /// What is first in the stream. Nothing that contracts see changes.
     pub(crate) fn front(&mut self) -> Front
         ensures front { IsFront self.old.left result }
         ensures same { self.new ≡ self.old }
@@ -138,7 +138,7 @@ impl Lines {
         line_in_front(self.bytes.as_slice(), self.plain)
     }
 
-    /// Gives so many bytes, which share the buffer with those that are left.
+    /// Takes the first `len` bytes, which share the buffer with those that are left.
     pub(crate) fn take(&mut self, len: usize) -> Result<Bytes, AllocError>
         requires { len ≤ length self.old.left }
         ensures bytes { IfOk result (λ bytes. bytes ≡ take len self.old.left) }
@@ -153,8 +153,8 @@ impl Lines {
         Ok(front)
     }
 
-    /// Gives all bytes that are left, after the lines those of the messages. None is copied. An error says that memory ran out; then
-    /// nothing changes.
+    /// Takes all bytes that are left; after the lines, those of the messages. None is copied. An error says that memory
+    /// ran out; then nothing changes.
     pub fn left(&mut self) -> Result<Bytes, AllocError>
         ensures bytes { IfOk result (λ bytes. bytes ≡ self.old.left) }
         ensures ok { OnOk result (self.new
@@ -165,7 +165,7 @@ impl Lines {
         self.take(len)
     }
 
-    /// Passes over so many bytes, as `take` does, with no memory.
+    /// Removes the first `len` bytes, as `take` does, without memory.
     pub(crate) fn skip(&mut self, len: usize)
         requires { len ≤ length self.old.left }
         ensures { self.new ≡ record { place = self.old.place + len; left = drop len self.old.left; bad = self.old.bad } }
@@ -176,7 +176,7 @@ impl Lines {
         self.used = renew(self.alloc, &mut self.bytes, self.used.saturating_add(len));
     }
 
-    /// Keeps the fault of a byte that stands so far behind the front.
+    /// Keeps the fault of the byte at this distance from the first one.
     pub(crate) fn fail(&mut self, kind: LineKind, ahead: usize) -> LineFault
         requires { ahead < length self.old.left }
         ensures fault { result ≡ record { kind = kind; at = self.old.place + ahead } }

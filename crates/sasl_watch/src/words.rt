@@ -7,7 +7,7 @@ ghost use Rattle.sasl_watch.specs.Words.{is_in_word};
 use bytes::Bytes;
 use std::alloc::{AllocError, Global};
 
-/// Whether a word ends before these bytes, which is so at a space and at the line's ending.
+/// Whether a word ends before these bytes: they begin with a space or the line's ending.
 fn is_behind_word(bytes: &[u8]) -> bool
     ensures { result ≡ has_the_word [] bytes.now }
 {
@@ -28,14 +28,14 @@ fn has_word(line: &[u8], word: &[u8]) -> bool
     }
 }
 
-/// Whether a line of the client ends its phase.
+/// Whether a line of the client is the last of its lines.
 pub(crate) fn is_begin(line: &[u8]) -> bool
     ensures { result ≡ is_line_of_begin line.now }
 {
     has_word(line, b"BEGIN")
 }
 
-/// Whether the bus agrees to pass file descriptors by this line.
+/// Whether a line of the bus agrees to pass file descriptors.
 pub(crate) fn agrees(line: &[u8]) -> bool
     ensures { result ≡ is_line_of_agreement line.now }
 {
@@ -44,10 +44,10 @@ pub(crate) fn agrees(line: &[u8]) -> bool
 
 /// What the bus is sent for a line of the client. An error says that memory ran out.
 ///
-/// A line whose word is `BEGIN` is sent as exactly `BEGIN`, since a bus may refuse one that goes on and read the messages
-/// that follow as lines (D-Bus Specification, "Authentication Protocol", "BEGIN Command": it has no arguments). One that
-/// asks to pass file descriptors is sent as `NO_UNIX_FD`, a command that no bus knows and that each answers with ERROR
-/// ("NEGOTIATE_UNIX_FD Command"). Any other line is sent as it came, and is shared.
+/// A line whose word is `BEGIN` is sent as exactly `BEGIN`, since a bus may refuse one with arguments and read the
+/// messages that follow as lines (D-Bus Specification, "Authentication Protocol", "BEGIN Command": it has no
+/// arguments). A line that asks to pass file descriptors is sent as `NO_UNIX_FD`, a command that no bus knows and that
+/// each answers with ERROR ("NEGOTIATE_UNIX_FD Command"). Any other line is sent unchanged, and is shared.
 pub fn for_bus(alloc: Global, line: &Bytes) -> Result<Bytes, AllocError>
     ensures { IfOk result (λ bytes. bytes ≡ line_for_bus line.now) }
 {
