@@ -1,9 +1,9 @@
--- Four bytes in the place of others, among those that were joined last.
+-- Four of the bytes that were joined last are replaced by others.
 use Rattle.std.proofs.Common.{◌≡◌, ◌+◌, ◌++◌, ℕ, List, length, take, drop, ap, ap₂, sym, ◌∙◌, arith}
 use Rattle.std.proofs.lemmas.List.{append_assoc}
 use Rattle.std.proofs.Math.Seq.{take-append-add, drop-append-add, take-append_seam}
 
--- bytes are replaced behind others as they are by themselves
+-- bytes that follow others are replaced as they are by themselves
 pub replaced_behind : (xs bytes others : List ℕ) (place : ℕ)
     → take (length xs + place) (xs ++ bytes) ++ others ++ drop (length xs + place + 4) (xs ++ bytes)
     ≡ xs ++ (take place bytes ++ others ++ drop (place + 4) bytes)

@@ -1,6 +1,6 @@
-//! Bytes that wait to be written, in order: they are put in at the back and taken from the front.
+//! Bytes that wait to be written, in order: they are appended at the end and removed from the start.
 //!
-//! Short pieces are joined, so that one write carries many of them; a long one that is given whole is kept as it is.
+//! Short pieces are joined, so that one write carries many of them. A long piece that is given whole isn't copied.
 #![tactic(auto)]
 
 mod queue;

@@ -1,4 +1,4 @@
-//! The queue: sealed parts in front, and behind them the bytes that were joined last.
+//! The queue: sealed parts, followed by the bytes that were joined last.
 ghost use Rattle.std.specs.Prelude.{◌≡◌, ◌≤◌, ◌<◌, ◌+◌, ◌==◌, ◌++◌, ◌^◌, List, ℕ, [], IfErr, OnOk, OnErr, IsTrue, All, false, take, drop, length};
 ghost use Rattle.std.specs.List.{concat};
 ghost use Rattle.std.specs.VecDeque.{deque_capacity, deque_len};
@@ -9,22 +9,22 @@ use std::collections::VecDeque;
 use std::marker::Model;
 use std::mem;
 
-/// A piece of at most so many bytes is joined to those before it: copying it costs less than a write of its own.
+/// A piece of at most this length is joined to those before it: a copy costs less than a write of its own.
 const SHORT: usize = 4096;
 
-/// When so many bytes were joined they are sealed, so that what was written of them is freed.
+/// Once this many bytes are joined, they are sealed, so that what was written of them is freed.
 const LONG: usize = 65_536;
 
-/// A queue without bytes keeps the room for at most so many, until it gives it back.
+/// The most bytes of room that a queue without bytes keeps, until it gives the room back.
 const KEPT: usize = 131_072;
 
-/// It keeps the room for at most so many parts.
+/// The most parts for which it keeps room.
 const PARTS_KEPT: usize = 64;
 
-/// So many bytes are sealed at most, which keeps the number of all bytes below 2^64.
+/// The maximum number of sealed bytes, which keeps the number of all bytes below 2^64.
 const MOST_SEALED: u64 = 9_223_372_036_854_775_808;
 
-/// Bytes that wait, from the first on.
+/// Bytes that wait to be written, in order.
 ///
 /// ```text
 ///   sealed parts                       joined
@@ -36,7 +36,7 @@ const MOST_SEALED: u64 = 9_223_372_036_854_775_808;
 #[derive(Drop)]
 pub struct OutQueue {
     parts: VecDeque<Bytes>,
-    /// How many bytes the parts have.
+    /// The number of bytes in the parts.
     sealed: u64,
     joined: BytesMut,
     alloc: Global,
@@ -54,7 +54,7 @@ impl Model for OutQueue {
 }
 
 impl OutQueue {
-    /// A queue without bytes. It takes no memory.
+    /// A queue without bytes. It allocates nothing.
     pub fn new(alloc: Global) -> OutQueue
         ensures { result ≡ [] }
     {
@@ -66,7 +66,7 @@ impl OutQueue {
         }
     }
 
-    /// How many bytes wait.
+    /// The number of bytes that wait.
     pub fn len(&self) -> u64
         ensures { result ≡ length self.now }
     {
@@ -80,7 +80,7 @@ impl OutQueue {
         self.len() == 0
     }
 
-    /// The first bytes that wait, as many as lie together: none only where none wait.
+    /// The first bytes that wait, as many as are in one block: empty only if none wait.
     pub fn front(&self) -> &[u8]
         ensures front { (rest : List ℕ) × (result.now ++ rest ≡ self.now) }
         ensures some { length result.now ≡ 0 → self.now ≡ [] }
@@ -91,7 +91,7 @@ impl OutQueue {
         }
     }
 
-    /// Puts bytes behind the others. Long ones aren't copied.
+    /// Appends bytes. Long ones aren't copied.
     pub fn push(&mut self, bytes: Bytes) -> Result<(), AllocError>
         ensures ok { OnOk result (self.new ≡ self.old ++ bytes) }
         ensures err { OnErr result (self.new ≡ self.old) }
@@ -113,7 +113,7 @@ impl OutQueue {
         }
     }
 
-    /// Puts a copy of bytes behind the others.
+    /// Appends a copy of bytes.
     pub fn push_slice(&mut self, bytes: &[u8]) -> Result<(), AllocError>
         ensures ok { OnOk result (self.new ≡ self.old ++ bytes.now) }
         ensures err { OnErr result (self.new ≡ self.old) }
@@ -122,7 +122,7 @@ impl OutQueue {
         self.joined.extend_from_slice(bytes)
     }
 
-    /// Puts a copy of bytes behind the others, with four others in the place of those from a place on.
+    /// Appends a copy of bytes, with the four bytes at a place replaced by others.
     pub fn push_with(
         &mut self,
         bytes: &[u8],
@@ -140,8 +140,7 @@ impl OutQueue {
         Ok(())
     }
 
-    /// Puts bytes behind the others, with four others in the place of those from a place on. What follows the place isn't copied
-    /// where it is long.
+    /// Appends bytes, with the four bytes at a place replaced by others. If what follows them is long, it isn't copied.
     pub fn push_shared(
         &mut self,
         bytes: &Bytes,
@@ -175,7 +174,7 @@ impl OutQueue {
         }
     }
 
-    /// The first bytes were taken. It takes no memory.
+    /// Removes the first `n` bytes, after they were written. It allocates nothing.
     pub fn took(&mut self, n: usize)
         requires { n ≤ length self.old }
         ensures { self.new ≡ drop n self.old }
@@ -187,7 +186,7 @@ impl OutQueue {
         self.release();
     }
 
-    /// Takes the room that another queue gave back, where nothing is joined here.
+    /// Uses the room that another queue gave back, if no bytes are joined here.
     pub fn take_room(&mut self, room: &mut BytesMut)
         requires { room.old.items ≡ [] }
         ensures same { self.new ≡ self.old }
@@ -198,8 +197,8 @@ impl OutQueue {
         }
     }
 
-    /// Gives back the room in which nothing is joined, for another queue. Of this room and the one that was given back
-    /// before, the larger is kept. A queue in which no bytes wait keeps no memory then.
+    /// Gives back the room for joined bytes, if there are none, for another queue. The larger of this room and the one
+    /// that was given back before is kept. A queue in which no bytes wait then keeps no memory.
     pub fn give_room(&mut self, room: &mut BytesMut)
         requires { room.old.items ≡ [] }
         ensures same { self.new ≡ self.old }
@@ -217,7 +216,7 @@ impl OutQueue {
         }
     }
 
-    /// Takes bytes of the front, at most so many, and answers how many.
+    /// Removes bytes from the first block, at most `most`, and returns how many.
     fn take_front(&mut self, most: usize) -> usize
         requires some { 0 < most }
         requires fits { most ≤ length self.old }
@@ -254,7 +253,7 @@ impl OutQueue {
         }
     }
 
-    /// Seals what was joined where it is long, if memory allows that; else it goes on growing.
+    /// Seals the joined bytes if they are many and memory allows it. Otherwise they are joined further.
     fn seal_long(&mut self)
         ensures { self.new ≡ self.old }
     {
@@ -268,7 +267,7 @@ impl OutQueue {
     }
 }
 
-/// Writes four bytes in the place of those from a place on.
+/// Replaces the four bytes at a place.
 fn write_four(bytes: &mut [u8], at: usize, others: [u8; 4])
     requires { at + 4 ≤ length bytes.old }
     ensures bytes { bytes.new ≡ take at bytes.old ++ others ++ drop (at + 4) bytes.old }
@@ -277,7 +276,7 @@ fn write_four(bytes: &mut [u8], at: usize, others: [u8; 4])
     bytes[at..at + 4].copy_from_slice(&others);
 }
 
-/// Makes a part of what was joined, where it is something, and room for one part more. It answers whether it could.
+/// Makes a part of the joined bytes, if there are any, and room for one more part. Returns whether it could.
 fn seal(alloc: Global, parts: &mut VecDeque<Bytes>, joined: &mut BytesMut) -> bool
     ensures sealed { IsTrue result → (joined.new.items ≡ []) × (concat parts.new.items ≡ concat parts.old.items ++ joined.old.items) }
     ensures room { IsTrue result → deque_len parts.new < deque_capacity parts.new }
@@ -302,8 +301,8 @@ fn seal(alloc: Global, parts: &mut VecDeque<Bytes>, joined: &mut BytesMut) -> bo
     }
 }
 
-/// Makes a part of what was joined, where it is something, and puts another behind it, where memory for them is left. Else it gives
-/// that one back.
+/// Makes a part of the joined bytes, if there are any, and appends another part. If memory for this is short, the other
+/// part is given back.
 fn seal_with(
     alloc: Global,
     parts: &mut VecDeque<Bytes>,

@@ -1,7 +1,7 @@
 use Rattle.std.proofs.Common.{◌≡◌, ◌≤◌, drop, length}
 use Rattle.out_queue.proofs.queue.OutQueue.took.Given as goal
 
--- what is left to take is the front of what waits, and the rest of it follows
+-- what is left to remove is a prefix of what waits, and the rest follows it
 abbrev pub invariant-loop-left : goal.invariant-loop-left
 invariant-loop-left l = (l.left ≤ length l.self) × (drop l.left l.self ≡ drop l.n l.initial.self)
 
