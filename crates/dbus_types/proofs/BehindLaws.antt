@@ -7,7 +7,7 @@ use Rattle.dbus_types.specs.declared.codes.Code.TheVariants.{Unknown, Basic, Var
 use Rattle.dbus_types.specs.Codes.{code_of, is_array}
 use Rattle.dbus_types.specs.Behind.{open_after, behind}
 
--- what follows a type that ends, with so many brackets open
+-- what follows a type that ends, with this number of brackets open
 abbrev ended : ℕ → List ℕ → List ℕ
 ended n rest = cond (nat_eq n 0) rest (behind n rest)
 

@@ -1,4 +1,4 @@
--- Types with no brackets are within the limits.
+-- Types without brackets are within the limits.
 use Rattle.std.proofs.Common.{◌≡◌, ℕ, ◌+◌, ◌≤◌, ◌<◌, Bool, true, false, not, ◌&&◌, cond, nat_le, nat_lt, length, List, [], ◌∷◌, refl, sym, ap, subst, ◌∙◌, arith, Option, Some, None}
 use Rattle.std.specs.Prelude.{option_and_then, option_map}
 use Rattle.std.proofs.lemmas.Bool.{and_parts, eqb-true, ltb-true, le-leb, le-ltb}
@@ -22,7 +22,7 @@ use Rattle.dbus_types.proofs.ScanLaws.{fault_of_levels-is, array_by-more}
 abbrev levels_alone : Level → Levels
 levels_alone l = (l, [])
 
--- a level with no fault, which stands behind so many arrays
+-- a level without fault, after this number of arrays
 record Fits (arrays : ℕ) (l : Level) : Type 0 where
   complete : (all_types l).complete ≡ true
   first : arrays + l.first.arrays ≤ 32

@@ -29,7 +29,7 @@ variant_back : (r : Option Open) → option_and_then (put_code 118) r ≡ option
 variant_back None = refl
 variant_back (Some o) = refl
 
--- types before those read so far, the first of them foremost
+-- types before those read so far, the first of them first
 abbrev put_all : Completes → Open → Open
 put_all no_types o = o
 put_all (and t ts) o = put t (put_all ts o)

@@ -19,7 +19,7 @@ spelled_open-put t (outside ts) = refl
 spelled_open-put t (in_struct ts o) = append_assoc (spelled_type t) (spelled_types ts) (41 ∷ spelled_open o)
 spelled_open-put t (in_entry ts o) = append_assoc (spelled_type t) (spelled_types ts) (125 ∷ spelled_open o)
 
--- what stands after one more byte
+-- the types after one more byte
 abbrev Puts : ℕ → Open → Option Open → Type 0
 Puts c o found = (q : Open) → found ≡ Some q → spelled_open q ≡ c ∷ spelled_open o
 

@@ -1,4 +1,4 @@
--- What each byte is in a signature, by the code's table.
+-- The meaning of each byte of a signature, by the code's table.
 use Rattle.std.specs.Prelude.{ℕ, Bool, true, false, ◌==◌, if◌then◌else◌, slice_index}
 use Rattle.dbus_types.specs.declared.codes.Code.{Code}
 use Rattle.dbus_types.specs.declared.codes.Code.TheVariants.{Unknown, Basic, Variant, Array, StructStart, StructEnd, EntryStart, EntryEnd}

@@ -1,4 +1,4 @@
--- The levels of a pass, as they stand in a list.
+-- The levels of a pass, as a list.
 use Rattle.std.specs.Prelude.{List, take, reverse}
 use Rattle.dbus_types.specs.declared.scan.Place.{Place}
 use Rattle.dbus_types.specs.declared.level.Level.{Level}

@@ -1,4 +1,4 @@
--- What reading a signature was refused by.
+-- Why bytes weren't read as a signature.
 use Rattle.std.specs.Prelude.{Option, Some, None, Result, Ok, Err}
 use Rattle.dbus_types.specs.declared.BadSignature.{BadSignature}
 

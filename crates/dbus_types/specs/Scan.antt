@@ -1,4 +1,4 @@
--- One pass over a signature, from its last byte to its first, that keeps of its types only what their limits ask for.
+-- One pass over a signature, from its last byte to its first, that keeps of its types only what their limits need.
 use Rattle.std.specs.Prelude.{ℕ, ◌+◌, min, max, Bool, true, false, ◌&&◌, not, nat_le, List, [], ◌∷◌, Option, Some, None, if◌then◌else◌, option_and_then, option_map}
 use Rattle.dbus_types.specs.declared.BadSignature.{BadSignature}
 use Rattle.dbus_types.specs.declared.BadSignature.TheVariants.{Depth, Form}
@@ -61,7 +61,7 @@ empty_level bracket = record { bracket = bracket; count = Nothing; first = flat_
 abbrev pub with_type : Shape → Level → Level
 with_type t l = record { bracket = l.bracket; count = more l.count; first = t; others = joined l.first l.others }
 
--- what all types of a level are
+-- what is kept of all types of a level
 abbrev pub all_types : Level → Others
 all_types l = joined l.first l.others
 
@@ -96,7 +96,7 @@ struct_by Parentheses More l = Some (shape_of_struct l)
 abbrev pub struct_of : Level → Option Shape
 struct_of l = struct_by l.bracket l.count l
 
--- the key, where it is basic, lies in no array and no struct
+-- the key, if it is basic, has no arrays and no structs
 abbrev pub shape_of_entry : Level → Shape
 shape_of_entry l = record {
   kind = DictEntry;

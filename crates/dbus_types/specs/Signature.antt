@@ -13,7 +13,8 @@ pub data Basic : Type 0 where
   number : Number → Basic
   string path signature : Basic
 
--- A complete type. An entry is a dict entry, which stands only as an array's element. A struct has a first member and others.
+-- A complete type. An entry is a dict entry, which is only allowed as an array's element. A struct has a first member
+-- and others.
 mutual
   pub data Complete : Type 0 where
     basic : Basic → Complete
@@ -68,7 +69,7 @@ abbrev pub is_basic : Complete → Bool
 is_basic (basic b) = true
 is_basic _ = false
 
--- no dict entry but as an array's element, and its key is basic
+-- no dict entry except as an array's element, and its key is basic
 abbrev mutual
   pub is_complete : Complete → Bool
   is_complete (basic b) = true
@@ -88,7 +89,7 @@ abbrev mutual
   are_complete no_types = true
   are_complete (and t ts) = is_complete t && are_complete ts
 
--- how many arrays, and how many structs, lie in one another
+-- the nesting depth of arrays, and that of structs
 abbrev mutual
   pub arrays : Complete → ℕ
   arrays (basic b) = 0
@@ -128,13 +129,13 @@ pub data Open : Type 0 where
   in_struct : List Complete → Open → Open
   in_entry : List Complete → Open → Open
 
--- a type before those read so far
+-- a type added before those read so far
 abbrev pub put : Complete → Open → Open
 put t (outside ts) = outside (t ∷ ts)
 put t (in_struct ts o) = in_struct (t ∷ ts) o
 put t (in_entry ts o) = in_entry (t ∷ ts) o
 
--- 'a' takes the type before which it stands
+-- 'a' takes the type that follows it
 abbrev pub put_array : Open → Option Open
 put_array (outside (t ∷ ts)) = Some (outside (array t ∷ ts))
 put_array (in_struct (t ∷ ts) o) = Some (in_struct (array t ∷ ts) o)
@@ -195,9 +196,9 @@ closed (in_entry ts o) = None
 abbrev pub types_of : List ℕ → Option (List Complete)
 types_of bytes = option_and_then closed (read_back bytes)
 
--- ---- what reading answers
+-- ---- the result of reading
 
--- of at most 255 bytes
+-- for at most 255 bytes
 abbrev pub fault_of_types : Option (List Complete) → Option BadSignature
 fault_of_types None = Some Form
 fault_of_types (Some ts) = if not (list_all is_complete ts) then Some Form else (if list_all is_shallow ts then None else Some Depth)

@@ -1,17 +1,17 @@
-//! What each byte of a signature is.
+//! The meaning of each byte of a signature.
 ghost use Rattle.std.specs.Prelude.{◌≡◌};
 ghost use Rattle.dbus_types.specs.Codes.{code_of as code_of_byte, is_array as is_array_code};
 
-/// What a byte may be in a signature (D-Bus Specification, "Type System", "Summary of types").
+/// The meanings of a byte of a signature (D-Bus Specification, "Type System", "Summary of types").
 #[derive(Clone, Copy)]
 pub(crate) enum Code {
-    /// No code at all.
+    /// Not a code.
     Unknown,
     /// A basic type.
     Basic,
     /// A variant.
     Variant,
-    /// An array, of the type that follows.
+    /// An array; the type of its elements follows.
     Array,
     /// `(`
     StructStart,
@@ -32,7 +32,7 @@ impl Code {
     }
 }
 
-// The code of each byte, as the digit of the variant.
+// The code of each byte, as a digit.
 static CODES: [u8; 256] = *b"\
     00000000000000000000000000000000\
     00000000450000000000000000000000\

@@ -1,10 +1,10 @@
-//! What reading a signature keeps of its types: only what their limits ask for.
+//! What is kept of types while a signature is read: only what their limits need.
 ghost use Rattle.std.specs.Prelude.{◌≡◌};
 ghost use Rattle.dbus_types.specs.Scan.{is_entry as is_entry_kind, is_basic_type as is_basic_kind, deeper as one_deeper, flat_shape, joined as joined_types, more as one_more, empty_level, with_type as with_one, all_types as all_of, array_in, struct_of, entry_of, fault_of_all};
 
 use crate::BadSignature;
 
-/// The most arrays, and the most structs, that may lie in one another.
+/// The maximum nesting depth of arrays, and of structs.
 pub(crate) const DEEPEST: u8 = 32;
 
 #[derive(Clone, Copy)]
@@ -15,7 +15,7 @@ pub(crate) enum Kind {
     DictEntry,
 }
 
-/// How many types stand next to one another.
+/// How many types follow each other.
 #[derive(Clone, Copy)]
 pub(crate) enum Count {
     Nothing,
@@ -24,7 +24,7 @@ pub(crate) enum Count {
     More,
 }
 
-/// The brackets in which types stand.
+/// The brackets around types.
 #[derive(Clone, Copy)]
 pub(crate) enum Bracket {
     Outside,
@@ -32,7 +32,7 @@ pub(crate) enum Bracket {
     Braces,
 }
 
-/// One type: whether all in it may stand where it does, and how many arrays and structs lie in one another, up to 255.
+/// One type: whether all types in it may be where they are, and its nesting depths of arrays and of structs, up to 255.
 #[derive(Clone, Copy)]
 pub(crate) struct Shape {
     kind: Kind,
@@ -41,7 +41,7 @@ pub(crate) struct Shape {
     structs: u8,
 }
 
-/// Types next to one another, none of which may be a dict entry.
+/// Types that follow each other, none of which may be a dict entry.
 #[derive(Clone, Copy)]
 pub(crate) struct Others {
     complete: bool,
@@ -49,7 +49,7 @@ pub(crate) struct Others {
     structs: u8,
 }
 
-/// The types read so far between two brackets. The first may be a dict entry that still wants its array.
+/// The types that were read between two brackets. The first may be a dict entry that still needs its array.
 #[derive(Clone, Copy)]
 pub(crate) struct Level {
     bracket: Bracket,
@@ -108,7 +108,7 @@ impl Shape {
 }
 
 impl Level {
-    /// Outside of all brackets, with no types yet.
+    /// The level outside all brackets, without types.
     pub(crate) const OUTSIDE: Level = Level {
         bracket: Bracket::Outside,
         count: Count::Nothing,
@@ -125,7 +125,7 @@ impl Level {
         },
     };
 
-    /// What an array is filled with: all zeros, which is quickest.
+    /// The initial value of an array of levels: all zeros, which is quickest.
     pub(crate) const UNUSED: Level = Level {
         bracket: Bracket::Outside,
         count: Count::Nothing,
@@ -157,7 +157,7 @@ impl Level {
         self.first.joined(self.others)
     }
 
-    // With a type before those read so far.
+    // Adds a type before those that were read.
     pub(crate) fn with_type(self, first: Shape) -> Level
         ensures { result ≡ with_one first self }
     {
@@ -169,7 +169,7 @@ impl Level {
         }
     }
 
-    // With the first type as an array's element.
+    // Makes the first type an array's element.
     pub(crate) fn array(self) -> Option<Level>
         ensures { result ≡ array_in self }
     {
@@ -185,7 +185,7 @@ impl Level {
         }
     }
 
-    // The struct that the types make.
+    // The struct with these types.
     pub(crate) fn as_struct(self) -> Option<Shape>
         ensures { result ≡ struct_of self }
     {
@@ -202,7 +202,7 @@ impl Level {
         }
     }
 
-    // The dict entry that the types make. Its key, where it is basic, is in no array and no struct.
+    // The dict entry with these types. Its key, if it is basic, has no arrays and no structs.
     pub(crate) fn as_entry(self) -> Option<Shape>
         ensures { result ≡ entry_of self }
     {

@@ -9,13 +9,13 @@ use crate::BadSignature;
 use crate::codes::{Code, code_of};
 use crate::level::{Bracket, DEEPEST, Kind, Level, Shape};
 
-/// The most bytes of a signature.
+/// The maximum length of a signature.
 const LONGEST: usize = 255;
 
-/// The most bytes, and the levels, of a signature that is read with few levels.
+/// The maximum length, and the number of levels, of a signature that is read with few levels.
 const SHORT: usize = 32;
 
-/// Where a pass stands: the innermost level, and how many levels lie outside of it.
+/// The state of a pass: the innermost level, and the number of levels outside it.
 #[derive(Clone, Copy)]
 pub(crate) struct Place {
     level: Level,
@@ -28,7 +28,7 @@ impl Place {
         depth: 0,
     };
 
-    // With the innermost level set aside, and an empty one in it.
+    // Sets the innermost level aside, and begins an empty one in it.
     fn within(self, outer: &mut [Level], bracket: Bracket) -> Place
         requires { self.depth < length outer.old }
         ensures levels { levels_at outer.new result ≡ (empty_level bracket, self.level ∷ (levels_at outer.old self).1) }
@@ -41,7 +41,7 @@ impl Place {
         }
     }
 
-    // With what the innermost level makes as a type of the next one.
+    // Ends the innermost level: what it makes is a type of the next one.
     fn without(self, outer: &[Level], made: Option<Shape>) -> Option<Place>
         requires { self.depth ≤ length outer.now }
         ensures levels { option_map (levels_at outer.now) result ≡ option_and_then (λ t. with_last t (levels_at outer.now self).1) made }
@@ -58,7 +58,7 @@ impl Place {
         })
     }
 
-    // With one more byte read, from the right.
+    // Reads one more byte, from the right.
     #[inline]
     fn step(self, outer: &mut [Level], code: Code) -> Option<Place>
         requires { self.depth < length outer.old }
@@ -92,7 +92,7 @@ impl Place {
     }
 }
 
-// The fault of types that are spelled in no more bytes than there are levels.
+// The fault of types whose spelling has at most as many bytes as there are levels.
 fn fault_by_levels(bytes: &[u8], outer: &mut [Level]) -> Option<BadSignature>
     requires { length bytes.now ≤ length outer.old }
     ensures { result ≡ fault_of_types (types_of bytes.now) }
@@ -109,7 +109,7 @@ fn fault_by_levels(bytes: &[u8], outer: &mut [Level]) -> Option<BadSignature>
     place.fault()
 }
 
-// Nearly every signature is short, and need not pay for levels that only long ones have.
+// Nearly every signature is short, and needn't pay for levels that only long ones have.
 #[inline(never)]
 fn fault_of_short(bytes: &[u8]) -> Option<BadSignature>
     requires { length bytes.now ≤ SHORT }
@@ -138,7 +138,7 @@ fn fault_of_one(code: Code) -> Option<BadSignature>
     }
 }
 
-// Whether the bytes spell types with no brackets, within the limits. Such a signature needs no levels.
+// Whether the bytes spell types without brackets, within the limits. Such a signature needs no levels.
 fn is_plain(bytes: &[u8]) -> bool
     ensures { result ≡ is_plain_behind 0 bytes.now }
 {
@@ -153,7 +153,7 @@ fn is_plain(bytes: &[u8]) -> bool
     arrays == 0
 }
 
-/// Why the bytes are no signature, if they are none.
+/// Why the bytes aren't a signature, or `None` if they are.
 pub(crate) fn fault_of(bytes: &[u8]) -> Option<BadSignature>
     ensures { result ≡ signature_fault bytes.now }
 {

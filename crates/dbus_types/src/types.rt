@@ -1,11 +1,11 @@
-//! Complete types, as they stand in a signature.
+//! Complete types in a signature.
 ghost use Rattle.std.specs.Prelude.{◌≡◌, ◌++◌, ◌+◌, ◌<◌, ◌^◌, ℕ, List};
 ghost use Rattle.dbus_types.specs.Signature.{Complete, spelled_type};
 ghost use Rattle.dbus_types.specs.Behind.{behind, open_after};
 
 use crate::codes::{Code, code_of};
 
-/// What follows the complete type in front, which may be a dict entry: the other types of a signature, or the rest of a
+/// What follows the first complete type, which may be a dict entry: the other types of a signature, or the rest of a
 /// struct's.
 pub fn behind_type(types: &[u8]) -> &[u8]
     ensures behind { result.now ≡ behind 0 types.now }
@@ -22,7 +22,7 @@ pub fn behind_type(types: &[u8]) -> &[u8]
     &[]
 }
 
-// How many brackets are open behind the code, of those that were open in front of it.
+// The number of brackets that are open after the code, if `brackets` were open before it.
 #[inline]
 fn brackets_after(code: Code, brackets: usize) -> usize
     requires { brackets + 1 < 2 ^ 64 }
