@@ -1,4 +1,4 @@
--- Names and paths are ASCII with no NUL, and no well-known name is unique.
+-- Names and paths are ASCII without NUL, and no well-known name is unique.
 use Rattle.std.proofs.Common.{◌≡◌, ℕ, Bool, true, false, cond, not, ◌&&◌, List, [], ◌∷◌, refl, ap, ◌∙◌, sym, inl, inr, nat_eq, nat_le, length}
 use Rattle.std.specs.List.{list_all, onto_first}
 use Rattle.std.proofs.lemmas.Bool.{cases_lt, agree_below_at, and_parts, and_from, and_left, and_right, or_left, or_cases, eqb-true, not-true}

@@ -21,7 +21,7 @@ module _ (first rest separator : ℕ) where
       (cond begins None (count_from true (before + 1) text))
       (cond (is_among (cond begins first rest) c) (count_from false before text) None)
 
-  -- what the parts give where the first of them is an element, and where it ends one
+  -- what the parts give if the first of them is an element, and if it ends one
   abbrev whole : ℕ → List (List ℕ) → Option ℕ
   whole before parts = cond (list_all (is_element_of first rest) parts) (Some (before + length parts)) None
 
@@ -61,7 +61,7 @@ module _ (first rest separator : ℕ) where
       (omega (arith, length-slice_split (λ x. nat_eq x separator) text))
       (count_from-parts text (before + 1)).0 (count_from-parts text before).1
 
-  -- what is counted behind the first bytes that go on with an element
+  -- what is counted after the first bytes that continue an element
   abbrev behind_run : ℕ → List ℕ → Option ℕ
   behind_run before [] = Some (before + 1)
   behind_run before (c ∷ text) = cond (nat_eq c separator) (count_from true (before + 1) text) None
@@ -82,7 +82,7 @@ module _ (first rest separator : ℕ) where
   run_passed [] before = refl
   run_passed (c ∷ text) before = run_step c before text (nat_eq c separator) (is_among rest c) refl refl (run_passed text before)
 
-  -- the first byte of a text, and those behind it
+  -- the first byte of a text, and those after it
   abbrev start_of : List ℕ → ℕ
   start_of text = slice_index_or text 0 0
 
@@ -136,7 +136,7 @@ module _ (first rest separator : ℕ) where
   unfolding element_count
   element_count-from text = (count_from-parts text 0).0 ∙ ap (λ n. cond (list_all (is_element_of first rest) (parts_at separator text)) (Some n) None) (zero-add (length (parts_at separator text)))
 
--- what is left behind a byte of what is left is shorter by two at least, or nothing
+-- what is left after a byte of what is left is at least two bytes shorter, or empty
 pub others_shorter : (left run : List ℕ) (n : ℕ) → 1 ≤ length left → 1 ≤ length run → run ≡ drop n (take (length left - 1) (drop 1 left)) →
     suc (suc (length (take (length run - 1) (drop 1 run)))) ≤ length left
 others_shorter left run n some more is =

@@ -98,7 +98,7 @@ run_passed_over kinds separator left text le is behind =
     ap (λ (xs : List ℕ). drop (position_or_len (is_other kinds) xs) xs) behind.left_is ∙ passed kinds behind.len text behind.are
     ∙ ap (λ n. drop n text) (sym (place_same (is_outside kinds separator) (is_other kinds) (λ c. outside_is_other kinds separator c le is) text))
 
--- where the rest of a text is of the kinds, all of it is
+-- if the rest of a text is of the kinds, all of it is
 pub rest_among : (kinds : ℕ) (left text : List ℕ) → BehindSome (is_among kinds) left text → list_all (is_among kinds) left ≡ list_all (is_among kinds) text
 rest_among kinds left text behind =
     ap (list_all (is_among kinds)) behind.left_is

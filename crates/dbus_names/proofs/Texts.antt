@@ -1,4 +1,4 @@
--- Texts: what stands behind a front, and texts that are ASCII with no NUL.
+-- Texts: what follows a prefix, and texts that are ASCII without NUL.
 use Rattle.std.proofs.Common.{◌≡◌, ◌≢◌, ℕ, zero, suc, Bool, true, false, cond, not, ◌&&◌, List, [], ◌∷◌, ◌++◌, length, take, drop, Option, Some, None, option_map, MatchOption, Bor, refl, sym, ap, ◌∙◌, arith}
 use Rattle.std.specs.Prelude.{nat_lt}
 use Rattle.std.specs.List.{list_all}
@@ -11,14 +11,14 @@ use Rattle.byte_lists.proofs.Options.{some}
 use Rattle.dbus_names.specs.Names.{is_ascii_text_byte, is_empty, begins_with_digit, is_bus_byte, is_bus_element}
 use Rattle.dbus_names.specs.Texts.{begins_with, behind}
 
--- ---- the front of a text
+-- ---- the prefix of a text
 
 begins : (front text : List ℕ) → begins_with front text ≡ true → text ≡ front ++ drop (length front) text
 begins front text e =
     sym (take-append-drop (length front) text)
     ∙ ap (λ (t : List ℕ). t ++ drop (length front) text) (sym (bytes_eq-true front (take (length front) text) e))
 
--- a text with a front is that front and what stands behind it
+-- a text with a prefix is that prefix and what follows it
 pub behind_is : (front text rest : List ℕ) → behind front text ≡ Some rest → text ≡ front ++ rest
 behind_is front text rest e = go (begins_with front text) refl e
   where

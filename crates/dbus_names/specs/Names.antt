@@ -6,7 +6,7 @@ pub use Rattle.byte_lists.specs.Bytes.{is_empty}
 
 -- ---- texts in parts
 
--- the parts of a text between the places where a byte stands: one more than these places
+-- the parts of a text between the occurrences of a byte: one more than the occurrences
 abbrev pub parts_at : ℕ → List ℕ → List (List ℕ)
 parts_at separator text = slice_split (λ c. c == separator) text
 
@@ -26,7 +26,7 @@ begins_with_digit (c ∷ text) = is_ascii_digit c
 abbrev pub is_element : List ℕ → Bool
 is_element text = not (is_empty text) && not (begins_with_digit text) && list_all is_word_byte text
 
--- the same with '-', as in a well-known bus name
+-- [A-Za-z_-][A-Za-z0-9_-]*, as in a well-known bus name
 abbrev pub is_bus_element : List ℕ → Bool
 is_bus_element text = not (is_empty text) && not (begins_with_digit text) && list_all is_bus_byte text
 
@@ -70,7 +70,7 @@ is_unique (c ∷ text) = is_short (c ∷ text) && c == 58 && are_two_joined is_u
 abbrev pub is_bus_name : List ℕ → Bool
 is_bus_name text = is_well_known text || is_unique text
 
--- the name under which the bus itself is called
+-- the well-known name of the bus itself
 abbrev pub bus_name : List ℕ
 bus_name = codes "org.freedesktop.DBus"
 
@@ -84,6 +84,6 @@ is_path (c ∷ text) = c == 47 && (is_empty text || list_all is_path_element (pa
 
 -- ---- bytes
 
--- an ASCII byte that is no NUL, as all bytes of names and paths are
+-- an ASCII byte other than NUL, as all bytes of names and paths are
 abbrev pub is_ascii_text_byte : ℕ → Bool
 is_ascii_text_byte c = nat_lt 0 c && nat_lt c 128

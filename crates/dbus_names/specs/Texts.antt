@@ -9,7 +9,7 @@ Text = List ℕ
 abbrev pub begins_with : List ℕ → List ℕ → Bool
 begins_with front text = starts_with nat_eq text front
 
--- the text behind a front that it has
+-- the text after a prefix that it has
 abbrev pub behind : List ℕ → List ℕ → Option (List ℕ)
 behind front text = if begins_with front text then Some (drop (length front) text) else None
 

@@ -4,7 +4,8 @@ ghost use Rattle.dbus_names.specs.Names.{is_bus_name as is_either_bus_name, is_u
 
 use crate::is_bus_name;
 
-/// A bus name of either kind, as a destination or a sender is (D-Bus Specification, "Message Protocol", "Valid Names").
+/// A bus name, unique or well-known, as in a destination or a sender (D-Bus Specification, "Message Protocol", "Valid
+/// Names").
 #[derive(Clone, Copy)]
 pub struct BusName<'a> {
     pub text: &'a str,
@@ -12,7 +13,7 @@ pub struct BusName<'a> {
 }
 
 impl<'a> BusName<'a> {
-    /// The bus name that a text is, where it is one.
+    /// Reads a text as a bus name, if it is one.
     pub fn read(text: &'a str) -> Option<BusName<'a>>
         ensures found { is_some result ≡ is_either_bus_name text.now }
         ensures text { IfSome result (λ name. name.text.now ≡ text.now) }
@@ -24,7 +25,7 @@ impl<'a> BusName<'a> {
         }
     }
 
-    /// Whether it is unique; else it is well-known. The first byte tells.
+    /// Whether it is unique; otherwise it is well-known. The first byte decides.
     pub fn is_unique(self) -> bool
         ensures { result ≡ is_unique_name self.entry.text.now }
     {

@@ -1,7 +1,7 @@
-//! The grammars of D-Bus names and object paths, as tests on bytes; the name of the bus itself; texts that are known to be bus
-//! names; and names that are owned.
+//! The grammars of D-Bus names and object paths, as tests on bytes; the name of the bus itself; texts that are known to
+//! be bus names; and names that own their text.
 //!
-//! A test reads a text once, allocates nothing, and stops at the first byte that is wrong.
+//! A test reads a text once, allocates nothing, and stops at the first wrong byte.
 #![tactic(auto)]
 
 ghost use Rattle.std.specs.Prelude.{◌≡◌, ◌≤◌, drop, position};
@@ -15,13 +15,13 @@ mod name;
 pub use bus_name::BusName;
 pub use name::Name;
 
-/// The name under which the bus itself is called (D-Bus Specification, "Message Bus Specification").
+/// The well-known name of the bus itself (D-Bus Specification, "Message Bus Specification").
 pub const BUS_NAME: &str = "org.freedesktop.DBus";
 
-/// The most bytes that a name may have.
+/// The maximum length of a name.
 const LONGEST_NAME: usize = 255;
 
-// The kinds of bytes that stand in elements, one bit each: a letter or `_`, a digit, and `-`.
+// The kinds of bytes in elements, one bit each: a letter or `_`, a digit, and `-`.
 const LETTER: u8 = 1;
 
 const DIGIT: u8 = 2;
@@ -32,7 +32,7 @@ const WORD: u8 = LETTER | DIGIT;
 
 const ANY: u8 = WORD | DASH;
 
-// The kind of each byte as a digit, whose three lowest bits in ASCII are the kind's.
+// The kind of each byte, as a digit whose three lowest bits in ASCII are the kind's.
 static KINDS: [u8; 256] = *b"\
     00000000000000000000000000000000\
     00000000000004002222222222000000\
@@ -43,9 +43,9 @@ static KINDS: [u8; 256] = *b"\
     00000000000000000000000000000000\
     00000000000000000000000000000000";
 
-/// Whether the text is a unique bus name, as a bus gives one to each connection: a colon and two
-/// or more elements joined by dots, each of one or more of `[A-Za-z0-9_-]`, at most 255 bytes in
-/// all (D-Bus Specification, "Message Protocol", "Valid Names").
+/// Whether the text is a unique bus name, as a bus gives one to each connection: a colon and two or more elements
+/// joined by dots, each of one or more of `[A-Za-z0-9_-]`, at most 255 bytes in all (D-Bus Specification, "Message
+/// Protocol", "Valid Names").
 pub fn is_unique(text: &[u8]) -> bool
     ensures { result ≡ is_unique_name text.now }
 {
@@ -57,18 +57,17 @@ pub fn is_unique(text: &[u8]) -> bool
     }
 }
 
-/// Whether the text is a well-known bus name: two or more elements joined by dots, each of one or
-/// more of `[A-Za-z0-9_-]` with no digit at its start, at most 255 bytes in all (D-Bus
-/// Specification, "Message Protocol", "Valid Names").
+/// Whether the text is a well-known bus name: two or more elements joined by dots, each of one or more of
+/// `[A-Za-z0-9_-]` and not beginning with a digit, at most 255 bytes in all (D-Bus Specification, "Message Protocol",
+/// "Valid Names").
 pub fn is_well_known(text: &[u8]) -> bool
     ensures { result ≡ is_well_known_name text.now }
 {
     text.len() <= LONGEST_NAME && has_two_elements(text, LETTER | DASH, ANY)
 }
 
-/// Whether the text is a bus name of either kind, as a destination or a sender is: unique where it
-/// begins with a colon, and else well-known (D-Bus Specification, "Message Protocol", "Valid
-/// Names").
+/// Whether the text is a bus name, as in a destination or a sender: unique if it begins with a colon, and else
+/// well-known (D-Bus Specification, "Message Protocol", "Valid Names").
 pub fn is_bus_name(text: &[u8]) -> bool
     ensures { result ≡ is_either_bus_name text.now }
 {
@@ -86,34 +85,32 @@ pub fn is_bus(text: &str) -> bool
     text == BUS_NAME
 }
 
-/// Whether the text is an interface's name: two or more elements joined by dots, each of one or
-/// more of `[A-Za-z0-9_]` with no digit at its start, at most 255 bytes in all (D-Bus
-/// Specification, "Message Protocol", "Valid Names").
+/// Whether the text is an interface name: two or more elements joined by dots, each of one or more of `[A-Za-z0-9_]`
+/// and not beginning with a digit, at most 255 bytes in all (D-Bus Specification, "Message Protocol", "Valid Names").
 pub fn is_interface(text: &[u8]) -> bool
     ensures { result ≡ is_interface_name text.now }
 {
     text.len() <= LONGEST_NAME && has_two_elements(text, LETTER, WORD)
 }
 
-/// Whether the text is an error's name, for which an interface's rule holds (D-Bus Specification,
-/// "Message Protocol", "Valid Names").
+/// Whether the text is an error name, whose rules are those of an interface name (D-Bus Specification, "Message
+/// Protocol", "Valid Names").
 pub fn is_error_name(text: &[u8]) -> bool
     ensures { result ≡ is_name_of_error text.now }
 {
     is_interface(text)
 }
 
-/// Whether the text is a member's name: one or more of `[A-Za-z0-9_]` with no digit at its start,
-/// at most 255 bytes (D-Bus Specification, "Message Protocol", "Valid Names").
+/// Whether the text is a member name: one or more of `[A-Za-z0-9_]`, not beginning with a digit, at most 255 bytes
+/// (D-Bus Specification, "Message Protocol", "Valid Names").
 pub fn is_member(text: &[u8]) -> bool
     ensures { result ≡ is_member_name text.now }
 {
     text.len() <= LONGEST_NAME && is_element(text, LETTER, WORD)
 }
 
-/// Whether the text is an object path: `/` alone, or one or more elements with a `/` before each,
-/// each of one or more of `[A-Za-z0-9_]` (D-Bus Specification, "Message Protocol", "Valid Object
-/// Paths").
+/// Whether the text is an object path: only `/`, or one or more elements with a `/` before each, each of one or more of
+/// `[A-Za-z0-9_]` (D-Bus Specification, "Message Protocol", "Valid Object Paths").
 pub fn is_path(text: &[u8]) -> bool
     ensures { result ≡ is_object_path text.now }
 {
@@ -139,7 +136,8 @@ fn are_alike(a: u8, b: u8, c: u8, d: u8, kinds: u8) -> bool
     KINDS[a as usize] & KINDS[b as usize] & KINDS[c as usize] & KINDS[d as usize] & kinds != 0
 }
 
-// What follows the first bytes of these kinds, as far as four after the other are alike: most elements are letters alone.
+// What follows the first bytes of these kinds, taken four at a time while the four are alike: most elements are letters
+// only.
 #[inline]
 fn after_fours(text: &[u8], kinds: u8) -> &[u8]
     ensures { BehindSome (is_among_kinds kinds) result.now text.now }
@@ -161,7 +159,7 @@ fn are_among(text: &[u8], kinds: u8) -> bool
     is_each_among(after_fours(text, kinds), kinds)
 }
 
-// The same, one byte after the other.
+// Whether all bytes are of these kinds, one byte after the other.
 #[inline]
 fn is_each_among(text: &[u8], kinds: u8) -> bool
     ensures { result ≡ list_all (is_among_kinds kinds) text.now }
@@ -198,7 +196,7 @@ fn after_all(text: &[u8], kinds: u8) -> &[u8]
     }
 }
 
-// What follows the first bytes that go on with an element. A separator is of no kind, so that it isn't asked for by itself.
+// What follows the first bytes that continue an element. A separator is of no kind, so it needs no test of its own.
 #[inline]
 fn after_run(text: &[u8], separator: u8, kinds: u8) -> &[u8]
     requires separator { IsSeparator separator }
@@ -208,7 +206,7 @@ fn after_run(text: &[u8], separator: u8, kinds: u8) -> &[u8]
     after_all(after_fours(text, kinds), kinds)
 }
 
-// How many elements the separator joins in the text, where each part between separators is one.
+// The number of elements joined by the separator, if each part between separators is an element.
 fn count_elements(text: &[u8], separator: u8, first: u8, rest: u8) -> Option<usize>
     requires separator { IsSeparator separator }
     requires kinds { (first ≤ 7) × (rest ≤ 7) }
@@ -234,7 +232,7 @@ fn count_elements(text: &[u8], separator: u8, first: u8, rest: u8) -> Option<usi
     None
 }
 
-// Whether dots join two or more elements.
+// Whether the text is two or more elements joined by dots.
 fn has_two_elements(text: &[u8], first: u8, rest: u8) -> bool
     requires { (first ≤ 7) × (rest ≤ 7) }
     ensures { result ≡ are_two_elements first rest text.now }

@@ -1,9 +1,9 @@
-//! Names that are kept.
+//! Names that own their text.
 ghost use Rattle.std.specs.Prelude.{◌≡◌, string_bytes};
 
 use std::marker::Model;
 
-/// A name, or another text of a message, that outlives the message it stood in. Contracts see its bytes.
+/// A name, or another text of a message, that outlives the message. Contracts see its bytes.
 #[derive(Debug, Drop)]
 pub struct Name {
     text: String,
@@ -18,7 +18,7 @@ impl Model for Name {
 }
 
 impl Name {
-    /// The name that a text is. It keeps the text's memory and takes no other.
+    /// A name with this text, in the text's memory.
     pub fn new(text: String) -> Name
         ensures { result ≡ string_bytes text }
     {
@@ -32,7 +32,7 @@ impl Name {
         self.text.as_str()
     }
 
-    /// The text, whose memory the name kept.
+    /// The text of the name, in the name's memory.
     pub fn into_text(self) -> String
         ensures { string_bytes result ≡ self }
     {
