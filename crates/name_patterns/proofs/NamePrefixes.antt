@@ -1,4 +1,4 @@
--- What stands before the dots of a text, and the patterns for all names below that.
+-- The prefixes of a text before its dots, and the patterns for all names below those.
 use Rattle.std.proofs.Common.{◌≡◌, ℕ, ◌==◌, Bool, true, false, not, ◌&&◌, ◌||◌, nat_eq, List, [], ◌∷◌, ◌++◌, map, if◌then◌else◌, refl, ap, ap₂, sym, ◌∙◌, subst, arith}
 use Rattle.std.specs.List.{list_any}
 use Rattle.std.specs.Prelude.{IsPermutation}

@@ -58,7 +58,7 @@ next-same p q from rs same = ap first (places-same p q from (drop (from - 1) rs)
 
 -- ---- the look-ups
 
--- no front is left
+-- no prefix is left
 pub next-all : (rs : List Ranked) (from : ℕ) (text : List ℕ) (next : Option ℕ) → HasNoDot text → lesser next (next_place (is_below text) from rs) ≡ next
 next-all rs from text next none = ap (λ ks. lesser next (first ks)) (places-none (is_below text) from (drop (from - 1) rs) (below-none text none)) ∙ lesser-none next
 
@@ -70,7 +70,7 @@ next-whole rs from name =
     ∙ sym (next-or (λ r. is_exact_for name r || is_subtree_of name r) (is_below name) from rs)
     ∙ sym (next-same (covers_name name) (λ r. (is_exact_for name r || is_subtree_of name r) || is_below name r) from rs (covers-parts name))
 
--- one front more
+-- one more prefix
 pub next-front : (rs : List Ranked) (from : ℕ) (text front : List ℕ) (next : Option ℕ) → IsBeforeLastDot text front →
     lesser (lesser next (next_place (is_subtree_of front) from rs)) (next_place (is_below front) from rs) ≡ lesser next (next_place (is_below text) from rs)
 next-front rs from text front next cut =
@@ -125,7 +125,7 @@ found-at from (k ∷ ks) (suc at) less more =
     found-at from ks at (λ j d low high. less (suc j) d (omega arith) (omega (arith, high))) (λ j d low high. more (suc j) d (omega (arith, low)) (omega (arith, high)))
     ∙ ap (λ b. if b then Some k else first_from from ks) (sym (passed k from (less 0 0 (omega arith) (omega arith))))
 
--- ---- the first of the places where a test is passed
+-- ---- the first of the places at which a test holds
 
 all-from : (test : Ranked → Bool) (from n : ℕ) (rs : List Ranked) → from ≤ n → first_from from (places_where test n rs) ≡ first (places_where test n rs)
 all-from test from n [] low = refl

@@ -1,4 +1,4 @@
--- What is cut from the ends of a text, and what a pattern covers by it.
+-- What is cut from the ends of a text, and what a pattern covers then.
 use Rattle.std.proofs.Common.{◌≡◌, ℕ, ◌+◌, ◌-◌, Bool, true, false, not, ◌&&◌, ◌||◌, nat_eq, List, [], ◌∷◌, ◌++◌, length, take, drop, Option, Some, None, if◌then◌else◌, option_map, MatchOption, Bor, refl, ap, sym, ◌∙◌, arith, length-append}
 use Rattle.std.specs.Str.{bytes_eq}
 use Rattle.std.specs.Str.Pattern.{FindsTextSuffix}

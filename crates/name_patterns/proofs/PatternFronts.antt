@@ -1,4 +1,4 @@
--- The patterns that cover a name, by the fronts of the name that end before a dot.
+-- The patterns that cover a name, by the prefixes of the name before its dots.
 use Rattle.std.proofs.Common.{◌≡◌, ◌≢◌, ℕ, suc, ◌+◌, ◌==◌, ◌<◌, max, cond, count_by, Bool, true, false, not, ◌&&◌, ◌||◌, nat_eq, List, [], ◌∷◌, ◌++◌, length, get_or, drop, None, refl, ap, ap₂, sym, ◌∙◌, arith, length-append}
 use Rattle.std.specs.Str.{bytes_eq}
 use Rattle.std.specs.Str.Pattern.{RFindsChar, SplitsAroundMatch}
@@ -34,7 +34,7 @@ shared : (b u v : Bool) → (b && (u || v)) ≡ ((b && u) || (b && v))
 shared true u v = refl
 shared false u v = refl
 
--- a text begins with N and a dot where what stands before its last dot is N, or begins with N and a dot
+-- a text begins with N and a dot if the text before its last dot is N, or begins with N and a dot
 begins-cut : (n front rest : List ℕ) → HasNoDot rest → begins_with (n ++ 46 ∷ []) (front ++ 46 ∷ rest) ≡ (bytes_eq front n || begins_with (n ++ 46 ∷ []) front)
 begins-cut [] [] rest none = refl
 begins-cut [] (c ∷ front) rest none = refl
@@ -43,7 +43,7 @@ begins-cut (x ∷ n) (c ∷ front) rest none =
     ap (λ b. nat_eq x c && b) (begins-cut n front rest none) ∙ shared (nat_eq x c) (bytes_eq front n) (begins_with (n ++ 46 ∷ []) front)
     ∙ ap (λ b. (b && bytes_eq front n) || (nat_eq x c && begins_with (n ++ 46 ∷ []) front)) (nat_eq_equiv.symm x c)
 
--- what stands before the last dot of a text
+-- the text before the last dot
 pub record IsBeforeLastDot (text front : List ℕ) : Type 0 where
   pub rest : List ℕ
   pub whole : text ≡ front ++ 46 ∷ rest
@@ -65,7 +65,7 @@ front-shorter text front cut = omega (arith, ap length cut.whole, length-append 
 
 -- ---- patterns
 
--- the pattern is for all names below one of which the name is
+-- the pattern is for all names below a name, among which this one is
 abbrev pub is_below : List ℕ → Ranked → Bool
 is_below name r = not r.0.exact && begins_with (r.0.name ++ 46 ∷ []) name
 
@@ -87,7 +87,7 @@ below-none text none r = ap (λ b. not r.0.exact && b) (begins-no_dot r.0.name t
 
 -- ---- the look-ups
 
--- no front is left
+-- no prefix is left
 pub greatest-all : (rs : List Ranked) (text : List ℕ) (rank : ℕ) → HasNoDot text → max rank (greatest (is_below text) rs) ≡ rank
 greatest-all rs text rank none = ap (max rank) (greatest-none (is_below text) rs (below-none text none)) ∙ max-none rank
 
@@ -100,7 +100,7 @@ module _ (rs : List Ranked) (index : PatternIndex) (is : Indexes rs index) where
       ∙ sym (greatest-or (λ r. is_exact_for name r || is_subtree_of name r) (is_below name) rs)
       ∙ sym (greatest-same (λ r. covers r.0 name) (λ r. (is_exact_for name r || is_subtree_of name r) || is_below name r) rs (covers-parts name))
 
-  -- one front more
+  -- one more prefix
   pub greatest-front : (text front : List ℕ) (rank : ℕ) → IsBeforeLastDot text front →
       max (max rank (kept_at index front).ranks.subtree) (greatest (is_below front) rs) ≡ max rank (greatest (is_below text) rs)
   greatest-front text front rank cut =
@@ -126,6 +126,6 @@ one-element text none = ap (λ n. n + 1) (no-dots text none)
 counted : (front rest : List ℕ) → HasNoDot rest → count_by (λ c. c == 46) (front ++ 46 ∷ rest) ≡ count_by (λ c. c == 46) front + 1
 counted front rest none = sum_by-append dot front (46 ∷ rest) ∙ ap (λ n. count_by (λ c. c == 46) front + n) (sum_by-cons dot 46 rest ∙ ap (λ n. 1 + n) (no-dots rest none))
 
--- a dot stands between an element and those before it
+-- a dot separates an element from those before it
 pub elements-cut : (text front : List ℕ) → IsBeforeLastDot text front → elements text ≡ elements front + 1
 elements-cut text front cut = ap elements cut.whole ∙ ap (λ n. n + 1) (counted front cut.rest cut.none)

@@ -1,4 +1,4 @@
--- The index of patterns by name, by one pattern more.
+-- The index of patterns by name, after one more pattern.
 use Rattle.std.proofs.Common.{◌≡◌, ℕ, ◌+◌, max, Bool, true, false, not, ◌&&◌, List, [], ◌∷◌, ◌++◌, length, Some, if◌then◌else◌, refl, ap, ap₂, sym, ◌∙◌}
 use Rattle.std.specs.HashMap.{get_by_text}
 use Rattle.std.specs.Map.{update}
@@ -51,7 +51,7 @@ module _ (old new : PatternIndex) (text : List ℕ) (has : NameEntries) (sets : 
   at-name : (name : List ℕ) → bytes_eq text name ≡ true → kept_at new name ≡ kept_in (Some has)
   at-name name same = ap kept_in (sets name ∙ ap (λ b. if b then Some has else get_by_text old.by_name name) same)
 
-  -- a change after which the same is kept of the name
+  -- a change after which what is kept of the name is the same
   pub still-index : kept_in (Some has) ≡ kept_at old text → (rs : List Ranked) → Indexes rs old → Indexes rs new
   still-index keeps rs is = record { says = λ name. by name (bytes_eq text name) refl ∙ is.says name }
     where

@@ -30,7 +30,7 @@ pub places-map : {A B : Type 0} (test : B → Bool) (f : A → B) (n : ℕ) (xs 
 places-map test f n [] = refl
 places-map test f n (x ∷ xs) = ap (λ ks. if test (f x) then n ∷ ks else ks) (places-map test f (n + 1) xs)
 
--- a test that says the same
+-- a test with the same results
 pub places-same : {A : Type 0} (p q : A → Bool) (n : ℕ) (rs : List A) → ((r : A) → p r ≡ q r) → places_where p n rs ≡ places_where q n rs
 places-same p q n [] same = refl
 places-same p q n (r ∷ rs) same = ap₂ (λ b ks. if b then n ∷ ks else ks) (same r) (places-same p q (n + 1) rs same)

@@ -31,7 +31,7 @@ greatest-or p q (r ∷ rs) = by (p r) (q r) (greatest-or p q rs)
     by false true is = ap (max r.1) is ∙ swapped r.1 (greatest p rs) (greatest q rs)
     by false false is = is
 
--- a test that says the same
+-- a test with the same results
 pub greatest-same : (p q : Ranked → Bool) (rs : List Ranked) → ((r : Ranked) → p r ≡ q r) → greatest p rs ≡ greatest q rs
 greatest-same p q [] same = refl
 greatest-same p q (r ∷ rs) same = ap₂ (λ b n. if b then max r.1 n else n) (same r) (greatest-same p q rs same)

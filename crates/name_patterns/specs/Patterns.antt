@@ -18,7 +18,7 @@ pattern_of text =
     then (if is_subtree_name (without_last 2 text) then Some (record { name = without_last 2 text; exact = false }) else None)
     else (if is_well_known text then Some (record { name = text; exact = true }) else None)
 
--- an exact name covers itself alone; N.* covers N and every text that begins with N and a dot
+-- an exact name covers only itself; N.* covers N and every text that begins with N and a dot
 abbrev pub covers : Pattern → List ℕ → Bool
 covers p name = bytes_eq name p.name || (not p.exact && begins_with (p.name ++ 46 ∷ []) name)
 

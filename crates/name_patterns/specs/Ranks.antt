@@ -2,11 +2,11 @@
 use Rattle.std.specs.Prelude.{ℕ, ◌+◌, ◌-◌, ◌==◌, max, Bool, not, ◌&&◌, List, [], ◌∷◌, drop, count_by, Option, slice_get, IsPermutation, if◌then◌else◌, bytes_eq}
 use Rattle.name_patterns.specs.Patterns.{Pattern, covers}
 
--- what was added at one time: a pattern, and its rank
+-- an addition: a pattern, and its rank
 abbrev pub Ranked : Type 0
 Ranked = Pattern × ℕ
 
--- the pattern is the name alone
+-- the pattern is exactly the name
 abbrev pub is_exact_for : List ℕ → Ranked → Bool
 is_exact_for name r = r.0.exact && bytes_eq name r.0.name
 
@@ -19,12 +19,12 @@ covers_name name r = covers r.0 name
 
 -- ---- ranks
 
--- the greatest rank of those that pass the test, 0 where there is none
+-- the greatest rank of those that pass the test, or 0 if there is none
 abbrev pub greatest : (Ranked → Bool) → List Ranked → ℕ
 greatest test [] = 0
 greatest test (r ∷ rs) = if test r then max r.1 (greatest test rs) else greatest test rs
 
--- the greatest rank of the patterns that cover the name, 0 where there is none
+-- the greatest rank of the patterns that cover the name, or 0 if there is none
 abbrev pub greatest_rank : List Ranked → List ℕ → ℕ
 greatest_rank added name = greatest (covers_name name) added
 
@@ -35,7 +35,7 @@ abbrev pub places_where : {A : Type 0} → (A → Bool) → ℕ → List A → L
 places_where test n [] = []
 places_where test n (x ∷ xs) = if test x then n ∷ places_where test (n + 1) xs else places_where test (n + 1) xs
 
--- the least place, from 1, that isn't below `from` and at which one passes the test
+-- the lowest place, from 1, that is at least `from` and at which one passes the test
 abbrev pub next_place : (Ranked → Bool) → ℕ → List Ranked → Option ℕ
 next_place test from added = slice_get (places_where test from (drop (from - 1) added)) 0
 
@@ -45,6 +45,6 @@ AreCovering added name places = IsPermutation (places_where (covers_name name) 1
 
 -- ---- names
 
--- how many elements a name has: its dots, and one
+-- the number of elements of a name: its dots, and one
 abbrev pub elements : List ℕ → ℕ
 elements name = count_by (λ c. c == 46) name + 1

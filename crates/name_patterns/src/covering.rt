@@ -6,14 +6,14 @@ ghost use Rattle.name_patterns.specs.Ranks.{AreCovering, Ranked};
 use crate::index::PatternIndex;
 use std::marker::Model;
 
-/// The places of the patterns that cover a name, each once, in any order. They are found by one look-up for each
-/// element of the name and one more, and take no memory.
+/// An iterator over the places of the patterns that cover a name, each once, in any order. Finding them takes one
+/// look-up for each element of the name and one more, and no memory.
 #[derive(Drop)]
 pub struct Covering<'a> {
     index: &'a PatternIndex,
-    // The places that were found and not yet given.
+    // The places that were found and not returned yet.
     found: &'a [u32],
-    // The name, or what stands before one of its dots, that is looked up next.
+    // The text that is looked up next: the name, or its prefix before one of its dots.
     left: Option<&'a str>,
 }
 
@@ -59,7 +59,7 @@ impl Iterator for Covering<'_> {
     }
 }
 
-// Looks texts up until places are found, or no text is left.
+// Looks up texts until places are found, or no text is left.
 fn advance<'a>(
     index: &'a PatternIndex,
     mut found: &'a [u32],
@@ -78,7 +78,7 @@ fn advance<'a>(
     (found, left)
 }
 
-// What stands before the last dot.
+// The text before the last dot.
 fn before_last_dot(text: &str) -> Option<&str>
     ensures texts { texts_left (option_map (λ t. t.now) result) ≡ prefixes text.now }
     ensures shorter { IfSome result (λ t. length t.now < length text.now) }

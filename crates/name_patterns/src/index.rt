@@ -1,4 +1,4 @@
-//! Patterns with ranks, found by the names in them.
+//! Patterns with ranks, found by their names.
 ghost use Rattle.std.specs.Prelude.{◌≡◌, ◌+◌, ◌≤◌, ◌<◌, ℕ, max, nat_lt, List, ◌∷◌, ◌++◌, [], Some, None, IsSome, OnOk, OnErr, length};
 ghost use Rattle.std.specs.HashMap.{get_by_text};
 ghost use Rattle.std.specs.List.{list_any};
@@ -13,8 +13,8 @@ use std::collections::HashMap;
 use std::marker::Model;
 use std::sync::ledger::{Blank, Book, Ledger, Share};
 
-/// How many steps were counted. A step is one look-up of a name in a `PatternIndex`, or what the holder of the count adds
-/// as one: the look-up of another key, or an entry that is looked at. It takes no bytes.
+/// The number of counted steps. A step is one look-up of a name in a `PatternIndex`, or what the holder of the count
+/// adds as one: the look-up of another key, or the test of an entry. It takes no bytes.
 #[derive(Drop)]
 pub struct Steps<L: Ledger> {
     book: Book<L>,
@@ -32,7 +32,7 @@ impl<L: Ledger> Model for Steps<L> {
 }
 
 impl<L: Ledger> Steps<L> {
-    /// No step, counted from now on in the ledger of a blank that has a part, as `Blank::new(1)`.
+    /// No steps yet. They are counted in the ledger of a blank that has a part, such as `Blank::new(1)`.
     pub fn new(blank: Blank) -> Steps<L>
         requires name { blank.name ≡ L.name }
         requires parts { blank.parts ≡ L.parts }
@@ -43,7 +43,7 @@ impl<L: Ledger> Steps<L> {
         Steps { book, share }
     }
 
-    /// One step more. It does nothing when it runs.
+    /// Counts one step. This does nothing at run time.
     pub fn tick(&mut self)
         ensures { self.new ≡ self.old + 1 }
     {
@@ -54,9 +54,9 @@ impl<L: Ledger> Steps<L> {
 // The greatest ranks of the patterns with one name.
 #[derive(Clone, Copy, Drop)]
 struct NameRanks {
-    // Of the patterns that are the name alone.
+    // That of the pattern that is exactly the name.
     exact: u8,
-    // Of `NAME.*`.
+    // That of `NAME.*`.
     subtree: u8,
 }
 
@@ -69,24 +69,24 @@ const NO_RANKS: NameRanks = NameRanks {
 #[derive(Drop)]
 struct NameEntries {
     ranks: NameRanks,
-    // Of the patterns that are the name alone.
+    // Those of the patterns that are exactly the name.
     exact: Vec<u32>,
-    // Of `NAME.*`.
+    // Those of `NAME.*`.
     subtree: Vec<u32>,
 }
 
-/// Patterns with ranks, by the names in them. What covers a name is found by one look-up for each of its elements, with
-/// no pass over the patterns.
+/// Patterns with ranks, by their names. The patterns that cover a name are found by one look-up for each of its
+/// elements, without a pass over the patterns.
 ///
-/// A rank says how much a pattern gives to the names that it covers. The greatest counts, and 0 is nothing. A place is
-/// the number of a pattern in the order in which they were added, from 1.
+/// A rank says how much a pattern gives to the names that it covers. The greatest counts, and 0 is nothing. The place
+/// of a pattern is its number in the order in which the patterns were added, from 1.
 #[derive(Drop)]
 pub struct PatternIndex {
     by_name: HashMap<String, NameEntries>,
 }
 
 impl PatternIndex {
-    /// The index of no pattern.
+    /// An index without patterns.
     pub fn new(alloc: Global) -> PatternIndex
         ensures { Indexes [] result }
     {
@@ -95,9 +95,9 @@ impl PatternIndex {
         }
     }
 
-    /// The greatest rank of the patterns that cover the name (xdg-dbus-proxy(1), "Filtering"), 0 where there is none.
+    /// The greatest rank of the patterns that cover the name (xdg-dbus-proxy(1), "Filtering"), or 0 if there is none.
     ///
-    /// It takes one look-up for each element of the name.
+    /// This takes one look-up for each element of the name.
     pub fn greatest<L: Ledger>(&self, name: &str, steps: &mut Steps<L>) -> u8
         ensures rank { (added : List Ranked) → Indexes added self.now → result ≡ greatest_rank added name.now }
         ensures cost { steps.new ≡ steps.old + elements name.now }
@@ -112,7 +112,7 @@ impl PatternIndex {
         rank
     }
 
-    /// The greatest rank of the patterns that are the name alone, 0 where there is none. It takes one look-up.
+    /// The greatest rank of the patterns that are exactly the name, or 0 if there is none. This takes one look-up.
     pub fn exact<L: Ledger>(&self, name: &str, steps: &mut Steps<L>) -> u8
         ensures rank { (added : List Ranked) → Indexes added self.now → result ≡ greatest_of (is_exact_for name.now) added }
         ensures cost { steps.new ≡ steps.old + 1 }
@@ -120,7 +120,7 @@ impl PatternIndex {
         self.look_up(name, steps).exact
     }
 
-    /// The greatest rank of the patterns `FRONT.*`, 0 where there is none. It takes one look-up.
+    /// The greatest rank of the patterns `FRONT.*`, or 0 if there is none. This takes one look-up.
     pub fn below<L: Ledger>(&self, front: &str, steps: &mut Steps<L>) -> u8
         ensures rank { (added : List Ranked) → Indexes added self.now → result ≡ greatest_of (is_subtree_of front.now) added }
         ensures cost { steps.new ≡ steps.old + 1 }
@@ -128,16 +128,16 @@ impl PatternIndex {
         self.look_up(front, steps).subtree
     }
 
-    /// Whether a pattern is the name alone.
+    /// Whether a pattern is exactly the name.
     pub fn is_named(&self, name: &str) -> bool
         ensures { (added : List Ranked) → Indexes added self.now → result ≡ list_any (is_exact_for name.now) added }
     {
         !self.exact_places(name).is_empty()
     }
 
-    /// The least place, not below `from`, of a pattern that covers the name (xdg-dbus-proxy(1), "Filtering").
+    /// The lowest place, at least `from`, of a pattern that covers the name (xdg-dbus-proxy(1), "Filtering").
     ///
-    /// It takes one look-up for each element of the name and a binary search in what each finds, and no memory.
+    /// This takes one look-up for each element of the name, a binary search in what each finds, and no memory.
     pub fn next_covering<L: Ledger>(
         &self,
         name: &str,
@@ -157,7 +157,7 @@ impl PatternIndex {
         next
     }
 
-    /// The places of all patterns that cover the name, each once, in any order. It takes no memory.
+    /// The places of all patterns that cover the name, each once, in any order. It allocates nothing.
     pub fn covering<'a>(&'a self, name: &'a str) -> Covering<'a>
         ensures { (added : List Ranked) → Indexes added self.entry.now → AreCovering added name.entry.now result }
     {
@@ -176,7 +176,7 @@ impl PatternIndex {
         }
     }
 
-    /// Adds a pattern for which `make_room` made room, with its rank. Its place is the next one.
+    /// Adds a pattern for which `make_room` has made room, with its rank, at the next place.
     pub fn add_reserved(&mut self, pattern: &Pattern, rank: u8, place: u32)
         requires { HasRoom self.old pattern.now }
         ensures { (added : List Ranked) → Indexes added self.old → place ≡ length added + 1 → Indexes (added ++ (pattern.now, rank) ∷ []) self.new }
@@ -187,7 +187,7 @@ impl PatternIndex {
         }
     }
 
-    /// Adds a pattern with its rank. Its place is the next one. Where memory runs out nothing is added.
+    /// Adds a pattern with its rank, at the next place. If memory runs out, nothing is added.
     pub fn add(
         &mut self,
         alloc: Global,
@@ -203,7 +203,7 @@ impl PatternIndex {
         Ok(())
     }
 
-    // The places of the patterns that are the name alone.
+    // The places of the patterns that are exactly the name.
     pub(crate) fn exact_places(&self, name: &str) -> &[u32]
         ensures { result.now ≡ (kept_at self.now name.now).exact }
     {
@@ -235,7 +235,7 @@ impl PatternIndex {
         }
     }
 
-    // The least place, not below `from`, of a pattern with the name, by one step.
+    // The lowest place, at least `from`, of a pattern with the name, found in one step.
     fn next_named<L: Ledger>(&self, name: &str, from: u32, steps: &mut Steps<L>) -> Option<u32>
         requires { 1 ≤ from }
         ensures next { (added : List Ranked) → Indexes added self.now → result ≡ lesser (next_place (is_exact_for name.now) from added) (next_place (is_subtree_of name.now) from added) }
@@ -251,7 +251,7 @@ impl PatternIndex {
         }
     }
 
-    // The least place, not below `from`, of a pattern `FRONT.*`, by one step.
+    // The lowest place, at least `from`, of a pattern `FRONT.*`, found in one step.
     fn next_below<L: Ledger>(&self, front: &str, from: u32, steps: &mut Steps<L>) -> Option<u32>
         requires { 1 ≤ from }
         ensures next { (added : List Ranked) → Indexes added self.now → result ≡ next_place (is_subtree_of front.now) from added }
@@ -261,7 +261,7 @@ impl PatternIndex {
         first_from(self.subtree_places(front), from)
     }
 
-    // Takes a name, with which no pattern is known until one is added.
+    // Adds a name without patterns, if it isn't there.
     fn add_name(&mut self, alloc: Global, name: &str) -> Result<(), AllocError>
         ensures room { OnOk result (IsSome (get_by_text self.new.by_name name.now)) }
         ensures same { (added : List Ranked) → Indexes added self.old → Indexes added self.new }
@@ -276,7 +276,7 @@ impl PatternIndex {
 }
 
 impl NameEntries {
-    // No pattern.
+    // No patterns.
     fn new(alloc: Global) -> NameEntries
         ensures { kept_in (Some result) ≡ kept_in None }
     {
@@ -299,7 +299,7 @@ impl NameEntries {
         }
     }
 
-    // Takes one more pattern.
+    // Adds one more pattern.
     fn add(&mut self, exact: bool, rank: u8, place: u32)
         requires { has_room exact (Some self.old) }
         ensures { kept_in (Some self.new) ≡ with_place exact rank place (kept_in (Some self.old)) }
@@ -314,7 +314,7 @@ impl NameEntries {
 }
 
 impl NameRanks {
-    // With the rank of one more pattern.
+    // The ranks with that of one more pattern.
     fn raise(self, exact: bool, rank: u8) -> NameRanks
         ensures { result ≡ raised exact rank self }
     {
@@ -338,7 +338,7 @@ fn greater(a: u8, b: u8) -> u8
     a.max(b)
 }
 
-// The lesser of two places, either of which may not be there.
+// The lower of two places, either of which may be absent.
 fn earlier(a: Option<u32>, b: Option<u32>) -> Option<u32>
     ensures { result ≡ lesser a b }
 {
@@ -349,7 +349,7 @@ fn earlier(a: Option<u32>, b: Option<u32>) -> Option<u32>
     }
 }
 
-// The first of ascending places that isn't below `from`.
+// The first of ascending places that is at least `from`.
 fn first_from(places: &[u32], from: u32) -> Option<u32>
     ensures { IsPartitionedBy (λ place. nat_lt place from) places.now → result ≡ first_in_list from places.now }
 {

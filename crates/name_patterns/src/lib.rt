@@ -22,13 +22,13 @@ use std::alloc::{AllocError, Global};
 use std::marker::Model;
 use thiserror::Error;
 
-/// The most bytes that a name may have (D-Bus Specification, "Message Protocol", "Valid Names").
+/// The maximum length of a name (D-Bus Specification, "Message Protocol", "Valid Names").
 const LONGEST_NAME: usize = 255;
 
 /// Why a text wasn't read as a pattern.
 #[derive(Clone, Copy, Debug, PartialEq, Eq, Error)]
 pub enum BadPattern {
-    /// The text is no well-known bus name, and no `N.*` of a name N.
+    /// The text is neither a well-known bus name nor `N.*` with a name N.
     #[error("the text is no pattern of bus names")]
     Form,
     /// Memory ran out.
@@ -46,11 +46,11 @@ impl From<AllocError> for BadPattern {
     }
 }
 
-/// A well-known bus name, which covers itself alone, or `N.*`, which covers N and each name that begins with N and a
-/// dot (xdg-dbus-proxy(1), "Filtering").
+/// A well-known bus name, which covers only itself, or `N.*`, which covers N and each name that begins with N and a dot
+/// (xdg-dbus-proxy(1), "Filtering").
 ///
-/// N is one or more elements such as a well-known name has, joined by dots, in at most 255 bytes (D-Bus Specification,
-/// "Message Protocol", "Valid Names").
+/// N is one or more elements of a well-known name, joined by dots, in at most 255 bytes (D-Bus Specification, "Message
+/// Protocol", "Valid Names").
 #[derive(Debug, Drop)]
 pub struct Pattern {
     name: String,
@@ -69,9 +69,9 @@ impl Model for Pattern {
 }
 
 impl Pattern {
-    /// The pattern that a text is: a well-known bus name, or `N.*` (xdg-dbus-proxy(1), "Filtering").
+    /// Reads a text as a pattern: a well-known bus name, or `N.*` (xdg-dbus-proxy(1), "Filtering").
     ///
-    /// It is refused as `Form` where it is neither, and as `Memory` only where memory for the name runs out.
+    /// The error is `Form` if it is neither, and `Memory` only if memory for the name runs out.
     pub fn read(alloc: Global, text: &str) -> Result<Pattern, BadPattern>
         ensures ok { IfOk result (λ pattern. pattern_of text.now ≡ Some pattern) }
         ensures form { IfErr result (λ why. why ≡ Form → pattern_of text.now ≡ None) }
@@ -90,7 +90,7 @@ impl Pattern {
         }
     }
 
-    /// Whether the pattern covers a name: an exact name covers itself alone, and `N.*` covers N and each text that
+    /// Whether the pattern covers a name: an exact name covers only itself, and `N.*` covers N and each text that
     /// begins with N and a dot (xdg-dbus-proxy(1), "Filtering").
     pub fn covers(&self, name: &str) -> bool
         ensures { result ≡ pattern_covers self.now name.now }
@@ -118,14 +118,14 @@ impl Pattern {
     }
 }
 
-// What follows the front of a text.
+// What follows a prefix of a text.
 fn behind<'a>(front: &[u8], text: &'a [u8]) -> Option<&'a [u8]>
     ensures { option_map (λ rest. rest.now) result ≡ behind_front front.now text.now }
 {
     text.strip_prefix(front)
 }
 
-// Whether a pattern covers its name with this behind it.
+// Whether a pattern covers its own name, followed by this.
 fn is_covered(exact: bool, rest: &[u8]) -> bool
     ensures { result ≡ rest_covered exact (Some rest.now) }
 {
@@ -143,7 +143,7 @@ fn subtree_name(text: &str) -> Option<&str>
     text.strip_suffix(".*")
 }
 
-// Whether dots join one or more elements such as a well-known name has, in at most 255 bytes.
+// Whether the name is one or more elements of a well-known name, joined by dots, in at most 255 bytes.
 fn is_subtree_name(name: &[u8]) -> bool
     ensures { result ≡ is_name_of_subtree name.now }
 {
@@ -157,7 +157,7 @@ fn are_elements(name: &[u8]) -> bool
         .all(|element| is_element(element))
 }
 
-// One or more of `[A-Za-z0-9_-]` with no digit at its start.
+// One or more of `[A-Za-z0-9_-]`, not beginning with a digit.
 fn is_element(text: &[u8]) -> bool
     ensures { result ≡ is_bus_element text.now }
 {
