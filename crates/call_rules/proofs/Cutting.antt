@@ -46,7 +46,7 @@ pub member-IsCut : (text : List ℕ) (end dot : ℕ) → IsUtf8 text → IsCharB
 member-IsCut text end dot u b f =
     record { order = omega (arith, f.within); start = IsCharBoundary-after_ascii text dot u (omega (arith, f.within, b.0)) (omega (arith, f.here)); end = b }
 
--- the same of the text's bytes
+-- for the text's bytes
 pub bytes_cut_at_last : (text bytes : List ℕ) (end : ℕ) (r : Option ℕ) → bytes ≡ text → end ≤ length text → EndsAtDot (take end bytes) r → MatchOption r (list_any is_dot (take end text) ≡ false) (λ dot. IsLastDot text end dot)
 bytes_cut_at_last text bytes end r e within found = cut_at_last text end r within (subst (λ (t : List ℕ). EndsAtDot (take end t) r) e found)
 

@@ -1,4 +1,4 @@
--- A rule keeps the text that says it: so two texts say one rule only where they are equal byte for byte.
+-- A rule keeps its text: so two texts give the same rule only if they are equal byte for byte.
 use Rattle.std.proofs.Common.{◌≡◌, ℕ, Bool, true, false, cond, List, Option, Some, None, ap, sym, ◌∙◌}
 use Rattle.std.specs.List.{list_any, before_first, after_first}
 use Rattle.std.proofs.lemmas.Option.{same_Some}

@@ -1,4 +1,4 @@
--- Paths at or below a path, by what follows it in them.
+-- Paths at or below a path, given what follows it in them.
 use Rattle.std.proofs.Common.{◌≡◌, ℕ, Bool, true, false, ◌&&◌, ◌||◌, nat_eq, eqb, get_or, ◌<◌, ◌≤◌, arith, List, [], ◌∷◌, ◌++◌, length, drop, refl, ap, sym, ◌∙◌, inl, inr}
 use Rattle.std.specs.Prelude.{Some, bytes_eq}
 use Rattle.std.proofs.lemmas.Bool.{cases_eq, eq-eqb, ne_eqb}

@@ -1,4 +1,4 @@
--- A rule by the places of its parts in a text.
+-- A rule, given the places of its parts in a text.
 use Rattle.std.specs.Prelude.{◌≡◌, ℕ, ◌+◌, ◌≤◌, ◌<◌, true, List, take, Option, Some, None, IfSome, IsCharBoundary, option_map}
 use Rattle.std.specs.List.{list_any, slice_index, slice_range, before_last, after_last}
 use Rattle.call_rules.specs.Rules.{Rule, Method, Place, is_dot, rule_of}
@@ -7,7 +7,7 @@ use Rattle.call_rules.specs.declared.parts.Parts.{Parts}
 use Rattle.call_rules.specs.declared.parts.Method.{Method as MethodParts}
 use Rattle.call_rules.specs.declared.parts.Place.{Place as PlaceParts}
 
--- ---- what stands there
+-- ---- what is at these places
 
 abbrev pub part_in : List ℕ → Part → List ℕ
 part_in text part = slice_range text part.start part.end
@@ -25,7 +25,7 @@ abbrev pub joined : Option MethodParts → Option PlaceParts → Option Parts
 joined (Some m) (Some p) = Some (record { interface = m.interface; member = m.member; path = p.path; below = p.below })
 joined _ _ = None
 
--- where the last dot before `end` stands, and what is before and behind it
+-- the place of the last dot before `end`, and what is before and after it
 pub record IsLastDot (text : List ℕ) (end dot : ℕ) : Type 0 where
   pub any : list_any is_dot (take end text) ≡ true
   pub within : dot < end
@@ -55,7 +55,7 @@ pub record CutsRule (text : List ℕ) (parts : Parts) : Type 0 where
   pub member : Cuts text parts.member
   pub path : Cuts text parts.path
 
--- the parts are those of the rule that the text says
+-- the parts are those of the rule in the text
 pub record IsRead (text : List ℕ) (parts : Parts) : Type 0 where
   pub read : rule_of text ≡ Some (rule_in text parts)
   pub cuts : CutsRule text parts

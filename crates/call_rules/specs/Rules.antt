@@ -4,7 +4,7 @@ use Rattle.std.specs.List.{list_any, before_first, after_first, before_last, aft
 use Rattle.dbus_names.specs.Names.{is_interface, is_member, is_path, is_empty}
 use Rattle.dbus_names.specs.Texts.{begins_with, has_end, without_last}
 
--- the text as it was given, and its parts; an absent part is any
+-- the text as it was given, and its parts; an absent part stands for any
 pub record Rule : Type 0 where
   pub text : List ℕ
   pub interface : Option (List ℕ)
@@ -66,13 +66,13 @@ rule_of text =
 
 -- ---- matching
 
--- an absent part matches all; a part that stands matches an equal one alone
+-- an absent part matches all; any other part only matches an equal one
 abbrev pub part_matches : Option (List ℕ) → Option (List ℕ) → Bool
 part_matches None given = true
 part_matches (Some part) None = false
 part_matches (Some part) (Some given) = bytes_eq part given
 
--- a path matches itself, and where the rule is one of all below it, those too
+-- a path matches itself and, if the rule holds for all below it, those too
 abbrev pub path_matches : Option (List ℕ) → Bool → List ℕ → Bool
 path_matches None below given = true
 path_matches (Some p) below given = bytes_eq given p || (below && begins_with (p ++ 47 ∷ []) given)

@@ -1,7 +1,7 @@
-//! Rules of calls and broadcasts, as xdg-dbus-proxy(1) has them behind `--call=NAME=` and `--broadcast=NAME=`.
+//! Rules of calls and broadcasts, as xdg-dbus-proxy(1) has them after `--call=NAME=` and `--broadcast=NAME=`.
 //!
 //! A rule is `[METHOD][@PATH]`: METHOD names an interface and one of its members or all of them, and PATH names an
-//! object path, or a path and all below it. A rule without METHOD is of any member, and one without PATH of any path.
+//! object path, or a path and all below it. A rule without METHOD is for any member, and one without PATH for any path.
 #![tactic(auto)]
 
 mod parts;
@@ -13,10 +13,10 @@ pub use rule::Rule;
 use std::alloc::AllocError;
 use thiserror::Error;
 
-/// Why a rule was not read.
+/// Why a rule wasn't read.
 #[derive(Clone, Copy, Debug, PartialEq, Eq, Error)]
 pub enum BadRule {
-    /// The text is no rule (xdg-dbus-proxy(1), `--call`).
+    /// The text isn't a rule (xdg-dbus-proxy(1), `--call`).
     #[error("the text is no rule")]
     Form,
     /// Memory ran out.

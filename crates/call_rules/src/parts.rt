@@ -1,4 +1,4 @@
-//! Where the parts of a rule stand in its text.
+//! The places of the parts of a rule in its text.
 ghost use Rattle.std.specs.Prelude.{◌≡◌, ◌≤◌, false, take, drop, length, IfSome, IsCharBoundary, MatchOption, option_map, position};
 ghost use Rattle.std.specs.List.{list_any};
 ghost use Rattle.call_rules.specs.Parts.{CutsMethod, CutsPlace, CutsRule, IsLastDot, joined, method_in, place_in, rule_in};
@@ -6,22 +6,22 @@ ghost use Rattle.call_rules.specs.Rules.{is_at, is_dot, method_of, place_of, rul
 
 use dbus_names::{is_interface, is_member, is_path};
 
-// Any METHOD, and any member of an interface.
+// As METHOD: any member of any interface. After an interface and a dot: any of its members.
 const ANY: &[u8] = b"*";
 
-// Any PATH, and behind a path those below it.
+// As PATH: any path. After a path: that path and those below it.
 const ALL: &[u8] = b"/*";
 
 const ROOT: &[u8] = b"/";
 
-// Where one part stands, in bytes of the text: it begins at `start`, and the byte at `end` is the first behind it.
+// The place of one part in the text, in bytes: it begins at `start` and ends before `end`.
 #[derive(Clone, Copy)]
 pub(crate) struct Part {
     pub(crate) start: usize,
     pub(crate) end: usize,
 }
 
-// An absent part is any.
+// An absent part stands for any.
 #[derive(Clone, Copy)]
 pub(crate) struct Parts {
     pub(crate) interface: Option<Part>,
@@ -42,7 +42,7 @@ struct Place {
     below: bool,
 }
 
-// The parts of the rule that the text says.
+// The parts of the rule in the text.
 pub(crate) fn parts_of(text: &str) -> Option<Parts>
     ensures value { option_map (rule_in text.now) result ≡ rule_of text.now }
     ensures cuts { IfSome result (λ parts. CutsRule text.now parts) }

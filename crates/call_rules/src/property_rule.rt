@@ -8,10 +8,10 @@ use crate::rule::{Rule, is_of, is_of_path};
 use std::alloc::Global;
 use std::marker::Model;
 
-/// A rule of properties, `INTERFACE.PROPERTY[@PATH]`: which of them may be read and set by calls of
-/// `org.freedesktop.DBus.Properties` (D-Bus Specification, "org.freedesktop.DBus.Properties"). xdg-dbus-proxy(1) has no such rule.
+/// A rule of properties, `INTERFACE.PROPERTY[@PATH]`: which properties may be read and set by calls of
+/// `org.freedesktop.DBus.Properties` (D-Bus Specification, section of that name). xdg-dbus-proxy(1) has no such rule.
 ///
-/// Like a `Rule` it keeps its text, and looking at it allocates nothing.
+/// Like a `Rule`, it keeps its text, and reading its parts allocates nothing.
 #[derive(Drop)]
 pub struct PropertyRule {
     rule: Rule,
@@ -30,10 +30,11 @@ impl Model for PropertyRule {
 }
 
 impl PropertyRule {
-    /// The rule that the text says, or `Form` where it says none, and `Memory` where there is no room for its text.
+    /// Reads the rule in a text. The error is `Form` if the text isn't a rule, and `Memory` if there is no memory for
+    /// it.
     ///
-    /// The text is cut at its last dot before the `@`: in front of the dot stands an interface, after it a member's name or `*` for any
-    /// property. PATH is that of a `Rule`.
+    /// The text is cut at its last dot before the `@`: before the dot is an interface, and after it a property's name,
+    /// in the grammar of a member, or `*` for any property. PATH is that of a `Rule`.
     pub fn read(alloc: Global, text: &str) -> Result<PropertyRule, BadRule>
         ensures ok { IfOk result (λ rule. property_rule_of text.now ≡ Some rule) }
         ensures form { IfErr result (λ error. error ≡ BadRule.Form → property_rule_of text.now ≡ None) }
@@ -48,8 +49,8 @@ impl PropertyRule {
         }
     }
 
-    /// Whether the rule matches a request for the property of an interface at the path, or for all properties of the interface if no
-    /// property is given. Only a rule of any property matches a request for all.
+    /// Whether the rule matches a request for the property of an interface at the path, or for all properties of the
+    /// interface if no property is given. Only a rule for any property matches a request for all.
     pub fn matches(&self, path: &str, interface: &str, property: Option<&str>) -> bool
         ensures { result ≡ property_matches self.now path.now interface.now (option_map (λ p. p.now) property.entry) }
     {
@@ -58,7 +59,7 @@ impl PropertyRule {
             && is_of(self.property(), property)
     }
 
-    /// The text that the rule was read from, which says this rule alone.
+    /// The text from which the rule was read. Only this text gives this rule.
     pub fn text(&self) -> &str
         ensures text { result.now ≡ self.now.text }
         ensures read { property_rule_of result.now ≡ Some self.now }
@@ -87,7 +88,7 @@ impl PropertyRule {
         self.rule.path()
     }
 
-    /// Whether all paths below the rule's path are meant, too.
+    /// Whether the rule also holds for all paths below its path.
     pub fn is_below(&self) -> bool
         ensures { result ≡ self.now.below }
     {

@@ -10,7 +10,7 @@ use std::marker::Model;
 
 /// A rule of calls or broadcasts, `[METHOD][@PATH]` (xdg-dbus-proxy(1), `--call`).
 ///
-/// It keeps its text and where the parts stand in it, so looking at a rule allocates nothing.
+/// It keeps its text and the places of the parts in it, so reading the parts allocates nothing.
 #[derive(Drop)]
 pub struct Rule {
     text: String,
@@ -30,12 +30,13 @@ impl Model for Rule {
 }
 
 impl Rule {
-    /// The rule that the text says, or `Form` where it says none, and `Memory` where there is no room for its text.
+    /// Reads the rule in a text. The error is `Form` if the text isn't a rule, and `Memory` if there is no memory for
+    /// it.
     ///
-    /// METHOD is empty or `*` for any member of any interface, and else `INTERFACE.MEMBER` or, for any member,
+    /// METHOD is empty or `*` for any member of any interface, or else `INTERFACE.MEMBER` or, for any member,
     /// `INTERFACE.*`: it is cut at its last dot. PATH is an object path, or `/*` for all paths, or a path other than
-    /// `/` and `/*` behind it for that path and all below it. An `@` has a PATH behind it (xdg-dbus-proxy(1),
-    /// `--call`; D-Bus Specification, "Message Protocol", "Valid Names").
+    /// `/` followed by `/*` for that path and all below it. An `@` is followed by a PATH (xdg-dbus-proxy(1), `--call`;
+    /// D-Bus Specification, "Message Protocol", "Valid Names").
     pub fn read(alloc: Global, text: &str) -> Result<Rule, BadRule>
         ensures ok { IfOk result (λ rule. rule_of text.now ≡ Some rule) }
         ensures form { IfErr result (λ error. error ≡ BadRule.Form → rule_of text.now ≡ None) }
@@ -47,7 +48,7 @@ impl Rule {
         }
     }
 
-    // The rule of a text whose parts stand there.
+    // The rule with this text and these parts of it.
     pub(crate) fn keep(alloc: Global, text: &str, parts: Parts) -> Result<Rule, AllocError>
         requires { IsRead text.now parts }
         ensures { IfOk result (λ rule. rule ≡ rule_in text.now parts) }
@@ -68,7 +69,7 @@ impl Rule {
             && is_of(self.member(), Some(member))
     }
 
-    /// The text that the rule was read from, which says this rule alone.
+    /// The text from which the rule was read. Only this text gives this rule.
     pub fn text(&self) -> &str
         ensures text { result.now ≡ self.now.text }
         ensures read { rule_of result.now ≡ Some self.now }
@@ -97,7 +98,7 @@ impl Rule {
         cut(&self.text, self.parts.path)
     }
 
-    /// Whether all paths below the rule's path are meant, too.
+    /// Whether the rule also holds for all paths below its path.
     pub fn is_below(&self) -> bool
         ensures { result ≡ self.now.below }
     {
@@ -116,7 +117,7 @@ fn cut(text: &str, part: Option<Part>) -> Option<&str>
     }
 }
 
-// Whether a given part is one that a rule's part means.
+// Whether a given part matches a rule's part.
 pub(crate) fn is_of(part: Option<&str>, given: Option<&str>) -> bool
     ensures { result ≡ part_matches (option_map (λ p. p.now) part.entry) (option_map (λ g. g.now) given.entry) }
 {
@@ -127,7 +128,7 @@ pub(crate) fn is_of(part: Option<&str>, given: Option<&str>) -> bool
     }
 }
 
-// The same of a path.
+// Whether a given path matches a rule's path.
 pub(crate) fn is_of_path(path: Option<&str>, below: bool, given: &str) -> bool
     ensures { result ≡ path_matches (option_map (λ p. p.now) path.entry) below given.now }
 {
@@ -137,7 +138,7 @@ pub(crate) fn is_of_path(path: Option<&str>, below: bool, given: &str) -> bool
     }
 }
 
-// Whether a path is the given one or, where those below are meant, leads to it.
+// Whether the given path is this one or, if those below are meant, is below it.
 fn is_in_tree(path: &[u8], below: bool, given: &[u8]) -> bool
     ensures { result ≡ path_matches (Some path.now) below given.now }
 {
