@@ -1,4 +1,4 @@
--- A map of numbers over a `BTreeMap`, seen as a finite map.
+-- A `BTreeMap` with numbers as keys, as a finite map.
 use Rattle.std.proofs.Common.{◌≡◌, ℕ, Option, Some, None, List, [], ◌∷◌, cond, refl, ap, sym, ◌∙◌}
 use Rattle.std.specs.Ordering.{nat_cmp}
 use Rattle.std.specs.Cmp.{nat_cmp_total, eq_by_cmp_equiv}

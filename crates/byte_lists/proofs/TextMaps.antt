@@ -1,4 +1,4 @@
--- A map by texts over a `BTreeMap` by `String`, seen as a finite map by bytes.
+-- A `BTreeMap` with `String` keys, as a finite map with the keys' bytes.
 use Rattle.std.proofs.Common.{◌≡◌, ℕ, Some, None, List, [], ◌∷◌, cond, refl, ap, sym, ◌∙◌, string_bytes, String}
 use Rattle.std.specs.Ordering.{nat_cmp, is_eq, eq_by_cmp}
 use Rattle.std.specs.Cmp.{eq_by_cmp_equiv}
@@ -16,7 +16,7 @@ find_text : {Z X : Type 0} (es : List (String Z × X)) (q : List ℕ) → find (
 find_text [] q = refl
 find_text (e ∷ es) q = ap (cond (is_eq (slice_cmp nat_cmp q (string_bytes e.0))) (Some e.1)) (find_text es q)
 
--- what stands at a text
+-- what is at a text
 pub get_text : {Z X : Type 0} (es : List (String Z × X)) (q : List ℕ) → get (from_entries {R = slice_cmp nat_cmp} (by_bytes es)) q ≡ lookup (is_at (λ k. slice_cmp nat_cmp q (string_bytes k))) es
 get_text es q = get-from_entries nat_list_cmp_total (by_bytes es) q ∙ find_text es q
 

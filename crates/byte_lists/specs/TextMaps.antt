@@ -1,4 +1,4 @@
--- A map by texts, seen by the bytes of its keys.
+-- A map with texts as keys, as a map with the keys' bytes.
 use Rattle.std.specs.Prelude.{ℕ, List, [], ◌∷◌, String, string_bytes}
 
 -- the entries, each with its key's bytes

@@ -1,5 +1,5 @@
-//! Lists of bytes, and maps by texts and by numbers: the words that the definitions of other crates share, and the lemmas that
-//! their proofs do.
+//! Lists of bytes, and maps with texts and numbers as keys: definitions that the `specs` of other crates share, and
+//! lemmas that their proofs share.
 //!
-//! It has no code, so nothing drives it.
+//! It has no code.
 #![tactic(auto)]
