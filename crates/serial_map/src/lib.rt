@@ -1,7 +1,7 @@
 //! The serials of the messages that a proxy sends to the bus.
 //!
-//! The proxy gives each message that it sends a serial of its own, since it sends messages that the client didn't. They
-//! are given once each, in ascending order from 1 (D-Bus Specification, "Message Format": a serial is other than 0).
+//! The proxy gives each message that it sends a serial of its own, since it also sends messages that the client didn't.
+//! Each serial is given once, in ascending order from 1 (D-Bus Specification, "Message Format": a serial isn't 0).
 #![tactic(auto)]
 
 pub mod laws;
@@ -17,7 +17,7 @@ use thiserror::Error;
 #[error("all serials were given")]
 pub struct Spent;
 
-/// How many serials were given: the next one is one more.
+/// The number of serials that were given. The next serial is one more.
 #[derive(Debug, Drop)]
 pub struct Serials {
     given: u32,
@@ -32,21 +32,21 @@ impl Model for Serials {
 }
 
 impl Serials {
-    /// None was given.
+    /// No serial was given.
     pub fn new() -> Serials
         ensures { result ≡ 0 }
     {
         Serials { given: 0 }
     }
 
-    /// How many serials can still be given.
+    /// The number of serials that can still be given.
     pub fn left(&self) -> u32
         ensures { self.now + result ≡ most_serials }
     {
         u32::MAX - self.given
     }
 
-    /// The next serial. It is refused where all were given, and then always.
+    /// Gives the next serial. After all were given, it always fails.
     pub fn next(&mut self) -> Result<u32, Spent>
         ensures serial { IfOk result (λ serial. serial ≡ self.old + 1) }
         ensures counted { OnOk result (self.new ≡ self.old + 1) }
