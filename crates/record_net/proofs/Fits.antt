@@ -1,4 +1,4 @@
--- A record can hold the entry of each answer.
+-- The entry of each result fits into a record.
 use Rattle.std.proofs.Common.{◌≡◌, ◌≤◌, ◌<◌, ◌+◌, ◌^◌, ℕ, Bool, true, ◌&&◌, nat_le, List, Some, Result, Ok, Err, refl, ap₂, length, take, arith}
 use Rattle.std.proofs.lemmas.Bool.Decides.{nat_tests}
 use Rattle.std.proofs.lemmas.List.{length-take}

@@ -68,7 +68,7 @@ put_part path bytes buffer old new None fault e b did = record {
   unread = did.unread;
 }
 
--- ---- a buffer behind the limit of a read
+-- ---- a buffer after the limit of a read
 
 pub rest_kept : (limit most : ℕ) (front whole : List ℕ) → length front ≡ most → most ≡ min (length whole) limit → drop limit (front ++ drop most whole) ≡ drop limit whole
 rest_kept limit most front whole len is = elim (cases_lt (length whole) limit) [

@@ -19,7 +19,7 @@ use Rattle.record_net.specs.Tapes.{Tape, Puts}
 use Rattle.record_net.specs.Starts.{Start, start_of, IsRecording}
 use Rattle.record_net.proofs.Putting.{put_nothing}
 
--- what is told with more bytes was told before
+-- if something is known after more bytes, it was known before
 added_some : (more : List ℕ) (o : Option (List ℕ)) (bytes : List ℕ) → added more o ≡ Some bytes → (b : List ℕ) × (o ≡ Some b) × (bytes ≡ b ++ more)
 added_some more None bytes e = absurd (cc)
 added_some more (Some b) bytes e = (b, refl, cc)
@@ -48,7 +48,7 @@ no_more (x ∷ since) before e = absurd (omega (arith, ap length e, length-appen
 pub recorded-next : (earlier : Journal) (entry : Entry) → recorded (entry ∷ earlier) ≡ recorded earlier ++ record_by entry
 recorded-next earlier entry = sym (append_assoc head (records_of earlier) (record_by entry))
 
--- what is told of an entry that is added, from the journal before it
+-- what is known of an entry that is added, from the journal before it
 abbrev pub FitsAfter : NetView → Entry → Type 0
 FitsAfter old entry = (before : Journal) → old.journal ≡ Some before → entry_fits entry ≡ true
 
@@ -146,7 +146,7 @@ module _ (start : Start) (old new : NetView) (t0 t1 : Tape) (entry : Entry) (was
     unread = puts.unread ∙ was.unread;
   }
 
--- .. where the path is known by an equation
+-- .. if the path is known by an equation
 pub goes_on_at : (start : Start) (old new : NetView) (t0 t1 : Tape) (entry : Entry) (path : List ℕ) → IsRecording start old.journal t0 → Adds old new (entry ∷ []) →
     path ≡ start.path → Puts path (record_by entry) t0 t1 → FitsAfter old entry → IsRecording start new.journal t1
 goes_on_at start old new t0 t1 entry path was adds same puts fits =

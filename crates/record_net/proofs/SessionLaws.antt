@@ -1,4 +1,4 @@
--- What the records of a journal have to do with the events of its sessions, and what is read of them.
+-- How the records of a journal relate to the events of its sessions, and what is read of them.
 use Rattle.std.proofs.Common.{◌≡◌, ◌≤◌, ℕ, nat_eq, Bool, true, false, List, [], ◌∷◌, ◌++◌, length, Ok, if◌then◌else◌, refl, ap, ap₂, sym, ◌∙◌, subst, append_assoc, append-nil, reverse}
 use Rattle.std.specs.List.{flat_map}
 use Rattle.std.proofs.lemmas.List.{reverse-append}
@@ -22,7 +22,7 @@ call_record (Connect session) = sym (append-nil (failed_record (Connect session)
 call_record (Accept listener) = refl
 call_record Listen = refl
 
--- the kind is the same whichever bytes came
+-- the kind doesn't depend on the received bytes
 kind_is : (side : Side) (bytes : List ℕ) → bytes_kind side ≡ kind_of (came side bytes)
 kind_is Client bytes = refl
 kind_is Bus bytes = refl
@@ -58,7 +58,7 @@ pub recorded_spelled : (journal : Journal) → recorded journal ≡ spelled_sess
 unfolding spelled_sessions
 recorded_spelled journal = ap (λ (l : List ℕ). head ++ l) (records_spelled journal)
 
--- where what is spelled is read again
+-- if what is spelled is read again
 pub recorded_read : ((s : Sessions) → s.version ≡ 2 → EventsFit s.events → length (spelled_sessions s) ≤ RECORDING_LIMIT → sessions_of (spelled_sessions s) ≡ Ok s) →
     (journal : Journal) → EventsFit (items_of journal) → length (recorded journal) ≤ RECORDING_LIMIT → sessions_of (recorded journal) ≡ Ok (told_by journal)
 recorded_read again journal fit short =
@@ -97,7 +97,7 @@ entry_events n (not_ready call) = refl
 entry_events n (refused call) = refl
 entry_events n (shut link) = refl
 
--- what the items tell of a session is what the journal tells of it
+-- the events of a session in the items are those in the journal
 pub events_told : (n : ℕ) (journal : Journal) → events_in n (items_of journal) ≡ reverse (session_events n journal)
 events_told n [] = refl
 events_told n (entry ∷ before) =

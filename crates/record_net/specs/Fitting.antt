@@ -1,11 +1,11 @@
--- What the record of an entry can hold.
+-- The limits of an entry's record.
 use Rattle.std.specs.Prelude.{ℕ, ◌^◌, Bool, true, ◌&&◌, nat_lt, nat_le, length}
 use Rattle.link_traits.specs.Entries.{Entry, listened, ready, accepted, connected, read, finished, wrote, not_ready, failed, refused, shut}
 use Rattle.link_traits.specs.declared.links.Call.{Call}
 use Rattle.link_traits.specs.declared.links.Call.TheVariants.{Listen, Accept, Connect, Read, Write}
 use Rattle.record_net.specs.declared.TheConstants.{READ_LIMIT}
 
--- a session that four bytes can hold
+-- a session number that fits into four bytes
 abbrev pub is_short : ℕ → Bool
 is_short session = nat_lt session (2 ^ 32)
 
@@ -16,8 +16,8 @@ call_fits (Connect session) = is_short session
 call_fits (Accept listener) = true
 call_fits Listen = true
 
--- The session of each entry that gives a record is a number of four bytes, and no more bytes were read than one read is
--- passed on with. A session that was accepted has a number above 0.
+-- The session of each entry with a record is a number of four bytes, and a read gave at most as many bytes as one read
+-- is passed on with. The number of an accepted session is above 0.
 abbrev pub entry_fits : Entry → Bool
 entry_fits (read link bytes) = is_short link.session && nat_le (length bytes) READ_LIMIT
 entry_fits (finished link) = is_short link.session

@@ -1,4 +1,4 @@
--- The records that a net's journal gives, in a recording of version 2.
+-- The records of a net's journal, in a recording of version 2.
 use Rattle.std.specs.Prelude.{ℕ, true, List, [], ◌∷◌, ◌++◌, length}
 use Rattle.link_traits.specs.Journals.{Journal}
 use Rattle.link_traits.specs.Entries.{Entry, listened, ready, accepted, connected, read, finished, wrote, not_ready, failed, refused, shut}
@@ -11,12 +11,12 @@ use Rattle.recording.specs.declared.Side.TheVariants as recorded_side
 use Rattle.recording.specs.Recording.{Bytes, Finished, magic, auth_byte}
 use Rattle.recording.specs.Sessions.{What, Happened, Stopped, record_head, kind_of}
 
--- a link's side, as a recording names it
+-- a link's side, as a recording has it
 abbrev pub side_of : Side → RecordedSide
 side_of Client = recorded_side.Client
 side_of Bus = recorded_side.Bus
 
--- what bytes that came from a side are in a recording
+-- received bytes of a side, as a recording has them
 abbrev pub came : Side → List ℕ → What
 came side bytes = Happened (Bytes (side_of side) bytes)
 
@@ -28,7 +28,7 @@ ended side = Happened (Finished (side_of side))
 abbrev pub spelled_record : ℕ → ℕ → List ℕ → List ℕ
 spelled_record kind session bytes = record_head kind session (length bytes) ++ bytes
 
--- the kind of bytes that came from a side, whichever they are
+-- the kind of received bytes of a side, whatever the bytes
 abbrev pub bytes_kind : Side → ℕ
 bytes_kind side = kind_of (came side [])
 
@@ -36,7 +36,7 @@ bytes_kind side = kind_of (came side [])
 abbrev pub finished_kind : Side → ℕ
 finished_kind side = kind_of (ended side)
 
--- the kind of a call that failed, whose one byte is the number of the End that it gives
+-- the kind of a failed call, whose one byte is the number of its End
 abbrev pub failed_kind : ℕ
 failed_kind = kind_of (Stopped 0)
 
@@ -51,7 +51,7 @@ write_end Bus = 10
 abbrev pub connect_end : ℕ
 connect_end = 11
 
--- the record of a call that failed, if it is a call of a session
+-- the record of a failed call, if it is a call of a session
 abbrev pub failed_record : Call → List ℕ
 failed_record (Read link) = spelled_record failed_kind link.session (read_end link.side ∷ [])
 failed_record (Write link) = spelled_record failed_kind link.session (write_end link.side ∷ [])
@@ -59,7 +59,7 @@ failed_record (Connect session) = spelled_record failed_kind session (connect_en
 failed_record (Accept listener) = []
 failed_record Listen = []
 
--- the record that one entry gives, if any
+-- the record of one entry, if it has one
 abbrev pub record_by : Entry → List ℕ
 record_by (read link bytes) = spelled_record (bytes_kind link.side) link.session bytes
 record_by (finished link) = spelled_record (finished_kind link.side) link.session []

@@ -1,4 +1,4 @@
--- What a recording tells of each session.
+-- What a recording has of each session.
 use Rattle.std.specs.Prelude.{ℕ, nat_eq, List, [], ◌∷◌, ◌++◌, if◌then◌else◌}
 use Rattle.link_traits.specs.Journals.{Journal}
 use Rattle.link_traits.specs.Entries.{Entry, listened, ready, accepted, connected, read, finished, wrote, not_ready, failed, refused, shut}

@@ -10,7 +10,7 @@ use Rattle.record_net.specs.Fitting.{entry_fits}
 use Rattle.record_net.specs.Records.{recorded}
 use Rattle.record_net.specs.Tapes.{Tape}
 
--- the journal of the net where it tells that, the files, and the path of the recording
+-- the net's journal if it is known, the files, and the path of the recording
 pub record Start : Type 0 where
   pub journal : Option Journal
   pub files : FilesView
@@ -22,9 +22,9 @@ start_of journal files path = record { journal = journal; files = files; path = 
 abbrev pub no_start : Start
 no_start = start_of None (record { told = λ _. None; faults = 0; reads = [] }) []
 
--- As far as the journal and the file are told: while no append failed, the file is the recording of the entries that
+-- As far as the journal and the file are known: while no append failed, the file is the recording of the entries that
 -- were added since the start; after that it is a prefix of it that lacks some bytes. The other paths hold what they
--- held, and no file was read. An append failed only with a fault that is counted. A record can hold each of these entries.
+-- held, and no file was read. An append failed only with a counted fault. Each of these entries fits into a record.
 pub record IsRecording (start : Start) (journal : Option Journal) (tape : Tape) : Type 0 where
   pub longer : (before now : Journal) → start.journal ≡ Some before → journal ≡ Some now → length before ≤ length now
   pub whole : (before since : Journal) (bytes : List ℕ) → start.journal ≡ Some before → journal ≡ Some (since ++ before) →

@@ -1,4 +1,4 @@
-//! What the records of a journal have to do with its sessions, and what is read of a recording of it.
+//! How the records of a journal relate to its sessions, and what is read of a recording of it.
 ghost use Rattle.std.specs.Prelude.{◌≡◌, ◌≤◌, ℕ, true, Ok, length, reverse};
 ghost use Rattle.std.specs.List.{flat_map};
 ghost use Rattle.link_traits.specs.Journals.{Journal};

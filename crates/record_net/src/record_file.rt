@@ -1,4 +1,4 @@
-//! The file of a recording, and how records get into it.
+//! The file of a recording, and how records are appended to it.
 ghost use Rattle.std.specs.Prelude.{◌≡◌, ◌≢◌, ◌≤◌, ◌<◌, ◌+◌, ℕ, List, Option, None, Some, Err, OnOk, IfOk, IfSome, IsErrOf, length, string_bytes, vec_capacity};
 ghost use Rattle.record_net.specs.Records.{spelled_record, bytes_kind, head};
 ghost use Rattle.link_traits.specs.Journals.{Journal};
@@ -12,7 +12,7 @@ use link_traits::{FileFault, Files, Side};
 use recording::session_file_head;
 use std::alloc::Global;
 
-/// The file that a recorder appends to. Memory for the longest record is taken when it is made.
+/// The file to which a recorder appends. Memory for the longest record is taken when it is made.
 #[derive(Drop)]
 pub struct RecordFile {
     path: String,
@@ -22,9 +22,8 @@ pub struct RecordFile {
 }
 
 impl RecordFile {
-    /// Makes the file of a path, or empties the one that is there, and writes the first six bytes of a recording.
-    /// `Failed` is answered only if the files' count of faults rose. The file may hold a prefix of these bytes after an
-    /// error.
+    /// Makes the file of a path, or empties the existing one, and writes the first six bytes of a recording. It returns
+    /// `Failed` only if the files' count of faults rose. After an error the file may hold a prefix of these bytes.
     pub fn create<F: Files>(
         alloc: Global,
         files: &mut F,
@@ -34,7 +33,7 @@ impl RecordFile {
         ensures failed { IfOk result (λ file. file.failed ≡ None) }
         ensures head { OnOk result (IfSome ((F.view files.new).told (string_bytes path)) (λ bytes. bytes ≡ head)) }
 
-        // Whatever the journal of a net is now, a recording of what the net does from now on starts here.
+        // A recording of what the net does from now on starts here, whatever the net's journal is now.
         ensures starts { IfOk result (λ file. (journal : Option Journal) → IsRecording (start_of journal (F.view files.new) (string_bytes path)) journal (tape_of (F.view files.new) file.failed)) }
 
         // The other files, and errors.
@@ -55,7 +54,7 @@ impl RecordFile {
         })
     }
 
-    /// The first error that an append answered since the file was made.
+    /// The first error of an append since the file was made.
     pub fn failed(&self) -> Option<FileFault>
         ensures { result ≡ self.now.failed }
     {
@@ -70,7 +69,7 @@ impl RecordFile {
         append_unless_failed(files, &self.path, &mut self.failed, bytes);
     }
 
-    /// Appends the record of bytes that came from a side, unless an append failed before.
+    /// Appends the record of bytes that were received from a side, unless an append failed before.
     pub(crate) fn put_bytes<F: Files>(
         &mut self,
         files: &mut F,
@@ -132,8 +131,8 @@ fn append_unless_failed<F: Files>(
     }
 }
 
-/// Appends all bytes, in as many pieces as the files take. If it fails, the file got a prefix that lacks at least one
-/// byte.
+/// Appends all bytes, in as many pieces as the files take. If it fails, a prefix that lacks at least one byte was
+/// appended.
 fn append_all<F: Files>(files: &mut F, path: &str, bytes: &[u8]) -> Result<(), FileFault>
     ensures { Appended path.now bytes.now result (F.view files.old) (F.view files.new) }
 {

@@ -18,7 +18,7 @@ use link_traits::{Accepted, FileFault, Files, Got, Link, Net, NetFault, Ready, S
 
 /// A net that passes each call on to another net, and appends a record of what that net's links gave to a file.
 ///
-/// Its answers are the other net's. It is made over the files in which the file of the recording was made.
+/// Its results are the other net's. The files must be those in which the file of the recording was made.
 #[derive(Drop)]
 pub struct Recorder<'a, N: Net, F: Files> {
     pub(crate) net: &'a mut N,
@@ -39,7 +39,7 @@ impl<'a, N: Net, F: Files> Recorder<'a, N, F> {
         Recorder { net, files, file }
     }
 
-    /// The first error that an append answered since the file was made. From it on nothing more is appended.
+    /// The first error of an append since the file was made. After it, nothing more is appended.
     pub fn failed(&self) -> Option<FileFault>
         ensures { result ≡ self.now.file.now.failed }
     {
@@ -58,7 +58,7 @@ impl<N: Net, F: Files> Net for Recorder<'_, N, F> {
         ensures file { self.new.file ≡ self.old.file }
         ensures net_name { self.new.net.ghost_name ≡ self.old.net.ghost_name }
 
-        // What the trait says.
+        // The clauses of the trait.
         ensures taken { OnOk result (N.takes self.old.net.now setting self.new.net.now) }
         ensures told { Adds (N.view self.old.net.now) (N.view self.new.net.now) [] }
         ensures failed { IsErrOf result NetFault.Failed → RoseAt Count.Own (N.view self.old.net.now) (N.view self.new.net.now) }
@@ -73,7 +73,7 @@ impl<N: Net, F: Files> Net for Recorder<'_, N, F> {
         ensures file { self.new.file ≡ self.old.file }
         ensures net_name { self.new.net.ghost_name ≡ self.old.net.ghost_name }
 
-        // What the trait says.
+        // The clauses of the trait.
         ensures told { Adds (N.view self.old.net.now) (N.view self.new.net.now) (listen_entry path.now result ∷ []) }
         ensures numbered { IfOk result (λ listener. (before : Journal) → (N.view self.old.net.now).journal ≡ Some before → listener ≡ listens before) }
         ensures failed { IsErrOf result NetFault.Failed → RoseAt Count.Own (N.view self.old.net.now) (N.view self.new.net.now) }
@@ -88,7 +88,7 @@ impl<N: Net, F: Files> Net for Recorder<'_, N, F> {
         ensures file { self.new.file ≡ self.old.file }
         ensures net_name { self.new.net.ghost_name ≡ self.old.net.ghost_name }
 
-        // What the trait says.
+        // The clauses of the trait.
         ensures told { Adds (N.view self.old.net.now) (N.view self.new.net.now) (ready result ∷ []) }
         ensures failed { result ≡ Ready.Failed → RoseAt Count.Own (N.view self.old.net.now) (N.view self.new.net.now) }
         ensures quiet { result ≡ Ready.Quiet → (N.view self.new.net.now).script_done ≡ true }
@@ -103,7 +103,7 @@ impl<N: Net, F: Files> Net for Recorder<'_, N, F> {
         ensures file { self.new.file ≡ self.old.file }
         ensures net_name { self.new.net.ghost_name ≡ self.old.net.ghost_name }
 
-        // What the trait says.
+        // The clauses of the trait.
         ensures told { Adds (N.view self.old.net.now) (N.view self.new.net.now) (accept_entry listener result ∷ []) }
         ensures numbered { (session : ℕ) → result ≡ Accepted.New session → (before : Journal) → (N.view self.old.net.now).journal ≡ Some before → session ≡ accepts before + 1 }
         ensures failed { result ≡ Accepted.Failed → RoseAt (Count.Listener listener) (N.view self.old.net.now) (N.view self.new.net.now) }
@@ -115,14 +115,14 @@ impl<N: Net, F: Files> Net for Recorder<'_, N, F> {
     }
 
     fn connect(&mut self, session: u32, path: &str) -> Result<(), NetFault>
-        // What is recorded: what the entry of the answer gives.
+        // What is recorded: the record of the result's entry.
         ensures puts { Puts (string_bytes self.old.file.now.path) (record_by (connect_entry session path.now result)) (tape_of (F.view self.old.files.now) self.old.file.now.failed) (tape_of (F.view self.new.files.now) self.new.file.now.failed) }
         ensures path { string_bytes self.new.file.now.path ≡ string_bytes self.old.file.now.path }
         ensures net_name { self.new.net.ghost_name ≡ self.old.net.ghost_name }
         ensures files_name { self.new.files.ghost_name ≡ self.old.files.ghost_name }
         ensures file_name { self.new.file.ghost_name ≡ self.old.file.ghost_name }
 
-        // What the trait says.
+        // The clauses of the trait.
         ensures told { Adds (N.view self.old.net.now) (N.view self.new.net.now) (connect_entry session path.now result ∷ []) }
         ensures failed { IsErrOf result NetFault.Failed → RoseAt (Count.Link (bus_link session)) (N.view self.old.net.now) (N.view self.new.net.now) }
         ensures new_wishes { OnOk result ((N.view self.new.net.now).wishes (bus_link session) ≡ Some no_wishes) }
@@ -142,7 +142,7 @@ impl<N: Net, F: Files> Net for Recorder<'_, N, F> {
         ensures file { self.new.file ≡ self.old.file }
         ensures net_name { self.new.net.ghost_name ≡ self.old.net.ghost_name }
 
-        // What the trait says.
+        // The clauses of the trait.
         ensures told { Adds (N.view self.old.net.now) (N.view self.new.net.now) [] }
         ensures own { (N.view self.new.net.now).wishes link ≡ option_map (λ (_ : Wishes). record { read = read; write = write }) ((N.view self.old.net.now).wishes link) }
         ensures wishes { KeepsOthers link (N.view self.old.net.now) (N.view self.new.net.now) }
@@ -150,23 +150,23 @@ impl<N: Net, F: Files> Net for Recorder<'_, N, F> {
         self.net.want(link, read, write);
     }
 
-    /// It is passed on with at most the first 65,536 bytes of the buffer.
+    /// The call is passed on with at most the first 65,536 bytes of the buffer.
     fn read(&mut self, link: Link, into: &mut [u8]) -> Got
-        // What is recorded: what the entry of the answer gives.
+        // What is recorded: the record of the result's entry.
         ensures puts { Puts (string_bytes self.old.file.now.path) (record_by (read_entry link into.new result)) (tape_of (F.view self.old.files.now) self.old.file.now.failed) (tape_of (F.view self.new.files.now) self.new.file.now.failed) }
         ensures path { string_bytes self.new.file.now.path ≡ string_bytes self.old.file.now.path }
         ensures net_name { self.new.net.ghost_name ≡ self.old.net.ghost_name }
         ensures files_name { self.new.files.ghost_name ≡ self.old.files.ghost_name }
         ensures file_name { self.new.file.ghost_name ≡ self.old.file.ghost_name }
 
-        // No more than the limit comes at once, and the buffer after it stays as it is.
+        // No more than the limit is read at once, and the buffer after it doesn't change.
         ensures limit { (n : ℕ) → result ≡ Got.Bytes n → n ≤ READ_LIMIT }
         ensures rest { drop READ_LIMIT into.new ≡ drop READ_LIMIT into.old }
 
         // The session is a number of four bytes.
         ensures session { link.session < 2 ^ 32 }
 
-        // What the trait says.
+        // The clauses of the trait.
         ensures told { Adds (N.view self.old.net.now) (N.view self.new.net.now) (read_entry link into.new result ∷ []) }
         ensures within { (n : ℕ) → result ≡ Got.Bytes n → n ≤ length into.new }
         ensures progress { (n : ℕ) → result ≡ Got.Bytes n → 0 < length into.new → 0 < n }
@@ -195,7 +195,7 @@ impl<N: Net, F: Files> Net for Recorder<'_, N, F> {
     }
 
     fn write(&mut self, link: Link, piece: &[u8]) -> Took
-        // What is recorded: what the entry of the answer gives.
+        // What is recorded: the record of the result's entry.
         ensures puts { Puts (string_bytes self.old.file.now.path) (record_by (write_entry link piece.now result)) (tape_of (F.view self.old.files.now) self.old.file.now.failed) (tape_of (F.view self.new.files.now) self.new.file.now.failed) }
         ensures path { string_bytes self.new.file.now.path ≡ string_bytes self.old.file.now.path }
         ensures net_name { self.new.net.ghost_name ≡ self.old.net.ghost_name }
@@ -205,7 +205,7 @@ impl<N: Net, F: Files> Net for Recorder<'_, N, F> {
         // The session is a number of four bytes.
         ensures session { link.session < 2 ^ 32 }
 
-        // What the trait says.
+        // The clauses of the trait.
         ensures told { Adds (N.view self.old.net.now) (N.view self.new.net.now) (write_entry link piece.now result ∷ []) }
         ensures within { (n : ℕ) → result ≡ Took.Bytes n → n ≤ length piece.now }
         ensures progress { (n : ℕ) → result ≡ Took.Bytes n → 0 < length piece.now → 0 < n }
@@ -231,7 +231,7 @@ impl<N: Net, F: Files> Net for Recorder<'_, N, F> {
         ensures file { self.new.file ≡ self.old.file }
         ensures net_name { self.new.net.ghost_name ≡ self.old.net.ghost_name }
 
-        // What the trait says.
+        // The clauses of the trait.
         ensures told { Adds (N.view self.old.net.now) (N.view self.new.net.now) (shut link ∷ []) }
         ensures gone { (N.view self.new.net.now).wishes link ≡ None }
         ensures wishes { KeepsOthers link (N.view self.old.net.now) (N.view self.new.net.now) }

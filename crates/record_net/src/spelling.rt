@@ -6,10 +6,10 @@ use crate::{READ_LIMIT, RECORD_HEAD_LEN};
 use link_traits::Side;
 use recording::{Side as RecordedSide, finished_record, session_bytes_head, stopped_record};
 
-/// The number of the End that a failed connect gives.
+/// The number of the End of a failed connect.
 pub(crate) const CONNECT_END: u8 = 11;
 
-/// A link's side, as a recording names it.
+/// A link's side, as a recording has it.
 fn recorded_side(side: Side) -> RecordedSide
     ensures { result ≡ side_of side }
 {
@@ -19,7 +19,7 @@ fn recorded_side(side: Side) -> RecordedSide
     }
 }
 
-/// The number of the End that a failed read gives.
+/// The number of the End of a failed read.
 pub(crate) fn read_end(side: Side) -> u8
     ensures { result ≡ read_end side }
 {
@@ -29,7 +29,7 @@ pub(crate) fn read_end(side: Side) -> u8
     }
 }
 
-/// The number of the End that a failed write gives.
+/// The number of the End of a failed write.
 pub(crate) fn write_end(side: Side) -> u8
     ensures { result ≡ write_end side }
 {
@@ -46,14 +46,15 @@ pub(crate) fn end_record(side: Side, session: u32) -> [u8; RECORD_HEAD_LEN]
     finished_record(session, recorded_side(side))
 }
 
-/// The record of a call that failed, with the number of the End that it gives.
+/// The record of a failed call, with the number of its End.
 pub(crate) fn failed_record(session: u32, end: u8) -> [u8; RECORD_HEAD_LEN + 1]
     ensures { result ≡ spelled_record failed_kind session (end ∷ []) }
 {
     stopped_record(session, end)
 }
 
-/// Replaces what a buffer holds by the record of bytes that came from a side, for which it has room.
+/// Replaces the contents of a buffer with the record of bytes that were received from a side. The buffer has room for
+/// it.
 pub(crate) fn spell(buffer: &mut Vec<u8>, side: Side, session: u32, bytes: &[u8])
     requires room { RECORD_HEAD_LEN + length bytes.now ≤ vec_capacity buffer.old }
     requires small { length bytes.now ≤ READ_LIMIT }

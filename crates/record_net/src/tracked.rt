@@ -1,4 +1,4 @@
-//! A recorder whose type keeps where its recording began.
+//! A recorder whose type says where its recording began.
 ghost use Rattle.std.specs.Prelude.{◌≡◌, ℕ, string_bytes};
 ghost use Rattle.std.proofs.Props.{props};
 ghost use Rattle.record_net.specs.Tapes.{tape_of};
@@ -9,7 +9,7 @@ use link_traits::{Accepted, Files, Got, Link, Net, NetFault, Ready, Setting, Too
 use std::marker::{Brand, PhantomData};
 
 /// Where a recording began, and by which borrows its recorder holds the net and the files. A function that makes a
-/// `TrackedRecorder` takes it as a type parameter, and its caller picks the members at `Brand`.
+/// `TrackedRecorder` takes it as a type parameter, and its caller chooses the members at `Brand`.
 pub trait RecordingStart {
     /// The net's journal, the files and the path.
     ghost start: { Start };
@@ -29,8 +29,8 @@ impl RecordingStart for Brand {
     ghost files_name = { 0 };
 }
 
-/// A recorder that is handed to code over any net. What is true of its file since the start is in its type, so it is
-/// true after whatever calls that code made.
+/// A recorder that is passed to code that is generic over nets. Its type says what is true of its file since the start,
+/// so that is true after any calls that the code made.
 #[derive(Drop)]
 pub struct TrackedRecorder<'a, N: Net, F: Files, K: RecordingStart> {
     /// The recorder, which is given back when the code is done.
