@@ -1,1 +1,1 @@
--- No definitions: what a job may answer is stated by the job.
+-- No definitions: each job states what it may answer.

@@ -11,21 +11,22 @@ ghost use Rattle.std.specs.Thread.{IsSync};
 use std::alloc::{AllocError, Global};
 use std::thread::{Threads, join};
 
-/// A job, which may be done on any thread and leaves itself as it is.
+/// A job, which may be done on any thread and doesn't change.
 pub trait Job: Sync {
-    /// What the job answers.
+    /// The type of the job's answer.
     type Answer: Send + Drop;
 
-    // What the job may answer. Where that is one answer alone, the answers of jobs are those that one thread gives.
+    // The answers that the job may give. If only one is possible, parallel jobs give the same answers as one thread.
     ghost allows: { Self → Self.Answer → Type 0 };
 
-    /// Does the job. It is refused where memory is.
+    /// Does the job. It fails if memory is refused.
     fn answer(&self) -> Result<Self::Answer, AllocError>
         ensures { IfOk result (allows self.now) };
 }
 
-/// The answers of jobs, one for each, in their order. The jobs are halved down to one, and both halves are joined by the runtime, so that they may
-/// be done at the same time. It is refused where memory is, in a job too; then the other jobs may have been done or not.
+/// Does all jobs and returns their answers, one for each, in their order. The jobs are halved down to one, and the
+/// runtime joins both halves, so that they may be done at the same time. It fails if memory is refused, also in a job;
+/// the other jobs may then have been done or not.
 pub fn answers<R: Threads + Sync, J: Job>(
     rt: &R,
     alloc: Global,
@@ -63,7 +64,7 @@ fn answer_of<J: Job>(alloc: Global, job: &J) -> Result<Vec<J::Answer>, AllocErro
     Ok(found)
 }
 
-/// Answers, and others after them.
+/// The answers of two lists, one list after the other.
 fn both<A: Drop>(first: Vec<A>, second: Vec<A>) -> Result<Vec<A>, AllocError>
     ensures { IfOk result (λ found. found.items ≡ first.items ++ second.items) }
 {

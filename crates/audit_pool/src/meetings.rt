@@ -1,10 +1,10 @@
-//! Tests of jobs: that they are done at the same time, and that their answers have their order.
+//! Tests of jobs: they are done at the same time, and their answers are in order.
 use crate::{Job, answers};
 use std::alloc::AllocError;
 use std::sync::atomic::{AtomicBool, Ordering};
 use std::test::Fail;
 
-/// How often a job looks at most.
+/// The maximum number of times that a job looks at the flag.
 const LOOKS: u32 = 1_000_000_000;
 
 /// A job that raises its own flag, and answers whether it sees that of another job.
