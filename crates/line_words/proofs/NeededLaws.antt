@@ -20,7 +20,7 @@ one_path word o e = ap (λ (x : Option (List ℕ)). cons_option x []) e
 
 -- ---- words, one after the other
 
--- what is told alike needs the same files
+-- if the same is known, the same files are needed
 needed_same : (was now : Told) → ((p : List ℕ) → now p ≡ was p) → (paths : List (List ℕ)) → up_to_bad now paths ≡ up_to_bad was paths
 needed_same was now same [] = refl
 needed_same was now same (path ∷ others) = ap (λ (paths : List (List ℕ)). path ∷ paths)
@@ -43,12 +43,12 @@ pub sound_then : {Z : Type 0} (was now : Told) (words : List (String Z)) (i : �
 sound_then was now words i word lt is same so_far next =
     subst (λ (ws : List (List ℕ)). NoneIsBad was ws) (sym (words_then words i word lt is)) (sound_more was now (texts_of (take i words)) (string_bytes word) same so_far next)
 
--- where no file is bad, all are needed
+-- if no file is bad, all are needed
 pub all_needed : (told : Told) (words reads new_reads : List (List ℕ)) → NoneIsBad told words → new_reads ≡ reads ++ paths_in words → new_reads ≡ reads ++ needed_by told words
 all_needed told words reads new_reads sound e =
     e ∙ ap (λ (paths : List (List ℕ)). reads ++ paths) (sym (ap (up_to_bad told) (sym (append-nil (paths_in words))) ∙ sound [] ∙ append-nil (paths_in words)))
 
--- ---- where a word stops them
+-- ---- if a word stops them
 
 -- what is needed from a word on
 abbrev from_word : Told → Option (List ℕ) → List (List ℕ) → List (List ℕ)
@@ -91,7 +91,7 @@ module _ (was now : Told) (first rest : List (List ℕ)) (word : List ℕ) (read
   needed_until settled before (stop.Bad bad) here ends = (front, λ s. all (ends rest (here s)))
   needed_until settled before stop.Memory here ends = front
 
--- what all words come to is what the rest of them does behind those before
+-- the result of all words is that of the rest after those before
 settles_rest : (was now : Told) (words before rest : List (List ℕ)) → ((p : List ℕ) → now p ≡ was p) → Expands was [] words before rest → IsSettled (line_in was words) → IsSettled (line_from now before rest)
 settles_rest was now words before rest same h settled = by (h was (knows_all was))
   where
@@ -122,7 +122,7 @@ stops_needed {Z = Z} was now words i word before reads between new_reads why lt 
         ∙ map-append (λ w. string_bytes w) (take i words) (drop i words)
         ∙ ap (λ (ws : List (List ℕ)). first ++ ws) (next_word words i word lt is)
 
--- where memory runs out before the next word
+-- if memory runs out before the next word
 pub needed_before : {Z : Type 0} (was : Told) (words : List (String Z)) (i : ℕ) (reads now : List (List ℕ)) → now ≡ reads ++ paths_in (texts_of (take i words)) →
     NoneIsBad was (texts_of (take i words)) → ReadFront (needed_by was (texts_of words)) reads now
 needed_before {Z = Z} was words i reads now so_far sound =

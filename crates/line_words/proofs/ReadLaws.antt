@@ -12,7 +12,7 @@ use Rattle.line_words.specs.declared.reading.LineStop.TheVariants as stop
 use Rattle.line_words.specs.Words.{args_path}
 use Rattle.line_words.specs.FilesRead.{paths_in, ReadUntil, IsNamedBy}
 
--- all files are a front of them
+-- all files are a prefix of themselves
 pub read_all : (named reads new_reads : List (List ℕ)) → new_reads ≡ reads ++ named → ReadFront named reads new_reads
 read_all named reads new_reads e = record { count = length named; are = e ∙ ap (λ (paths : List (List ℕ)). reads ++ paths) (sym (take-all named)) }
 
@@ -40,7 +40,7 @@ read_next words i word reads now new_reads lt is so_far next =
     ∙ append_assoc reads (paths_in first) (paths_in (string_bytes word ∷ []))
     ∙ ap (λ (paths : List (List ℕ)). reads ++ paths) (sym (ap paths_in (words_then words i word lt is) ∙ filter_map-append args_path first (string_bytes word ∷ [])))
 
--- where the next word stops them
+-- if the next word stops them
 pub read_until : {Z : Type 0} (words : List (String Z)) (i : ℕ) (word : String Z) (reads now new_reads : List (List ℕ)) (why : LineStop) → i < length words → word ≡ slice_index_or words i word →
     now ≡ reads ++ paths_in (texts_of (take i words)) → new_reads ≡ now ++ paths_in (string_bytes word ∷ []) → IsNamedBy (string_bytes word) why →
     ReadUntil (paths_in (texts_of words)) reads new_reads why
@@ -79,7 +79,7 @@ read_until {Z = Z} words i word reads now new_reads why lt is so_far next named 
     by (stop.Bad bad) h = front
     by stop.Memory h = front
 
--- where memory runs out before the next word
+-- if memory runs out before the next word
 pub read_before : {Z : Type 0} (words : List (String Z)) (i : ℕ) (reads now : List (List ℕ)) → now ≡ reads ++ paths_in (texts_of (take i words)) → ReadFront (paths_in (texts_of words)) reads now
 read_before words i reads now so_far =
     read_first (paths_in (texts_of words)) (paths_in (texts_of (take i words))) (paths_in (texts_of (drop i words))) reads now

@@ -1,4 +1,4 @@
--- Words in the place of the word that names their file, and why they aren't there.
+-- Words in place of the word that names their file, and why there are none.
 use Rattle.std.proofs.Common.{◌≡◌, ◌≤◌, ◌<◌, ◌⊎◌, inl, inr, ℕ, ◌+◌, List, [], ◌∷◌, ◌++◌, Option, Some, None, Result, Ok, Err, IfSome, refl, ap, sym, ◌∙◌, length, cond, nat_lt, arith, subst, map, drop, String, string_bytes, slice_index_or, Bool, true, false, bytes_eq}
 use Rattle.std.proofs.lemmas.Bool.Decides.{nat_tests}
 use Rattle.std.proofs.lemmas.List.{drop_more}
@@ -66,7 +66,7 @@ module _ (told : Told) (before : List (List ℕ)) (word path : List ℕ) (rest :
       let is : line_from told before (word ∷ rest) ≡ Untold = from_file told ∙ ap (λ (x : Option (List ℕ)). with_file before x (λ now. line_from told now rest)) (e ∙ none) in
       absurd (subst (λ (l : Line). IsSettled l) is settled)
 
-  -- the words behind these stop for what stops the file's
+  -- the words from this one on stop for the same reason as the file's
   pub file_stops : (why now : LineStop) → FileStops (told path) path why → IsBehind (length before) why now → StopsFrom told before (word ∷ rest) now
   file_stops (stop.File p) now f e =
       let named_path = string_bytes p in
@@ -102,7 +102,7 @@ expands_then told a b c x y z h k some knows = by (h some knows) (k some knows)
     by (inr e) (inl f) = inl (e ∙ f)
     by (inr e) (inr f) = inr (e ∙ f)
 
--- what the rest of the words comes to is what all of them do
+-- the result of the rest of the words is that of all of them
 pub agrees_then : (told : Told) (a b x y : List (List ℕ)) (this : Line) → Expands told a x b y → Agrees (line_from told b y) this → Agrees (line_from told a x) this
 agrees_then told a b x y this h k settled = by (h told (knows_all told))
   where
@@ -120,7 +120,7 @@ stops_then told a b x y stop.TooLong h k = agrees_then told a b x y TooLong h k
 stops_then told a b x y (stop.Bad bad) h k = agrees_then told a b x y (Bad bad) h k
 stops_then told a b x y stop.Memory h k = tt
 
--- the same files are told later
+-- what is known later of the files is the same
 pub told_same : (was now : Told) (a b x y : List (List ℕ)) → ((p : List ℕ) → now p ≡ was p) → Expands now a x b y → Expands was a x b y
 told_same was now a b x y same h some knows = h some (λ p. by p (knows p))
   where
@@ -133,7 +133,7 @@ pub next_word : {Z : Type 0} (words : List (String Z)) (i : ℕ) (word : String 
     texts_of (drop i words) ≡ string_bytes word ∷ texts_of (drop (i + 1) words)
 next_word words i word lt e = ap (map (λ w. string_bytes w)) (drop_more words i word lt ∙ ap (λ (w : String _). w ∷ drop (i + 1) words) (sym e))
 
--- what is told alike gives the same line
+-- if the same is known, the line is the same
 words_same : (before : List (List ℕ)) (r : Result (List (List ℕ)) BadWord) (f h : List (List ℕ) → Line) → ((b : List (List ℕ)) → f b ≡ h b) → with_words before r f ≡ with_words before r h
 words_same before (Ok words) f h same = same (before ++ words)
 words_same before (Err bad) f h same = refl
@@ -166,7 +166,7 @@ stops_same was now before words stop.TooLong same h = agrees_same was now before
 stops_same was now before words (stop.Bad bad) same h = agrees_same was now before words (Bad bad) same h
 stops_same was now before words stop.Memory same h = tt
 
--- what the words come to, once each file's words are in the place of the word that names it
+-- the result of the words, once each file's words are in place of the word that names it
 pub come_to : (told : Told) (words all : List (List ℕ)) (this : Line) → Expands told [] words all [] → read_all (line_of all) ≡ this → Agrees (line_in told words) this
 come_to told words all this expands is settled = elim (expands told (knows_all told)) [
   | inl untold ↦ absurd (subst (λ (line : Line). IsSettled line) untold settled)

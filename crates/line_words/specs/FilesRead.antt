@@ -14,14 +14,15 @@ use Rattle.line_words.specs.Stops.{IsSettled}
 abbrev pub paths_in : List (List ℕ) → List (List ℕ)
 paths_in words = filter_map args_path words
 
--- Where words stop, the files that were read are a front of those that they name. Where one of these is why, it is the last that was read.
+-- If words stop, the files that were read are a prefix of those that they name. If one of these is the reason, it is
+-- the last that was read.
 abbrev pub ReadUntil : List (List ℕ) → List (List ℕ) → List (List ℕ) → LineStop → Type 0
 ReadUntil named reads new_reads (stop.File path) = ReadTo (string_bytes path) named reads new_reads
 ReadUntil named reads new_reads stop.TooLong = ReadFront named reads new_reads
 ReadUntil named reads new_reads (stop.Bad bad) = ReadFront named reads new_reads
 ReadUntil named reads new_reads stop.Memory = ReadFront named reads new_reads
 
--- a file that was not read is the one that a word names
+-- a file that wasn't read is the one that a word names
 abbrev pub IsNamedBy : List ℕ → LineStop → Type 0
 IsNamedBy word (stop.File path) = args_path word ≡ Some (string_bytes path)
 IsNamedBy word stop.TooLong = Unit {0}
@@ -30,12 +31,12 @@ IsNamedBy word stop.Memory = Unit {0}
 
 -- ---- the files that are needed
 
--- more files are needed behind words that aren't bad, ..
+-- more files are needed after words that aren't bad, ..
 abbrev pub unless_bad : Result (List (List ℕ)) BadWord → List (List ℕ) → List (List ℕ)
 unless_bad (Ok words) more = more
 unless_bad (Err bad) more = []
 
--- .. and behind a file of words that is none of these, and not above its limit, by what is told of it
+-- .. and after a file of words that isn't known to be bad or above its limit
 abbrev pub behind_file : Option (List ℕ) → List (List ℕ) → List (List ℕ)
 behind_file None more = more
 behind_file (Some bytes) more = if nat_lt ARGS_LIMIT (length bytes) then [] else unless_bad (words_in bytes) more
@@ -45,11 +46,12 @@ abbrev pub up_to_bad : Told → List (List ℕ) → List (List ℕ)
 up_to_bad told [] = []
 up_to_bad told (path ∷ others) = path ∷ behind_file (told path) (up_to_bad told others)
 
--- the files that words need: those that they name, up to the first that is bad by what is told of it
+-- the files that words need: those that they name, up to the first that is known to be bad
 abbrev pub needed_by : Told → List (List ℕ) → List (List ℕ)
 needed_by told words = up_to_bad told (paths_in words)
 
--- Which of the needed files were read before words stopped: a front of them; and all, where a refusal is settled by what is told.
+-- Which of the needed files were read before words stopped: a prefix of them; and all, if a refusal is settled by what
+-- is known.
 abbrev pub NeededUntil : Type 0 → List (List ℕ) → List (List ℕ) → List (List ℕ) → LineStop → Type 0
 NeededUntil settled needed reads new_reads (stop.File path) = ReadFront needed reads new_reads
 NeededUntil settled needed reads new_reads stop.TooLong = ReadFront needed reads new_reads × (settled → new_reads ≡ reads ++ needed)
@@ -61,15 +63,15 @@ abbrev pub ReadsNeeded : {A : Type 0} → Type 0 → List (List ℕ) → List (L
 ReadsNeeded settled needed reads new_reads (Ok x) = new_reads ≡ reads ++ needed
 ReadsNeeded settled needed reads new_reads (Err why) = NeededUntil settled needed reads new_reads why
 
--- no file that these words name is bad, so that files behind them are needed, too
+-- no file that these words name is bad, so files after them are needed too
 abbrev pub NoneIsBad : Told → List (List ℕ) → Type 0
 NoneIsBad told words = (others : List (List ℕ)) → up_to_bad told (paths_in words ++ others) ≡ paths_in words ++ up_to_bad told others
 
--- the file that this word names is bad, so that none behind it is needed
+-- the file that this word names is bad, so none after it is needed
 abbrev pub IsLast : Told → List ℕ → Type 0
 IsLast told word = (others : List (List ℕ)) → up_to_bad told (paths_in (word ∷ []) ++ others) ≡ paths_in (word ∷ [])
 
--- the file of a word that is refused is bad, where what all words come to is settled
+-- the file of a word that is refused is bad, if the result of all words is settled
 abbrev pub EndsNeeded : Told → List (List ℕ) → List ℕ → LineStop → Type 0
 EndsNeeded told before word (stop.File path) = Unit {0}
 EndsNeeded told before word stop.TooLong = (rest : List (List ℕ)) → IsSettled (line_from told before (word ∷ rest)) → IsLast told word

@@ -1,8 +1,8 @@
--- The words of a proxy line. `--args-file=FILE` means the words in FILE, and `--args=FD` those in /dev/fd/FD.
+-- The words of a proxy line. `--args-file=FILE` stands for the words in FILE, and `--args=FD` for those in /dev/fd/FD.
 --
--- The files are read in the order of the words, and each is cut into words before the next is read. A NUL ends each word of a
--- file, and these two options can't be used in a file. Then all words are read as a line. An index counts all of them, and the
--- words of a file are counted at the word that names it.
+-- The files are read in the order of the words, and each is cut into words before the next is read. A NUL ends each
+-- word of a file, and these two options can't be used in a file. Then all words are read as a line. An index counts all
+-- of them, and the words of a file are counted in place of the word that names it.
 use Rattle.std.specs.Prelude.{ℕ, ◌+◌, nat_lt, List, [], ◌∷◌, ◌++◌, length, codes, Option, Some, None, option_map, Result, Ok, Err, if◌then◌else◌}
 use Rattle.std.specs.Option.{option_and_then}
 use Rattle.policy_args.specs.declared.BadWord.{BadWord}
@@ -10,9 +10,9 @@ use Rattle.policy_args.specs.Words.{words_in, behind}
 use Rattle.policy_args.specs.ProxyLine.{LineValue, descriptor_of, line_of}
 use Rattle.line_words.specs.declared.reading.TheConstants.{ARGS_LIMIT}
 
--- what words come to
+-- the result of words
 pub data Line : Type 0 where
-  -- a file is needed of which nothing is told
+  -- a file is needed of which nothing is known
   Untold : Line
   -- a file of words is above its limit
   TooLong : Line
@@ -21,7 +21,7 @@ pub data Line : Type 0 where
   -- the words give a line
   Reads : LineValue → Line
 
--- what is told of the files, by their paths
+-- what is known of the files, by their paths
 abbrev pub Told : Type 0
 Told = List ℕ → Option (List ℕ)
 
@@ -45,7 +45,7 @@ abbrev pub with_file : List (List ℕ) → Option (List ℕ) → (List (List ℕ
 with_file before None next = Untold
 with_file before (Some bytes) next = if nat_lt ARGS_LIMIT (length bytes) then TooLong else with_words before (words_in bytes) next
 
--- a word, or the words of the file that it names, behind those before; and then what follows
+-- a word, or the words of the file that it names, after those before; and then what follows
 abbrev pub with_word : Told → List (List ℕ) → List ℕ → Option (List ℕ) → (List (List ℕ) → Line) → Line
 with_word told before word None next = next (before ++ word ∷ [])
 with_word told before word (Some path) next = with_file before (told path) next

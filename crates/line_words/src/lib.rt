@@ -1,7 +1,6 @@
 //! The words of a proxy line, with the files of words that they name.
 //!
-//! It is driven by one call of `read_words`, which reads these files in the order of the words, and then all words as a
-//! line.
+//! Call `read_words` once. It reads these files in the order of the words, and then all words as a line.
 #![tactic(auto)]
 
 mod reading;

@@ -1,4 +1,4 @@
-//! Words, each file of words put in the place of the word that names it, and the line that they give.
+//! Words, with the words of each named file in its place, and the proxy line that they give.
 ghost use Rattle.std.specs.Prelude.{◌≡◌, ◌≤◌, ℕ, [], ◌∷◌, ◌++◌, List, Ok, length, option_map, string_bytes, IfOk, IfErr, IfSome, OnOk};
 ghost use Rattle.link_traits.specs.Views.{FilesRose};
 ghost use Rattle.link_traits.specs.Texts.{texts_of};
@@ -13,13 +13,13 @@ use policy_args::{BadWord, LineRefusal, ProxyLine, read_descriptor, read_line, w
 use std::alloc::{AllocError, Global};
 use thiserror::Error;
 
-/// The most bytes that a file of words may have, 16 MiB, as a policy file.
+/// The maximum size of a file of words, 16 MiB, as of a policy file.
 pub const ARGS_LIMIT: usize = 16_777_216;
 
-/// Why words give no proxy line.
+/// Why words don't give a proxy line.
 #[derive(Debug, Drop, PartialEq, Eq, Error)]
 pub enum LineStop {
-    /// The file at this path, which a word names, was not read.
+    /// The file at this path, which a word names, wasn't read.
     #[error("the file {0} could not be read")]
     File(String),
     /// A file of words has more than `ARGS_LIMIT` bytes.
@@ -33,10 +33,10 @@ pub enum LineStop {
     Memory,
 }
 
-/// The proxy line of words. `--args-file=FILE` means the words in FILE, each ended by a NUL as in a policy file, and
-/// `--args=FD` those in `/dev/fd/FD`, FD being a number that `policy_args::read_descriptor` takes. These two options
-/// can't be used in such a file. The files are read first, in the order of the words, and each is cut into words before
-/// the next is read.
+/// Reads a proxy line. `--args-file=FILE` stands for the words in FILE, each ended by a NUL as in a policy file, and
+/// `--args=FD` for those in `/dev/fd/FD`, if `policy_args::read_descriptor` accepts FD. These two options can't be used
+/// in such a file. The files are read first, in the order of the words, and each is cut into words before the next is
+/// read.
 pub fn read_words<F: Files>(
     alloc: Global,
     files: &mut F,
@@ -48,13 +48,13 @@ pub fn read_words<F: Files>(
     ensures count { (F.view files.old).faults ≤ (F.view files.new).faults }
     ensures kept { (p : List ℕ) → (F.view files.new).told p ≡ (F.view files.old).told p }
 
-    // Each file that the words name was read once, in the order of the words, and no other. If they stop, a prefix of
-    // these was, up to the one that could not be.
+    // Each file that the words name was read once, in the order of the words, and no other file. On an error a prefix
+    // of them was read, up to the one that couldn't be read.
     ensures read { OnOk result ((F.view files.new).reads ≡ (F.view files.old).reads ++ paths_in (texts_of words.now)) }
     ensures until { IfErr result (λ stop. ReadUntil (paths_in (texts_of words.now)) (F.view files.old).reads (F.view files.new).reads stop) }
 
-    // None was read after one that is bad, by what is told of the files. If that settles what the words come to, they
-    // are refused only once all were read up to that one.
+    // No file was read after one that is known to be bad. If the result of the words is settled by what is known of the
+    // files, they are refused only after all files up to that one were read.
     ensures needed { ReadsNeeded (IsSettled (line_in (F.view files.old).told (texts_of words.now))) (needed_by (F.view files.old).told (texts_of words.now)) (F.view files.old).reads (F.view files.new).reads result }
 {
     match expand(alloc, files, words) {
@@ -140,7 +140,7 @@ fn path_in(alloc: Global, word: &str) -> Result<Option<String>, AllocError>
     }
 }
 
-/// The text after the front of a word, if the word has it.
+/// The text after the prefix of a word, if the word has it.
 fn after<'a>(front: &str, word: &'a str) -> Option<&'a str>
     ensures { option_map (λ text. text.now) result ≡ behind_front front.now word.now }
 {
@@ -157,7 +157,8 @@ fn path_of(alloc: Global, text: &str) -> Result<Option<String>, AllocError>
     }
 }
 
-/// Why words stop, if a file's words follow this many others. An index beyond all numbers is told as want of memory.
+/// Why words stop, if a file's words follow this many others. An index beyond all numbers is reported as refused
+/// memory.
 fn behind(count: usize, stop: LineStop) -> LineStop
     ensures { IsBehind count stop result }
 {
@@ -173,7 +174,7 @@ fn behind(count: usize, stop: LineStop) -> LineStop
     }
 }
 
-/// Puts a copy of a word after these.
+/// Appends a copy of a word.
 fn add_copy(alloc: Global, word: &str, all: &mut Vec<String>) -> Result<(), AllocError>
     ensures { OnOk result (texts_of all.new.items ≡ texts_of all.old.items ++ word.now ∷ []) }
 {

@@ -8,7 +8,7 @@ use Rattle.line_words.proofs.NeededLaws.{needed_before, sound_then, stops_needed
 use Rattle.line_words.proofs.WordLaws.{expands_then, stops_then, told_same, stops_same, next_word}
 use Rattle.line_words.proofs.reading.expand.Goals as goal
 
--- where memory runs out before a word is looked at
+-- if memory runs out before a word is processed
 pub returns-in-Err-clause-until : goal.returns-in-Err-clause-until
 returns-in-Err-clause-until g c = read_before c.args.words.now c.loop-word.word-index (g.F.Files.view c.args.files.now).reads (g.F.Files.view c.loop-word.files).reads c.loop-word.invariant.read
 
