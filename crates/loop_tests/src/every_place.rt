@@ -1,7 +1,7 @@
 //! A fault at each place: the k-th read, write, accept or connect of a run fails or isn't ready, for each k; a link or
 //! the log has room for n bytes, for each n. All runs are of the session in `rich_session`.
 //!
-//! Of the numbers of bytes, each up to 8 is tried, each multiple of 97, and the greatest.
+//! The numbers of bytes that are tried are those up to 8, the multiples of 97, and the greatest.
 use crate::rich_session::{
     PIECES, Run, Sent, differing_link, differing_part, part_beyond, run_server, steps, whole,
 };
@@ -15,7 +15,7 @@ const ONE: &str = "unix:path=/bus /p --filter --log --talk=org.a.T --sessions=1"
 /// A line with a log for two sessions.
 const TWO: &str = "unix:path=/bus /p --filter --log --talk=org.a.T --sessions=2";
 
-/// Two blocks, of which the first has a log.
+/// Two blocks; the first has a log.
 const TWO_BLOCKS: &str =
     "unix:path=/bus /p --filter --log --talk=org.a.T unix:path=/bus2 /q --filter --talk=org.a.T --sessions=2";
 
@@ -34,7 +34,8 @@ const LOG_ROOM: usize = 9_999;
 /// Each number of bytes up to this one is tried.
 const EACH_UP_TO: usize = 8;
 
-/// Calls that fail or are refused memory, with a number greater than how often they are made by a run of two sessions.
+/// Calls that fail or are refused memory, with a number that is greater than that of such calls in a run of two
+/// sessions.
 const FAILS: [(&str, usize); 6] = [
     ("ReadFails", MOST_CALLS_OF_TWO),
     ("WriteFails", MOST_CALLS_OF_TWO),
@@ -44,7 +45,7 @@ const FAILS: [(&str, usize); 6] = [
     ("ConnectRefused", 3),
 ];
 
-/// Calls that aren't ready, with such a number too.
+/// Calls that aren't ready, also with such a number.
 const NOT_READY: [(&str, usize); 3] = [
     ("ReadNotReady", MOST_CALLS_OF_TWO),
     ("WriteNotReady", MOST_CALLS_OF_TWO),
@@ -56,8 +57,8 @@ fn is_tried(bytes: usize, most: usize) -> bool {
     bytes <= EACH_UP_TO || bytes % 97 == 0 || bytes == most
 }
 
-/// What the one session of a run is sent whose first pieces come; exceptions precede the script. `None` if the server
-/// doesn't stop.
+/// What is sent in a run of one session with this many first pieces, if exceptions precede the script. `None` if the
+/// server doesn't stop.
 fn one(
     alloc: Global,
     exceptions: &str,
@@ -72,7 +73,7 @@ fn one(
     }
 }
 
-/// A wrong case, if a part of it is wrong.
+/// The text of a wrong case, if a part of it is wrong.
 fn told(
     alloc: Global,
     case: &str,
@@ -86,7 +87,7 @@ fn told(
     }
 }
 
-/// What is wrong with a session that is to be sent exactly this.
+/// What is wrong with a session that must be sent exactly this.
 fn fault(sent: &Option<Sent>, expected: &Sent) -> Option<&'static str> {
     match sent {
         Some(sent) => differing_part(sent, expected),
@@ -94,7 +95,7 @@ fn fault(sent: &Option<Sent>, expected: &Sent) -> Option<&'static str> {
     }
 }
 
-/// What is wrong with a session that is to be sent a prefix of this.
+/// What is wrong with a session that must be sent a prefix of this.
 fn prefix_fault(sent: &Option<Sent>, expected: &Sent) -> Option<&'static str> {
     match sent {
         Some(sent) => part_beyond(sent, expected),
@@ -102,7 +103,7 @@ fn prefix_fault(sent: &Option<Sent>, expected: &Sent) -> Option<&'static str> {
     }
 }
 
-/// The first read whose failure changes something else than that the later pieces don't come. Each piece is read by one
+/// The first read whose failure has another effect than the absence of the later pieces. Each piece is read by one
 /// read.
 fn wrong_failed_read(alloc: Global, ends: [&str; 2]) -> Result<Option<String>, AllocError> {
     let whole = whole(alloc)?;
@@ -120,8 +121,8 @@ fn wrong_failed_read(alloc: Global, ends: [&str; 2]) -> Result<Option<String>, A
     Ok(None)
 }
 
-/// The first write whose failure leaves no prefix of what the run without it sends, or not more than the failure of the
-/// write before.
+/// The first write whose failure doesn't leave a prefix of what the run without it sends, or not more than the failure
+/// of the write before.
 fn wrong_failed_write(alloc: Global, ends: [&str; 2]) -> Result<Option<String>, AllocError> {
     let whole = whole(alloc)?;
     let mut before = None;
@@ -137,7 +138,7 @@ fn wrong_failed_write(alloc: Global, ends: [&str; 2]) -> Result<Option<String>, 
     told(alloc, "no WriteFails", ends, fault(&before, &whole))
 }
 
-/// What is wrong with a session that is to be sent more than another one, unless it is sent all.
+/// What is wrong with a session that must be sent more than another one, unless it is sent all.
 fn growth_fault(before: &Option<Sent>, sent: &Option<Sent>, whole: &Sent) -> Option<&'static str> {
     let (Some(before), Some(sent)) = (before, sent) else {
         return None;
@@ -170,7 +171,7 @@ fn pause(alloc: Global, call: usize) -> Result<String, AllocError> {
     format!(in alloc; "WriteNotReady {call}, WriteNotReady {second}, WriteNotReady {third}")
 }
 
-/// What is wrong with a session of which one side is to be sent exactly this, and the other one a prefix of it.
+/// What is wrong with a session if one side must be sent exactly this, and the other side a prefix of it.
 fn half_fault(sent: &Option<Sent>, expected: &Sent, lost: &str) -> Option<&'static str> {
     let Some(sent) = sent else {
         return Some("the end of the server");
@@ -186,7 +187,7 @@ fn half_fault(sent: &Option<Sent>, expected: &Sent, lost: &str) -> Option<&'stat
     }
 }
 
-/// The first writes that aren't ready before the first end, after which not all that waits for the other side is
+/// The first writes that aren't ready before the first end, and after which not all that waits for the other side is
 /// written.
 fn wrong_pause_before_end(alloc: Global, ends: [&str; 2]) -> Result<Option<String>, AllocError> {
     let whole = whole(alloc)?;
@@ -201,7 +202,7 @@ fn wrong_pause_before_end(alloc: Global, ends: [&str; 2]) -> Result<Option<Strin
     Ok(None)
 }
 
-/// The first writes that aren't ready before a read that fails, from each fourth write on, after which not all that
+/// The first writes that aren't ready before a failing read, from each fourth write on, and after which not all that
 /// waits for the other side is written.
 fn wrong_pause_before_failed_read(
     alloc: Global,
@@ -226,7 +227,7 @@ fn wrong_pause_before_failed_read(
     Ok(None)
 }
 
-/// The first number of bytes that the links take a write and that changes something.
+/// The first number of bytes that changes something if the links take that many in a write.
 fn wrong_pace(alloc: Global, ends: [&str; 2]) -> Result<Option<String>, AllocError> {
     let whole = whole(alloc)?;
     for bytes in [1, 2, 3, 7, 64] {
@@ -239,7 +240,7 @@ fn wrong_pace(alloc: Global, ends: [&str; 2]) -> Result<Option<String>, AllocErr
     Ok(None)
 }
 
-/// The first number of bytes after which a link fails and was sent another number of bytes.
+/// The first limit on a link's bytes with which the link isn't sent a prefix of this length.
 fn wrong_limit(alloc: Global, side: &str) -> Result<Option<String>, AllocError> {
     let whole = whole(alloc)?;
     let [ends, _] = ENDS;
@@ -276,7 +277,7 @@ fn length_fault(sent: &Option<Sent>, side: &str, bytes: usize) -> Option<&'stati
     }
 }
 
-/// The runs of the first pieces, of their number from 0 on.
+/// The runs of the first pieces, for each number of pieces from 0 on.
 fn cuts(alloc: Global, ends: [&str; 2]) -> Result<Vec<Run>, AllocError> {
     let mut cuts = Vec::new(alloc);
     for pieces in 0..=PIECES.len() {
@@ -286,7 +287,7 @@ fn cuts(alloc: Global, ends: [&str; 2]) -> Result<Vec<Run>, AllocError> {
     Ok(cuts)
 }
 
-/// The run up to the first piece that has a line that isn't logged in full, and else the whole run.
+/// The run up to the first piece with a line that doesn't fit into the log, or else the whole run.
 fn reached(cuts: &[Run], room: usize) -> Option<&Run> {
     for cut in cuts {
         if cut.log.len() > room {
@@ -313,8 +314,7 @@ fn room_fault(run: &Run, cuts: &[Run], room: usize) -> Option<&'static str> {
     }
 }
 
-/// The first room of a log that leaves another log than the first bytes of the whole one, or with which another message
-/// is the last.
+/// The first room of a log with which the log isn't the first bytes of the whole one, or another message is the last.
 fn wrong_log_room(alloc: Global) -> Result<Option<String>, AllocError> {
     let [ends, _] = ENDS;
     let cuts = cuts(alloc, ends)?;
@@ -345,7 +345,7 @@ fn two(alloc: Global, exceptions: &str, ends: [&str; 2]) -> Result<Run, AllocErr
     run_server(alloc, TWO, &script, 2, LOG_ROOM)
 }
 
-/// What is wrong with two sessions of which so many at least are to be sent all, and the others a prefix.
+/// What is wrong with two sessions if at least `least` of them must be sent all, and the others a prefix.
 fn fault_of_two(run: &Run, whole: &Sent, least: usize) -> Option<&'static str> {
     let mut count = 0_usize;
     for sent in &run.sessions {
@@ -366,7 +366,7 @@ fn fault_of_two(run: &Run, whole: &Sent, least: usize) -> Option<&'static str> {
     }
 }
 
-/// The first failing call that changes more than one of two sessions. The last one is beyond all calls, and changes
+/// The first failing call that changes more than one of two sessions. The last one is after all calls, and must change
 /// none.
 fn wrong_failure_of_two(alloc: Global, ends: [&str; 2]) -> Result<Option<String>, AllocError> {
     let whole = whole(alloc)?;
@@ -383,7 +383,7 @@ fn wrong_failure_of_two(alloc: Global, ends: [&str; 2]) -> Result<Option<String>
     Ok(None)
 }
 
-/// The first call that isn't ready and changes one of two sessions, each second one being tried.
+/// The first call that isn't ready and changes one of two sessions; each second call is tried.
 fn wrong_not_ready_of_two(alloc: Global, ends: [&str; 2]) -> Result<Option<String>, AllocError> {
     let whole = whole(alloc)?;
     for (kind, most) in NOT_READY {
@@ -401,7 +401,7 @@ fn wrong_not_ready_of_two(alloc: Global, ends: [&str; 2]) -> Result<Option<Strin
     Ok(None)
 }
 
-/// What is wrong with a session whose log fails and one that has none.
+/// What is wrong with two sessions if the log of one fails and the other has none.
 fn log_fault_of_two(run: &Run, whole: &Sent) -> Option<&'static str> {
     let [first, second] = run.sessions.as_slice() else {
         return Some("the sessions");
@@ -418,8 +418,8 @@ fn log_fault_of_two(run: &Run, whole: &Sent) -> Option<&'static str> {
     differing_link(second, whole)
 }
 
-/// The first room of one session's log, each multiple of 97 being tried, that changes what another session is sent,
-/// which has no log.
+/// The first room of one session's log, of the multiples of 97, that changes what another session without a log is
+/// sent.
 fn wrong_log_room_of_two(alloc: Global) -> Result<Option<String>, AllocError> {
     let whole = whole(alloc)?;
     let [ends, _] = ENDS;

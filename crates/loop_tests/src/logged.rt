@@ -1,16 +1,16 @@
-//! What the log holds of sessions that end: the lines of all messages before the end, whatever ends the session.
+//! The log of sessions that end: it has the lines of all messages before the end, whatever ends the session.
 //!
 //! The rows are those of `told_server`, with names in braces: in `LOGGED` those of `SESSION`, else those of `NAMED`. A
-//! malformed message there is a valid one that is changed so that it has one fault, and the wait after the last read
-//! fails, so that the server of a session that isn't over by then ends with `Wait`.
+//! malformed message is a valid one with a change that makes one fault. The wait after the last read fails, so that the
+//! server ends with `Wait` if its session isn't over by then.
 use crate::served::told_server;
 use std::alloc::{AllocError, Global};
 use std::test::Fail;
 use test_tables::{SESSION, wrong_named_row};
 
-/// What a name stands for: a proxy line without names to talk to; the client's lines; the bus's; a call to a name
+/// The texts of names: a proxy line that lets no name be talked to; the client's lines; the bus's; a call to a name
 /// without a level, in either byte order; the ping in its place; a broadcast of a sender without a level; two returns;
-/// and the lines of the log of such a call, answered and not, and of the broadcast.
+/// and the log lines of such a call, with a reply expected and without, and of the broadcast.
 const NAMED: &[(&str, &str)] = &[
     ("proxy", "unix:path=/bus /p --filter --log --sessions=1"),
     ("begin", "~AUTH EXTERNAL%0D%0ABEGIN%0D%0A"),
@@ -53,8 +53,8 @@ const NAMED: &[(&str, &str)] = &[
     ),
 ];
 
-/// Sessions with a log: one that takes all, one that fails in the midst of the first line, and one that fails at the
-/// second; and two sessions, one of which has no log.
+/// Sessions with a log: one that takes all, one that fails within the first line, and one that fails at the second; and
+/// two sessions, one of which has no log.
 const LOGGED: &str = "\
 unix:path=/bus /p --filter --log --talk=org.a.T --sessions=1; \
     arrival 0, piece c1 {auth}BEGIN%0D, piece c1 %0A{call}, piece b1 {ok}{return}, end c1; \
@@ -73,9 +73,9 @@ unix:path=/bus /p --filter --log --talk=org.a.T unix:path=/bus2 /q --filter --ta
     log 2 c 1 call serial=1 reply=- from=- dest=org.a.T path=/p iface=org.a.I member=A pass%0A
 ";
 
-/// A call that a ping answers, and in the same read a malformed message: of each kind in the order of `MalformedKind`,
-/// with two of Length, four of Fields (a code that no field has, a destination that is no name, a field that occurs
-/// twice, padding that isn't zero) and two of Body (a byte without a signature, a boolean that is 2).
+/// A call that is answered by a ping, and in the same read a malformed message: one of each kind in the order of
+/// `MalformedKind`, with two of Length, four of Fields (an invalid field code, an invalid destination, a repeated
+/// field, padding that isn't zero) and two of Body (a byte without a signature, a boolean that is 2).
 const REFUSED: &str = "\
 {proxy}; WaitFails 3, arrival 0, piece c1 {begin}{call}{call 0=b}; b1 => Stopped, b1 {begin}{ping}, log {pinged}
 {proxy}; WaitFails 3, arrival 0, piece c1 {begin}{call}{call 1=0}; b1 => Stopped, b1 {begin}{ping}, log {pinged}
@@ -94,7 +94,7 @@ const REFUSED: &str = "\
 {proxy}; WaitFails 3, arrival 0, piece c1 {begin}{call}{answer 28=1}; b1 => Stopped, b1 {begin}{ping}, log {pinged}
 ";
 
-/// A call that expects no reply, which is dropped, and in the same read a malformed message: one of each kind.
+/// A dropped call that expects no reply, and in the same read a malformed message: one of each kind.
 const DROPPED: &str = "\
 {proxy}; WaitFails 3, arrival 0, piece c1 {begin}{call 2=1}{call 0=b}; b1 => Stopped, b1 {begin}, log {dropped}
 {proxy}; WaitFails 3, arrival 0, piece c1 {begin}{call 2=1}{call 1=0}; b1 => Stopped, b1 {begin}, log {dropped}
@@ -107,8 +107,7 @@ const DROPPED: &str = "\
 {proxy}; WaitFails 3, arrival 0, piece c1 {begin}{call 2=1}{answer 28=1}; b1 => Stopped, b1 {begin}, log {dropped}
 ";
 
-/// A broadcast that the client isn't shown, and in the same read the same malformed messages as in `REFUSED`, as
-/// signals.
+/// A broadcast that the client isn't shown, and in the same read a malformed message: those of `REFUSED`, as signals.
 const HIDDEN: &str = "\
 {proxy}; WaitFails 4, arrival 0, piece c1 {begin}, piece b1 {ok}{signal}{signal 0=b}; \
     c1 => Stopped, c1 {ok}, log {hidden}
@@ -140,9 +139,9 @@ const HIDDEN: &str = "\
     c1 => Stopped, c1 {ok}, log {hidden}
 ";
 
-/// Other places of the fault: after three messages, before another one, in big order, in the read that ends BEGIN, in
-/// part in the next read, and from the bus after a denied call of the client; after the answer to a ping too. Two
-/// sessions that end so.
+/// Other places of the fault: after three messages, before another message, in big-endian order, in the read that ends
+/// BEGIN, partly in the next read, and from the bus after a denied call of the client or after the answer to a ping.
+/// Two sessions that end so.
 const PLACES: &str = "\
 {proxy}; WaitFails 3, arrival 0, piece c1 {begin}{call}{call 2=1 8=2}{signal}{call 0=b}; \
     b1 => Stopped, b1 {begin}{ping}{signal 8=2}, \
@@ -200,8 +199,8 @@ const ENDS: &str = "\
     b1 => Stopped, b1 {begin}{ping}, log {pinged}
 ";
 
-/// Logs that take nothing, a part of the first line (of each decision, and of a session that goes on), this whole line,
-/// and a part of the second one too.
+/// Logs that take nothing, a part of the first line (for each decision, and for a session that goes on), this whole
+/// line, and also a part of the second one.
 const ROOMS: &str = "\
 0 | {proxy}; WaitFails 3, arrival 0, piece c1 {begin}{call}; b1 => Stopped, b1 {begin}{ping}
 30 | {proxy}; WaitFails 3, arrival 0, piece c1 {begin}{call}; \

@@ -19,7 +19,7 @@ const CLIENT: &str = "\
 const BUS: &str = "\
 OK 00112233445566778899aabbccddeeff%0D%0Al%02%01%01~~~~%09~~~%25~~~%05%01u~%01~~~%06%01s~%05~~~:1.40~~~%07%01s~%04~~~:1.7~~~~";
 
-/// What the buses of the second block are sent: the lines, and a ping in the place of the call.
+/// What the buses of the second block are sent: the lines, and a ping in place of the call.
 const PINGED: &str = "\
 ~AUTH EXTERNAL%0D%0ABEGIN%0D%0Al%01~%01~~~~%01~~~e~~~%01%01o~%01~~~/~~~~~~~%02%01s~%19~~~org.freedesktop.DBus.Peer~~~~~~~%03%01s~%04~~~Ping~~~~%06%01s~%14~~~org.freedesktop.DBus~~~~";
 
@@ -31,7 +31,7 @@ struct Left {
     at: usize,
 }
 
-/// A stated order that looks like none.
+/// A repeatable order that looks random.
 #[derive(Clone, Copy)]
 struct Mixer {
     state: u64,
@@ -86,7 +86,7 @@ fn add_mixed(
     Ok(())
 }
 
-/// A hundred clients that come to both listeners in turn, and then all their bytes, and all those of their buses.
+/// A hundred clients that connect to both listeners in turn, and then all their bytes, and all those of their buses.
 fn script(alloc: Global, seed: u64) -> Result<Script, AllocError> {
     let mut script = Script::new(alloc);
     let mut mixer = Mixer { state: seed };
@@ -117,8 +117,8 @@ fn written(alloc: Global, net: &MemNet, session: u32, side: Side) -> Result<Vec<
     net.written(alloc, Link { session, side })
 }
 
-/// The first session to one of whose sides something else was written than it is to get. Those of the second block get
-/// an error of the proxy's behind the bus's line, which isn't looked at here.
+/// The first session with a side to which something else was written than must be. The clients of the second block get
+/// the proxy's error after the bus's line, which isn't compared here.
 fn wrong_session(alloc: Global, net: &MemNet) -> Result<Option<u32>, AllocError> {
     let (client, bus) = (plain(alloc, CLIENT)?, plain(alloc, BUS)?);
     let pinged = plain(alloc, PINGED)?;

@@ -1,5 +1,5 @@
-//! A session that does much, as the server of a proxy line has it: what comes on its links, what is written to them,
-//! and its log.
+//! A session with messages of many kinds, as the server of a proxy line has it: what is received on its links, what is
+//! written to them, and its log.
 use memory_links::MemSink;
 use proxy_loop::{Server, ServerEnd, Turn};
 use std::alloc::{AllocError, Global};
@@ -8,7 +8,8 @@ use test_nets::{link_of, net_of};
 use test_servers::{line_of, serve};
 use test_tables::plain;
 
-/// What comes on the links, in order: on the client's (`c`) and on the bus's (`b`). Under `--filter --talk=org.a.T`.
+/// What is received on the links, in order: on the client's (`c`) and on the bus's (`b`). Under `--filter
+/// --talk=org.a.T`.
 pub const PIECES: &[(&str, &str)] = &[
     ("c", "~AUTH EXTERNAL%0D%0ABEGIN%0D"),
     ("b", "OK 00112233445566778899aabbccddeeff%0D%0A"),
@@ -43,7 +44,7 @@ pub const PIECES: &[(&str, &str)] = &[
         "b",
         "l%02%01%01%0B~~~%14~~~/~~~%05%01u~%04~~~%06%01s~%05~~~:1.40~~~%07%01s~%04~~~:1.7~~~~%08%01g~%01s~~%06~~~answer~",
     ),
-    // The answer to the ping in the place of the refused call.
+    // The answer to the ping that was sent in place of the refused call.
     (
         "b",
         "l%02%01%01~~~~%15~~~5~~~%05%01u~%05~~~%06%01s~%05~~~:1.40~~~%07%01s~%14~~~org.freedesktop.DBus~~~~",
@@ -73,7 +74,7 @@ pub const PIECES: &[(&str, &str)] = &[
 ];
 
 /// What the bus is sent: the lines of authentication, Hello and the proxy's own AddMatch and GetNameOwner, the call, a
-/// ping in the place of the refused call, ListNames and the signal.
+/// ping in place of the refused call, ListNames and the signal.
 const TO_BUS: &[&str] = &[
     "~AUTH EXTERNAL%0D%0ABEGIN%0D%0A",
     "l%01~%01~~~~%01~~~m~~~%01%01o~%15~~~/org/freedesktop/DBus~~~%02%01s~%14~~~org.freedesktop.DBus~~~~%03%01s~%05~~~Hello~~~%06%01s~%14~~~org.freedesktop.DBus~~~~",
@@ -88,8 +89,8 @@ const TO_BUS: &[&str] = &[
     "l%04%01%01~~~~%07~~~@~~~%01%01o~%02~~~/p~~~~~~%02%01s~%07~~~org.a.I~%03%01s~%01~~~S~~~~~~~%06%01s~%07~~~org.a.T~",
 ];
 
-/// What the client is shown: the bus's line, the answers to Hello and to the call, an error in the place of the answer
-/// to the ping, a signal, the list without the names that the client doesn't see, and another signal.
+/// What the client is shown: the bus's line, the answers to Hello and to the call, an error in place of the answer to
+/// the ping, a signal, the list without the names that the client doesn't see, and another signal.
 const TO_CLIENT: &[&str] = &[
     "OK 00112233445566778899aabbccddeeff%0D%0A",
     "l%02%01%01%0A~~~%01~~~?~~~%05%01u~%01~~~%06%01s~%05~~~:1.40~~~%07%01s~%14~~~org.freedesktop.DBus~~~~%08%01g~%01s~~%05~~~:1.40~",
@@ -140,7 +141,7 @@ pub struct Run {
     pub sessions: Vec<Sent>,
 }
 
-/// What a session is sent whose pieces all come.
+/// What a session is sent if all of its pieces are received.
 pub fn whole(alloc: Global) -> Result<Sent, AllocError> {
     Ok(Sent {
         to_client: joined(alloc, TO_CLIENT)?,
@@ -157,8 +158,8 @@ fn joined(alloc: Global, texts: &[&str]) -> Result<Vec<u8>, AllocError> {
     Ok(bytes)
 }
 
-/// The steps of sessions that run side by side: the arrivals, each of the first pieces on the links of each session in
-/// turn, and the ends of both sides in an order.
+/// The steps of concurrent sessions: the arrivals, each of the first pieces on the links of each session in turn, and
+/// the ends of both sides in an order.
 pub fn steps(
     alloc: Global,
     arrivals: &[u32],
@@ -182,7 +183,7 @@ pub fn steps(
     Ok(steps)
 }
 
-/// The run of a proxy line over a script, with a number of sessions and with room for so many bytes in the log.
+/// The run of a proxy line over a script, with this number of sessions and with room for `room` bytes in the log.
 pub fn run_server(
     alloc: Global,
     words: &str,

@@ -1,4 +1,4 @@
-//! What a server does with the clients of a script, told in words.
+//! What a server does with the clients of a script, as text.
 use memory_links::MemSink;
 use std::alloc::{AllocError, Global};
 use test_nets::{add_written, net_of};

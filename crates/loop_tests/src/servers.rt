@@ -4,7 +4,7 @@ use std::test::Fail;
 use test_servers::{ENDED, PLAYED};
 use test_tables::{SESSION, wrong_named_row, wrong_row};
 
-/// A listen for which the net has no memory.
+/// A listen for which the net has no memory left.
 const REFUSED: &str = "\
 unix:path=/bus /p --filter unix:path=/bus2 /q --filter; ListenRefused 1; c1 => Memory, c1 \n\
 ";
