@@ -7,7 +7,7 @@ use std::test::Fail;
 use std::thread::Threads;
 use test_tables::wrong_row;
 
-/// What is said of a recording that is named twice.
+/// What is written about a recording that is named twice.
 pub const TWICE: &str = "\
 recording 1 items 1 denied 1
 recording 2 items 1 denied 1
@@ -16,7 +16,7 @@ entry 1 denied 2
 unnamed 1 --see=org.a.S
 ";
 
-/// Words, and the status, how many lines are written, and the line on standard error.
+/// Words, and the status, the number of written lines, and the line on standard error.
 const WORDS: &str = "\
 audit policy => 1 0 error: usage
 audit policy seen => 0 4
@@ -33,7 +33,7 @@ audit seen seen => 2 0 error: policy word 0: UnknownOption
 audit missing bad => 4 0 error: file missing
 ";
 
-/// A run over a policy file, a recording of one call, one of nothing and one that is bad.
+/// A run over a policy file, a recording of one call, an empty recording and a bad one.
 fn audited<R: Threads + Sync>(
     rt: &R,
     alloc: Global,

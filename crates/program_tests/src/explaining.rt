@@ -15,10 +15,10 @@ pub const SEEN: &[u8] = b"DBPR\x01\0\
 \x03\x01s\0\x01\0\0\0M\0\0\0\0\0\0\0\
 \x06\x01s\0\x07\0\0\0org.a.S\0";
 
-/// A policy under which the name is seen, and no more.
+/// A policy under which the name may only be seen.
 pub const SEE: &[u8] = b"--filter\0--see=org.a.S";
 
-/// What is said of the call: it is answered with an error, since an entry only lets the name be seen.
+/// What is written about the call: it is answered with an error, since an entry only lets the name be seen.
 const SEEN_LINES: &[u8] =
     b"1 c 1 call serial=1 reply=- from=- dest=org.a.S path=/p iface=org.a.I member=M ping OnlySee 1 AccessDenied\n\
 entry 1 --see=org.a.S\n";
@@ -36,12 +36,12 @@ const GET: &[u8] = b"DBPR\x01\0\
 /// A policy under which requests of another property pass.
 const VOLUME: &[u8] = b"--filter\0--property=org.a.C=org.a.I.Volume@/p";
 
-/// What is said of that call: it is answered with an error, since the entry doesn't match it.
+/// What is written about that call: it is answered with an error, since the entry doesn't match it.
 const GET_LINES: &[u8] =
     b"1 c 1 call serial=1 reply=- from=- dest=org.a.C path=/p iface=org.freedesktop.DBus.Properties member=Get ping NoRule 1 AccessDenied\n\
 entry 1 --property=org.a.C=org.a.I.Volume@/p\n";
 
-/// A number, and the status, how many bytes are written, and the line, for a recording of one message.
+/// A number, and the status, the number of written bytes, and the line, for a recording of one message.
 const NUMBERS: &str = "\
 0 => 9 0 error: no such message
 2 => 9 0 error: no such message
@@ -57,8 +57,7 @@ x => 1 0 error: usage
  => 1 0 error: usage
 ";
 
-/// A policy file and a recording, and what the explanation of number 0 ends with: files are checked before the number
-/// is.
+/// A policy file and a recording, and how the explanation of number 0 ends: files are checked before the number is.
 const FILES: &str = "\
 --colour DBP => 2 0 error: policy word 0: UnknownOption
 --filter DBP => 3 0 error: recording: Cut at 3

@@ -1,4 +1,4 @@
-//! The words and the files of runs that end without a session, each with its status and its line.
+//! The words and the files of runs without a session, each with its status and its line.
 use crate::runs::{Ended, file, replay, run_over};
 use memory_links::MemFile;
 use proxy_main::POLICY_LIMIT;
@@ -9,7 +9,7 @@ use std::test::Fail;
 use std::thread::Threads;
 use test_tables::{plain, wrong_row};
 
-/// Words, and the status, how many bytes are written, and the line.
+/// Words, and the status, the number of written bytes, and the line.
 const WORDS: &str = "\
 replay policy recording => 0 0 
  => 1 0 error: word 0: BadAddress
@@ -65,8 +65,8 @@ sessions recording 1 => 1 0 error: usage
 sessions missing => 4 0 error: file missing
 ";
 
-/// Words with dashes, and the same: a word that begins with a dash is no word of a tool, unless it is a dash alone or
-/// stands behind `--`.
+/// Words with dashes, and the same results: a word that begins with a dash is no word of a tool, unless it is only a
+/// dash or follows `--`.
 const DASHES: &str = "\
 replay --policy recording => 1 0 error: usage
 replay -policy recording => 1 0 error: usage
@@ -111,7 +111,7 @@ sessions - => 4 0 error: file -
 sample -- 3 1 => 0 77 
 ";
 
-/// Words that ask for a text, and such that don't and are a proxy line.
+/// Words that ask for a text, and words that don't and are a proxy line.
 const ALONE: &str = "\
 --version => 0 16 
 --version more => 1 0 error: word 0: OptionBeforeAddress
@@ -128,7 +128,7 @@ help => 1 0 error: word 0: BadAddress
 version => 1 0 error: word 0: BadAddress
 ";
 
-/// A policy file and a recording, and the status, how many bytes are written, and the line.
+/// A policy file and a recording, and the status, the number of written bytes, and the line.
 const FILES: &str = "\
 --filter~--colour~ DBPR%01~ => 2 0 error: policy word 1: UnknownOption
 --talk=org DBPR%01~ => 2 0 error: policy word 0: BadName
@@ -174,7 +174,7 @@ fn told_replay<R: Threads + Sync>(
     told(alloc, &ended)
 }
 
-/// What a run ended with: the status, how many bytes are written, and the line.
+/// How a run ended: the status, the number of written bytes, and the line.
 pub fn told(alloc: Global, ended: &Ended) -> Result<String, AllocError> {
     let line = line_of(str::from_utf8(&ended.err.bytes).unwrap_or("no text"));
     format!(in alloc; "{} {} {line}", ended.code, ended.out.bytes.len())
@@ -216,7 +216,7 @@ fn bad_files_have_a_status_and_a_line(rt: HostRuntime) -> Result<(), Fail> {
     Ok(())
 }
 
-/// A replay of as many zeros for a policy, and of as many for a recording.
+/// A replay over a policy and a recording of zeros, with these lengths.
 fn told_zeros<R: Threads + Sync>(
     rt: &R,
     alloc: Global,

@@ -11,7 +11,7 @@ use std::sync::atomic::{AtomicBool, AtomicUsize, Ordering};
 use std::test::Fail;
 use std::thread::Threads;
 
-/// How often a job looks at most whether the other one has come.
+/// The maximum number of times that a job looks whether the other one has arrived.
 const LOOKS: u32 = 1_000_000_000;
 
 /// A gate at which two jobs wait for each other.
@@ -45,7 +45,7 @@ impl Gate for Meeting {
 }
 
 /// A run of a tool over a policy and a recording, at a gate. It gives the output if the status is 0 and both jobs met,
-/// and nothing else.
+/// and else nothing.
 fn met<R: Threads + Sync>(rt: &R, alloc: Global, words: &[&str]) -> Result<Vec<u8>, AllocError> {
     let gate = Meeting {
         first: AtomicBool::new(false),

@@ -37,7 +37,7 @@ const PING: &[u8] = b"l\x01\0\x01\0\0\0\0\x02\0\0\0\x65\0\0\0\
 \x03\x01s\0\x04\0\0\0Ping\0\0\0\0\
 \x06\x01s\0\x14\0\0\0org.freedesktop.DBus\0\0\0\0";
 
-/// The same with the serial 0.
+/// The call of Ping with the serial 0.
 const NO_SERIAL_TEXT: &str = "\
 l 1 0 0
 1 o \"/\"
@@ -47,7 +47,7 @@ l 1 0 0
 body
 ";
 
-/// Words, and the status, how many bytes are written, and the line on standard error.
+/// Words, and the status, the number of written bytes, and the line on standard error.
 const WORDS: &str = "\
 show => 1 0 error: usage
 show reply reply => 1 0 error: usage
@@ -67,7 +67,7 @@ compose reply => 3 0 error: text: Form
 compose no-serial => 3 0 error: text: NotValid
 ";
 
-/// A run over a message, a text, one of no valid message, and an empty file.
+/// A run over a message, a text, a text of no valid message, and an empty file.
 fn run_on_messages<R: Threads + Sync>(
     rt: &R,
     alloc: Global,
@@ -86,7 +86,7 @@ fn told_words<R: Threads + Sync>(rt: &R, alloc: Global, words: &str) -> Result<S
     told(alloc, &run_on_messages(rt, alloc, words, 10_000)?)
 }
 
-/// The status, how many bytes were written, and the line.
+/// The status, the number of written bytes, and the line.
 fn told(alloc: Global, ended: &Ended) -> Result<String, AllocError> {
     let count = ended.out.bytes.len();
     let line = str::from_utf8(&ended.err.bytes).unwrap_or("no text");
@@ -133,7 +133,7 @@ fn text_is_composed_up_to_the_room_that_is_left(rt: HostRuntime) -> Result<(), F
     Ok(())
 }
 
-/// How many of the bytes of the reply's file there are, or how many follow it; and the line.
+/// The length of the reply's file, which is cut or followed by zeros; and the line.
 const LENGTHS: &str = "\
 0 => 3 0 error: message: Cut at 0
 15 => 3 0 error: message: Cut at 15
@@ -168,7 +168,7 @@ fn file_holds_one_message(rt: HostRuntime) -> Result<(), Fail> {
     Ok(())
 }
 
-/// The place of a byte of the reply, another byte that stands there, and the line.
+/// The place of a byte of the reply, another byte that replaces it, and the line.
 const CHANGES: &str = "\
 0 m => 3 0 error: message: ByteOrder at 0
 0 B => 3 0 error: message: Length at 12
@@ -185,7 +185,7 @@ const CHANGES: &str = "\
 64 a => 3 0 error: message: Body at 64
 ";
 
-/// A run over the reply with another byte at a place, `~` for a zero.
+/// A run over the reply with the byte at a place replaced, by zero for `~`.
 fn told_change<R: Threads + Sync>(rt: &R, alloc: Global, row: &str) -> Result<String, AllocError> {
     let (place, with) = row.split_once(' ').unwrap_or(("", ""));
     let place = place.parse::<usize>().unwrap_or(usize::MAX);

@@ -25,11 +25,11 @@ pub const DROPPED: &[u8] = b"DBPR\x01\0\
 \x06\x01s\0\x07\0\0\0org.h.X\0\
 \x02\0\0\0\0";
 
-/// Its log under a filter that lets nothing be used.
+/// The log of that recording under a filter that lets nothing be used.
 pub const LOG: &[u8] =
     b"1 c 1 call serial=10 reply=- from=- dest=org.h.X path=/x iface=org.h.I member=M drop NotVisible 0\n";
 
-/// A replay of it with room for so many bytes of the log.
+/// A replay of that recording with room for this many bytes of the log.
 fn logged<R: Threads + Sync>(rt: &R, alloc: Global, room: usize) -> Result<Ended, AllocError> {
     let mut files = Vec::new(alloc);
     files.push(file(alloc, "policy", b"--filter\0--log")?)?;

@@ -1,4 +1,4 @@
-//! Lines that are recorded: what the file holds, and what a replay of it writes.
+//! Lines that are recorded: what the file has, and what a replay of it writes.
 use crate::runs::{Ended, file, run_files, run_over};
 use memory_links::{MemFiles, MemNet};
 use std::alloc::{AllocError, Global};
@@ -8,9 +8,9 @@ use std::thread::Threads;
 use test_nets::{add_written, net_of};
 use test_tables::{SESSION, add_text, plain, text_of, wrong_named_row, wrong_row};
 
-/// Two sessions, of which one is malformed from its first byte and one calls org.a.T and is answered. A row has the
-/// words, what appends answer and the net's script, and then the status, what was written to the links, what the file
-/// holds, and the line.
+/// Two sessions, one of which is malformed from its first byte, while the other calls org.a.T and is answered. A row
+/// has the words, the results of appends and the net's script, and then the status, what was written to the links, what
+/// the file has, and the line.
 const RECORDED: &str = "\
 unix:path=/bus /p --filter --talk=org.a.T --record=/r --sessions=2; ; \
     arrival 0, arrival 0, piece c1 A, piece c2 {auth}BEGIN%0D, piece c2 %0A{call}, piece b2 {ok}{return}, end c2 \
@@ -46,16 +46,16 @@ unix:path=/bus /p --filter --record=/q unix:path=/bus2 /p2 --record=/r --session
 /// The policy of the sessions, as the words of a file.
 pub const POLICY: &[u8] = b"--filter\0--talk=org.a.T\0";
 
-/// A line, the appends, and a script, and what a replay of the file that it makes writes: of session 1 that its first
-/// byte is not the one that a client has to send, and of session 2 what went to either side and that the client's end
-/// came.
+/// A line, the appends, and a script, and what a replay of the resulting file writes: of session 1, that its first byte
+/// isn't the one that a client must send; of session 2, what was sent to either side and that the client's stream
+/// ended.
 const REPLAYED: &str = "\
 unix:path=/bus /p --filter --talk=org.a.T --record=/r --sessions=2; ; \
     arrival 0, arrival 0, piece c1 A, piece c2 {auth}BEGIN%0D, piece c2 %0A{call}, piece b2 {ok}{return}, end c2 \
     => %12%01~~~%0B~~~%01~%01~~~~~~~~%10%02~~~g~~~{auth}{begin}{call}%11%02~~~]~~~{ok}{return}%12%02~~~%01~~~%03
 ";
 
-/// What a run over no files and the net of a script ended with.
+/// How a run over no files and the net of a script ended.
 #[derive(Drop)]
 pub struct Run {
     pub ended: Ended,
@@ -63,7 +63,7 @@ pub struct Run {
     pub net: MemNet,
 }
 
-/// A run of the words in front of a row, whose appends and script follow.
+/// A run of the words with which a row begins. They are followed by its appends and its script.
 pub fn run_row<R: Threads + Sync>(rt: &R, alloc: Global, row: &str) -> Result<Run, AllocError> {
     let (words, rest) = row.split_once("; ").unwrap_or((row, ""));
     let (appends, script) = rest.split_once("; ").unwrap_or(("", rest));
@@ -74,7 +74,8 @@ pub fn run_row<R: Threads + Sync>(rt: &R, alloc: Global, row: &str) -> Result<Ru
     Ok(Run { ended, files, net })
 }
 
-/// Sets what appends answer: how many bytes they take at most, and the number of the one that fails or is refused.
+/// Sets the results of appends: the most bytes that they take, and the number of the one that fails or is refused
+/// memory.
 fn set_appends(files: &mut MemFiles, words: &str) {
     let (kind, number) = words.split_once(' ').unwrap_or((words, ""));
     let number: u64 = number.parse().unwrap_or(0);
@@ -86,7 +87,7 @@ fn set_appends(files: &mut MemFiles, words: &str) {
     }
 }
 
-/// The bytes of the file of the recording, or none if there is no file.
+/// The bytes of the recording's file, or none if there is no file.
 pub fn held(alloc: Global, files: &MemFiles) -> Result<Vec<u8>, AllocError> {
     match files.files.first() {
         Some(file) => Vec::from_slice(alloc, &file.bytes),
@@ -152,8 +153,8 @@ fn recording_of_a_line_is_replayed(rt: HostRuntime) -> Result<(), Fail> {
     Ok(())
 }
 
-/// Bytes of a recording of many sessions, and what each tool that takes a recording says of them: a replay under no
-/// words, and the tools that take recordings of one session alone.
+/// Bytes of a recording of many sessions, and the result of each tool that takes a recording: of a replay under no
+/// words, and of the tools that only take recordings of one session.
 const MANY: &str = "\
 DBPR%02~~%03~~~%03~~~%FF%FF%FF%02%03~~~~~~~ => 0 %10%03~~~%03~~~%FF%FF%FF%12%03~~~%01~~~%03, 3 error: recording: BadVersion at 4
 DBPR%02~~~~~~%03~~~%FF%FF%FF => 3 error: recording: BadSession at 7, 3 error: recording: BadVersion at 4
@@ -162,7 +163,7 @@ DBPR%02~%04%01~~~%01~~~%0C => 3 error: recording: BadEnd at 15, 3 error: recordi
 DBPR%03~ => 3 error: recording: BadVersion at 4, 3 error: recording: BadVersion at 4
 ";
 
-/// What a tool says of a recording: its status, and what it writes or its line.
+/// The result of a tool for a recording: its status, and what it writes or its line.
 pub fn told_by<R: Threads + Sync>(
     rt: &R,
     alloc: Global,

@@ -5,7 +5,7 @@ use std::alloc::{AllocError, Global};
 use std::thread::Threads;
 use test_nets::net_of;
 
-/// What a run ended with.
+/// How a run ended.
 #[derive(Drop)]
 pub struct Ended {
     pub code: u8,
@@ -13,7 +13,8 @@ pub struct Ended {
     pub err: MemSink,
 }
 
-/// A run of words, which spaces part, over these files, with room for so many bytes of output and enough for a line.
+/// A run of words, separated by spaces, over these files, with room for this many bytes of output and enough room for a
+/// line.
 pub fn run_over<R: Threads + Sync>(
     rt: &R,
     alloc: Global,
@@ -24,7 +25,7 @@ pub fn run_over<R: Threads + Sync>(
     run_with_room(rt, alloc, words, files, room, 100)
 }
 
-/// The same with room for so many bytes of output, and for so many on standard error.
+/// A run of words over these files, with room for this many bytes of output, and of standard error.
 pub fn run_with_room<R: Threads + Sync>(
     rt: &R,
     alloc: Global,
@@ -37,7 +38,7 @@ pub fn run_with_room<R: Threads + Sync>(
     run_on_net(rt, alloc, words, files, &mut net, (out_room, err_room))
 }
 
-/// The same over a net, with room for output and standard error.
+/// A run of words over these files and a net, with room for output and standard error.
 pub fn run_on_net<R: Threads + Sync>(
     rt: &R,
     alloc: Global,
@@ -50,7 +51,7 @@ pub fn run_on_net<R: Threads + Sync>(
     run_files(rt, alloc, words, &mut files, net, room)
 }
 
-/// The same over files that are left to the caller.
+/// Such a run, over files that stay the caller's.
 pub fn run_files<R: Threads + Sync>(
     rt: &R,
     alloc: Global,
@@ -87,7 +88,7 @@ pub fn file(alloc: Global, path: &str, bytes: &[u8]) -> Result<MemFile, AllocErr
     })
 }
 
-/// A run of words over the files `policy` and `recording`, with room for so many bytes of output.
+/// A run of words over the files `policy` and `recording`, with room for this many bytes of output.
 pub fn run_on<R: Threads + Sync>(
     rt: &R,
     alloc: Global,
@@ -102,7 +103,7 @@ pub fn run_on<R: Threads + Sync>(
     run_over(rt, alloc, words, files, room)
 }
 
-/// A replay of a recording under a policy, with room for so many bytes of output.
+/// A replay of a recording under a policy, with room for this many bytes of output.
 pub fn replay<R: Threads + Sync>(
     rt: &R,
     alloc: Global,

@@ -9,8 +9,7 @@ use std::thread::Threads;
 use test_nets::{add_written, net_of};
 use test_tables::{SESSION, plain, text_of, wrong_named_row, wrong_row};
 
-/// Words, the bytes of the file `args` behind a bar, and the status and the line. Nothing is written on standard
-/// output.
+/// Words, the bytes of the file `args` after a `|`, and the status and the line. Nothing is written on standard output.
 const WORDS: &str = "\
 --filter | => 1 error: word 0: OptionBeforeAddress
 unix:path=/a | => 1 error: word 1: NoPath
@@ -53,7 +52,7 @@ unix:path=/a /p --args=3 | => 4 error: file /dev/fd/3
 ";
 
 /// Words, a script of a net, and links; and the status, what was written to these links, and what was written on
-/// standard error. The room of standard error stands in front of the words, behind a bar, if it isn't ample.
+/// standard error. If the room of standard error is limited, it precedes the words, with a `|` after it.
 const SERVED: &str = "\
 unix:path=/bus /p --filter --talk=org.a.T --sessions=1; \
     arrival 0, piece c1 {auth}BEGIN%0D, piece c1 %0A{call}, piece b1 {ok}{return}, end c1; \
@@ -97,14 +96,14 @@ unix:path=/bus /p --filter --talk=org.a.T; \
     c1 b1 => 5, c1 , b1 {auth}{begin}{call}, err error: wait%0A
 ";
 
-/// The words of a file, a script and links, and the same: the only word names the file.
+/// The words of a file, a script and links, and the same results: the only word names the file.
 const FROM_FILE: &str = "\
 unix:path=/bus /p --filter --talk=org.a.T --sessions=1; \
     arrival 0, piece c1 {auth}BEGIN%0D, piece c1 %0A{call}, piece b1 {ok}{return}, end c1; \
     c1 b1 => 0, c1 {ok}{return}, b1 {auth}{begin}{call}
 ";
 
-/// Words of a line, and what its net took of them.
+/// Words of a line, and the setting that its net received.
 const SETTINGS: &str = "\
 unix:path=/bus /p --filter --sessions=1 => None
 --fd=3 --replace unix:path=/bus /p => Some(Setting { replaces: true, starter: Some(3) })
@@ -145,7 +144,7 @@ fn told_served<R: Threads + Sync>(rt: &R, alloc: Global, row: &str) -> Result<St
     told_line(rt, alloc, words, Vec::new(alloc), rest, room)
 }
 
-/// What comes of the words of a row in the file of a path, for the word that names it.
+/// The result of the words of a row that are in the file of a path, for the word that names the file.
 fn told_from_file<R: Threads + Sync>(
     rt: &R,
     alloc: Global,
@@ -163,7 +162,7 @@ fn told_from_file<R: Threads + Sync>(
     told_line(rt, alloc, word, files, rest, 999)
 }
 
-/// What comes of a proxy line over the net of a script, behind which stand the links that are asked for.
+/// The result of a proxy line over the net of a script, which is followed by the links that are asked for.
 fn told_line<R: Threads + Sync>(
     rt: &R,
     alloc: Global,

@@ -7,8 +7,8 @@ use std::thread::Threads;
 use test_tables::{SESSION, plain, text_of, wrong_named_row, wrong_row};
 
 /// The number of a session and a recording, and the status with the recording of that session or the line. A failed
-/// call ends session 7, and the bytes that came after it are not written. The number 4294967298 is 2^32 + 2, which is
-/// not session 2.
+/// call ends session 7, and the bytes after it aren't written. The number 4294967298 is 2^32 + 2, which isn't session
+/// 2.
 const ONE: &str = "\
 2 DBPR%02%01~%02~~~%02~~~ab%01%07~~~%01~~~c%02%02~~~~~~~%04%07~~~%01~~~%09%01%07~~~%01~~~d~%FF%FF%FF%FF%01~~~z => 0 DBPR%01%01~%02~~~ab%02~~~~
 7 DBPR%02%01~%02~~~%02~~~ab%01%07~~~%01~~~c%02%02~~~~~~~%04%07~~~%01~~~%09%01%07~~~%01~~~d~%FF%FF%FF%FF%01~~~z => 0 DBPR%01%01%01%01~~~c
@@ -49,7 +49,7 @@ DBP => 3 error: recording: Cut at 3
 DBPR%02~%05%01~~~~~~~ => 3 error: recording: BadKind at 6
 ";
 
-/// A line, the appends, and a script, and what a replay of each session of the file that it makes writes.
+/// A line, the appends, and a script, and what a replay of each session of the resulting file writes.
 const REPLAYED: &str = "\
 unix:path=/bus /p --filter --talk=org.a.T --record=/r --sessions=2; ; \
     arrival 0, arrival 0, piece c1 A, piece c2 {auth}BEGIN%0D, piece c2 %0A{call}, piece b2 {ok}{return}, end c2 \

@@ -11,7 +11,7 @@ use test_tables::wrong_row;
 /// The policy file that is suggested for the recording of one call.
 const SUGGESTED: &str = "--filter\0--call=org.a.S=org.a.I.M@/p\0";
 
-/// Words, and the status, how many words are written, and the line on standard error.
+/// Words, and the status, the number of written words, and the line on standard error.
 const WORDS: &str = "\
 suggest => 1 0 error: usage
 suggest seen => 0 2
@@ -28,7 +28,7 @@ suggest bad missing => 3 0 error: recording: Cut at 3
 suggest policy => 3 0 error: recording: BadMagic at 0
 ";
 
-/// A run over a recording of one call, one of nothing, one that is bad, and a policy file.
+/// A run over a recording of one call, an empty recording, a bad one, and a policy file.
 fn suggested<R: Threads + Sync>(
     rt: &R,
     alloc: Global,
@@ -43,7 +43,7 @@ fn suggested<R: Threads + Sync>(
     run_over(rt, alloc, words, files, room)
 }
 
-/// How many words bytes have, each ended by NUL.
+/// The number of words in bytes. Each word ends with a NUL.
 fn words_in(bytes: &[u8]) -> usize {
     let mut count: usize = 0;
     for byte in bytes {
@@ -94,7 +94,7 @@ const CALL: &[u8] = b"l\x01\0\x01\0\0\0\0\x01\0\0\0\x45\0\0\0\
 \x03\x01s\0\x01\0\0\0M\0\0\0\0\0\0\0\
 \x06\x01s\0\x0c\0\0\0org.a.N00000\0\0\0\0";
 
-/// Where the digits begin.
+/// The place of the first digit.
 const DIGITS_AT: usize = 79;
 
 /// A recording of this many calls, each to another name.

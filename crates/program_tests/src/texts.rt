@@ -1,4 +1,4 @@
-//! What the program says of itself.
+//! What the program writes about itself.
 use crate::runs::run_over;
 use policy_args::read_options;
 use proxy_main::{HELP, VERSION};
@@ -28,7 +28,7 @@ const OPTIONS: [(&str, &str); 11] = [
     ("--start-called", "--start-called"),
 ];
 
-/// Each option that a proxy line alone has, as the help shows it.
+/// Each option that only a proxy line has, as the help shows it.
 const LINE_OPTIONS: [&str; 6] = [
     "--sessions=N",
     "--record=FILE",
@@ -38,7 +38,7 @@ const LINE_OPTIONS: [&str; 6] = [
     "--args=FD",
 ];
 
-/// Each tool with its words, and what else the program is asked for.
+/// Each tool with its words, and the program's other words.
 const TOOLS: [&str; 13] = [
     "replay POLICY RECORDING",
     "explain POLICY RECORDING N",
@@ -58,7 +58,7 @@ const TOOLS: [&str; 13] = [
 /// Each status.
 const STATUSES: [u8; 10] = [0, 1, 2, 3, 4, 5, 6, 7, 8, 9];
 
-/// How many lines of the help begin so.
+/// The number of lines of the help that begin like this.
 fn lines_with(start: &str) -> usize {
     let mut lines = 0usize;
     for line in HELP.lines() {
@@ -96,7 +96,7 @@ fn is_taken(alloc: Global, words: &[String]) -> Result<bool, AllocError> {
     })
 }
 
-/// Whether these words write the text, and a front of it with status 6 if out has room for no more.
+/// Whether these words write the text, or a prefix of it with status 6 if there is no room for more.
 fn is_written<R: Threads + Sync>(
     rt: &R,
     alloc: Global,

@@ -27,8 +27,7 @@ const FILES: &str = "\
 --filter DBPR%09~ DBP => 3 error: recording: BadVersion at 4;
 ";
 
-/// Which of the files is none, and the status and the line if one recording is bad: it is refused before the other is
-/// read.
+/// Which file is missing, and the status and the line if one recording is bad: it is refused before the other is read.
 const MISSING: &str = "\
 twin missing bad good => 4 error: file missing;
 twin policy bad missing => 3 error: recording: Cut at 3;
@@ -38,7 +37,7 @@ twin policy good bad => 3 error: recording: Cut at 3;
 twin policy bad good => 3 error: recording: Cut at 3;
 ";
 
-/// A comparison of two recordings under a policy, with room for so many bytes of output.
+/// A comparison of two recordings under a policy, with room for this many bytes of output.
 fn compared<R: Threads + Sync>(
     rt: &R,
     alloc: Global,
@@ -54,7 +53,7 @@ fn compared<R: Threads + Sync>(
     run_over(rt, alloc, "twin policy one other", files, room)
 }
 
-/// What a run ended with: the status, and all that was written, in which `;` stands for the end of a line.
+/// How a run ended: the status, and all that was written, with `;` for the end of a line.
 fn told(alloc: Global, ended: &Ended) -> Result<String, AllocError> {
     let mut told = format!(in alloc; "{} ", ended.code)?;
     for bytes in [&ended.out.bytes, &ended.err.bytes] {
@@ -89,7 +88,7 @@ fn told_missing<R: Threads + Sync>(
     told(alloc, &run_over(rt, alloc, words, files, 100)?)
 }
 
-/// The recording with the client's end behind it.
+/// The recording, followed by the client's end.
 fn ended(alloc: Global, recording: &[u8]) -> Result<Vec<u8>, AllocError> {
     let mut longer = Vec::from_slice(alloc, recording)?;
     longer.extend_from_slice(b"\x02\0\0\0\0")?;

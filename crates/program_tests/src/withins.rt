@@ -6,8 +6,7 @@ use std::test::Fail;
 use std::thread::Threads;
 use test_tables::wrong_row;
 
-/// The words of a policy file and of another, and the status and what is printed, in which `;` stands for the end of a
-/// line.
+/// The words of a policy file and of another, and the status and what is printed, with `;` for the end of a line.
 const POLICIES: &str = "\
 --call=org.a.C=org.a.I.*@/p/* | --talk=org.a.* => 0 within;entry 1 by 1;
 --talk=org.a.* | --call=org.a.C=org.a.I.*@/p/* => 7 not within: signal org.a.z0;
@@ -83,7 +82,7 @@ within missing bad => 4 error: file missing;
 within good bad => 2 error: policy word 1: BadName;
 ";
 
-/// The bytes of a policy file with these words, which spaces part.
+/// The bytes of a policy file with these words, which are separated by spaces.
 fn words_of(alloc: Global, words: &str) -> Result<Vec<u8>, AllocError> {
     let mut bytes = Vec::new(alloc);
     for word in words.split(' ') {
@@ -107,7 +106,7 @@ fn compared<R: Threads + Sync>(
     run_over(rt, alloc, "within one other", files, room)
 }
 
-/// The status and all that was written, in which `;` stands for the end of a line.
+/// The status and all that was written, with `;` for the end of a line.
 fn told(alloc: Global, ended: &Ended) -> Result<String, AllocError> {
     let mut told = format!(in alloc; "{} ", ended.code)?;
     for bytes in [&ended.out.bytes, &ended.err.bytes] {
