@@ -9,7 +9,7 @@ fn name(alloc: Global, text: &str) -> Result<Name, AllocError> {
     Ok(Name::new(String::from_str(alloc, text)?))
 }
 
-/// The names of a text, with a comma behind each.
+/// The names in a text, each followed by a comma.
 fn names(alloc: Global, text: &str) -> Result<NameList, AllocError> {
     let mut names = Vec::new(alloc);
     for text in text.split_terminator(',') {
@@ -18,7 +18,7 @@ fn names(alloc: Global, text: &str) -> Result<NameList, AllocError> {
     Ok(NameList::new(names))
 }
 
-/// The element that a row tells: its kind, a number, and a text, which is `-` for none.
+/// The element that a row describes: its kind, a number, and a text, with `-` for none.
 fn element(alloc: Global, row: &(&str, u32, &str)) -> Result<Visible, AllocError> {
     let &(kind, number, text) = row;
     let bytes = Bytes::copy_from_slice(alloc, text.as_bytes())?;
@@ -51,7 +51,7 @@ fn element(alloc: Global, row: &(&str, u32, &str)) -> Result<Visible, AllocError
     })
 }
 
-/// Rows, no two of which tell the same element.
+/// Rows, no two of which describe the same element.
 const ROWS: &[(&str, u32, &str)] = &[
     ("line", 0, "AUTH"),
     ("line", 1, "AUTH"),
@@ -75,7 +75,7 @@ const ROWS: &[(&str, u32, &str)] = &[
     ("asked", 4, "org.a.A,"),
 ];
 
-/// How many rows tell the same element as this one.
+/// The number of rows that describe the same element as this one.
 fn same_as(alloc: Global, row: &(&str, u32, &str)) -> Result<usize, AllocError> {
     let mut count = 0_usize;
     for other in ROWS {

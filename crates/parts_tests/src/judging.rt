@@ -1,4 +1,4 @@
-//! Verdicts on messages of a client, by what they are.
+//! Verdicts on messages of a client.
 use crate::known::{Known, everything, everything_under, nothing};
 use crate::messages::message;
 use crate::whole::is_whole;
@@ -11,8 +11,8 @@ use verdicts::judge;
 
 /// The flags of a call of `org.a.T` and the words of a policy, and the verdict.
 ///
-/// Entries are numbered from 1, those of other names too, and `--filter` gives none. The rule of a Broadcast entry speaks
-/// of no call.
+/// Entries are numbered from 1, also those for other names, and `--filter` gives none. The rule of a Broadcast entry
+/// doesn't apply to calls.
 const CALLS: &str = "\
 call => Ping(ServiceUnknown, NotVisible)
 no_reply => Drop(NotVisible)
@@ -41,8 +41,8 @@ call --call=org.a.*=org.a.I.A --see=org.a.T => Pass
 call --see=org.a.* --call=org.a.T=org.a.I.B => Ping(AccessDenied, NoRule(2))
 ";
 
-/// The path, the interface and the member of a call of `org.a.C`, which is seen, and of which calls of `org.a.I.*@/p/*` and
-/// `org.a.J.M` pass, and the verdict.
+/// The path, the interface and the member of a call of `org.a.C`, and the verdict. The name is seen, and calls of it
+/// that match `org.a.I.*@/p/*` or `org.a.J.M` pass.
 const RULES: &str = "\
 path=/p interface=org.a.I member=A => Pass
 path=/p/q interface=org.a.I member=B => Pass
@@ -54,8 +54,8 @@ path=/pq interface=org.a.J member=M => Pass
 path=/pq member=M => Ping(AccessDenied, NoRule(2))
 ";
 
-/// Calls of `org.freedesktop.DBus.Properties` to `org.a.C`, which is seen and of which requests of `org.a.I.Volume@/p/*` and of
-/// all properties of `org.a.J` pass, and calls of `org.a.I.M`, and the verdict.
+/// Calls of `org.freedesktop.DBus.Properties` to `org.a.C`, and calls of `org.a.I.M`, and the verdict. The name is
+/// seen, and requests of `org.a.I.Volume@/p/*` and of all properties of `org.a.J` pass.
 const PROPERTIES: &str = "\
 call path=/p member=Get signature=ss text=org.a.I text=Volume => Pass
 call path=/p/q member=Get signature=ss text=org.a.I text=Volume => Pass
@@ -123,7 +123,7 @@ no_reply path=/p member=GetAll signature=s text=org.a.I => Drop(NoRule(2))
 no_start path=/p member=Get signature=ss text=org.a.I text=Mute => Ping(AccessDenied, NoRule(2))
 ";
 
-/// Calls of other interfaces, and of none, to the same name, and the verdict.
+/// Calls to the same name with another interface or none, and the verdict.
 const NO_REQUESTS: &str = "\
 call path=/p member=Get signature=ss text=org.a.I text=Volume => Ping(AccessDenied, NoRule(2))
 call path=/p member=Set signature=ssv text=org.a.I text=Volume variant=7 => Ping(AccessDenied, NoRule(2))
@@ -174,7 +174,7 @@ call --property=org.a.T=org.a.I.Mute --own=org.a.* => Pass
 call --known-fields --property=org.a.T=org.a.I.Volume => Pass
 ";
 
-/// Messages where a Property entry of number 8 speaks of `org.a.I.Volume` of `org.a.See`, which `:1.1` owns, and the verdict.
+/// Messages, and the verdict. Property entry 8 applies to `org.a.I.Volume` of `org.a.See`, which `:1.1` owns.
 const OWNERS_PROPERTIES: &str = "\
 call path=/p interface=org.freedesktop.DBus.Properties member=Get to=:1.1 signature=ss text=org.a.I text=Volume => Pass
 call path=/p interface=org.freedesktop.DBus.Properties member=Set to=:1.1 signature=ssv text=org.a.I text=Volume variant=7 => Pass
@@ -196,8 +196,8 @@ call path=/p interface=org.freedesktop.DBus.Properties member=Set signature=ssv 
 call path=/p member=Get to=org.freedesktop.DBus signature=ss text=org.a.I text=Volume => Ping(AccessDenied, BusMember)
 ";
 
-/// Members of the bus, and the verdicts on a call of each of which the text is a hidden name, a seen one, one that may be
-/// talked to and one that may be owned.
+/// Members of the bus, and the verdicts on calls whose text is a hidden name, a seen one, one that may be talked to and
+/// one that may be owned.
 const MEMBERS: &str = "\
 Hello => Pass Pass Pass Pass
 GetId => Pass Pass Pass Pass
@@ -222,7 +222,7 @@ hello => Ping(AccessDenied, BusMember) Ping(AccessDenied, BusMember) Ping(Access
 GetNameOwner2 => Ping(AccessDenied, BusMember) Ping(AccessDenied, BusMember) Ping(AccessDenied, BusMember) Ping(AccessDenied, BusMember)
 ";
 
-/// The same where the call has its flag NO_REPLY_EXPECTED set.
+/// Members of the bus, and the same verdicts if the call has its flag NO_REPLY_EXPECTED set.
 const UNANSWERED: &str = "\
 Hello => Pass Pass Pass Pass
 AddMatch => Pass Pass Pass Pass
@@ -252,8 +252,8 @@ const STARTS: &str = "\
 --start-called --call=org.a.C=* org..C => Ping(ServiceUnknown, ArgNotTalk)
 ";
 
-/// Members of the bus, and the verdicts on a call of each that has no body, one whose body is a number and one whose body
-/// begins with one.
+/// Members of the bus, and the verdicts on calls without a body, with a number as the body, and with a body that begins
+/// with a number.
 const WITHOUT_TEXT: &str = "\
 Hello => Pass Pass Pass
 GetId => Pass Pass Pass
@@ -337,7 +337,8 @@ call path=/ member=A to=org.a.No => Ping(ServiceUnknown, NotVisible)
 call path=/ interface=org.freedesktop.DBus.Peer member=Ping to=org.a.No => Ping(ServiceUnknown, NotVisible)
 ";
 
-/// Messages, and the verdict if only known header fields may pass. A field named `unknown` or `greatest` is none.
+/// Messages, and the verdict if only known header fields may pass. No header field has the code of a field named
+/// `unknown` or `greatest`.
 const KNOWN_FIELDS: &str = "\
 call path=/ member=A to=org.a.Talk => Pass
 call path=/ member=A to=org.a.Talk unknown=/x => Ping(AccessDenied, UnknownField)
@@ -360,7 +361,7 @@ type_9 unknown=/x => Drop(UnknownField)
 type_9 => Drop(UnknownType)
 ";
 
-/// The same if any header fields may pass.
+/// Messages, and the verdict if any header fields may pass.
 const ANY_FIELDS: &str = "\
 call path=/ member=A to=org.a.Talk unknown=/x => Pass
 signal path=/ interface=org.a.I member=S unknown=/x => Pass
@@ -368,7 +369,7 @@ return to=:1.2 reply=5 greatest=x => Pass
 type_9 unknown=/x => Drop(UnknownType)
 ";
 
-/// The verdict on the message that a row tells, where it is valid.
+/// The verdict on the message that a row describes, if it is valid.
 fn verdict_on(alloc: Global, known: &Known, row: &str) -> Result<Option<Verdict>, AllocError> {
     let bytes = message(alloc, row)?;
     if !is_whole(&bytes) {
@@ -445,7 +446,7 @@ fn told_start(alloc: Global, row: &str) -> Result<String, AllocError> {
     told(alloc, &nothing(alloc, words)?, &row)
 }
 
-/// The verdicts on a call of the bus with each of these bodies.
+/// The verdicts on calls of the bus with each of these bodies.
 fn told_bodies(alloc: Global, call: &str, bodies: &[&str]) -> Result<String, AllocError> {
     let known = everything(alloc)?;
     let mut all = String::new(alloc);

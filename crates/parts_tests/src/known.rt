@@ -1,4 +1,4 @@
-//! Policies with what a tracker and a ledger know, for tables.
+//! Policies for tables, with what a tracker and a ledger know.
 use dbus_header::Instead;
 use dbus_names::Name;
 use dbus_values::Order;
@@ -12,7 +12,7 @@ use unique_names::Tracker;
 pub const WORDS: &str = "--see=org.a.See --talk=org.a.Talk --own=org.a.Own --see=org.a.Ruled \
     --call=org.a.Ruled=org.a.I.A@/p --call=org.a.Ruled=org.a.J.* --broadcast=org.a.Cast=org.a.I.S@/p";
 
-/// Who owns or owned each name.
+/// Who owns each name or has owned it.
 const OWNERS: &str =
     "org.a.See :1.1,org.a.Talk :1.2,org.a.Own :1.3,org.a.Ruled :1.4,org.a.Cast :1.7";
 
@@ -43,7 +43,7 @@ pub fn options(alloc: Global, words: &str) -> Result<Options, AllocError> {
     }
 }
 
-/// The policy of these words with nothing known.
+/// The policy with these words, with nothing known.
 pub fn nothing(alloc: Global, words: &str) -> Result<Known, AllocError> {
     Ok(Known {
         options: options(alloc, words)?,
@@ -52,12 +52,12 @@ pub fn nothing(alloc: Global, words: &str) -> Result<Known, AllocError> {
     })
 }
 
-/// That policy, with all that is known.
+/// The policy with `WORDS`, with all that is known.
 pub fn everything(alloc: Global) -> Result<Known, AllocError> {
     everything_under(alloc, "")
 }
 
-/// The same with further words of the policy.
+/// The policy with `WORDS` and further words, with all that is known.
 pub fn everything_under(alloc: Global, words: &str) -> Result<Known, AllocError> {
     let words = format!(in alloc; "{WORDS} {words}")?;
     let options = options(alloc, &words)?;

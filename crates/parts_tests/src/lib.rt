@@ -1,4 +1,4 @@
-//! Tests of the parts that a session is made of, one module a part.
+//! Tests of the parts of a session, one module for each part.
 #![tactic(auto)]
 
 #[cfg(test)]

@@ -1,8 +1,8 @@
-//! Messages that rows of tables tell.
+//! Messages that rows of tables describe.
 use std::alloc::{AllocError, Global};
 
-/// A message in little order with serial 9. The row has its kind, and then, with a space before each, words that tell its
-/// header fields and the values of its body one after the other.
+/// A message in little-endian order with serial 9. The row has its kind, and then words for its header fields and for
+/// the values of its body, in order, with a space before each.
 pub fn message(alloc: Global, row: &str) -> Result<Vec<u8>, AllocError> {
     let (kind, words) = row.split_once(' ').unwrap_or((row, ""));
     let mut fields = Vec::new(alloc);
@@ -38,7 +38,7 @@ fn type_and_flags(kind: &str) -> [u8; 2] {
     }
 }
 
-/// Adds the header field that a word tells, if it tells one.
+/// Adds the header field that a word describes, if it describes one.
 fn add_field(fields: &mut Vec<u8>, key: &str, value: &str) -> Result<(), AllocError> {
     match key {
         "path" => add_text(fields, [1, 1, b'o', 0], value),
@@ -77,7 +77,8 @@ fn add_signature(fields: &mut Vec<u8>, signature: &str) -> Result<(), AllocError
     Ok(())
 }
 
-/// Adds the value that a word tells, if it tells one: a string, a number, a variant of a number or an empty list.
+/// Adds the value that a word describes, if it describes one: a string, a number, a variant of a number or an empty
+/// list.
 fn add_value(body: &mut Vec<u8>, key: &str, value: &str) -> Result<(), AllocError> {
     match key {
         "text" => {
@@ -119,7 +120,7 @@ fn pad(bytes: &mut Vec<u8>, alignment: usize) -> Result<(), AllocError> {
     Ok(())
 }
 
-/// A number as four bytes, the lowest first.
+/// A number as four bytes, the lowest byte first.
 fn number(value: usize) -> [u8; 4] {
     let [a, b, c, d, ..] = value.to_le_bytes();
     [a, b, c, d]

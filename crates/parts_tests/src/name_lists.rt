@@ -51,7 +51,7 @@ pub(crate) fn message(
     Ok(bytes)
 }
 
-/// `abc`, and the message cut behind it, where its body is a list.
+/// `abc`, followed by the cut message, if its body is a list.
 fn cut_behind_abc(
     alloc: Global,
     policy: &Policy,
@@ -72,28 +72,28 @@ fn cut_behind_abc(
     Ok(into)
 }
 
-/// Bodies in an order, each with the one that it is cut to.
+/// Bodies in little-endian order, each with the one to which it is cut.
 const LITTLE: [(&[u8], &[u8]); 7] = [
-    // No name.
+    // No names.
     (b"\0\0\0\0", b"\0\0\0\0"),
-    // A hidden one alone.
+    // Only a hidden name.
     (b"\x0c\0\0\0\x07\0\0\0org.h.X\0", b"\0\0\0\0"),
     // Hidden first.
     (
         b"\x18\0\0\0\x07\0\0\0org.h.X\0\x07\0\0\0org.a.A\0",
         b"\x0c\0\0\0\x07\0\0\0org.a.A\0",
     ),
-    // Hidden between, with padding in front of what moves.
+    // Hidden between others, with padding before what moves.
     (
         b"\x28\0\0\0\x08\0\0\0org.a.BB\0\0\0\0\x07\0\0\0org.h.X\0\x07\0\0\0org.a.A\0",
         b"\x1c\0\0\0\x08\0\0\0org.a.BB\0\0\0\0\x07\0\0\0org.a.A\0",
     ),
-    // Hidden last, behind a text that is empty.
+    // Hidden last, after an empty text.
     (
         b"\x3d\0\0\0\x07\0\0\0org.a.A\0\x08\0\0\0org.hh.X\0\0\0\0\x08\0\0\0org.a.BB\0\0\0\0\0\0\0\0\0\0\0\0\x04\0\0\0:1.6\0",
         b"\x19\0\0\0\x07\0\0\0org.a.A\0\x08\0\0\0org.a.BB\0",
     ),
-    // Texts that are no names, and a unique name that the client met.
+    // Texts that aren't names, and a unique name that the client met.
     (
         b"\x26\0\0\0\0\0\0\0\0\0\0\0\x03\0\0\0a b\0\x04\0\0\0:1.5\0\0\0\0\x05\0\0\0org.a\0",
         b"\x16\0\0\0\x04\0\0\0:1.5\0\0\0\0\x05\0\0\0org.a\0",

@@ -14,7 +14,7 @@ use serial_map::Serials;
 use std::alloc::{AllocError, Global};
 use std::test::Fail;
 
-/// How many serials are given before the first own call.
+/// The number of serials that are given before the first own call.
 const GIVEN: u32 = 1;
 
 fn policy_of(alloc: Global, words: &str) -> Result<Policy, Fail> {
@@ -22,7 +22,7 @@ fn policy_of(alloc: Global, words: &str) -> Result<Policy, Fail> {
     Ok(read_options(alloc, &words)?.policy)
 }
 
-/// Puts the call that a text names: `match PATTERN`, `owner NAME` or `names`.
+/// Appends the call that a text names: `match PATTERN`, `owner NAME` or `names`.
 fn put(alloc: Global, calls: &mut BytesMut, serial: u32, text: &str) -> Result<(), Fail> {
     match text.split_once(' ') {
         Some(("match", pattern)) => add_match(calls, serial, &Pattern::read(alloc, pattern)?)?,
@@ -32,7 +32,7 @@ fn put(alloc: Global, calls: &mut BytesMut, serial: u32, text: &str) -> Result<(
     Ok(())
 }
 
-/// The calls that a text names, which commas join, behind `abc`.
+/// The calls that a text names, joined by commas, after `abc`.
 fn calls_of(alloc: Global, text: &str) -> Result<BytesMut, Fail> {
     let mut calls = BytesMut::new(alloc);
     calls.extend_from_slice(b"abc")?;
@@ -71,7 +71,7 @@ fn are_expected(ledger: &Ledger, text: &str) -> bool {
     ledger.peek(GIVEN).is_none() && ledger.peek(serial.wrapping_add(1)).is_none()
 }
 
-/// Whether the calls behind a Hello are those that a text names.
+/// Whether the calls after a Hello are those that a text names.
 fn are_called(alloc: Global, policy: &Policy, text: &str) -> Result<bool, Fail> {
     let mut calls = BytesMut::new(alloc);
     calls.extend_from_slice(b"abc")?;
@@ -96,7 +96,7 @@ fn each_pattern_is_asked_for_once(rt: HostRuntime) -> Result<(), Fail> {
             "--see=org.a.A.*\0--see=org.a.A",
             "match org.a.A.*,match org.a.A,owner org.a.A,names",
         ),
-        // Patterns that stand in more than one entry.
+        // Patterns that occur in more than one entry.
         (
             "--see=org.a.*\0--talk=org.b.B\0--own=org.a.*\0--call=org.b.B=*\0--see=org.c.C\0--broadcast=org.a.*=*",
             "match org.a.*,match org.b.B,owner org.b.B,match org.c.C,owner org.c.C,names",
@@ -132,7 +132,7 @@ fn are_called_then(
     Ok(calls.as_slice() == expected.as_slice() && are_expected(&ledger, text))
 }
 
-/// The same, where the answer is in these bytes.
+/// Whether the calls on an answer with these bytes are those that a text names.
 fn are_called_on(alloc: Global, policy: &Policy, answer: &[u8], text: &str) -> Result<bool, Fail> {
     if !is_whole(answer) {
         return Ok(false);

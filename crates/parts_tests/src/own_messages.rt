@@ -11,7 +11,7 @@ use ping_rewrite::{
 use std::alloc::{AllocError, Global};
 use std::test::Fail;
 
-/// The bytes that a text writes: two hexadecimal digits a byte, and ASCII in brackets.
+/// The bytes that a text spells: two hexadecimal digits for each byte, and ASCII in brackets.
 fn bytes_of(alloc: Global, text: &str) -> Result<Vec<u8>, AllocError> {
     let mut bytes = Vec::new(alloc);
     let mut in_brackets = false;
@@ -40,7 +40,7 @@ fn digit(byte: u8) -> u8 {
     }
 }
 
-/// A name of two elements that has so many bytes, from 2 on.
+/// A name of two elements with this length, from 2 on.
 fn name_of(alloc: Global, len: usize) -> Result<String, AllocError> {
     let mut name = String::from_str(alloc, "a.")?;
     for _ in 2..len {
@@ -49,7 +49,7 @@ fn name_of(alloc: Global, len: usize) -> Result<String, AllocError> {
     Ok(name)
 }
 
-/// Whether the bytes are a valid message, and are what the text writes.
+/// Whether the bytes are a valid message that the text spells.
 fn is_message_of(alloc: Global, bytes: &[u8], text: &str) -> Result<bool, AllocError> {
     let expected = bytes_of(alloc, text)?;
     Ok(bytes == expected.as_slice() && is_message(bytes))
@@ -115,7 +115,7 @@ fn calls_with_a_text(rt: HostRuntime) -> Result<(), Fail> {
     Ok(())
 }
 
-/// The length, where the bytes are a valid message of it.
+/// The length, if the bytes are a valid message of this length.
 fn message_len(bytes: &[u8], len: usize) -> Option<usize> {
     if is_message(bytes) && bytes.len() == len {
         Some(len)
@@ -124,7 +124,7 @@ fn message_len(bytes: &[u8], len: usize) -> Option<usize> {
     }
 }
 
-/// How long the AddMatch of a pattern is: of a name of so many bytes, and then this end.
+/// The length of the AddMatch for a pattern: a name of this length, followed by this end.
 fn match_len(alloc: Global, len: usize, end: &str) -> Result<Option<usize>, Fail> {
     let mut text = name_of(alloc, len)?;
     text.push_str(end)?;
@@ -137,7 +137,7 @@ fn match_len_of(alloc: Global, pattern: &Pattern) -> Result<Option<usize>, Fail>
     Ok(message_len(calls.as_slice(), add_match_len(pattern)))
 }
 
-/// How long the GetNameOwner of a name of so many bytes is.
+/// The length of the GetNameOwner for a name of this length.
 fn owner_len(alloc: Global, len: usize) -> Result<Option<usize>, Fail> {
     let name = name_of(alloc, len)?;
     owner_len_of(alloc, name.as_str())
@@ -185,7 +185,7 @@ fn is_answer(
     is_message_of(alloc, answer.as_slice(), expected)
 }
 
-/// The answer in place that the test makes of each kind, in little order.
+/// The answer in place of each kind that the test makes, in little-endian order.
 fn in_little_order(what: Instead) -> &'static str {
     match what {
         Instead::AccessDenied => {
@@ -222,7 +222,7 @@ fn in_little_order(what: Instead) -> &'static str {
     }
 }
 
-/// The same in big order.
+/// The answer in place of each kind that the test makes, in big-endian order.
 fn in_big_order(what: Instead) -> &'static str {
     match what {
         Instead::AccessDenied => {

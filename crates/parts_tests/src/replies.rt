@@ -6,7 +6,7 @@ use reply_ledger::{Kind, Ledger};
 use std::alloc::{AllocError, Global};
 use std::test::Fail;
 
-/// A call of a pair to which none is owed.
+/// Counts a call of a sender and a serial to which no reply is owed.
 fn call(ledger: &mut Ledger, sender: &str, serial: u32) -> Result<(), AllocError> {
     if !ledger.owed(sender, serial) {
         ledger.called(sender, serial)?;
@@ -14,7 +14,7 @@ fn call(ledger: &mut Ledger, sender: &str, serial: u32) -> Result<(), AllocError
     Ok(())
 }
 
-/// Two calls of such a pair.
+/// Counts two calls of such a sender and serial.
 fn call_twice(ledger: &mut Ledger, sender: &str, serial: u32) -> Result<(), AllocError> {
     if !ledger.owed(sender, serial) {
         ledger.called(sender, serial)?;
@@ -41,7 +41,7 @@ fn expecting(alloc: Global) -> Result<Ledger, AllocError> {
     Ok(ledger)
 }
 
-/// Whether a name's owner is expected, of this name.
+/// Whether the owner of this name is expected.
 fn is_owner_of(kind: &Option<Kind>, name: &str) -> bool {
     match kind {
         Some(Kind::OwnOwner(expected)) => expected.as_str() == name,

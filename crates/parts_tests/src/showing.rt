@@ -1,4 +1,4 @@
-//! What a client is shown of messages of the bus, by what they are.
+//! What a client is shown of messages of the bus.
 use crate::known::{Known, everything, everything_under};
 use crate::messages::message;
 use crate::whole::is_whole;
@@ -59,7 +59,7 @@ signal path=/p interface=org.a.I member=S => Hide(SenderNotTalk)
 signal path=/p interface=org.a.I member=S reply=1 => Hide(SenderNotTalk)
 ";
 
-/// Owner changes, and what is shown if those of all unique names are.
+/// Owner changes, and what is shown if those of all unique names are shown.
 const SLOPPY: &str = "\
 signal path=/ interface=org.freedesktop.DBus member=NameOwnerChanged from=org.freedesktop.DBus signature=sss text=:1.31 text= text=:1.31 => Whole
 signal path=/ interface=org.freedesktop.DBus member=NameOwnerChanged from=org.freedesktop.DBus signature=sss text=:1.31 text=:1.31 text= => Whole
@@ -74,7 +74,7 @@ signal path=/ interface=org.freedesktop.DBus member=NameOwnerChanged from=:1.9 s
 signal path=/ interface=org.a.I member=S from=:1.9 => Hide(SenderNotTalk)
 ";
 
-/// What is shown of the message that a row tells, where it is valid.
+/// What is shown of the message that a row describes, if it is valid.
 fn shown(alloc: Global, known: &Known, row: &str) -> Result<Option<Showing>, AllocError> {
     let bytes = message(alloc, row)?;
     if !is_whole(&bytes) {

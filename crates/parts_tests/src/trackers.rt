@@ -1,4 +1,4 @@
-//! Levels and entries of unique names by what was taught.
+//! Levels and entries of unique names, from learned facts.
 ghost use Rattle.std.specs.Prelude.{◌≡◌, ◌<◌};
 
 use dbus_names::{BusName, Name};
@@ -20,7 +20,7 @@ fn name(alloc: Global, text: &str) -> Result<Name, Fail> {
     Ok(Name::new(String::from_str(alloc, text)?))
 }
 
-/// The fact that a text tells: `NAME ID` that the id owns the name, `self ID`, or `met ID`.
+/// The fact that a text describes: `NAME ID` if the unique name ID owns NAME, `self ID`, or `met ID`.
 fn fact(alloc: Global, text: &str) -> Result<Fact, Fail> {
     let (front, id) = text.split_once(' ').ok_or("no fact")?;
     let id = name(alloc, id)?;
@@ -34,7 +34,7 @@ fn fact(alloc: Global, text: &str) -> Result<Fact, Fail> {
     })
 }
 
-/// A tracker that was taught the facts, which commas join.
+/// A tracker that has learned the facts, which are joined by commas.
 fn taught(alloc: Global, policy: &Policy, facts: &str) -> Result<Tracker, Fail> {
     let mut tracker = Tracker::new(alloc);
     if facts.is_empty() {
@@ -58,7 +58,7 @@ fn has_entries(entries: Entries<'_>, expected: &[u32]) -> bool {
     left.is_empty()
 }
 
-/// A bus name that is looked up, and the numbers that its entries are to have.
+/// A bus name that is looked up, and the numbers that its entries must have.
 #[derive(Drop)]
 struct Expected<'a> {
     tracker: &'a Tracker,
@@ -85,8 +85,8 @@ fn looked_up<L: Ledger>(expected: Expected<'_>, blank: Blank) -> Option<Level>
     }
 }
 
-/// The level of a text, where it is looked up with the same and with entries of these numbers if it is a bus name, and has
-/// no entries if it isn't.
+/// The level of a text. If it is a bus name, it must be looked up with the same level and with entries of these
+/// numbers; otherwise it must have no entries.
 fn level_with(tracker: &Tracker, policy: &Policy, text: &str, entries: &[u32]) -> Option<Level> {
     let level = tracker.level(policy, text);
     let is_told = match BusName::read(text) {
@@ -116,7 +116,7 @@ fn assert_known(
     assert_eq!(rt; told, Some(level), "{name}");
 }
 
-/// The level of `:1.7` by the facts, where its entries have these numbers.
+/// The level of `:1.7` that follows from the facts, if its entries have these numbers.
 fn level_by(
     alloc: Global,
     policy: &Policy,
@@ -166,7 +166,7 @@ fn an_id_has_the_greatest_level_of_what_is_known(rt: HostRuntime) -> Result<(), 
 fn a_name_that_was_lost_still_counts(rt: HostRuntime) -> Result<(), Fail> {
     let options = options_of(rt.alloc(), "--talk=org.a.T\0--own=org.o.O")?;
     let policy = &options.policy;
-    // The name goes from :1.7 to :1.8: an owner change tells both.
+    // The name goes from :1.7 to :1.8: an owner change names both.
     let tracker = taught(rt.alloc(), policy, "org.a.T :1.7,org.a.T :1.8,org.o.O :1.8")?;
     assert_known(&rt, &tracker, policy, ":1.7", Level::Talk, &[1]);
     assert_known(&rt, &tracker, policy, ":1.8", Level::Own, &[1, 2]);
@@ -186,7 +186,7 @@ fn a_name_that_was_lost_still_counts(rt: HostRuntime) -> Result<(), Fail> {
     Ok(())
 }
 
-/// A tracker that learned an owner, the client's own name, and a name that it met.
+/// A tracker that has learned an owner, the client's own name, and a name that the client met.
 fn learned_by_names(alloc: Global, policy: &Policy) -> Result<Tracker, Fail> {
     let mut tracker = Tracker::new(alloc);
     tracker.learn_owner(policy, "org.a.B", ":1.7")?;

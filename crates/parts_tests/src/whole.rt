@@ -4,7 +4,7 @@ ghost use Rattle.dbus_header.specs.Malformed.{head_fault, whole_len};
 
 use dbus_header::{decode, length};
 
-/// Whether the bytes are as many as they state, where they state it.
+/// Whether the bytes have the length that they state, if they state one.
 pub fn is_whole(bytes: &[u8]) -> bool
     ensures long { IsTrue result → 16 ≤ length bytes.now }
     ensures whole { IsTrue result → head_fault bytes.now ≡ None → length bytes.now ≡ whole_len bytes.now }
