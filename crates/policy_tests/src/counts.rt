@@ -1,4 +1,4 @@
-//! Levels under a policy of many entries, whose look-ups are counted.
+//! Levels under a policy of many entries, with counted look-ups.
 ghost use Rattle.std.specs.Prelude.{◌≡◌, ◌≤◌, ◌<◌, ◌+◌};
 
 use name_patterns::Steps;
@@ -9,10 +9,10 @@ use std::marker::Brand;
 use std::sync::ledger::{Blank, Ledger};
 use std::test::Fail;
 
-/// How many names are seen, each by an entry of its own, before those that may be owned.
+/// The number of names that are seen, each by its own entry, before those that may be owned.
 const NAMES: u32 = 60_000;
 
-/// `--see=org.a.N0` and so on, and last `--own=org.a.*`.
+/// `--see=org.a.N0` and so on, and `--own=org.a.*` at the end.
 fn many_entries(alloc: Global) -> Result<Options, Fail> {
     let mut words = String::new(alloc);
     for number in 0..NAMES {
@@ -23,21 +23,21 @@ fn many_entries(alloc: Global) -> Result<Options, Fail> {
     Ok(read_options(alloc, &words)?)
 }
 
-/// The level of a name of three elements, by at most four look-ups.
+/// The level of a name of three elements, with at most four look-ups.
 fn level_of_three<L: Ledger>(policy: &Policy, steps: &mut Steps<L>) -> Level
     ensures { steps.new ≤ steps.old + 4 }
 {
     policy.level_counted("org.a.N7", steps)
 }
 
-/// The level of a name of two elements, by at most three.
+/// The level of a name of two elements, with at most three look-ups.
 fn level_of_two<L: Ledger>(policy: &Policy, steps: &mut Steps<L>) -> Level
     ensures { steps.new ≤ steps.old + 3 }
 {
     policy.level_counted("org.b", steps)
 }
 
-/// Both levels, whose steps are counted from none on: seven at most.
+/// Both levels, with at most seven steps, counted from none.
 fn both_levels<L: Ledger>(policy: &Policy, blank: Blank) -> (Level, Level)
     requires name { blank.name ≡ L.name }
     requires parts { blank.parts ≡ L.parts }

@@ -1,4 +1,4 @@
-//! Tests of what a policy is read from: patterns of names, call rules, and the words of policy files and proxy lines.
+//! Tests of how a policy is read: patterns of names, call rules, and the words of policy files and proxy lines.
 #![tactic(auto)]
 
 #[cfg(test)]

@@ -31,7 +31,7 @@ org.\u{e9}.* => Form
 org.a.*\0 => Form
 ";
 
-/// How many bytes a text has before its end, and how many the name of the pattern.
+/// The length of a text without its end, and the length of the pattern's name.
 const LENGTHS: &str = "\
 255 => 255
 256 => Form
@@ -91,8 +91,8 @@ fn told_cover(alloc: Global, row: &str) -> Result<String, AllocError> {
     }
 }
 
-/// How many bytes the name of the pattern has that a name of two elements is, which has so many bytes, from 2 on, and an
-/// end behind it.
+/// The length of the pattern's name, of a text that is a name of two elements, of the given length from 2 on, followed
+/// by an end.
 fn told_length(alloc: Global, row: &str) -> Result<String, AllocError> {
     let (len, end) = row.split_once(' ').unwrap_or((row, ""));
     let text = long(alloc, len.parse().unwrap_or(0), end)?;

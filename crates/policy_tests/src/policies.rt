@@ -1,4 +1,4 @@
-//! What policy files and proxy lines say, and the first bad word of others.
+//! What policy files and proxy lines give, and the first bad word of others.
 use policy_args::{
     BadWord, Block, Entry, Grant, Level, LineRefusal, Options, Policy, ProxyLine, WordKind,
     read_line, read_options, words_of,
@@ -7,7 +7,8 @@ use std::alloc::{AllocError, Global};
 use std::test::Fail;
 use test_tables::wrong_row;
 
-/// Words of a policy file, and whether messages are filtered, whether they are logged and how many entries there are, or the first bad word.
+/// Words of a policy file, and whether messages are filtered, whether they are logged and the number of entries; or the
+/// first bad word.
 const OPTIONS: &str = "\
 --filter => true false 0
  => false false 0
@@ -143,7 +144,8 @@ org.q.P --property=org.p.*=org.p.I.* => None
 org.p.P --property=org.p.P=org.p.I.V --talk=org.p.P --call=org.p.P=* => Talk
 ";
 
-/// Words of a policy file, and of each entry its word, the name, whether that is exact, the option, the rule and the level.
+/// Words of a policy file, and for each entry its word, the name, whether the name is exact, the option, the rule and
+/// the level.
 const ENTRIES: &str = "\
 --filter => 
 --see=org.a.* --talk=org.a.T --see=org.a.* --own=org.o.O => --see=org.a.* org.a false see  See|--talk=org.a.T org.a.T true talk  Talk|--own=org.o.O org.o.O true own  Own|
@@ -157,8 +159,8 @@ const ENTRIES: &str = "\
     org.p.P true property org.p.I.* See|
 ";
 
-/// How many words of different names, and one word more, and whether messages are filtered, whether they are
-/// logged and how many entries there are.
+/// A number of words with different names, and one more word, and whether messages are filtered, whether they are
+/// logged and the number of entries.
 const MANY_WORDS: &str = "\
 65535 --filter => true false 65535
 65535 --talk=a.b7 => false false 65535
@@ -166,14 +168,16 @@ const MANY_WORDS: &str = "\
 65535 --see=a.b7 => TooMany 65535
 ";
 
-/// The words of how many blocks, and one word more, and how many blocks there are.
+/// The words of a number of blocks, and one more word, and the number of blocks.
 const MANY_BLOCKS: &str = "\
 65535 --filter => 65535
 65535 unix:path=/a => TooMany 131070
 ";
 
-/// Words of a proxy line, and the sessions that are served, the file that they are recorded in, the starter's descriptor and whether sockets are replaced, if so, and of each block the address, the path, whether messages are
-/// filtered and whether they are logged, how many entries there are and the level of org.a.T, or the first bad word.
+/// Words of a proxy line, and the number of served sessions, and, if there are any, the file in which they are
+/// recorded, the starter's descriptor and that sockets are replaced; and for each block the address, the path, whether
+/// messages are filtered, whether they are logged, the number of entries and the level of org.a.T; or the first bad
+/// word.
 const LINES: &str = "\
 unix:path=/run/user/1000/bus,guid=00 /tmp/p --filter --talk=org.a.T --talk=org.a.T --see=org.a.* => 4294967295, /run/user/1000/bus /tmp/p true false 2 Talk
 unix:path=/a /p => 4294967295, /a /p false false 0 None
@@ -293,7 +297,7 @@ unix:path=/a /p --replace= => UnknownOption 2
 unix:path=/a /p --replace=x => UnknownOption 2
 ";
 
-/// The words of a row, which spaces part. A row without a byte has no words.
+/// The words of a row, separated by spaces. A row without a byte has no words.
 fn split(alloc: Global, row: &str) -> Result<Vec<String>, AllocError> {
     let mut words = Vec::new(alloc);
     if row.is_empty() {
@@ -317,7 +321,7 @@ fn told_options(alloc: Global, row: &str) -> Result<String, AllocError> {
     told_read(alloc, read_options(alloc, &words))
 }
 
-/// Of each block, whether owner changes of unique names are shown, whether known header fields alone pass, and whether
+/// For each block, whether owner changes of unique names are shown, whether only known header fields pass, and whether
 /// names that may be called may be started.
 fn told_truth_values(alloc: Global, row: &str) -> Result<String, AllocError> {
     let words = split(alloc, row)?;
@@ -441,7 +445,7 @@ fn told_level(alloc: Global, row: &str) -> Result<String, AllocError> {
     }
 }
 
-/// What so many words of names ask for, with one word more.
+/// What this many words of names ask for, with one more word.
 fn told_with_many(alloc: Global, row: &str) -> Result<String, AllocError> {
     let (count, word) = row.split_once(' ').unwrap_or((row, ""));
     let mut words = Vec::new(alloc);
@@ -452,7 +456,7 @@ fn told_with_many(alloc: Global, row: &str) -> Result<String, AllocError> {
     told_read(alloc, read_options(alloc, &words))
 }
 
-/// How many blocks a line has that has the words of so many, and one word more where it is not empty.
+/// The number of blocks of a line with the words of this many blocks, and with one more word if it isn't empty.
 fn told_with_blocks(alloc: Global, row: &str) -> Result<String, AllocError> {
     let (count, word) = row.split_once(' ').unwrap_or((row, ""));
     let mut words = Vec::new(alloc);
@@ -467,7 +471,7 @@ fn told_with_blocks(alloc: Global, row: &str) -> Result<String, AllocError> {
     }
 }
 
-/// The words of a policy file, each with a `|` behind it.
+/// The words of a policy file, each followed by a `|`.
 fn told_words(alloc: Global, file: &[u8]) -> Result<String, AllocError> {
     match words_of(alloc, file) {
         Ok(words) => marked(alloc, &words),

@@ -4,8 +4,8 @@ use std::alloc::{AllocError, Global};
 use std::test::Fail;
 use test_tables::wrong_row;
 
-/// Texts, and the interface, the member and the path of the rule, a `-` for none, whether it is of all paths below, and
-/// its text; or why it is refused.
+/// Texts, and the interface, the member and the path of the rule, with `-` for none, whether it holds for all paths
+/// below, and its text; or why it is refused.
 const RULES: &str = "\
 * => - - - false *
  => - - - false 
@@ -37,7 +37,7 @@ org.a.I.M@/p@q => Form
 org.a.\u{e9}.M => Form
 ";
 
-/// Rules with the path, the interface, a `-` for none, and the member of calls, and whether they match.
+/// Rules with the path, the interface, with `-` for none, and the member of calls, and whether they match.
 const CALLS: &str = "\
 * /p - M => true
  / org.a.I N => true
@@ -67,8 +67,8 @@ org.a.I.M@/p /q org.a.I M => false
 org.a.I.M@/p /p org.a.I N => false
 ";
 
-/// Texts, and the interface, the property and the path of the property rule, a `-` for none, whether it is of all paths below,
-/// and its text; or why it is refused.
+/// Texts, and the interface, the property and the path of the property rule, with `-` for none, whether it holds for
+/// all paths below, and its text; or why it is refused.
 const PROPERTY_RULES: &str = "\
 org.a.I.* => org.a.I - - false org.a.I.*
 org.a.I.Volume => org.a.I Volume - false org.a.I.Volume
