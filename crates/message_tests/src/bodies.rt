@@ -1,12 +1,12 @@
-//! The texts of messages' bodies.
+//! The strings of messages' bodies.
 use crate::messages::is_whole;
 use dbus_header::{Message, decode};
 use std::alloc::{AllocError, Global};
 use std::test::Fail;
 use test_tables::{plain, wrong_row};
 
-/// The byte order, the signature, a `-` for none, and the body of a return, and its first text, its first two texts, and the
-/// only text, the three texts and the list of texts that the body is.
+/// The byte order, the signature, with `-` for none, and the body of a return; and its first text, its first two texts,
+/// and the one text, the three texts and the list of texts that are the whole body.
 const BODIES: &str = "\
 l s %03~~~abc~ => Some(\"abc\") None Some(\"abc\") None None
 B s ~~~%03abc~ => Some(\"abc\") None Some(\"abc\") None None

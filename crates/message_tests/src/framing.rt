@@ -9,8 +9,8 @@ use std::alloc::{AllocError, Global};
 use std::test::Fail;
 use test_tables::wrong_row;
 
-/// The size of the pieces of a stream and the messages in it, and how many bytes each message has that is taken of it, and
-/// what stands behind them. A long call has as many bytes in its body as stand behind its name.
+/// The size of the pieces of a stream and the messages in it; and the length of each message that is taken of it, and
+/// what follows them. The number of a long call is the length of its body.
 const STREAMS: &str = "\
 1, call, return => 80 56 Rest
 1000, call, return, call cut=40 => 80 56 Rest
@@ -44,7 +44,7 @@ fn stream_of(alloc: Global, messages: &str) -> Result<Vec<u8>, AllocError> {
     Ok(stream)
 }
 
-/// The message in front, whose bytes are shared where they can be.
+/// The first message, whose bytes are shared if they can be.
 fn shared_next(framer: &mut Framer, known: &mut KnownTexts) -> Result<Next, AllocError> {
     if let Front::Whole(len) = framer.front() {
         if let Some(frame) = framer.shared(len) {
@@ -58,7 +58,7 @@ fn shared_next(framer: &mut Framer, known: &mut KnownTexts) -> Result<Next, Allo
     framer.next()
 }
 
-/// The messages of a stream that comes in pieces of a size, what stands behind them, and what is left of the stream.
+/// The messages of a stream that is pushed in pieces of this size, what follows them, and what is left of the stream.
 fn taken(
     alloc: Global,
     stream: &[u8],
@@ -89,7 +89,7 @@ fn taken(
     Ok((frames, last, again.left()?))
 }
 
-/// How many bytes each message has, where they and what is left are the stream.
+/// The length of each message, if the messages and what is left are the stream.
 fn told_frames(
     alloc: Global,
     stream: &[u8],
@@ -131,7 +131,7 @@ fn told_taken(
     format!(in alloc; "{frames}{next}")
 }
 
-/// The same is told whether the bytes of messages are shared or copied.
+/// The result, if it is the same whether the bytes of messages are shared or copied.
 fn told_stream(alloc: Global, row: &str) -> Result<String, AllocError> {
     let (size, messages) = row.split_once(", ").unwrap_or((row, ""));
     let stream = stream_of(alloc, messages)?;
@@ -150,7 +150,7 @@ fn messages_are_taken_from_pieces(rt: HostRuntime) -> Result<(), Fail> {
     Ok(())
 }
 
-/// A framer to which two pieces were pushed, the second once the first was shared as far as its first bytes.
+/// A framer to which two pieces were pushed, the second after the first was shared up to its first bytes.
 fn shared_and_pushed(
     alloc: Global,
     first: &[u8],

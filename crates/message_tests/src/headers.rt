@@ -1,4 +1,4 @@
-//! What bytes are as messages, what is wrong with others, and the numbers that are changed in place.
+//! Bytes as messages, what is wrong with others, and the numbers that are changed in place.
 ghost use Rattle.std.specs.Prelude.{◌≡◌, ◌≤◌, None, length};
 ghost use Rattle.dbus_header.specs.Malformed.{head_fault, whole_len};
 
@@ -13,7 +13,7 @@ use std::str;
 use std::test::Fail;
 use test_tables::{plain, wrong_row};
 
-/// The first sixteen bytes of messages, and the length of the whole, or what is wrong with them and its place.
+/// The first sixteen bytes of messages, and the length of the whole message, or what is wrong with them and its place.
 const HEADS: &str = "\
 l%01~%01~~~~%07~~~@~~~ => 80
 B%01~%01~~~%03%01%02%03%04~~~, => 67
@@ -60,7 +60,7 @@ empty_array 4=4 cut=68 => Body 64
 ";
 
 /// Messages, and the order, the type, the serial, the path, the interface, the member, the destination, the sender, the
-/// reply serial and its place, a `-` or 0 for none, the signature and how many bytes the body has.
+/// reply serial and its place, with `-` or 0 for none, the signature and the length of the body.
 const MESSAGES: &str = "\
 call => Little 1 7 /p org.a.I A org.a.T - 0 0  0
 return => Little 2 60 - - - :1.40 :1.7 2 20  0
@@ -69,7 +69,7 @@ boolean => Little 2 9 - - - - - 2 20 b 4
 big_boolean => Big 2 9 - - - - - 2 20 b 4
 ";
 
-/// Messages that a stream had again and again, and one that follows them, and what that is read as.
+/// A message that a stream has repeated, and one that follows it, and what the latter is read as.
 const FOLLOWING: &str = "\
 return; return => Little 2 60 - - - :1.40 :1.7 2 20  0
 return; return 8=61 20=7 => Little 2 61 - - - :1.40 :1.7 7 20  0
@@ -106,7 +106,7 @@ const SERIALS: &str = "\
 258 big_call, 8=0 9=0 10=1 11=2 => true
 ";
 
-/// The same of a reply serial.
+/// The same for a reply serial.
 const REPLY_SERIALS: &str = "\
 7 return, 20=7 => true
 258 big_boolean, 20=0 21=0 22=1 23=2 => true
@@ -148,10 +148,10 @@ fn told_message(alloc: Global, read: Result<Message<'_>, Malformed>) -> Result<S
     }
 }
 
-/// So often a message is read until its texts are known.
+/// The number of times that a message is read until its texts are known.
 const TIMES: u32 = 70;
 
-/// The texts of a row's message as it is before the changes.
+/// The known texts of a row's message without its changes.
 fn known_before(alloc: Global, row: &str) -> Result<KnownTexts, AllocError> {
     let (name, _) = row.split_once(' ').unwrap_or((row, ""));
     let bytes = changed(alloc, name)?;
@@ -164,7 +164,7 @@ fn known_before(alloc: Global, row: &str) -> Result<KnownTexts, AllocError> {
     Ok(known)
 }
 
-/// The same whether or not messages before it are known.
+/// What a message is read as, if that is the same whether or not messages before it are known.
 fn told_following(alloc: Global, row: &str) -> Result<String, AllocError> {
     let (before, name) = row.split_once("; ").unwrap_or(("", row));
     let mut known = KnownTexts::new(alloc);
@@ -183,7 +183,7 @@ fn told_following(alloc: Global, row: &str) -> Result<String, AllocError> {
     told_twice(alloc, &bytes, &mut known)
 }
 
-/// What a message is read as alone, and where others are known if that differs.
+/// What a message is read as alone, and also with others known if that differs.
 fn told_twice(alloc: Global, bytes: &[u8], known: &mut KnownTexts) -> Result<String, AllocError>
     requires long { 16 ≤ length bytes.now }
     requires whole { head_fault bytes.now ≡ None → length bytes.now ≡ whole_len bytes.now }

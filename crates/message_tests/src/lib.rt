@@ -1,4 +1,4 @@
-//! Tests of messages: what is read of one, what is wrong with others, and the messages of streams.
+//! Tests of messages: what is read of a message, what is wrong with others, and the messages of streams.
 #![tactic(auto)]
 
 #[cfg(test)]

@@ -15,7 +15,7 @@ const CALL: &[u8] =
 const RETURN: &[u8] =
     b"l\x02\x01\x01\x00\x00\x00\x00<\x00\x00\x00%\x00\x00\x00\x05\x01u\x00\x02\x00\x00\x00\x06\x01s\x00\x05\x00\x00\x00:1.40\x00\x00\x00\x07\x01s\x00\x04\x00\x00\x00:1.7\x00\x00\x00\x00";
 
-/// A call to a.b in big order, with serial 0x01020304.
+/// A call to a.b in big-endian order, with serial 0x01020304.
 const BIG_CALL: &[u8] =
     b"B\x01\x00\x01\x00\x00\x00\x00\x01\x02\x03\x04\x00\x00\x00,\x01\x01o\x00\x00\x00\x00\x01/\x00\x00\x00\x00\x00\
         \x00\x00\x03\x01s\x00\x00\x00\x00\x01M\x00\x00\x00\x00\x00\x00\x00\x06\x01s\x00\x00\x00\x00\x03a.b\x00\x00\
@@ -25,19 +25,19 @@ const BIG_CALL: &[u8] =
 const BOOLEAN: &[u8] =
     b"l\x02\x01\x01\x04\x00\x00\x00\x09\x00\x00\x00\x0f\x00\x00\x00\x05\x01u\x00\x02\x00\x00\x00\x08\x01g\x00\x01b\x00\x00\x01\x00\x00\x00";
 
-/// The same in big order.
+/// The boolean return in big-endian order.
 const BIG_BOOLEAN: &[u8] =
     b"B\x02\x01\x01\x00\x00\x00\x04\x00\x00\x00\x09\x00\x00\x00\x0f\x05\x01u\x00\x00\x00\x00\x02\x08\x01g\x00\x01b\x00\x00\x00\x00\x00\x01";
 
-/// A return with no body that says that it has no descriptors.
+/// A return without a body that states that it has no descriptors.
 const DESCRIPTORS: &[u8] =
     b"l\x02\x01\x01\x00\x00\x00\x00\x09\x00\x00\x00\x10\x00\x00\x00\x05\x01u\x00\x02\x00\x00\x00\x09\x01u\x00\x00\x00\x00\x00";
 
-/// The same in big order.
+/// That return in big-endian order.
 const BIG_DESCRIPTORS: &[u8] =
     b"B\x02\x01\x01\x00\x00\x00\x00\x00\x00\x00\x09\x00\x00\x00\x10\x05\x01u\x00\x00\x00\x00\x02\x09\x01u\x00\x00\x00\x00\x00";
 
-/// A return with an empty array of 64-bit numbers, which stands at place 64 with its padding.
+/// A return with an empty array of 64-bit numbers, whose padding ends at place 64.
 const EMPTY_ARRAY: &[u8] =
     b"l\x02\x01\x01\x08\x00\x00\x00\x09\x00\x00\x00\x2d\x00\x00\x00\x05\x01u\x00\x02\x00\x00\x00\x08\x01g\x00\x02at\
         \x00\x06\x01s\x00\x05\x00\x00\x00:1.40\x00\x00\x00\x07\x01s\x00\x04\x00\x00\x00:1.7\x00\x00\x00\x00\x00\x00\
@@ -58,7 +58,7 @@ const ARRAY_CALL: &[u8] =
     b"l\x01\x00\x01\x00\x00\x00\x00\x07\x00\x00\x00\x28\x00\x00\x00\x01\x01o\x00\x02\x00\x00\x00/p\x00\x00\x00\x00\
         \x00\x00\x03\x01s\x00\x01\x00\x00\x00A\x00\x00\x00\x00\x00\x00\x00\x08\x01g\x00\x02ay\x00";
 
-/// The same, which states as long a body as may be: with it the message would have 128 MiB.
+/// That call with the longest body that it may state: with it the message would have 128 MiB.
 const LONGEST: &[u8] =
     b"l\x01\x00\x01\xc8\xff\xff\x07\x07\x00\x00\x00\x28\x00\x00\x00\x01\x01o\x00\x02\x00\x00\x00/p\x00\x00\x00\x00\
         \x00\x00\x03\x01s\x00\x01\x00\x00\x00A\x00\x00\x00\x00\x00\x00\x00\x08\x01g\x00\x02ay\x00";
@@ -82,8 +82,8 @@ pub fn bytes_of(name: &str) -> &'static [u8] {
     }
 }
 
-/// The message of a name, changed as what follows says, which spaces part: `PLACE=BYTE` puts a byte at a place, a number or
-/// a letter, and `cut=LENGTH` leaves so many bytes.
+/// The message with a name, with the changes that follow the name, separated by spaces: `PLACE=BYTE` puts a byte, a
+/// number or a letter, at a place, and `cut=LENGTH` leaves this number of bytes.
 pub fn changed(alloc: Global, row: &str) -> Result<Vec<u8>, AllocError> {
     let (name, changes) = row.split_once(' ').unwrap_or((row, ""));
     let mut bytes = Vec::from_slice(alloc, bytes_of(name))?;
@@ -97,7 +97,7 @@ pub fn changed(alloc: Global, row: &str) -> Result<Vec<u8>, AllocError> {
     Ok(bytes)
 }
 
-/// A call with an array of so many bytes.
+/// A call with an array of this many bytes.
 pub fn long_call(alloc: Global, len: u32) -> Result<Vec<u8>, AllocError> {
     let mut bytes = Vec::from_slice(alloc, ARRAY_CALL)?;
     bytes.extend_from_slice(&len.to_le_bytes())?;
@@ -108,7 +108,7 @@ pub fn long_call(alloc: Global, len: u32) -> Result<Vec<u8>, AllocError> {
     Ok(bytes)
 }
 
-/// A call of a path with 600 bytes.
+/// A call with a path of 600 bytes.
 pub fn deep_call(alloc: Global) -> Result<Vec<u8>, AllocError> {
     let mut bytes = Vec::from_slice(
         alloc,
@@ -131,7 +131,7 @@ fn put(bytes: &mut [u8], place: &str, byte: &str) {
     }
 }
 
-/// Whether the bytes are as many as they state, where they state it.
+/// Whether the bytes have the length that they state, if they state one.
 pub fn is_whole(bytes: &[u8]) -> bool
     ensures long { IsTrue result → 16 ≤ length bytes.now }
     ensures whole { IsTrue result → head_fault bytes.now ≡ None → length bytes.now ≡ whole_len bytes.now }
