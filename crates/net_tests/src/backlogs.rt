@@ -1,4 +1,4 @@
-//! Buses that take no client for a time.
+//! Buses that accept no client for a time.
 use crate::sessions::{accept, bus, client, listening, must, one_client};
 use libc::net::listen;
 use link_traits::{Count, Got, Net, Ready, Took};
@@ -82,7 +82,7 @@ fn backlog_stays_full(rt: HostRuntime) -> Result<(), Fail> {
     Ok(())
 }
 
-/// A bus that goes while a link waits for it.
+/// A bus that goes away while a link waits for it.
 #[test]
 fn bus_goes(rt: HostRuntime) -> Result<(), Fail> {
     let mut net = listening(&rt, "bus_goes")?;

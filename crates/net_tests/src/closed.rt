@@ -8,7 +8,7 @@ use std::os::fd::AsRawFd;
 use std::os::unix::net::UnixStream;
 use std::test::Fail;
 
-/// What a client wrote before it closed is read to its end, also where a write to it came first.
+/// A client's bytes from before it closed are read to their end, even if a write to it came first.
 #[test]
 fn written_before_close(rt: HostRuntime) -> Result<(), Fail> {
     let mut net = listening(&rt, "written_before_close")?;
@@ -35,7 +35,7 @@ fn written_before_close(rt: HostRuntime) -> Result<(), Fail> {
     Ok(())
 }
 
-/// A client that closes with bytes unread ends its link as one that read them all.
+/// A client that closes with unread bytes ends its link like one that read them all.
 #[test]
 fn unread_at_close(rt: HostRuntime) -> Result<(), Fail> {
     let mut net = listening(&rt, "unread_at_close")?;
@@ -56,7 +56,7 @@ fn unread_at_close(rt: HostRuntime) -> Result<(), Fail> {
     Ok(())
 }
 
-/// A link whose peer closed, and which isn't to be read any more, fails once the other link of its session is shut.
+/// A link whose peer closed, and which isn't watched for reading, fails after the other link of its session is shut.
 #[test]
 fn other_link_shut(rt: HostRuntime) -> Result<(), Fail> {
     let mut net = listening(&rt, "other_link_shut")?;
@@ -82,7 +82,7 @@ fn other_link_shut(rt: HostRuntime) -> Result<(), Fail> {
     Ok(())
 }
 
-/// Two links of a session whose peers both closed, and which aren't to be read any more, both fail.
+/// Two links of a session whose peers both closed, and which aren't watched for reading, both fail.
 #[test]
 fn both_peers_gone(rt: HostRuntime) -> Result<(), Fail> {
     let mut net = listening(&rt, "both_peers_gone")?;
@@ -98,7 +98,7 @@ fn both_peers_gone(rt: HostRuntime) -> Result<(), Fail> {
     Ok(())
 }
 
-/// A link whose peer closed, and which is read to its end without a wish for that, is named so that its writes fail.
+/// A link whose peer closed, and which is read to its end without a wish to read, is named so that its writes fail.
 #[test]
 fn read_unwished(rt: HostRuntime) -> Result<(), Fail> {
     let mut net = listening(&rt, "read_unwished")?;
@@ -124,7 +124,7 @@ fn read_unwished(rt: HostRuntime) -> Result<(), Fail> {
     Ok(())
 }
 
-/// Has a client shut its reading, and a write to it be refused. The read that this may make ready answers that it would wait.
+/// Has a client shut its reading, and a write to it be refused. If this makes a read ready, it returns `NotReady`.
 fn reading_shut(net: &mut MioNet<SystemSockets<'_>>, client_end: &UnixStream, link: Link) -> bool {
     let mut buffer = [0u8; 8];
     shutdown(client_end.as_raw_fd(), SHUT_RD) == 0
@@ -133,7 +133,7 @@ fn reading_shut(net: &mut MioNet<SystemSockets<'_>>, client_end: &UnixStream, li
         && net.write(link, b"x") == Took::NotReady
 }
 
-/// A client that shuts its reading and stays isn't read again after each write that is refused, but once it writes.
+/// A client that shuts its reading and stays isn't read again after each refused write, but only after it writes.
 #[test]
 fn reading_shut_stays(rt: HostRuntime) -> Result<(), Fail> {
     let mut net = listening(&rt, "reading_shut_stays")?;
@@ -154,7 +154,7 @@ fn reading_shut_stays(rt: HostRuntime) -> Result<(), Fail> {
     Ok(())
 }
 
-/// A client that shuts its reading, and closes or shuts its writing later, is read to its end, and its writes fail then.
+/// A client that shuts its reading, and later closes or shuts its writing, is read to its end; then its writes fail.
 #[test]
 fn reading_shut_ends(rt: HostRuntime) -> Result<(), Fail> {
     let mut net = listening(&rt, "reading_shut_ends")?;

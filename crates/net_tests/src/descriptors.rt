@@ -1,4 +1,4 @@
-//! What goes on where the system has no descriptor left.
+//! How a net goes on if the system has no descriptor left.
 use crate::sessions::{accept, client, listening, must, one_client};
 use link_traits::{Accepted, Count, Net, NetFault, Ready};
 use std::fs::File;
@@ -6,10 +6,10 @@ use std::os::unix::net::UnixStream;
 use std::test::Fail;
 use std::time::{Duration, Instant};
 
-/// How many descriptors are taken at most.
+/// The maximum number of descriptors that are taken.
 const MOST: u32 = 200_000;
 
-/// Takes all descriptors that are left. `None` where there are more than can be taken.
+/// Takes all descriptors that are left. `None` if there are more than can be taken.
 fn all_descriptors(rt: &HostRuntime) -> Result<Option<Vec<File>>, Fail> {
     let mut held = Vec::new(rt.alloc());
     for _ in 0..MOST {
@@ -21,7 +21,8 @@ fn all_descriptors(rt: &HostRuntime) -> Result<Option<Vec<File>>, Fail> {
     Ok(None)
 }
 
-/// If an accept fails, its listener is reported again as soon as a link is shut. A listen that fails leaves its path free.
+/// If an accept fails, its listener is reported again as soon as a link is shut. A listen that fails leaves its path
+/// free.
 #[test]
 fn none_left(rt: HostRuntime) -> Result<(), Fail> {
     let mut net = listening(&rt, "none_left")?;
@@ -43,8 +44,8 @@ fn none_left(rt: HostRuntime) -> Result<(), Fail> {
     Ok(())
 }
 
-/// With no link open, a client that no descriptor was left for is accepted once there is one again, though nobody else comes. Until
-/// then the listener is named after a delay that doubles, and nothing is lost.
+/// With no link open, a client for which no descriptor was left is accepted once there is one again, even if no other
+/// client connects. Until then the listener is named after a delay that doubles, and nothing is lost.
 #[test]
 fn freed_again(rt: HostRuntime) -> Result<(), Fail> {
     let mut net = listening(&rt, "freed_again")?;
@@ -58,7 +59,7 @@ fn freed_again(rt: HostRuntime) -> Result<(), Fail> {
         assert_eq!(rt; net.accept(0), Accepted::Failed);
         assert_eq!(rt; net.count(Count::Listener(0)), tries);
     }
-    // 1, 2, 4, 8, 16, 32 and 32 milliseconds went by.
+    // 1, 2, 4, 8, 16, 32 and 32 milliseconds passed.
     let waited = Instant::now(&rt)?.saturating_duration_since(start);
     assert!(rt; waited >= Duration::from_millis(95));
     drop(held);

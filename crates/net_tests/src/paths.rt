@@ -7,7 +7,7 @@ use std::os::unix::fs::symlink;
 use std::os::unix::net::{UnixListener, UnixStream};
 use std::test::Fail;
 
-/// What stands at a path is left as it is, and an empty path names nothing.
+/// A file at a path isn't changed, and an empty path is refused.
 #[test]
 fn taken_paths(rt: HostRuntime) -> Result<(), Fail> {
     let mut net = MioNet::new(&rt)?;
@@ -25,7 +25,7 @@ fn taken_paths(rt: HostRuntime) -> Result<(), Fail> {
     Ok(())
 }
 
-/// By the setting a socket and an empty file are replaced, and nothing else: no file with a byte, no folder and no link.
+/// With the setting, a socket and an empty file are replaced, but no file with a byte, no folder and no link.
 #[test]
 fn replaced_paths(rt: HostRuntime) -> Result<(), Fail> {
     let mut net = MioNet::new(&rt)?;
@@ -79,8 +79,8 @@ fn no_bus(rt: HostRuntime) -> Result<(), Fail> {
     Ok(())
 }
 
-/// The sockets that a net bound are removed, and nothing else: not a file that was there before, and not one that another put in
-/// a socket's place.
+/// The sockets that a net bound are removed, and nothing else: not a file that was there before, and not one that
+/// another process put in a socket's place.
 #[test]
 fn sockets_removed(rt: HostRuntime) -> Result<(), Fail> {
     let mut net = listening(&rt, "removed_first")?;

@@ -19,12 +19,12 @@ pub fn bus(session: u32) -> Link {
     }
 }
 
-/// Fails the test where what must hold doesn't.
+/// Fails the test if what must hold doesn't.
 pub fn must(holds: bool, what: &str) -> Result<(), Fail> {
     if holds { Ok(()) } else { Err(Fail::new(what)) }
 }
 
-/// A net that listens at a path, which is a test's own, since all tests may run in one folder.
+/// A net that listens at a path. Each test has its own path, since all tests may run in one folder.
 pub fn listening<'a>(rt: &'a HostRuntime, path: &str) -> Result<MioNet<SystemSockets<'a>>, Fail> {
     let mut net = MioNet::new(rt)?;
     must(net.listen(path) == Ok(0), "listens at the first path")?;
@@ -41,7 +41,7 @@ pub fn accept(net: &mut MioNet<SystemSockets<'_>>, session: u32) -> Result<(), F
     must(net.accept(0) == Accepted::NotReady, "no other client waits")
 }
 
-/// Has a client of the test's own make session 1, and answers that client.
+/// Has a client that the test makes start session 1, and returns the client.
 pub fn one_client(
     rt: &HostRuntime,
     net: &mut MioNet<SystemSockets<'_>>,
@@ -88,7 +88,7 @@ fn numbers(rt: HostRuntime) -> Result<(), Fail> {
     Ok(())
 }
 
-/// A listener of which nothing is accepted when it is named isn't named again until another client comes.
+/// A listener whose client isn't accepted when it is named isn't named again until another client connects.
 #[test]
 fn unheeded_listeners(rt: HostRuntime) -> Result<(), Fail> {
     let mut net = listening(&rt, "unheeded_listeners")?;
@@ -108,7 +108,7 @@ fn unheeded_listeners(rt: HostRuntime) -> Result<(), Fail> {
     Ok(())
 }
 
-/// A listener of which a client is accepted after others were named is named again for the clients that still wait.
+/// A listener whose client is accepted after others were named is named again for the clients that still wait.
 #[test]
 fn late_accepts(rt: HostRuntime) -> Result<(), Fail> {
     let mut net = listening(&rt, "late_accepts")?;

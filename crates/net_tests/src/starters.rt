@@ -15,7 +15,8 @@ fn started_by<D: AsRawFd>(descriptor: &D) -> Setting {
     }
 }
 
-/// The byte is written with the first wait alone. Once the starter closes its end, waits are quiet whatever else is ready.
+/// The byte is written with the first wait only. After the starter closes its end, waits are quiet, whatever else is
+/// ready.
 #[test]
 fn starter_gone(rt: HostRuntime) -> Result<(), Fail> {
     let (mut reader, writer) = io::pipe(&rt)?;
@@ -39,7 +40,7 @@ fn starter_gone(rt: HostRuntime) -> Result<(), Fail> {
     Ok(())
 }
 
-/// No byte is written before the first wait, and one at most.
+/// No byte is written before the first wait, and at most one in all.
 #[test]
 fn starter_bytes(rt: HostRuntime) -> Result<(), Fail> {
     let (mut reader, writer) = io::pipe(&rt)?;
@@ -77,7 +78,7 @@ fn starter_gone_at_first(rt: HostRuntime) -> Result<(), Fail> {
     Ok(())
 }
 
-/// What isn't a pipe is refused, and a second starter.
+/// A descriptor that isn't a pipe's is refused, and so is a second starter.
 #[test]
 fn starters_refused(rt: HostRuntime) -> Result<(), Fail> {
     let mut net = MioNet::new(&rt)?;

@@ -5,7 +5,7 @@ use proxy_net::{MioNet, SystemSockets};
 use std::io::{Read, Write};
 use std::test::Fail;
 
-/// How many bytes go each way.
+/// The number of bytes in each direction.
 const MEGABYTE: usize = 1_000_000;
 
 /// Bytes go both ways, and a link is named as long as it is ready for a wish.
@@ -66,7 +66,7 @@ fn in_turn(rt: HostRuntime) -> Result<(), Fail> {
     Ok(())
 }
 
-/// What one end of a stream of bytes has sent and got.
+/// What one end of a stream of bytes has sent and received.
 #[derive(Drop)]
 struct End {
     link: Link,
@@ -96,7 +96,7 @@ impl End {
         self.sent >= MEGABYTE && self.got >= MEGABYTE
     }
 
-    /// Writes once of what is left.
+    /// Writes once from what is left.
     fn send(&mut self, net: &mut MioNet<SystemSockets<'_>>) {
         let mut piece = [0u8; 65536];
         let most = MEGABYTE.saturating_sub(self.sent).min(piece.len());
@@ -126,7 +126,7 @@ impl End {
         }
     }
 
-    /// Goes on with what is left, and states the wishes.
+    /// Continues with what is left, and states the wishes.
     fn go_on(&mut self, net: &mut MioNet<SystemSockets<'_>>) {
         if self.sent < MEGABYTE {
             self.send(net);
