@@ -1,4 +1,4 @@
-//! Tests of sessions: what waits for either side, and what a replay writes.
+//! Tests of sessions: the bytes that wait for either side, and what a replay writes.
 #![tactic(auto)]
 
 #[cfg(test)]

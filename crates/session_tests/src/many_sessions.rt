@@ -12,11 +12,11 @@ use std::alloc::{AllocError, Global};
 use std::test::Fail;
 use test_tables::{plain, text_of, wrong_row};
 
-/// The words of a policy, which commas part, or a dash for none, the room of the output, and the bytes of a recording,
-/// and the answer, what is written, and how many writes have failed.
+/// The words of a policy, separated by commas, or a dash for none, the room of the output, and the bytes of a
+/// recording; and the result, what is written, and the number of failed writes.
 ///
-/// The sessions are named in any order, and their events stand between one another. What comes after a session's end,
-/// or after a failed call of one of its links, has no effect. A malformed stream ends its own session alone.
+/// Sessions are in any order, and their events are interleaved. Events after a session's end, or after a failed call of
+/// one of its links, have no effect. A malformed stream only ends its own session.
 const PLAYED: &str = "\
 - 64 DBPR%02~~%03~~~%03~~~%FF%FF%FF%02%03~~~~~~~ => Ok(()) [%10%03~~~%03~~~%FF%FF%FF%12%03~~~%01~~~%03] 0
 - 64 DBPR%02~ => Ok(()) [] 0
@@ -34,8 +34,8 @@ const PLAYED: &str = "\
 - 20 DBPR%02~~%03~~~%03~~~abc%02%02~~~~~~~ => Err(Out) [%12%02~~~%01~~~%03%10%03~~~%03~~~a] 1
 ";
 
-/// The same with the room of the log and with its text. Two sessions call a hidden name, and a ping stands in the place
-/// of each call. The lines of the log stand in the order of the calls.
+/// Rows like those of `PLAYED`, with the room of the log and with its text. Two sessions call a hidden name, and a ping
+/// is sent in place of each call. The lines of the log are in the order of the calls.
 const LOGGED: &str = "\
 --filter,--log 1000 DBPR%02~~%02~~~@~~~l%01~%01~~~~%04%03%02%01,~~~%01%01o~%01~~~/~~~~~~~%03%01s~%01~~~M~~~~~~~%06%01\
     s~%03~~~a.b~~~~~~%01~~~@~~~l%01~%01~~~~%04%03%02%01,~~~%01%01o~%01~~~/~~~~~~~%03%01s~%01~~~M~~~~~~~%06%01s~%03~~~\
@@ -74,7 +74,7 @@ fn policy_of(alloc: Global, words: &str) -> Result<Options, AllocError> {
     }
 }
 
-/// The recording of a file of either version. Another file is told as if memory had run out.
+/// The recording of a file of either version. Any other file is reported as refused memory.
 fn sessions_of(alloc: Global, file: &str) -> Result<Sessions, AllocError>
     ensures { IfOk result (λ s. IsReadable (sessions_seen s)) }
 {
@@ -126,7 +126,7 @@ fn told_with_log(
     format!(in alloc; "{answer:?} [{written}] [{logged}] {}", err.faults)
 }
 
-/// What is told of a recording of version 1, read as one of many sessions.
+/// The result for a recording of version 1, read as one of many sessions.
 fn told_one_session(alloc: Global, row: &str) -> Result<String, AllocError> {
     let (words, row) = row.split_once(' ').unwrap_or((row, ""));
     let (room, file) = row.split_once(' ').unwrap_or((row, ""));

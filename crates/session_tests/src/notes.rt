@@ -9,13 +9,14 @@ use std::alloc::{AllocError, Global};
 use std::test::Fail;
 use test_tables::wrong_row;
 
-/// How many serials count as given, the words of a policy, which commas part, and what comes and is told of it, as in
-/// the table of sessions: of a note its number and side, the type, serial and length of its message, and the decision.
+/// The number of serials that count as given, the words of a policy, separated by commas, and the steps and their
+/// results, as in the table of sessions. The result for a note is its number and side, the type, serial and length of
+/// its message, and the decision.
 ///
-/// Messages of both sides are counted together, the first is 1, and each has a note: one that passes and its answer,
-/// one in whose place a ping goes and what is shown then, and those that are dropped and hidden. A message that comes
-/// byte by byte has one. Notes that were taken change no number. If a stream is malformed, what came before has its
-/// notes; and a message in whose place the last serial is missing has none.
+/// Messages of both sides are counted together, from 1, and each has a note: one that passes and its answer, one that a
+/// ping replaces and what is then shown, and those that are dropped and hidden. A message that is received byte by byte
+/// has one. Taking notes doesn't change their numbers. If a stream is malformed, what came before it has its notes; a
+/// message for which no serial is left has none.
 const NOTES: &str = "\
 0 --filter; note => none; None
 0 --filter,--talk=org.a.T; client call; bus return; note; note; note => - 80 0; - 80 56; 1 Client 1 7 80 Judged(Pass); 2 Bus 2 60 56 Shown(Reply(7)); none; None
@@ -35,8 +36,7 @@ const NOTES: &str = "\
 4294967295 --filter,--talk=org.a.T; client return; client call; note; note => - 0 0; SerialsSpent 0 0; 1 Client 2 60 56 Judged(Drop(NotOutstanding)); none; Some(SerialsSpent)
 ";
 
-/// Lines of both sides, of which no note is made, and then a message, or bytes of both sides if messages aren't
-/// filtered.
+/// Lines of both sides, which have no notes, and then a message; or bytes of both sides if messages aren't filtered.
 const LINES: &str = "\
 --filter,--talk=org.a.T; client auth; bus ok; note; client begin; client call; note; note => - 19 0; - 19 37; none; - 26 37; - 106 37; 1 Client 1 7 80 Judged(Pass); none; None
 --log; client auth; bus ok; note; client begin; client call; bus ones; note => - 19 0; - 19 37; none; - 26 37; - 106 37; - 106 53; none; None
@@ -52,14 +52,14 @@ const NOTED: Mode = Mode {
     notes: true,
 };
 
-/// The same, behind lines.
+/// Filtered messages after lines, with notes.
 const WITH_LINES: Mode = Mode {
     auth: true,
     filter: true,
     notes: true,
 };
 
-/// What is told of a note, if there is one.
+/// The text of a note, if there is one.
 pub fn told_note(alloc: Global, note: Option<Note>) -> Result<String, AllocError> {
     match note {
         None => String::from_str(alloc, "none; "),
@@ -67,7 +67,7 @@ pub fn told_note(alloc: Global, note: Option<Note>) -> Result<String, AllocError
     }
 }
 
-/// What is told of a note.
+/// The text of a note.
 pub fn told_parts(alloc: Global, note: &Note) -> Result<String, AllocError> {
     let (number, side, decision) = (note.number(), note.side(), note.decision());
     let (message, length) = (note.message(), note.frame().len());
@@ -105,7 +105,7 @@ fn told_behind_lines(alloc: Global, options: &Options, steps: &str) -> Result<St
     told_steps(alloc, &mut session, &options.policy, steps)
 }
 
-/// The bytes that the note on a message of the client keeps.
+/// The bytes in the note on a message of the client.
 fn kept_frame(alloc: Global, frame: &[u8]) -> Result<Vec<u8>, AllocError> {
     let options = options_of(alloc, "--filter")?;
     let mut session = Session::new(alloc, &options.policy, NOTED)?;

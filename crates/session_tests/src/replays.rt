@@ -9,11 +9,11 @@ use std::alloc::{AllocError, Global};
 use std::test::Fail;
 use test_tables::{plain, text_of, wrong_row};
 
-/// The words of a policy, which commas part, the room of the output, and the bytes of a recording, and the answer, what
-/// is written, how many writes have failed, and how many bytes the log has.
+/// The words of a policy, separated by commas, the room of the output, and the bytes of a recording; and the result,
+/// what is written, the number of failed writes, and the number of bytes of the log.
 ///
-/// In three of them the client calls `a.b`: the call and its answer are numbered anew, or a ping stands in the place of
-/// a call to a hidden name, without a log and with one.
+/// In three rows the client calls `a.b`: the call and its answer get new serials, or a ping is sent in place of a call
+/// to a hidden name, without a log and with one.
 pub const REPLAYS: &str = "\
 --filter 64 DBPR%01~ => Ok(()) [] 0 0
 --filter 64 DBPR%01~%02~~~~ => Ok(()) [%12%01~~~%03] 0 0
@@ -34,8 +34,8 @@ pub const REPLAYS: &str = "\
 --filter,--log 0 DBPR%01~%02~~~~ => Err(Out) [] 1 0
 ";
 
-/// The words of a policy and the bytes of a recording, and its notes. In each but the last the client calls `a.b`, and
-/// the bus answers.
+/// The words of a policy and the bytes of a recording, and its notes. In each row except the last, the client calls
+/// `a.b` and the bus answers.
 const LISTED: &str = "\
 --filter,--talk=a.b DBPR%01~~@~~~l%01~%01~~~~%04%03%02%01,~~~%01%01o~%01~~~/~~~~~~~%03%01s~%01~~~M~~~~~~~%06%01s~%03~\
     ~~a.b~~~~~%01(~~~l%02%01%01~~~~%09~~~%18~~~%07%01s~%04~~~:1.7~~~~%05%01u~%01~~~ => \

@@ -1,4 +1,4 @@
-//! Sessions of which the last serials are given.
+//! Sessions that give their last serials.
 use crate::sessions::{FILTERED, told_steps};
 use crate::texts::options_of;
 use policy_args::Options;
@@ -7,11 +7,11 @@ use std::alloc::{AllocError, Global};
 use std::test::Fail;
 use test_tables::wrong_row;
 
-/// How many serials count as given, the words of a policy, which commas part, and what comes and is told of it, as in
-/// the table of sessions.
+/// The number of serials that count as given, the words of a policy, separated by commas, and the steps and their
+/// results, as in the table of sessions.
 ///
-/// A call passes with the last serial and is answered, and the next one has none. Pings need a serial too, dropped
-/// messages don't. A Hello and the calls behind it are sent together or not at all, and so are the calls on a list of
+/// A call passes with the last serial and is answered, and the next call has none. Pings also need a serial; dropped
+/// messages don't. A Hello and the calls after it are sent together or not at all, and so are the calls on a list of
 /// names.
 const SPENT: &str = "\
 4294967294 --filter,--talk=org.a.T; client call; bus_byte 8; bus_byte 9; bus_byte 10; bus_byte 11; \

@@ -1,4 +1,4 @@
-//! Sessions that messages are fed to, and what waits for either side.
+//! Sessions that are fed messages, and the bytes that wait for either side.
 ghost use Rattle.std.specs.Prelude.{◌≤◌};
 
 use crate::name_lists::CALL as CALL_OF_NAMES;
@@ -11,9 +11,9 @@ use std::alloc::{AllocError, Global};
 use std::test::Fail;
 use test_tables::wrong_row;
 
-/// The words of a policy, which commas part, and what comes and is taken, one after the other; and the answer of each,
-/// a `-` for none, how many bytes wait for the bus and for the client, or the byte that was asked for; and why the
-/// session ended.
+/// The words of a policy, separated by commas, and the steps, one after the other; and for each step its result, with
+/// `-` for none, and the numbers of bytes that wait for the bus and for the client, or the byte that was asked for; and
+/// why the session ended.
 const SESSIONS: &str = "\
 --filter,--talk=org.a.T; client call; bus_byte 8; took_bus 80; bus return; bus return; client_byte 20; took_client 56 => - 80 0; 1; - 0 0; - 0 56; - 0 56; 7; - 0 0; None
 --filter; client call; bus return => - 120 0; - 120 140; None
@@ -39,7 +39,7 @@ const SESSIONS: &str = "\
 --log; bus ones; took_client 10; client call; bus return; client_byte 6; bus_ended; note => - 0 16; - 0 6; - 80 6; - 80 62; 108; BusEnd 80 62; none; Some(BusEnd)
 ";
 
-/// Messages alone, which are filtered.
+/// Filtered messages without lines.
 pub const FILTERED: Mode = Mode {
     auth: false,
     filter: true,
@@ -112,11 +112,11 @@ const OK: &[u8] = b"OK 0123456789abcdef0123456789abcdef\r\n";
 
 const BEGIN: &[u8] = b"BEGIN\r\n";
 
-/// Bytes of which none begins a message.
+/// Bytes with which no message begins.
 const ONES: &[u8] = &[0xff; 16];
 
-/// A message, changed as what follows its name says: `PLACE=BYTE` puts a byte at a place, `cut=LENGTH` leaves so many
-/// bytes, and `fill=COUNT` puts so many of `x` behind the others.
+/// A message with the changes that follow its name: `PLACE=BYTE` puts a byte at a place, `cut=LENGTH` leaves this
+/// number of bytes, and `fill=COUNT` appends this number of `x`.
 pub fn message(alloc: Global, row: &str) -> Result<Vec<u8>, AllocError> {
     let (name, changes) = row.split_once(' ').unwrap_or((row, ""));
     let mut bytes = Vec::from_slice(alloc, bytes_of(name))?;
@@ -169,7 +169,7 @@ fn told_under(alloc: Global, options: &Options, steps: &str) -> Result<String, A
     told_steps(alloc, &mut session, &options.policy, steps)
 }
 
-/// What is told of each step, and why the session ended.
+/// The result of each step, and why the session ended.
 pub fn told_steps(
     alloc: Global,
     session: &mut Session,
@@ -212,7 +212,7 @@ fn told_byte(alloc: Global, bytes: &[u8], place: &str) -> Result<String, AllocEr
     format!(in alloc; "{}; ", bytes.get(place).copied().unwrap_or(0))
 }
 
-/// What a step answers.
+/// The result of a step.
 fn end_of(
     session: &mut Session,
     policy: &Policy,

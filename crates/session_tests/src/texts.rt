@@ -2,7 +2,7 @@
 use policy_args::{LineRefusal, Options, read_options};
 use std::alloc::{AllocError, Global};
 
-/// What the words of a policy file ask for, which commas part. Bad words are told as if memory had run out.
+/// What the words of a policy file, separated by commas, ask for. Bad words are reported as refused memory.
 pub fn options_of(alloc: Global, row: &str) -> Result<Options, AllocError> {
     let mut words = Vec::new(alloc);
     for word in row.split(',') {

@@ -7,8 +7,8 @@ use std::alloc::{AllocError, Global};
 use std::test::Fail;
 use test_tables::wrong_row;
 
-/// The words of a policy, which commas part, and what comes in either of two sessions, one after the other; and what
-/// the comparison of their recordings answers. If `lines` stands first, the streams begin with lines of authentication.
+/// The words of a policy, separated by commas, and the steps of either of two sessions; and the result of comparing
+/// their recordings. If `lines` is the first step, the streams begin with lines of authentication.
 const TWINS: &str = "\
 --filter,--talk=org.a.T: client call; bus return; client_ended | client call; bus return; client_ended => Same
 --filter,--talk=org.a.T: nothing | nothing => Same
@@ -52,7 +52,7 @@ fn told_twin(alloc: Global, row: &str) -> Result<String, AllocError> {
     format!(in alloc; "{answer:?}")
 }
 
-/// The recording of what comes. Another step than these makes a file that is none.
+/// The recording of the steps. Any other step makes a file that isn't a recording.
 fn recording_of(alloc: Global, steps: &str) -> Result<Recording, AllocError> {
     match read(alloc, &file_of(alloc, steps)?) {
         Ok(recording) => Ok(recording),
@@ -85,7 +85,7 @@ fn add_step(file: &mut Vec<u8>, what: &str, bytes: &[u8]) -> Result<(), AllocErr
     }
 }
 
-/// The streams begin with lines.
+/// Lets the streams begin with lines.
 fn set_auth(file: &mut [u8]) {
     if let Some(auth) = file.get_mut(5) {
         *auth = 1;
