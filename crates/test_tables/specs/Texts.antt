@@ -1,12 +1,12 @@
--- Bytes as texts, in which a tilde is a zero, and a percent sign stands before the two hexadecimal digits of a byte.
+-- Bytes as texts, in which a tilde is a zero byte, and a percent sign precedes the two hexadecimal digits of a byte.
 use Rattle.std.specs.Prelude.{◌≡◌, ℕ, Option, Some, None, ◌+◌, ◌-◌, ◌*◌, ◌/◌, ◌%◌, ◌==◌, ◌&&◌, not, nat_lt, nat_le, Bool, List, [], ◌∷◌, if◌then◌else◌}
 use Rattle.std.specs.List.{flat_map}
 
--- what a digit stands for; what is none stands for 0
+-- the value of a digit; any other character has the value 0
 abbrev pub digit_value : ℕ → ℕ
 digit_value c = if nat_le 48 c && nat_le c 57 then c - 48 else (if nat_le 65 c && nat_le c 70 then c - 55 else 0)
 
--- the byte that a character stands for alone
+-- the byte of a single character
 abbrev pub byte_of : ℕ → ℕ
 byte_of c = if c == 126 then 0 else c
 
@@ -23,7 +23,7 @@ bytes_of (c ∷ high ∷ low ∷ text) =
 abbrev pub digit_of : ℕ → ℕ
 digit_of n = if nat_lt n 10 then 48 + n else 55 + n
 
--- a byte that stands for itself: from a space to a closing brace, and no percent sign
+-- a byte that is its own text: from a space to a closing brace, except a percent sign
 abbrev pub is_plain : ℕ → Bool
 is_plain byte = nat_le 32 byte && nat_le byte 125 && not (byte == 37)
 
@@ -36,7 +36,7 @@ text_of_byte byte =
 abbrev pub text_of_bytes : List ℕ → List ℕ
 text_of_bytes bytes = flat_map text_of_byte bytes
 
--- the first byte of a text, and the text behind it
+-- the first byte of a text, and the text after it
 abbrev pub IsFirst : List ℕ → Option (ℕ × List ℕ) → Type 0
 IsFirst text None = bytes_of text ≡ []
 IsFirst text (Some first) = bytes_of text ≡ first.0 ∷ bytes_of first.1

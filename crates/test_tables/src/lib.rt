@@ -1,4 +1,4 @@
-//! Tables for tests, in which a row has what is given and what is to be told of it, and bytes as texts.
+//! Tables for tests, whose rows have what is given and the expected result, and bytes as texts.
 #![tactic(auto)]
 
 mod names;

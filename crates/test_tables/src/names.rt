@@ -1,13 +1,13 @@
-//! Tables in which a name in braces is written in place of a longer text.
+//! Tables in which a name in braces stands for a longer text.
 use crate::rows::wrong_row;
 use crate::texts::{add_text, plain};
 use std::alloc::{AllocError, Global};
 
-/// Names of texts, each a name and its text, in which `~` is a zero and `%` stands before two hexadecimal digits of a byte.
+/// Names, each with its text. In a text, `~` is a zero byte and `%` precedes the two hexadecimal digits of a byte.
 pub type Names<'a> = &'a [(&'a str, &'a str)];
 
-/// The texts of a session in which a client authenticates itself, calls org.a.T with serial 1, and is answered by :1.7; the
-/// ping that is sent in the place of its first call if that is refused; and a call to a.b in big byte order.
+/// The texts of a session in which a client authenticates itself, calls org.a.T with serial 1, and is answered by :1.7;
+/// the ping that is sent in place of its first call if that is refused; and a call to a.b in big-endian order.
 pub const SESSION: &[(&str, &str)] = &[
     ("auth", "~AUTH EXTERNAL%0D%0A"),
     ("begin", "BEGIN%0D%0A"),
@@ -40,7 +40,8 @@ fn named(alloc: Global, names: Names<'_>, name: &str) -> Result<Vec<u8>, AllocEr
     Err(AllocError)
 }
 
-/// The bytes of a name, with the bytes changed that `PLACE=BYTE` names after it: a decimal number, or any other character itself.
+/// The bytes of a name, with the changes `PLACE=BYTE` that follow it. BYTE is a decimal number, or any other character
+/// for itself.
 fn changed(alloc: Global, names: Names<'_>, words: &str) -> Result<Vec<u8>, AllocError> {
     let (name, changes) = words.split_once(' ').unwrap_or((words, ""));
     let mut bytes = named(alloc, names, name)?;
@@ -60,8 +61,8 @@ fn byte_of(text: &str) -> u8 {
     }
 }
 
-/// A table in which the text of its bytes replaces each name in braces: `{call}` is the text of `call`, and `{call 8=2}` that with
-/// a byte 2 at place 8.
+/// A table in which each name in braces is replaced by the text of its bytes: `{call}` by the text of `call`, and
+/// `{call 8=2}` by that text with a byte 2 at place 8.
 pub fn spelled(alloc: Global, names: Names<'_>, table: &str) -> Result<String, AllocError> {
     let mut text = String::new(alloc);
     for part in table.split('{') {
@@ -76,7 +77,7 @@ pub fn spelled(alloc: Global, names: Names<'_>, table: &str) -> Result<String, A
     Ok(text)
 }
 
-/// `wrong_row` of a table with names.
+/// Does as `wrong_row` does, for a table with names.
 pub fn wrong_named_row<F: Fn(Global, &str) -> Result<String, AllocError>>(
     alloc: Global,
     names: Names<'_>,

@@ -1,7 +1,7 @@
-//! Tables of what is given and what is told of it.
+//! Tables of what is given and of the expected results.
 use std::alloc::{AllocError, Global};
 
-/// The first row of a table of which something else is told than stands behind its ` => `, with what is told.
+/// The first row of a table whose result isn't what follows ` => `, with that result.
 pub fn wrong_row<F: Fn(Global, &str) -> Result<String, AllocError>>(
     alloc: Global,
     table: &str,

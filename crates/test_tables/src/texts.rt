@@ -4,7 +4,7 @@ ghost use Rattle.test_tables.specs.Texts.{IsFirst, bytes_of, digit_of, digit_val
 
 use std::alloc::{AllocError, Global};
 
-/// The bytes of a text, in which `~` is a zero and `%` stands before two hexadecimal digits of a byte.
+/// The bytes of a text, in which `~` is a zero byte and `%` precedes the two hexadecimal digits of a byte.
 pub fn plain(alloc: Global, text: &str) -> Result<Vec<u8>, AllocError>
     ensures { IfOk result (λ bytes. bytes.items ≡ bytes_of text.now) }
 {
@@ -17,7 +17,7 @@ pub fn plain(alloc: Global, text: &str) -> Result<Vec<u8>, AllocError>
     Ok(bytes)
 }
 
-/// The first byte of a text, and what is behind it.
+/// The first byte of a text, and the text after it.
 fn first_byte(text: &[u8]) -> Option<(u8, &[u8])>
     ensures first { IsFirst text.now (option_map (λ p. (p.0, p.1.now)) result) }
     ensures shorter { IfSome result (λ p. length p.1.now < length text.now) }
@@ -30,7 +30,7 @@ fn first_byte(text: &[u8]) -> Option<(u8, &[u8])>
     }
 }
 
-/// What a hexadecimal digit stands for.
+/// The value of a hexadecimal digit.
 fn digit(byte: u8) -> u8
     ensures value { result ≡ digit_value byte }
     ensures small { result < 16 }
