@@ -1,13 +1,11 @@
 -- The names that a message names, by what was read of it.
 use Rattle.std.proofs.Common.{◌≡◌, ◌==◌, ◌&&◌, ℕ, Bool, List, [], ◌++◌, Option, Some, ap, sym, ◌∙◌, codes, option_map, if◌then◌else◌}
-use Rattle.std.specs.Prelude.{unwrap_or}
-use Rattle.dbus_header.specs.Contents.{Contents, contents_of, message_of}
+use Rattle.dbus_header.specs.Contents.{Contents, contents_of, message_of, message_in}
 use Rattle.dbus_header.specs.Message.{Message, first_text}
 use Rattle.dbus_header.proofs.MessageBodies.{message-read}
+use Rattle.dbus_header.proofs.MessageIn.{message-is}
 use Rattle.dbus_names.specs.Names.{bus_name}
 use Rattle.dbus_names.specs.Texts.{Text}
-use Rattle.policy_view.specs.Notes.{message_in}
-use Rattle.policy_view.specs.Own.{ping}
 use Rattle.policy_view.specs.Sent.{is_bus_or_absent}
 use Rattle.policy_view.specs.Shown.{is_owner_change}
 use Rattle.policy_view.specs.Texts.{has_text}
@@ -17,7 +15,7 @@ use Rattle.audit.specs.Audit.{listed, named_by_bus, named_by_client, where_well_
 pub read-message : (bytes : List ℕ) (x : Contents) → option_map contents_of (message_of bytes) ≡ Some x → (message_of bytes ≡ Some (message_in bytes)) × (contents_of (message_in bytes) ≡ x)
 read-message bytes x read =
     let found = message-read bytes x read in
-    let here : message_in bytes ≡ found.0 = ap (λ o. unwrap_or o ping) found.1 in
+    let here : message_in bytes ≡ found.0 = message-is bytes found.0 found.1 in
     (found.1 ∙ ap Some (sym here), ap contents_of here ∙ found.2)
 
 abbrev pub calls_bus : Contents → Bool

@@ -8,7 +8,8 @@ use Rattle.name_patterns.specs.Patterns.{covers}
 use Rattle.policy_args.specs.Policy.{Policy, entry_word}
 use Rattle.policy_args.specs.Words.{PolicyOptions}
 use Rattle.policy_args.specs.declared.entry.Entry.{Entry}
-use Rattle.policy_view.specs.Notes.{Note, message_in}
+use Rattle.dbus_header.specs.Contents.{message_in}
+use Rattle.policy_view.specs.Notes.{Note}
 use Rattle.policy_view.specs.Sent.{is_bus_or_absent}
 use Rattle.policy_view.specs.Shown.{is_owner_change}
 use Rattle.policy_view.specs.declared.Decision.{Decision}

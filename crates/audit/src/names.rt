@@ -3,7 +3,7 @@ ghost use Rattle.std.specs.Prelude.{◌≡◌, ◌==◌, ◌&&◌, ◌++◌, Lis
 ghost use Rattle.dbus_names.specs.Names.{bus_name};
 ghost use Rattle.dbus_names.specs.Texts.{Text};
 ghost use Rattle.dbus_header.specs.Seen.{text_seen};
-ghost use Rattle.policy_view.specs.Notes.{message_in};
+ghost use Rattle.dbus_header.specs.Contents.{message_in};
 ghost use Rattle.policy_view.specs.Sent.{is_bus_or_absent as is_name_of_bus_or_absent};
 ghost use Rattle.policy_view.specs.Texts.{has_text};
 ghost use Rattle.audit.specs.Audit.{listed, named_by_bus, named_by_client, where_well_known};

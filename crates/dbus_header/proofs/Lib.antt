@@ -19,5 +19,6 @@ pub mod WholeMessage
 pub mod NumberLaws
 pub mod CutLaws
 pub mod MessageBodies
+pub mod MessageIn
 pub mod BusNames
 pub mod KnownHeaders

@@ -1,14 +1,23 @@
 -- The parts of a message, as they are read.
-use Rattle.std.specs.Prelude.{◌≡◌, ◌≤◌, ℕ, ◌+◌, Bool, List, length, Option, Some}
+use Rattle.std.specs.Prelude.{◌≡◌, ◌≤◌, ℕ, ◌+◌, Bool, List, [], length, Option, Some, unwrap_or}
 use Rattle.dbus_names.specs.Names.{is_empty}
 use Rattle.dbus_values.specs.Reading.{◌>>=◌, when}
 use Rattle.dbus_values.specs.declared.Order.{Order}
+use Rattle.dbus_values.specs.declared.Order.TheVariants.{Little}
 use Rattle.dbus_header.specs.Message.{Message, path, interface, member, error_name, reply_serial, destination, sender, signature, reply_place, has_unknown_field, spell, spelled_fields, spelled_list, body_place, with_serial, with_reply_serial, with_number}
 use Rattle.dbus_header.specs.Malformed.{front}
 
 -- the valid message that all of the bytes are
 unfoldable pub message_of : List ℕ → Option Message
 message_of bytes = front bytes >>= λ x. when (is_empty x.1) x.0
+
+-- it takes the place of the message of bytes that spell none
+unfoldable pub no_message : Message
+no_message = record { order = Little; kind = 0; flags = 0; serial = 0; fields = []; body = [] }
+
+-- the message that the bytes of a valid one spell
+abbrev pub message_in : List ℕ → Message
+message_in bytes = unwrap_or (message_of bytes) no_message
 
 -- the header fields with a text or the reply serial
 pub record Parts : Type 0 where

@@ -1,6 +1,8 @@
 -- The types and the flags of messages (D-Bus Specification, "Message Format").
 use Rattle.std.specs.Prelude.{ℕ, ◌/◌, ◌%◌, ◌==◌, Bool, true, false, if◌then◌else◌}
 use Rattle.dbus_header.specs.Message.{Message}
+use Rattle.dbus_header.specs.declared.kinds.MessageType.{MessageType}
+use Rattle.dbus_header.specs.declared.kinds.MessageType.TheVariants as named
 
 -- the type of a message; one above 4 has no name
 pub data Kind : Type 0 where
@@ -20,6 +22,14 @@ kind_by n =
 
 unfoldable pub kind_of : Message → Kind
 kind_of m = kind_by m.kind
+
+-- what the code calls a type
+abbrev pub type_seen : MessageType → Kind
+type_seen named.MethodCall = Call
+type_seen named.MethodReturn = Return
+type_seen named.Error = Error
+type_seen named.Signal = Signal
+type_seen named.Unnamed = Other
 
 -- only returns and errors are replies
 abbrev pub answers_kind : Kind → Bool

@@ -1,8 +1,10 @@
 //! The types and the flags of messages (D-Bus Specification, "Message Format").
 ghost use Rattle.std.specs.Prelude.{◌≡◌, ◌==◌, ◌||◌, nat_lt};
-ghost use Rattle.dbus_header.specs.Kinds.{expects_reply_by, forbids_auto_start_by};
+ghost use Rattle.dbus_header.specs.Contents.{message_in};
+ghost use Rattle.dbus_header.specs.Kinds.{expects_reply as reply_expected, forbids_auto_start as auto_start_forbidden, kind_of, type_seen};
 
 use crate::message::Message;
+use crate::parts::is_read;
 
 /// The type of a method call.
 pub const METHOD_CALL: u8 = 1;
@@ -16,6 +18,17 @@ pub const ERROR: u8 = 3;
 /// The type of a signal. Greater types are valid but have no name.
 pub const SIGNAL: u8 = 4;
 
+/// The type of a message by its name.
+#[derive(Clone, Copy, Debug, PartialEq, Eq)]
+pub enum MessageType {
+    MethodCall,
+    MethodReturn,
+    Error,
+    Signal,
+    /// A type above 4, which has no name.
+    Unnamed,
+}
+
 /// The flag of a call whose sender waits for no reply.
 pub const NO_REPLY_EXPECTED: u8 = 1;
 
@@ -23,6 +36,21 @@ pub const NO_REPLY_EXPECTED: u8 = 1;
 pub const NO_AUTO_START: u8 = 2;
 
 impl Message<'_> {
+    /// Its type.
+    #[tactic(auto, unfolding(crate::specs::Kinds::kind_of))]
+    pub fn message_type(&self) -> MessageType
+        ensures { type_seen result ≡ kind_of (message_in self.now.bytes.now) }
+    {
+        is_read(self);
+        match self.kind {
+            METHOD_CALL => MessageType::MethodCall,
+            METHOD_RETURN => MessageType::MethodReturn,
+            ERROR => MessageType::Error,
+            SIGNAL => MessageType::Signal,
+            _ => MessageType::Unnamed,
+        }
+    }
+
     /// Whether it is a method call.
     pub fn is_method_call(&self) -> bool
         ensures { result ≡ (self.now.kind == 1) }
@@ -60,15 +88,17 @@ impl Message<'_> {
 
     /// Whether the sender of a call waits for its reply: NO_REPLY_EXPECTED isn't set.
     pub fn expects_reply(&self) -> bool
-        ensures { result ≡ expects_reply_by self.now.flags }
+        ensures { result ≡ reply_expected (message_in self.now.bytes.now) }
     {
+        is_read(self);
         self.flags % (2 * NO_REPLY_EXPECTED) == 0
     }
 
     /// Whether a call must not start a service: NO_AUTO_START is set.
     pub fn forbids_auto_start(&self) -> bool
-        ensures { result ≡ forbids_auto_start_by self.now.flags }
+        ensures { result ≡ auto_start_forbidden (message_in self.now.bytes.now) }
     {
+        is_read(self);
         (self.flags / NO_AUTO_START) % 2 == 1
     }
 }

@@ -15,6 +15,7 @@ mod kinds;
 mod message;
 mod names;
 mod numbers;
+mod parts;
 mod spans;
 
 ghost use Rattle.std.specs.Prelude.{◌≡◌, ℕ, ◌++◌, ◌<◌, List, Some, slice_index};
@@ -26,7 +27,9 @@ ghost use Rattle.dbus_header.specs.declared.Malformed.{Malformed as Fault};
 pub use decoding::{decode, decode_checked, decode_knowing, read_valid};
 pub use grammars::KnownTexts;
 pub use head::length;
-pub use kinds::{ERROR, METHOD_CALL, METHOD_RETURN, NO_AUTO_START, NO_REPLY_EXPECTED, SIGNAL};
+pub use kinds::{
+    ERROR, METHOD_CALL, METHOD_RETURN, MessageType, NO_AUTO_START, NO_REPLY_EXPECTED, SIGNAL,
+};
 pub use message::Message;
 pub use numbers::{SERIAL_PLACE, set_reply_serial, set_serial, write_u32};
 use thiserror::Error;

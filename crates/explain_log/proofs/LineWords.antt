@@ -1,13 +1,13 @@
 -- What is pushed to a line, one part after the other, is the line.
-use Rattle.std.proofs.Common.{◌≡◌, ℕ, List, [], ◌∷◌, ◌++◌, length, get_or, Bor, Option, codes, decimal, refl, ap, ◌∙◌, append_assoc, append-nil, arith}
-use Rattle.std.specs.Prelude.{flat_map, unwrap_or}
+use Rattle.std.proofs.Common.{◌≡◌, ℕ, List, [], ◌∷◌, ◌++◌, length, get_or, Bor, codes, decimal, refl, ap, ◌∙◌, append_assoc, append-nil, arith}
+use Rattle.std.specs.Prelude.{flat_map}
 use Rattle.dbus_names.specs.Texts.{Text}
 use Rattle.dbus_header.specs.Message.{Message, Valid, spell, path, interface, member, destination, sender, reply_serial}
-use Rattle.dbus_header.specs.Contents.{Contents, contents_of}
+use Rattle.dbus_header.specs.Contents.{Contents, contents_of, message_in}
 use Rattle.dbus_header.specs.Kinds.{kind_by, kind_of}
+use Rattle.dbus_header.proofs.MessageIn.{message-is}
 use Rattle.policy_view.proofs.Frames.{spelled_message}
-use Rattle.policy_view.specs.Notes.{Note, message_in}
-use Rattle.policy_view.specs.Own.{ping}
+use Rattle.policy_view.specs.Notes.{Note}
 use Rattle.policy_view.specs.declared.Side.{Side}
 use Rattle.policy_view.specs.declared.Decision.{Decision}
 use Rattle.explain_log.specs.Laws.{TellsMessage}
@@ -81,4 +81,4 @@ line_of_pieces session note side number seen decision kinds decided d t₁ t₂ 
 pub tells_message : (session number : ℕ) (side : Side) (m : Message) (decision : Decision) → Valid m → TellsMessage session number side m decision
 unfolding log_line
 tells_message session number side m decision valid =
-    ap (λ (o : Option Message). line_of session side number (unwrap_or o ping) decision) (spelled_message (spell m) m valid refl)
+    ap (λ (x : Message). line_of session side number x decision) (message-is (spell m) m (spelled_message (spell m) m valid refl))

@@ -2,9 +2,8 @@
 ghost use Rattle.std.specs.Prelude.{◌≡◌, ◌≤◌, ◌++◌, ℕ, List, [], OnErr, OnOk, IsTrue, false, length};
 ghost use Rattle.link_traits.specs.Told.{added};
 ghost use Rattle.link_traits.specs.Views.{SinkRose};
-ghost use Rattle.dbus_header.specs.Contents.{contents_of};
+ghost use Rattle.dbus_header.specs.Contents.{contents_of, message_in};
 ghost use Rattle.dbus_header.specs.Read.{message_seen};
-ghost use Rattle.policy_view.specs.Notes.{message_in};
 ghost use Rattle.explain_log.specs.Buffers.{GoesOut};
 ghost use Rattle.explain_log.specs.Lines.{log_line};
 

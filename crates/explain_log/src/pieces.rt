@@ -1,10 +1,9 @@
 //! The pieces of a line in order: its fixed words, its printed numbers and its texts.
 ghost use Rattle.std.specs.Prelude.{◌≡◌, ◌++◌, codes, flat_map};
-ghost use Rattle.dbus_header.specs.Contents.{contents_of};
+ghost use Rattle.dbus_header.specs.Contents.{contents_of, message_in};
 ghost use Rattle.dbus_header.specs.Kinds.{kind_by};
 ghost use Rattle.dbus_header.specs.Read.{message_seen};
 ghost use Rattle.dbus_header.specs.Seen.{text_seen};
-ghost use Rattle.policy_view.specs.Notes.{message_in};
 ghost use Rattle.explain_log.specs.Lines.{log_line, number_word as word_of_number, side_word as word_of_side, text_word as word_of_text, type_word};
 
 use crate::decisions::decision_pieces;

@@ -5,7 +5,8 @@ use Rattle.dbus_names.specs.Names.{is_bus, is_well_known}
 use Rattle.dbus_names.specs.Texts.{Text}
 use Rattle.policy_args.specs.declared.requests.Asked.{Asked}
 use Rattle.policy_args.specs.declared.requests.Asked.TheVariants.{Call, Signal, Own, Owner}
-use Rattle.policy_view.specs.Notes.{Note, message_in}
+use Rattle.dbus_header.specs.Contents.{message_in}
+use Rattle.policy_view.specs.Notes.{Note}
 use Rattle.policy_view.specs.Verdicts.{ClientRole, OfUnknownType, Reply, Broadcast, SignalTo, StandardBusCall, OtherBusCall, BusCall, CallTo, client_role, Demand, Free, OnText, Unlisted, demand_of, TextDemand, NoEavesdrop, SeenOwner, SeenName, Startable, Ownable, text_or_empty}
 use Rattle.policy_view.specs.declared.Side.{Side}
 use Rattle.policy_view.specs.declared.Side.TheVariants.{Client, Bus}

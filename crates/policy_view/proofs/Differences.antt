@@ -8,7 +8,7 @@ use Rattle.dbus_header.specs.Message.{spell}
 use Rattle.policy_args.specs.Policy.{Policy}
 use Rattle.policy_view.specs.Elements.{DifferAsGiven, TellThePart, element_of, elements, given_of}
 use Rattle.policy_view.specs.History.{end_of}
-use Rattle.policy_view.specs.Notes.{message_in}
+use Rattle.dbus_header.specs.Contents.{message_in}
 use Rattle.policy_view.specs.Past.{History}
 use Rattle.policy_view.specs.Visible.{Visible, Closed, part}
 use Rattle.policy_view.specs.declared.End.{End}

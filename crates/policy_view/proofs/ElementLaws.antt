@@ -1,7 +1,7 @@
 -- The visible part of a history follows from its given elements and its End.
 use Rattle.std.proofs.Common.{ℕ, ◌≡◌, Bool, true, false, if◌then◌else◌, List, [], ◌∷◌, ◌++◌, map, flat_map, Option, Some, None, refl, ap, ap₂, sym, ◌∙◌, append-nil}
 use Rattle.std.proofs.lemmas.List.{map-append}
-use Rattle.std.specs.Prelude.{option_to_list, unwrap_or}
+use Rattle.std.specs.Prelude.{option_to_list}
 use Rattle.std.specs.List.{AllByRecursion}
 use Rattle.std.proofs.lemmas.Grind.{flat_map-append}
 use Rattle.dbus_header.specs.Message.{Message, Valid, spell, reply_serial, text_list, three_texts, sender, with_reply_serial}
@@ -13,8 +13,8 @@ use Rattle.policy_args.specs.declared.Level.{Level}
 use Rattle.policy_view.specs.Elements.{TellThePart, element_of, elements, given_of}
 use Rattle.policy_view.specs.History.{Event, end_of, history}
 use Rattle.policy_view.specs.Knowledge.{Knowledge, knowledge}
-use Rattle.policy_view.specs.Notes.{message_in}
-use Rattle.policy_view.specs.Own.{ping}
+use Rattle.dbus_header.specs.Contents.{message_in}
+use Rattle.dbus_header.proofs.MessageIn.{message-is}
 use Rattle.policy_view.specs.Past.{Item, Line, Msg, Raw, Ended, History, past, role}
 use Rattle.policy_view.specs.Sent.{Past}
 use Rattle.policy_view.specs.Shown.{BusRole, NoRole, Unexpected, MatchAnswer, OwnerAnswer, NamesAnswer, PingAnswer, NameList, HelloAnswer, OtherAnswer, CallIn, OwnerChange, SignalIn, BroadcastIn, cut, may_broadcast, on_names, on_owner_change, sees_change, showing, showing_at, shown}
@@ -32,7 +32,7 @@ abbrev Again : List Visible → Type 0
 Again vs = map element_of (flat_map given_of vs) ≡ vs
 
 pub message_again : (m : Message) → Valid m → message_in (spell m) ≡ m
-message_again m valid = ap (λ (o : Option Message). unwrap_or o ping) (spelled_message (spell m) m valid refl)
+message_again m valid = message-is (spell m) m (spelled_message (spell m) m valid refl)
 
 whole_again : (m : Message) → Valid m → Again (ShownWhole m ∷ [])
 whole_again m valid = ap (λ (n : Message). ShownWhole n ∷ []) (message_again m valid)

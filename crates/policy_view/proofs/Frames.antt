@@ -1,19 +1,18 @@
 -- A frame that spells a valid message is read as it.
 use Rattle.std.proofs.Common.{ℕ, ◌≡◌, List, [], Option, Some, None, refl, sym, ap, subst, ◌∙◌, append-nil}
-use Rattle.std.specs.Prelude.{IsSome, unwrap_or, option_map}
+use Rattle.std.specs.Prelude.{IsSome, option_map}
 use Rattle.std.proofs.lemmas.Option.{same_Some}
 use Rattle.byte_lists.specs.Bytes.{AreBytes}
 use Rattle.dbus_values.specs.Reading.{◌>>=◌, when}
 use Rattle.dbus_names.specs.Names.{is_empty}
 use Rattle.dbus_header.specs.Message.{Message, Valid, spell}
 use Rattle.dbus_header.specs.Malformed.{front}
-use Rattle.dbus_header.specs.Contents.{Contents, contents_of, message_of}
+use Rattle.dbus_header.specs.Contents.{Contents, contents_of, message_of, message_in}
 use Rattle.dbus_header.proofs.MessageAgain.{front-spell}
 use Rattle.dbus_header.proofs.NumberLaws.{is_whole, accepted}
 use Rattle.dbus_header.proofs.WholeMessage.{IsWhole}
 use Rattle.dbus_header.specs.Malformed.{fault}
-use Rattle.policy_view.specs.Notes.{message_in}
-use Rattle.policy_view.specs.Own.{ping}
+use Rattle.dbus_header.proofs.MessageIn.{message-is}
 
 pub spelled_message : (bytes : List ℕ) (m : Message) → Valid m → bytes ≡ spell m → message_of bytes ≡ Some m
 unfolding message_of
@@ -42,5 +41,5 @@ no_fault f o e n = let h : Some f ≡ None = e ∙ n in absurd cc
 -- such a frame is of one message
 pub frame_message : (frame : List ℕ) → HasMessage frame → Valid (message_in frame) × (frame ≡ spell (message_in frame))
 frame_message frame (m, valid, is) =
-    let e : m ≡ message_in frame = sym (ap (λ o. unwrap_or o ping) (spelled_message frame m valid is)) in
+    let e : m ≡ message_in frame = sym (message-is frame m (spelled_message frame m valid is)) in
     (subst Valid e valid, is ∙ ap spell e)

@@ -4,7 +4,7 @@ use Rattle.byte_lists.specs.Bytes.{AreBytes}
 use Rattle.dbus_header.specs.Message.{spell}
 use Rattle.policy_args.specs.Policy.{Policy}
 use Rattle.policy_view.specs.History.{Event, Bytes, Finished, Stopped, end_of}
-use Rattle.policy_view.specs.Notes.{message_in}
+use Rattle.dbus_header.specs.Contents.{message_in}
 use Rattle.policy_view.specs.Past.{History}
 use Rattle.policy_view.specs.Visible.{Visible, VisibleLine, FromClient, ShownWhole, ShownCut, PingAnswered, OwnerAnswered, NamesAnswered, Closed, part}
 use Rattle.policy_view.specs.declared.visible.Visible.{Visible as Element}

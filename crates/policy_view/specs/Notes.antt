@@ -1,9 +1,7 @@
 -- The notes of a history: what was decided on each of its messages, numbered from 1, both sides counted together.
-use Rattle.std.specs.Prelude.{ℕ, ◌+◌, List, [], ◌∷◌, ◌++◌, unwrap_or, if◌then◌else◌}
+use Rattle.std.specs.Prelude.{ℕ, ◌+◌, List, [], ◌∷◌, ◌++◌, if◌then◌else◌}
 use Rattle.dbus_header.specs.Message.{Message, spell}
-use Rattle.dbus_header.specs.Contents.{message_of}
 use Rattle.policy_args.specs.Policy.{Policy}
-use Rattle.policy_view.specs.Own.{ping}
 use Rattle.policy_view.specs.Sent.{Past}
 use Rattle.policy_view.specs.Shown.{shown}
 use Rattle.policy_view.specs.Past.{Item, Line, Msg, Raw, Ended, History, past, judged}
@@ -12,10 +10,6 @@ use Rattle.policy_view.specs.declared.Side.{Side}
 use Rattle.policy_view.specs.declared.Side.TheVariants.{Client, Bus}
 use Rattle.policy_view.specs.declared.Decision.{Decision}
 use Rattle.policy_view.specs.declared.Decision.TheVariants.{Judged, Shown}
-
--- the message that these bytes of a valid message spell
-abbrev pub message_in : List ℕ → Message
-message_in bytes = unwrap_or (message_of bytes) ping
 
 pub record Note : Type 0 where
   pub number : ℕ

@@ -84,6 +84,9 @@ may_broadcast policy known m None = false
 may_broadcast policy known m (Some name) =
     at_least Talk (known.level name) || list_any (entry_passes policy (broadcast_matches m)) (known.entries name)
 
+abbrev pub on_broadcast : Policy → Knowledge → Message → Showing
+on_broadcast policy known m = if may_broadcast policy known m (sender m) then Whole else Hide SenderNotTalk
+
 abbrev pub on_names : ℕ → Option (List Text) → Showing
 on_names serial None = Hide BadArgument
 on_names serial (Some names) = Cut serial
@@ -110,7 +113,7 @@ showing_at policy known m (OtherAnswer serial) = Reply serial
 showing_at policy known m CallIn = Whole
 showing_at policy known m OwnerChange = on_owner_change policy.sloppy known (three_texts m)
 showing_at policy known m SignalIn = Whole
-showing_at policy known m BroadcastIn = if may_broadcast policy known m (sender m) then Whole else Hide SenderNotTalk
+showing_at policy known m BroadcastIn = on_broadcast policy known m
 
 -- what the client is shown, given what the message answers, if it answers a call
 unfoldable pub showing : Policy → Knowledge → Option Expected → Message → Showing

@@ -109,15 +109,19 @@ passes test (Some e) = test e.grant
 abbrev pub entry_passes : Policy → (Grant → Bool) → ℕ → Bool
 entry_passes policy test n = passes test (entry_at policy.entries n)
 
--- a call to a name that is only seen
+-- no rule of its entries matches a call to a name that is only seen
 abbrev pub on_ruled_call : Message → Option ℕ → List ℕ → Verdict
 on_ruled_call m (Some n) numbers = refused m AccessDenied (NoRule n)
 on_ruled_call m None numbers = refused m AccessDenied (OnlySee (first_or_0 numbers))
 
-abbrev pub on_seen_call : Policy → Message → List ℕ → Verdict
-on_seen_call policy m numbers =
-    if list_any (entry_passes policy (lets_pass (path m) (interface m) (member m) (property_request m))) numbers then Pass
+-- a call to a name that is only seen, which is this property request
+abbrev pub on_request : Policy → Message → Option PropertyRequest → List ℕ → Verdict
+on_request policy m request numbers =
+    if list_any (entry_passes policy (lets_pass (path m) (interface m) (member m) request)) numbers then Pass
     else on_ruled_call m (find (entry_passes policy rules_calls) numbers) numbers
+
+abbrev pub on_seen_call : Policy → Message → List ℕ → Verdict
+on_seen_call policy m numbers = on_request policy m (property_request m) numbers
 
 abbrev pub not_visible : Message → Text → Verdict
 not_visible m name =
@@ -184,13 +188,20 @@ on_start policy m numbers See = if may_start policy numbers then Pass else refus
 on_start policy m numbers Talk = Pass
 on_start policy m numbers Own = Pass
 
+-- what passes from a level on
+abbrev pub from_level : Message → Level → Instead → Reason → Level → Verdict
+from_level m least what reason level = if at_least least level then Pass else refused m what reason
+
+-- a match rule
+abbrev pub on_match : Message → Text → Verdict
+on_match m text = if stands_in (codes "eavesdrop") text then refused m AccessDenied Eavesdrop else Pass
+
 abbrev pub on_text : Policy → Message → TextDemand → Text → List ℕ → Level → Verdict
-on_text policy m NoEavesdrop text numbers level =
-    if stands_in (codes "eavesdrop") text then refused m AccessDenied Eavesdrop else Pass
-on_text policy m SeenOwner text numbers level = if at_least See level then Pass else refused m NameHasNoOwner ArgNotVisible
-on_text policy m SeenName text numbers level = if at_least See level then Pass else refused m False ArgNotVisible
+on_text policy m NoEavesdrop text numbers level = on_match m text
+on_text policy m SeenOwner text numbers level = from_level m See NameHasNoOwner ArgNotVisible level
+on_text policy m SeenName text numbers level = from_level m See False ArgNotVisible level
 on_text policy m Startable text numbers level = on_start policy m numbers level
-on_text policy m Ownable text numbers level = if at_least Own level then Pass else refused m AccessDenied ArgNotOwn
+on_text policy m Ownable text numbers level = from_level m Own AccessDenied ArgNotOwn level
 
 -- the text that something is required of must be present
 abbrev pub on_argument : Policy → Knowledge → Message → TextDemand → Option Text → Verdict
@@ -210,10 +221,14 @@ text_or_empty (Some text) = text
 abbrev pub reply_to : Message → Exchange
 reply_to m = record { peer = destination m; number = number_or_0 (reply_serial m) }
 
+-- a return or an error, by whether it is owed
+abbrev pub on_reply : Bool → Verdict
+on_reply is_owed = if is_owed then Pass else Drop NotOutstanding
+
 -- a row for each role
 abbrev pub verdict_at : Policy → Knowledge → Message → ClientRole → Verdict
 verdict_at policy known m OfUnknownType = Drop UnknownType
-verdict_at policy known m Reply = if nat_lt 0 (known.owed (reply_to m)) then Pass else Drop NotOutstanding
+verdict_at policy known m Reply = on_reply (nat_lt 0 (known.owed (reply_to m)))
 verdict_at policy known m Broadcast = Pass
 verdict_at policy known m (SignalTo name) = on_signal (known.entries name) (known.level name)
 verdict_at policy known m StandardBusCall = Pass
@@ -234,5 +249,9 @@ on_unknown_field Other m = Drop UnknownField
 abbrev pub has_refused_field : Policy → Message → Bool
 has_refused_field policy m = policy.known_fields && has_unknown_field m
 
+-- of a message of this role
+abbrev pub verdict_as : Policy → Knowledge → Message → ClientRole → Verdict
+verdict_as policy known m role = if has_refused_field policy m then on_unknown_field (kind_of m) m else verdict_at policy known m role
+
 unfoldable pub verdict : Policy → Knowledge → Message → Verdict
-verdict policy known m = if has_refused_field policy m then on_unknown_field (kind_of m) m else verdict_at policy known m (client_role m)
+verdict policy known m = verdict_as policy known m (client_role m)

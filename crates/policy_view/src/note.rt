@@ -1,9 +1,8 @@
 //! Notes: what was decided on each message of a session.
 ghost use Rattle.std.specs.Prelude.{◌≡◌};
-ghost use Rattle.dbus_header.specs.Contents.{contents_of};
+ghost use Rattle.dbus_header.specs.Contents.{contents_of, message_in};
 ghost use Rattle.dbus_header.specs.Message.{Message as MessageTree, Valid, spell};
 ghost use Rattle.dbus_header.specs.Read.{message_seen};
-ghost use Rattle.policy_view.specs.Notes.{message_in};
 
 use crate::{Decision, Side};
 use bytes::Bytes;

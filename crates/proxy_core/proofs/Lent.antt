@@ -8,7 +8,7 @@ use Rattle.dbus_header.proofs.FaultStays.{fault_front}
 use Rattle.dbus_framing.specs.Framing.{Takes}
 use Rattle.policy_args.specs.Policy.{Policy}
 use Rattle.policy_view.specs.History.{malformed, most_sent}
-use Rattle.policy_view.specs.Notes.{message_in}
+use Rattle.dbus_header.specs.Contents.{message_in}
 use Rattle.policy_view.specs.Past.{due_at, due_on, replied_on}
 use Rattle.policy_view.specs.Sent.{Sent}
 use Rattle.policy_view.specs.Shown.{BusRole, bus_role, showing_at}

@@ -11,13 +11,11 @@ use Rattle.dbus_names.specs.Texts.{Text}
 use Rattle.dbus_header.specs.Contents.{Contents}
 use Rattle.dbus_header.specs.Kinds.{Kind, Call, Return, Error, Signal, Other, kind_by, kind_of}
 use Rattle.dbus_header.specs.Message.{Message, destination, reply_serial, sender, spell, text_list, three_texts}
-use Rattle.dbus_header.specs.Read.{message_seen}
 use Rattle.dbus_header.specs.Seen.{text_seen}
 use Rattle.dbus_header.specs.declared.message.Message.{Message as Seen}
 use Rattle.dbus_header.proofs.MessageBodies.{differ, list-none}
-use Rattle.policy_args.specs.Policy.{Policy, at_least}
+use Rattle.policy_args.specs.Policy.{Policy}
 use Rattle.policy_args.specs.declared.Level.{Level}
-use Rattle.policy_args.specs.declared.Level.TheVariants.{See}
 use Rattle.policy_args.specs.declared.fact.Fact.{Fact}
 use Rattle.policy_args.specs.declared.fact.Fact.TheVariants.{Met}
 use Rattle.policy_view.specs.Knowledge.{Knowledge}
@@ -33,12 +31,11 @@ use Rattle.reply_ledger.specs.declared.kind.Kind.{Kind as Expected}
 use Rattle.reply_ledger.specs.declared.kind.Kind.TheVariants as expects
 use Rattle.unique_names.specs.Taught.{Ids, kept_level}
 use Rattle.verdicts.specs.Kept.{expected_at}
-use Rattle.verdicts.specs.Roles.{is_owner_change_of}
 use Rattle.proxy_core.specs.Sessions.{SessionView}
 use Rattle.proxy_core.specs.Messages.{KeepsSides, ended_by, known, own_names, sending, taught, used_up, with_calls, with_facts, with_role, with_shown, with_told, with_used}
 use Rattle.proxy_core.specs.Shapes.{ShownBy}
 use Rattle.proxy_core.specs.Steps.{TookMessage}
-use Rattle.proxy_core.proofs.Taking.{destination_is, kind_number, owner_change_is, replies_is, reply_serial_is, seen, sender_is, tree}
+use Rattle.proxy_core.proofs.Taking.{destination_is, kind_number, replies_is, reply_serial_is, seen, tree}
 use denote.Bor.{Bor}
 
 -- ---- facts
@@ -173,21 +170,20 @@ some_seen (Some t) = refl
 has_destination : (x : Seen) (b : Bool) → is_some x.destination ≡ b → is_some (destination (tree x)) ≡ b
 has_destination x b e = ap is_some (destination_is x) ∙ some_seen x.destination ∙ e
 
-pub told_change : (policy : Policy) (x : Seen) (view : SessionView) → is_owner_change_of (message_seen x) ≡ true →
+pub told_change : (policy : Policy) (x : Seen) (view : SessionView) → is_owner_change (tree x) ≡ true →
     with_facts policy (owners_of policy (three_texts (tree x))) view ≡ with_told policy (tree x) (role_of_signal (tree x)) view
 told_change policy x view e =
-    ap (λ (b : Bool). with_told policy (tree x) (cond b OwnerChange (cond (is_some (destination (tree x))) SignalIn BroadcastIn)) view) (sym (owner_change_is x ∙ e))
+    ap (λ (b : Bool). with_told policy (tree x) (cond b OwnerChange (cond (is_some (destination (tree x))) SignalIn BroadcastIn)) view) (sym e)
 
-pub told_signal : (policy : Policy) (x : Seen) (view : SessionView) → is_owner_change_of (message_seen x) ≡ false → is_some x.destination ≡ true →
-    with_facts policy (fact_of Met (if_unique (text_seen x.sender))) view ≡ with_told policy (tree x) (role_of_signal (tree x)) view
+pub told_signal : (policy : Policy) (x : Seen) (view : SessionView) → is_owner_change (tree x) ≡ false → is_some x.destination ≡ true →
+    with_facts policy (fact_of Met (if_unique (sender (tree x)))) view ≡ with_told policy (tree x) (role_of_signal (tree x)) view
 told_signal policy x view e d =
-    ap (λ (o : Option Text). with_facts policy (fact_of Met (if_unique o)) view) (sym (sender_is x))
-    ∙ ap₂ (λ (a b : Bool). with_told policy (tree x) (cond a OwnerChange (cond b SignalIn BroadcastIn)) view) (sym (owner_change_is x ∙ e)) (sym (has_destination x true d))
+    ap₂ (λ (a b : Bool). with_told policy (tree x) (cond a OwnerChange (cond b SignalIn BroadcastIn)) view) (sym e) (sym (has_destination x true d))
 
-pub told_broadcast : (policy : Policy) (x : Seen) (view : SessionView) → is_owner_change_of (message_seen x) ≡ false → is_some x.destination ≡ false →
+pub told_broadcast : (policy : Policy) (x : Seen) (view : SessionView) → is_owner_change (tree x) ≡ false → is_some x.destination ≡ false →
     view ≡ with_told policy (tree x) (role_of_signal (tree x)) view
 told_broadcast policy x view e d =
-    ap₂ (λ (a b : Bool). with_told policy (tree x) (cond a OwnerChange (cond b SignalIn BroadcastIn)) view) (sym (owner_change_is x ∙ e)) (sym (has_destination x false d))
+    ap₂ (λ (a b : Bool). with_told policy (tree x) (cond a OwnerChange (cond b SignalIn BroadcastIn)) view) (sym e) (sym (has_destination x false d))
 
 -- ---- what is shown
 

@@ -1,23 +1,19 @@
 -- What the code reads of a message is of the message that its bytes spell.
 use Rattle.std.proofs.Common.{ℕ, ◌≡◌, Bool, true, false, cond, List, Option, Some, None, refl, ap, ap₂, ◌∙◌, sym, codes}
-use Rattle.std.specs.Prelude.{◌||◌, ◌==◌, IsSome, OnOk, Result, Ok, Err, option_map, unwrap_or}
-use Rattle.std.proofs.lemmas.Option.{same_Some}
-use Rattle.dbus_header.specs.Contents.{Contents, contents_of, message_of}
-use Rattle.dbus_header.specs.Message.{Message, Valid, destination, sender, reply_serial, only_text, spell, text_list, with_number, with_reply_serial, with_serial}
+use Rattle.std.specs.Prelude.{◌||◌, ◌==◌, IsSome, OnOk, Result, Ok, Err, unwrap_or}
+use Rattle.dbus_header.specs.Contents.{Contents, contents_of, message_of, message_in}
+use Rattle.dbus_header.specs.Message.{Message, Valid, destination, reply_serial, only_text, spell, text_list, with_number, with_reply_serial, with_serial}
 use Rattle.dbus_header.specs.Read.{message_seen}
 use Rattle.dbus_header.specs.declared.message.Message.{Message as Seen}
+use Rattle.dbus_header.proofs.MessageIn.{has-contents, is-spelled, message-is}
 use Rattle.dbus_header.proofs.NumberLaws.{reply_patched, reply_stands, serial_patched}
 use Rattle.dbus_header.specs.Kinds.{Kind, Call, Return, Error, Signal, Other, kind_by, kind_of}
-use Rattle.policy_view.specs.Own.{ping}
 use Rattle.policy_view.specs.Past.{if_return, returned_names, returned_text}
 use Rattle.std.proofs.lemmas.Bool.{eqb-true}
 use Rattle.dbus_header.specs.Seen.{text_seen}
 use Rattle.policy_view.specs.Sent.{asks_names}
-use Rattle.policy_view.specs.Shown.{is_owner_change}
 use Rattle.policy_view.specs.Verdicts.{number_or_0}
-use Rattle.verdicts.specs.Roles.{is_owner_change_of}
 use Rattle.proxy_core.specs.Messages.{is_bus_member_by}
-use Rattle.policy_view.specs.Notes.{message_in}
 use Rattle.policy_view.proofs.Frames.{spelled_message}
 
 -- ---- the message
@@ -25,25 +21,11 @@ use Rattle.policy_view.proofs.Frames.{spelled_message}
 abbrev pub tree : Seen → Message
 tree x = message_in x.bytes.now
 
--- what is read of it, and that it is read
-record Found (bytes : List ℕ) (q : Contents) : Type 0 where
-  contents : contents_of (message_in bytes) ≡ q
-  read : message_of bytes ≡ Some (message_in bytes)
-
-found_in : (bytes : List ℕ) (q : Contents) → option_map contents_of (message_of bytes) ≡ Some q → Found bytes q
-found_in bytes q e = by (message_of bytes) refl e
-  where
-    by : (o : Option Message) → message_of bytes ≡ o → option_map contents_of o ≡ Some q → Found bytes q
-    by None is e = absurd cc
-    by (Some m) is e =
-        let same : message_in bytes ≡ m = ap (λ (o : Option Message). unwrap_or o ping) is in
-        record { contents = ap contents_of same ∙ same_Some (contents_of m) q e; read = is ∙ ap Some (sym same) }
-
 pub seen : (x : Seen) → contents_of (tree x) ≡ message_seen x
-seen x = (found_in x.bytes.now (message_seen x) x.read).contents
+seen x = has-contents x.bytes.now (message_seen x) x.read
 
 pub read : (x : Seen) → message_of x.bytes.now ≡ Some (tree x)
-read x = (found_in x.bytes.now (message_seen x) x.read).read
+read x = is-spelled x.bytes.now (message_seen x) x.read
 
 -- it is valid, and its bytes spell it
 abbrev pub IsSpelled : List ℕ → Type 0
@@ -54,7 +36,7 @@ bytes_in x is = (is (tree x) (read x)).1
 
 -- a valid message is the one that its spelling spells
 pub spelled_in : (bytes : List ℕ) (m : Message) → Valid m → bytes ≡ spell m → message_in bytes ≡ m
-spelled_in bytes m valid is = ap (λ (o : Option Message). unwrap_or o ping) (spelled_message bytes m valid is)
+spelled_in bytes m valid is = message-is bytes m (spelled_message bytes m valid is)
 
 -- ---- with another serial
 
@@ -130,9 +112,6 @@ replies_is x b e = ap (λ (k : ℕ). k == 2 || k == 3) (kind_is x) ∙ e
 pub destination_is : (x : Seen) → destination (tree x) ≡ text_seen x.destination
 destination_is x = ap (λ (q : Contents). q.parts.destination) (seen x)
 
-pub sender_is : (x : Seen) → sender (tree x) ≡ text_seen x.sender
-sender_is x = ap (λ (q : Contents). q.parts.sender) (seen x)
-
 pub reply_serial_is : (x : Seen) → reply_serial (tree x) ≡ x.reply_serial
 reply_serial_is x = ap (λ (q : Contents). q.parts.reply_serial) (seen x)
 
@@ -144,11 +123,6 @@ number_is (Some n) = refl
 pub on_ok : {A E : Type 0} (r : Result A E) (P Q : Type 0) → (P → Q) → OnOk r P → OnOk r Q
 on_ok (Ok x) P Q f p = f p
 on_ok (Err e) P Q f p = p
-
--- NameOwnerChanged from the bus
-pub owner_change_is : (x : Seen) → is_owner_change (tree x) ≡ is_owner_change_of (message_seen x)
-unfolding is_owner_change
-owner_change_is x = ap is_owner_change_of (seen x)
 
 pub kind_number : (x : Seen) (n : ℕ) {b : Bool} → (x.kind == n) ≡ b → ((tree x).kind == n) ≡ b
 kind_number x n e = ap (λ (k : ℕ). k == n) (kind_is x) ∙ e

@@ -1,6 +1,6 @@
 -- The message that was received.
 use Rattle.dbus_header.specs.Message.{Message}
-use Rattle.policy_view.specs.Notes.{message_in}
+use Rattle.dbus_header.specs.Contents.{message_in}
 use Rattle.proxy_core.specs.declared.incoming.Incoming.{Incoming}
 
 abbrev pub incoming_message : Incoming → Message

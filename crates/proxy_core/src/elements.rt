@@ -4,7 +4,7 @@ ghost use Rattle.std.specs.Option.{option_copied};
 ghost use Rattle.dbus_header.specs.Message.{reply_serial as reply_serial_of, spell};
 ghost use Rattle.dbus_header.specs.Seen.{text_seen};
 ghost use Rattle.policy_view.specs.Elements.{given_of};
-ghost use Rattle.policy_view.specs.Notes.{message_in};
+ghost use Rattle.dbus_header.specs.Contents.{message_in};
 ghost use Rattle.policy_view.specs.Shown.{bus_role, cut as cut_by};
 ghost use Rattle.policy_view.specs.declared.visible.Visible.TheVariants as element;
 ghost use Rattle.policy_view.specs.Visible.{names_asked, position_of, visible_hidden};

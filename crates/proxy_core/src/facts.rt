@@ -1,8 +1,9 @@
 //! What messages of the bus say of names.
 ghost use Rattle.std.specs.Prelude.{◌≡◌};
+ghost use Rattle.dbus_header.specs.Message.{sender as sender_of};
 ghost use Rattle.dbus_header.specs.Seen.{text_seen};
 ghost use Rattle.policy_view.specs.Past.{if_unique, is_covered as covered, returned_names as names_returned, returned_text};
-ghost use Rattle.policy_view.specs.Notes.{message_in};
+ghost use Rattle.dbus_header.specs.Contents.{message_in};
 
 use dbus_header::Message;
 use dbus_names::{is_unique, is_well_known};
@@ -43,7 +44,7 @@ pub(crate) fn returned_names<'a>(message: &Message<'a>) -> Option<Texts<'a>>
 
 /// The sender of a message, if it is a unique name.
 pub(crate) fn unique_sender<'a>(message: &Message<'a>) -> Option<&'a str>
-    ensures { text_seen result ≡ if_unique (text_seen message.now.sender) }
+    ensures { text_seen result ≡ if_unique (sender_of (message_in message.now.bytes.now)) }
 {
     match message.sender_name() {
         Some(name) if name.is_unique() => Some(name.text),

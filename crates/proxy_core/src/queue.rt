@@ -2,10 +2,9 @@
 ghost use Rattle.std.specs.Prelude.{◌≡◌, ◌≤◌, ◌<◌, ◌+◌, ◌++◌, IfOk, IsSome, Some, OnOk, OnErr, codes, length, take, drop};
 ghost use Rattle.std.specs.Int.{w32};
 ghost use Rattle.dbus_values.specs.Values.{number_bytes};
-ghost use Rattle.dbus_header.specs.Contents.{message_of};
+ghost use Rattle.dbus_header.specs.Contents.{message_of, message_in};
 ghost use Rattle.dbus_header.specs.Message.{Message as MessageTree, Valid, spell, with_reply_serial, with_serial as serial_changed};
 ghost use Rattle.policy_view.specs.Shown.{cut as cut_by};
-ghost use Rattle.policy_view.specs.Notes.{message_in};
 ghost use Rattle.proxy_core.specs.Incoming.{incoming_message};
 ghost use Rattle.unique_names.specs.Taught.{kept_level};
 

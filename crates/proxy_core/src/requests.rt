@@ -5,7 +5,7 @@ ghost use Rattle.dbus_header.specs.Seen.{text_seen};
 ghost use Rattle.policy_view.specs.Sent.{Passed, asks_names as names_asked, expected_of, is_bus_or_absent as bus_or_absent, is_hello as hello};
 ghost use Rattle.policy_view.specs.Texts.{has_text as text_is};
 ghost use Rattle.proxy_core.specs.Messages.{is_bus_member_by};
-ghost use Rattle.policy_view.specs.Notes.{message_in};
+ghost use Rattle.dbus_header.specs.Contents.{message_in};
 
 use dbus_header::Message;
 use dbus_names::is_bus;

@@ -2,9 +2,9 @@
 //! it passes the bytes after the lines on unread.
 ghost use Rattle.std.specs.Prelude.{◌≡◌, ◌≤◌, ◌<◌, ◌+◌, ◌^◌, ◌∷◌, ◌++◌, ℕ, List, [], Some, None, true, false, IfOk, IfNone, IfSome, OnOk, OnErr, length, take, drop, option_to_list};
 ghost use Rattle.policy_view.specs.History.{Event, Bytes, Finished, Stopped, finished as finished_by, malformed as malformed_by, longest_stream, most_sent};
-ghost use Rattle.dbus_header.specs.Contents.{contents_of};
+ghost use Rattle.dbus_header.specs.Contents.{contents_of, message_in};
 ghost use Rattle.dbus_header.specs.Read.{message_seen};
-ghost use Rattle.policy_view.specs.Notes.{Note as NoteValue, message_in};
+ghost use Rattle.policy_view.specs.Notes.{Note as NoteValue};
 ghost use Rattle.policy_view.specs.declared.End.{End as SessionEnd};
 ghost use Rattle.policy_view.specs.declared.visible.Visible.{Visible as Element};
 ghost use Rattle.policy_view.specs.declared.End.TheVariants.{ClientEnd, BusEnd};

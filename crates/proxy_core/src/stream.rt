@@ -2,13 +2,12 @@
 ghost use Rattle.std.specs.Prelude.{◌≡◌, ◌≤◌, ◌<◌, ◌+◌, ◌^◌, [], true, Some, IsTrue, IfOk, IfErr, OnOk, OnErr, length, take, drop};
 ghost use Rattle.dbus_framing.specs.Framing.{Takes};
 ghost use Rattle.dbus_framing.specs.Knows.{IsWhole};
-ghost use Rattle.dbus_header.specs.Contents.{contents_of};
+ghost use Rattle.dbus_header.specs.Contents.{contents_of, message_in};
 ghost use Rattle.dbus_header.specs.Malformed.{fault};
 ghost use Rattle.dbus_header.specs.Message.{Message as MessageTree};
 ghost use Rattle.dbus_header.specs.Read.{message_seen};
 ghost use Rattle.sasl_watch.specs.Watching.{BusGives, ClientGives};
 ghost use Rattle.policy_view.specs.History.{longest_stream};
-ghost use Rattle.policy_view.specs.Notes.{message_in};
 ghost use Rattle.proxy_core.specs.Streams.{InMessages, GaveLine, is_in_lines as in_lines, new_stream, pushed};
 
 use bytes::Bytes;

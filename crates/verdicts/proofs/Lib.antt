@@ -1,7 +1,5 @@
 pub mod KnowledgeLaws
 pub mod EntryNumbers
 pub mod Eavesdrop
-pub mod Judged
-pub mod Requests
-pub mod Showings
+pub mod Past
 mod Counting

@@ -47,6 +47,10 @@ shown_steps policy ids OwnerChange changed sender = text_steps policy ids change
 shown_steps policy ids SignalIn changed sender = 0
 shown_steps policy ids BroadcastIn changed sender = text_steps policy ids sender
 
+-- the first of the three texts of a change of a name's owner: the name
+abbrev pub changed_name : Option (Text × Text × Text) → Option Text
+changed_name texts = option_map (λ t. t.0) texts
+
 -- ---- for a message
 
 -- those of the verdict on a message of the client
@@ -55,4 +59,4 @@ judge_steps policy ids m = role_steps policy ids (client_role m) (first_text m)
 
 -- those of the showing of a message of the bus that answers this
 abbrev pub show_steps : Policy → Ids → Option Expected → Message → ℕ
-show_steps policy ids answer m = shown_steps policy ids (bus_role answer m) (option_map (λ t. t.0) (three_texts m)) (sender m)
+show_steps policy ids answer m = shown_steps policy ids (bus_role answer m) (changed_name (three_texts m)) (sender m)

@@ -1,15 +1,16 @@
 -- What the entries of a name that is only seen say of a call, one after the other.
 use Rattle.std.specs.Prelude.{ℕ, ◌+◌, ◌*◌, List, [], ◌∷◌, length, if◌then◌else◌, Option, Some, None}
-use Rattle.dbus_header.specs.Contents.{Contents}
+use Rattle.dbus_header.specs.Message.{Message, interface, member, path}
+use Rattle.dbus_header.specs.declared.Instead.TheVariants.{AccessDenied}
 use Rattle.dbus_names.specs.Texts.{Text}
 use Rattle.name_patterns.specs.Ranks.{elements}
 use Rattle.policy_args.specs.Policy.{Policy}
 use Rattle.unique_names.specs.Merged.{NameNumbers}
 use Rattle.policy_view.specs.Properties.{PropertyRequest}
-use Rattle.policy_view.specs.Verdicts.{entry_passes, rules_calls}
+use Rattle.policy_view.specs.Verdicts.{entry_passes, lets_pass, number_or_0, refused, rules_calls}
+use Rattle.policy_view.specs.declared.Reason.TheVariants.{NoRule, OnlySee}
 use Rattle.policy_view.specs.declared.Verdict.{Verdict}
 use Rattle.policy_view.specs.declared.Verdict.TheVariants.{Pass}
-use Rattle.verdicts.specs.Judging.{allows, unruled_by}
 use Rattle.verdicts.specs.declared.entries.Lowest.{Lowest}
 
 -- the first number if it is present, else the other
@@ -24,10 +25,20 @@ lowest_with policy n lowest = record {
   ruled = if entry_passes policy rules_calls n then first_of lowest.ruled (Some n) else lowest.ruled;
 }
 
+-- refused, by the lowest numbers of the entries that were looked at
+abbrev pub unruled : Message → Option ℕ → Option ℕ → Verdict
+unruled m any (Some n) = refused m AccessDenied (NoRule n)
+unruled m any None = refused m AccessDenied (OnlySee (number_or_0 any))
+
+abbrev pub refused_by_rules : Message → Lowest → Verdict
+refused_by_rules m lowest = unruled m lowest.any lowest.ruled
+
 -- the verdict by the entries with these numbers, and the lowest ones of those before
-abbrev pub judged_from : Policy → Contents → Option PropertyRequest → List ℕ → Lowest → Verdict
-judged_from policy x request [] lowest = unruled_by x.flags lowest.any lowest.ruled
-judged_from policy x request (n ∷ ns) lowest = if entry_passes policy (allows x request) n then Pass else judged_from policy x request ns (lowest_with policy n lowest)
+abbrev pub judged_from : Policy → Message → Option PropertyRequest → List ℕ → Lowest → Verdict
+judged_from policy m request [] lowest = refused_by_rules m lowest
+judged_from policy m request (n ∷ ns) lowest =
+    if entry_passes policy (lets_pass (path m) (interface m) (member m) request) n then Pass
+    else judged_from policy m request ns (lowest_with policy n lowest)
 
 -- ---- what is counted
 

@@ -1,13 +1,16 @@
 //! The members of the bus, and what each requires of a call.
 ghost use Rattle.std.specs.Prelude.{◌≡◌, ◌≤◌, ◌+◌, codes};
+ghost use Rattle.dbus_header.specs.Message.{first_text as first_text_of, member as member_of};
 ghost use Rattle.dbus_header.specs.Seen.{text_seen};
 ghost use Rattle.name_patterns.specs.Ranks.{elements};
+ghost use Rattle.dbus_header.specs.Contents.{message_in};
 ghost use Rattle.policy_view.specs.Texts.{stands_in};
-ghost use Rattle.policy_view.specs.Verdicts.{demand_of as demand_by, may_start as may_start_by, text_or_empty};
+ghost use Rattle.policy_view.specs.Verdicts.{demand_of as demand_by, may_start as may_start_by, from_level, on_argument, on_bus_call, on_match, on_start, on_text, text_or_empty};
+ghost use Rattle.reply_ledger.specs.Owed.{Replies};
 ghost use Rattle.unique_names.specs.Taught.{kept_level, kept_numbers};
 ghost use Rattle.verdicts.specs.Counted.{name_steps, text_steps};
 ghost use Rattle.verdicts.specs.Entries.{steps_for};
-ghost use Rattle.verdicts.specs.Judging.{argument_by, bus_call_by, first_text_in, from_level, match_by, start_by, text_by};
+ghost use Rattle.verdicts.specs.Kept.{kept};
 ghost use Rattle.verdicts.specs.Seen.{demand_seen, text_demand_seen};
 
 use crate::calls::refused;
@@ -73,23 +76,16 @@ pub(crate) fn judge_bus_call<L: Ledger>(
     message: &Message<'_>,
     steps: &mut Steps<L>,
 ) -> Verdict
-    ensures verdict { result ≡ bus_call_by policy.now (kept_numbers policy.now tracker.now) (kept_level policy.now tracker.now) message.now.flags (first_text_in message.now.bytes.now) (demand_by (text_or_empty (text_seen message.now.member))) }
-    ensures cost { steps.new ≤ steps.old + text_steps policy.now tracker.now (first_text_in message.now.bytes.now) }
+    ensures verdict { (owed : Replies) → result ≡ on_bus_call policy.now (kept policy.now tracker.now owed) (message_in message.now.bytes.now) (demand_by (text_or_empty (member_of (message_in message.now.bytes.now)))) }
+    ensures cost { steps.new ≤ steps.old + text_steps policy.now tracker.now (first_text_of (message_in message.now.bytes.now)) }
 {
-    match demand_of(message.member.unwrap_or("")) {
+    match demand_of(message.member().unwrap_or("")) {
         Demand::Free => Verdict::Pass,
         Demand::OnText(demand) => {
-            judge_argument(policy, tracker, message, demand, first_text(message), steps)
+            judge_argument(policy, tracker, message, demand, message.first_text(), steps)
         }
         Demand::Unlisted => refused(message, Instead::AccessDenied, Reason::BusMember),
     }
-}
-
-// The first text in the message's body.
-fn first_text<'a>(message: &Message<'a>) -> Option<&'a str>
-    ensures { text_seen result ≡ first_text_in message.now.bytes.now }
-{
-    message.first_text()
 }
 
 // The text that something is required of must be present.
@@ -101,7 +97,7 @@ fn judge_argument<L: Ledger>(
     text: Option<&str>,
     steps: &mut Steps<L>,
 ) -> Verdict
-    ensures verdict { result ≡ argument_by policy.now (kept_numbers policy.now tracker.now) (kept_level policy.now tracker.now) message.now.flags (text_demand_seen demand) (text_seen text.entry) }
+    ensures verdict { (owed : Replies) → result ≡ on_argument policy.now (kept policy.now tracker.now owed) (message_in message.now.bytes.now) (text_demand_seen demand) (text_seen text.entry) }
     ensures cost { steps.new ≤ steps.old + text_steps policy.now tracker.now (text_seen text.entry) }
 {
     match text {
@@ -123,7 +119,7 @@ fn judge_text<L: Ledger>(
     level: Level,
     steps: &mut Steps<L>,
 ) -> Verdict
-    ensures verdict { result ≡ text_by policy.now message.now.flags (text_demand_seen demand) text.now (kept_numbers policy.now tracker.now text.now) level }
+    ensures verdict { result ≡ on_text policy.now (message_in message.now.bytes.now) (text_demand_seen demand) text.now (kept_numbers policy.now tracker.now text.now) level }
     ensures cost { steps.new + elements text.now + 1 ≤ steps.old + name_steps policy.now tracker.now text.now }
 {
     let hidden = Reason::ArgNotVisible;
@@ -144,7 +140,7 @@ fn judge_text<L: Ledger>(
 // A match rule that contains the word `eavesdrop` may ask for messages that are meant for others (D-Bus Specification,
 // "Match Rules").
 fn judge_match(message: &Message<'_>, text: &str) -> Verdict
-    ensures { result ≡ match_by message.now.flags text.now }
+    ensures { result ≡ on_match (message_in message.now.bytes.now) text.now }
 {
     if speaks_of_eavesdrop(text) {
         refused(message, Instead::AccessDenied, Reason::Eavesdrop)
@@ -169,7 +165,7 @@ fn judge_start<L: Ledger>(
     level: Level,
     steps: &mut Steps<L>,
 ) -> Verdict
-    ensures verdict { result ≡ start_by policy.now message.now.flags (kept_numbers policy.now tracker.now name.now) level }
+    ensures verdict { result ≡ on_start policy.now (message_in message.now.bytes.now) (kept_numbers policy.now tracker.now name.now) level }
     ensures cost { steps.new ≤ steps.old + 1 + steps_for name.now (kept_numbers policy.now tracker.now name.now) }
 {
     match level {
@@ -211,7 +207,7 @@ fn pass_from(
     what: Instead,
     reason: Reason,
 ) -> Verdict
-    ensures { result ≡ from_level message.now.flags least what reason level }
+    ensures { result ≡ from_level (message_in message.now.bytes.now) least what reason level }
 {
     if level.is_at_least(least) {
         Verdict::Pass

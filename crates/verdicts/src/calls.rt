@@ -1,20 +1,20 @@
 //! The verdict on a message of the client by its role.
 ghost use Rattle.std.specs.Prelude.{◌≡◌, ◌≤◌, ◌+◌, nat_lt};
 ghost use Rattle.name_patterns.specs.Ranks.{elements};
-ghost use Rattle.dbus_header.specs.Read.{message_seen};
-ghost use Rattle.dbus_header.specs.Seen.{text_seen};
-ghost use Rattle.policy_view.specs.Verdicts.{first_or_0, on_signal};
+ghost use Rattle.dbus_header.specs.Kinds.{kind_of};
+ghost use Rattle.dbus_header.specs.Message.{first_text as first_text_of};
+ghost use Rattle.dbus_header.specs.Seen.{name_seen};
+ghost use Rattle.dbus_header.specs.Contents.{message_in};
+ghost use Rattle.policy_view.specs.Verdicts.{first_or_0, not_visible, on_call, on_reply, on_signal, on_unknown_field, refused as refused_as, reply_to, verdict_as, verdict_at};
 ghost use Rattle.unique_names.specs.Taught.{kept_level, kept_numbers};
 ghost use Rattle.verdicts.specs.Counted.{name_steps, role_steps};
-ghost use Rattle.verdicts.specs.Judging.{call_by, first_text_in, hidden_call_by, refused_by, reply_by, reply_of, role_by, unknown_field_by, verdict_by};
 ghost use Rattle.verdicts.specs.Kept.{kept, owed_by, owed_to};
-ghost use Rattle.verdicts.specs.Properties.{property_request_in};
 ghost use Rattle.verdicts.specs.Seen.{client_role_seen};
 
 use crate::bus_members::judge_bus_call;
 use crate::entries::judge_seen;
 use crate::roles::ClientRole;
-use dbus_header::{Instead, Message};
+use dbus_header::{Instead, Message, MessageType};
 use dbus_names::BusName;
 use name_patterns::Steps;
 use policy_args::{Level, Policy};
@@ -32,10 +32,10 @@ pub(crate) fn judge_message<L: Ledger>(
     role: ClientRole<'_>,
     steps: &mut Steps<L>,
 ) -> Verdict
-    ensures verdict { result ≡ verdict_by policy.now (kept policy.now tracker.now ledger.now.owed) (message_seen message.now) (first_text_in message.now.bytes.now) (property_request_in message.now.bytes.now) (client_role_seen role.entry) }
-    ensures cost { steps.new ≤ steps.old + role_steps policy.now tracker.now (client_role_seen role.entry) (first_text_in message.now.bytes.now) }
+    ensures verdict { result ≡ verdict_as policy.now (kept policy.now tracker.now ledger.now.owed) (message_in message.now.bytes.now) (client_role_seen role.entry) }
+    ensures cost { steps.new ≤ steps.old + role_steps policy.now tracker.now (client_role_seen role.entry) (first_text_of (message_in message.now.bytes.now)) }
 {
-    if policy.known_fields() && message.has_unknown_field {
+    if policy.known_fields() && message.has_unknown_field() {
         return refuse_field(message);
     }
     judge_as(policy, tracker, ledger, message, role, steps)
@@ -43,12 +43,16 @@ pub(crate) fn judge_message<L: Ledger>(
 
 // Refuses a message that has a header field of an unknown code.
 fn refuse_field(message: &Message<'_>) -> Verdict
-    ensures { result ≡ unknown_field_by (message_seen message.now) }
+    ensures { result ≡ on_unknown_field (kind_of (message_in message.now.bytes.now)) (message_in message.now.bytes.now) }
 {
-    if message.is_method_call() {
-        refused(message, Instead::AccessDenied, Reason::UnknownField)
-    } else {
-        Verdict::Drop(Reason::UnknownField)
+    match message.message_type() {
+        MessageType::MethodCall => {
+            refused(message, Instead::AccessDenied, Reason::UnknownField)
+        }
+        MessageType::MethodReturn
+        | MessageType::Error
+        | MessageType::Signal
+        | MessageType::Unnamed => Verdict::Drop(Reason::UnknownField),
     }
 }
 
@@ -61,8 +65,8 @@ fn judge_as<L: Ledger>(
     role: ClientRole<'_>,
     steps: &mut Steps<L>,
 ) -> Verdict
-    ensures verdict { result ≡ role_by policy.now (kept policy.now tracker.now ledger.now.owed) (message_seen message.now) (first_text_in message.now.bytes.now) (property_request_in message.now.bytes.now) (client_role_seen role.entry) }
-    ensures cost { steps.new ≤ steps.old + role_steps policy.now tracker.now (client_role_seen role.entry) (first_text_in message.now.bytes.now) }
+    ensures verdict { result ≡ verdict_at policy.now (kept policy.now tracker.now ledger.now.owed) (message_in message.now.bytes.now) (client_role_seen role.entry) }
+    ensures cost { steps.new ≤ steps.old + role_steps policy.now tracker.now (client_role_seen role.entry) (first_text_of (message_in message.now.bytes.now)) }
 {
     match role {
         ClientRole::OfUnknownType => Verdict::Drop(Reason::UnknownType),
@@ -84,7 +88,7 @@ fn judge_as<L: Ledger>(
 
 /// Refuses a message. It is dropped if no reply to it is expected.
 pub(crate) fn refused(message: &Message<'_>, what: Instead, reason: Reason) -> Verdict
-    ensures { result ≡ refused_by message.now.flags what reason }
+    ensures { result ≡ refused_as (message_in message.now.bytes.now) what reason }
 {
     if message.expects_reply() {
         Verdict::Ping(what, reason)
@@ -95,12 +99,12 @@ pub(crate) fn refused(message: &Message<'_>, what: Instead, reason: Reason) -> V
 
 // A reply passes if it is owed.
 fn judge_reply(ledger: &ReplyLedger, message: &Message<'_>) -> Verdict
-    ensures { result ≡ reply_by (nat_lt 0 (owed_by ledger.now.owed (reply_of (message_seen message.now)))) }
+    ensures { result ≡ on_reply (nat_lt 0 (owed_by ledger.now.owed (reply_to (message_in message.now.bytes.now)))) }
 {
     if is_owed(
         ledger,
-        message.destination,
-        message.reply_serial.unwrap_or(0),
+        message.destination_name(),
+        message.reply_serial().unwrap_or(0),
     ) {
         Verdict::Pass
     } else {
@@ -109,12 +113,12 @@ fn judge_reply(ledger: &ReplyLedger, message: &Message<'_>) -> Verdict
 }
 
 // Whether a reply to this serial is owed to this name, which may be absent.
-fn is_owed(ledger: &ReplyLedger, peer: Option<&str>, serial: u32) -> bool
-    ensures { result ≡ nat_lt 0 (owed_to ledger.now.owed (text_seen peer.entry) serial) }
+fn is_owed(ledger: &ReplyLedger, peer: Option<BusName<'_>>, serial: u32) -> bool
+    ensures { result ≡ nat_lt 0 (owed_to ledger.now.owed (name_seen peer.entry) serial) }
 {
     match peer {
         None => false,
-        Some(peer) => ledger.owed(peer, serial),
+        Some(peer) => ledger.owed(peer.text, serial),
     }
 }
 
@@ -149,7 +153,7 @@ fn judge_call<L: Ledger>(
     known: LookedUp<'_>,
     steps: &mut Steps<L>,
 ) -> Verdict
-    ensures verdict { result ≡ call_by policy.now (message_seen message.now) (property_request_in message.now.bytes.now) name.entry.text.now (kept_numbers known.entry.policy.now known.entry.tracker.now known.entry.name.now) (kept_level known.entry.policy.now known.entry.tracker.now known.entry.name.now) }
+    ensures verdict { result ≡ on_call policy.now (message_in message.now.bytes.now) name.entry.text.now (kept_numbers known.entry.policy.now known.entry.tracker.now known.entry.name.now) (kept_level known.entry.policy.now known.entry.tracker.now known.entry.name.now) }
     ensures cost { steps.new + 1 ≤ steps.old + name_steps known.entry.policy.now known.entry.tracker.now known.entry.name.now }
 {
     match known.level(steps) {
@@ -164,7 +168,7 @@ fn judge_call<L: Ledger>(
 
 // A call to a hidden name: a service that it could have started is unknown, and any other name has no owner.
 fn judge_hidden(message: &Message<'_>, name: BusName<'_>) -> Verdict
-    ensures { result ≡ hidden_call_by message.now.flags name.entry.text.now }
+    ensures { result ≡ not_visible (message_in message.now.bytes.now) name.entry.text.now }
 {
     let what = if name.is_unique() || message.forbids_auto_start() {
         Instead::NameHasNoOwner

@@ -2,15 +2,14 @@
 ghost use Rattle.std.specs.Prelude.{◌≡◌, ◌≤◌, ◌+◌};
 ghost use Rattle.std.specs.List.{list_any};
 ghost use Rattle.std.specs.Option.{option_copied};
-ghost use Rattle.dbus_header.specs.Read.{message_seen};
+ghost use Rattle.dbus_header.specs.Message.{interface as interface_of, member as member_of, path as path_of};
 ghost use Rattle.policy_args.specs.Policy.{entry_at};
 ghost use Rattle.policy_view.specs.Texts.{matches as rule_matches};
-ghost use Rattle.policy_view.specs.Verdicts.{calls_methods as grant_calls_methods, entry_passes, rules_calls as grant_rules_calls};
-ghost use Rattle.verdicts.specs.Entries.{entry_steps, lowest_with};
-ghost use Rattle.verdicts.specs.Judging.{allows as grant_allows, seen_call_by, unruled_by};
-ghost use Rattle.verdicts.specs.Properties.{property_request_in};
+ghost use Rattle.dbus_header.specs.Contents.{message_in};
+ghost use Rattle.policy_view.specs.Shown.{broadcast_matches};
+ghost use Rattle.policy_view.specs.Verdicts.{calls_methods as grant_calls_methods, entry_passes, lets_pass, on_request, on_seen_call, rules_calls as grant_rules_calls};
+ghost use Rattle.verdicts.specs.Entries.{entry_steps, lowest_with, refused_by_rules};
 ghost use Rattle.verdicts.specs.Seen.{request_seen};
-ghost use Rattle.verdicts.specs.Showing.{announces as grant_announces};
 
 use crate::calls::refused;
 use crate::properties::{PropertyRequest, permits, property_request};
@@ -57,7 +56,7 @@ pub(crate) fn judge_seen<L: Ledger>(
     numbers: Entries<'_>,
     steps: &mut Steps<L>,
 ) -> Verdict
-    ensures verdict { result ≡ seen_call_by policy.now (message_seen message.now) (property_request_in message.now.bytes.now) numbers.entry.numbers }
+    ensures verdict { result ≡ on_seen_call policy.now (message_in message.now.bytes.now) numbers.entry.numbers }
     ensures cost { steps.new ≤ steps.old + entry_steps numbers.entry }
 {
     judge_by_rules(policy, message, property_request(message), numbers, steps)
@@ -71,7 +70,7 @@ fn judge_by_rules<L: Ledger>(
     mut numbers: Entries<'_>,
     steps: &mut Steps<L>,
 ) -> Verdict
-    ensures verdict { result ≡ seen_call_by policy.now (message_seen message.now) (request_seen request.entry) numbers.entry.numbers }
+    ensures verdict { result ≡ on_request policy.now (message_in message.now.bytes.now) (request_seen request.entry) numbers.entry.numbers }
     ensures cost { steps.new ≤ steps.old + entry_steps numbers.entry }
 {
     let mut lowest = Lowest {
@@ -90,7 +89,7 @@ fn judge_by_rules<L: Ledger>(
 
 // Refuses a call that no rule matches.
 fn refuse(message: &Message<'_>, lowest: Lowest) -> Verdict
-    ensures { result ≡ unruled_by message.now.flags lowest.any lowest.ruled }
+    ensures { result ≡ refused_by_rules (message_in message.now.bytes.now) lowest }
 {
     let reason = match lowest.ruled {
         Some(number) => Reason::NoRule(number),
@@ -107,7 +106,7 @@ pub(crate) fn is_announced<L: Ledger>(
     mut numbers: Entries<'_>,
     steps: &mut Steps<L>,
 ) -> bool
-    ensures announced { result ≡ list_any (entry_passes policy.now (grant_announces (message_seen message.now))) numbers.entry.numbers }
+    ensures announced { result ≡ list_any (entry_passes policy.now (broadcast_matches (message_in message.now.bytes.now))) numbers.entry.numbers }
     ensures cost { steps.new ≤ steps.old + entry_steps numbers.entry }
 {
     while let Some(number) = numbers.next_counted(steps) {
@@ -155,7 +154,7 @@ fn allows(
     message: &Message<'_>,
     request: Option<PropertyRequest<'_>>,
 ) -> bool
-    ensures { result ≡ entry_passes policy.now (grant_allows (message_seen message.now) (request_seen request.entry)) number }
+    ensures { result ≡ entry_passes policy.now (lets_pass (path_of (message_in message.now.bytes.now)) (interface_of (message_in message.now.bytes.now)) (member_of (message_in message.now.bytes.now)) (request_seen request.entry)) number }
 {
     match entry(policy, number) {
         None => false,
@@ -164,11 +163,11 @@ fn allows(
 }
 
 fn is_allowing(grant: &Grant, message: &Message<'_>, request: Option<PropertyRequest<'_>>) -> bool
-    ensures { result ≡ grant_allows (message_seen message.now) (request_seen request.entry) grant.now }
+    ensures { result ≡ lets_pass (path_of (message_in message.now.bytes.now)) (interface_of (message_in message.now.bytes.now)) (member_of (message_in message.now.bytes.now)) (request_seen request.entry) grant.now }
 {
     match grant {
         Grant::Call(rule) => is_matched(rule, message),
-        Grant::Property(rule) => permits(rule, message.path, request),
+        Grant::Property(rule) => permits(rule, message.path(), request),
         Grant::See | Grant::Talk | Grant::Own | Grant::Broadcast(_) => false,
     }
 }
@@ -207,7 +206,7 @@ fn is_calling_methods(grant: &Grant) -> bool
 
 // Whether the entry with a number has a Broadcast rule that matches the signal.
 fn announces(policy: &Policy, number: u32, message: &Message<'_>) -> bool
-    ensures { result ≡ entry_passes policy.now (grant_announces (message_seen message.now)) number }
+    ensures { result ≡ entry_passes policy.now (broadcast_matches (message_in message.now.bytes.now)) number }
 {
     match entry(policy, number) {
         None => false,
@@ -216,7 +215,7 @@ fn announces(policy: &Policy, number: u32, message: &Message<'_>) -> bool
 }
 
 fn is_announcing(grant: &Grant, message: &Message<'_>) -> bool
-    ensures { result ≡ grant_announces (message_seen message.now) grant.now }
+    ensures { result ≡ broadcast_matches (message_in message.now.bytes.now) grant.now }
 {
     match grant {
         Grant::Broadcast(rule) => is_matched(rule, message),
@@ -225,10 +224,10 @@ fn is_announcing(grant: &Grant, message: &Message<'_>) -> bool
 }
 
 fn is_matched(rule: &Rule, message: &Message<'_>) -> bool
-    ensures { result ≡ rule_matches rule.now (message_seen message.now).parts.path (message_seen message.now).parts.interface (message_seen message.now).parts.member }
+    ensures { result ≡ rule_matches rule.now (path_of (message_in message.now.bytes.now)) (interface_of (message_in message.now.bytes.now)) (member_of (message_in message.now.bytes.now)) }
 {
-    match (message.path, message.member) {
-        (Some(path), Some(member)) => rule.matches(path, message.interface, member),
+    match (message.path(), message.member()) {
+        (Some(path), Some(member)) => rule.matches(path, message.interface(), member),
         _ => false,
     }
 }

@@ -1,10 +1,10 @@
 //! Requests of properties, by calls of `org.freedesktop.DBus.Properties` (the section of that name in the D-Bus
 //! Specification).
 ghost use Rattle.std.specs.Prelude.{◌≡◌};
-ghost use Rattle.dbus_header.specs.Read.{message_seen};
+ghost use Rattle.dbus_header.specs.Message.{first_text as first_text_of, two_texts as two_texts_of};
 ghost use Rattle.dbus_header.specs.Seen.{text_seen};
-ghost use Rattle.policy_view.specs.Properties.{permits as rule_permits};
-ghost use Rattle.verdicts.specs.Properties.{is_method_of, method_request_by, property_request_in, request_of_all_in, request_of_one_in};
+ghost use Rattle.dbus_header.specs.Contents.{message_in};
+ghost use Rattle.policy_view.specs.Properties.{is_method as is_method_of, method_request as method_request_of, permits as rule_permits, property_request as property_request_of, request_of_all as request_of_text, request_of_one as request_of_texts};
 ghost use Rattle.verdicts.specs.Seen.{request_seen};
 
 use crate::roles::is_text;
@@ -24,10 +24,11 @@ pub(crate) struct PropertyRequest<'a> {
 }
 
 /// The property request that a call makes, or `None` if it makes none.
+#[tactic(auto, unfolding(policy_view::specs::Properties::property_request))]
 pub(crate) fn property_request<'a>(message: &Message<'a>) -> Option<PropertyRequest<'a>>
-    ensures { request_seen result ≡ property_request_in message.now.bytes.now }
+    ensures { request_seen result ≡ property_request_of (message_in message.now.bytes.now) }
 {
-    if is_text(message.interface, PROPERTIES_INTERFACE) {
+    if is_text(message.interface(), PROPERTIES_INTERFACE) {
         method_request(message)
     } else {
         None
@@ -36,7 +37,7 @@ pub(crate) fn property_request<'a>(message: &Message<'a>) -> Option<PropertyRequ
 
 // The request of a call of this interface, by its member and signature.
 fn method_request<'a>(message: &Message<'a>) -> Option<PropertyRequest<'a>>
-    ensures { request_seen result ≡ method_request_by (message_seen message.now) message.now.bytes.now }
+    ensures { request_seen result ≡ method_request_of (message_in message.now.bytes.now) }
 {
     if is_method(message, "Get", b"ss") || is_method(message, "Set", b"ssv") {
         request_of_one(message)
@@ -49,14 +50,14 @@ fn method_request<'a>(message: &Message<'a>) -> Option<PropertyRequest<'a>>
 
 // Whether the message has this member and its body this signature.
 fn is_method(message: &Message<'_>, name: &str, types: &[u8]) -> bool
-    ensures { result ≡ is_method_of name.now types.now (message_seen message.now) }
+    ensures { result ≡ is_method_of name.now types.now (message_in message.now.bytes.now) }
 {
-    is_text(message.member, name) && message.signature.as_bytes() == types
+    is_text(message.member(), name) && message.signature().as_bytes() == types
 }
 
 // The request of the property that the second text of the body names.
 fn request_of_one<'a>(message: &Message<'a>) -> Option<PropertyRequest<'a>>
-    ensures { request_seen result ≡ request_of_one_in message.now.bytes.now }
+    ensures { request_seen result ≡ request_of_texts (two_texts_of (message_in message.now.bytes.now)) }
 {
     let (interface, property) = message.two_texts()?;
     Some(PropertyRequest {
@@ -67,7 +68,7 @@ fn request_of_one<'a>(message: &Message<'a>) -> Option<PropertyRequest<'a>>
 
 // The request of all properties of the interface that the first text of the body names.
 fn request_of_all<'a>(message: &Message<'a>) -> Option<PropertyRequest<'a>>
-    ensures { request_seen result ≡ request_of_all_in message.now.bytes.now }
+    ensures { request_seen result ≡ request_of_text (first_text_of (message_in message.now.bytes.now)) }
 {
     let interface = message.first_text()?;
     Some(PropertyRequest {

@@ -1,16 +1,15 @@
 //! The roles of messages: what a message is, by its own contents and by the sent call that it answers.
 ghost use Rattle.std.specs.Prelude.{◌≡◌, true, false};
 ghost use Rattle.std.specs.Option.{option_copied};
-ghost use Rattle.dbus_header.specs.Read.{message_seen};
 ghost use Rattle.dbus_header.specs.Seen.{name_seen, text_seen};
-ghost use Rattle.policy_view.specs.Shown.{role_of_reply as reply_role};
+ghost use Rattle.dbus_header.specs.Contents.{message_in};
+ghost use Rattle.policy_view.specs.Shown.{bus_role as bus_role_of, is_owner_change as changes_owner, role_of_reply as reply_role, role_of_signal as bus_signal_role};
 ghost use Rattle.policy_view.specs.Texts.{has_text as text_is, is_one_of};
-ghost use Rattle.policy_view.specs.Verdicts.{role_of_bus_call as bus_call_role, role_of_call as call_role, role_of_signal as signal_role, standard_interfaces};
-ghost use Rattle.verdicts.specs.Roles.{bus_role_of, client_role_of, is_owner_change_of, signal_role_of};
+ghost use Rattle.policy_view.specs.Verdicts.{client_role as client_role_of, role_of_bus_call as bus_call_role, role_of_call as call_role, role_of_signal as signal_role, standard_interfaces};
 ghost use Rattle.verdicts.specs.Seen.{bus_role_seen, client_role_seen};
 
 use crate::properties::PROPERTIES_INTERFACE;
-use dbus_header::{ERROR, Instead, METHOD_CALL, METHOD_RETURN, Message, SIGNAL};
+use dbus_header::{Instead, Message, MessageType};
 use dbus_names::{BUS_NAME, BusName, Name, is_bus};
 use dbus_values::Order;
 use reply_ledger::Kind;
@@ -72,15 +71,15 @@ pub(crate) enum BusRole<'a> {
 }
 
 /// The role of a client's message.
+#[tactic(auto, unfolding(policy_view::specs::Verdicts::client_role))]
 pub(crate) fn client_role<'a>(message: &Message<'a>) -> ClientRole<'a>
-    ensures { client_role_seen result ≡ client_role_of (message_seen message.now) }
+    ensures { client_role_seen result ≡ client_role_of (message_in message.now.bytes.now) }
 {
-    match message.kind {
-        METHOD_CALL => role_of_call(message.destination_name(), message.interface),
-        METHOD_RETURN => ClientRole::Reply,
-        ERROR => ClientRole::Reply,
-        SIGNAL => role_of_signal(message.destination_name()),
-        _ => ClientRole::OfUnknownType,
+    match message.message_type() {
+        MessageType::MethodCall => role_of_call(message.destination_name(), message.interface()),
+        MessageType::MethodReturn | MessageType::Error => ClientRole::Reply,
+        MessageType::Signal => role_of_signal(message.destination_name()),
+        MessageType::Unnamed => ClientRole::OfUnknownType,
     }
 }
 
@@ -135,15 +134,16 @@ fn role_of_signal(destination: Option<BusName<'_>>) -> ClientRole<'_>
 }
 
 /// The role of a bus message, given what it is the answer to.
+#[tactic(auto, unfolding(policy_view::specs::Shown::bus_role))]
 pub(crate) fn bus_role<'a>(answered: Option<&'a Kind>, message: &Message<'_>) -> BusRole<'a>
-    ensures { bus_role_seen result ≡ bus_role_of (option_copied answered.entry) (message_seen message.now) }
+    ensures { bus_role_seen result ≡ bus_role_of (option_copied answered.entry) (message_in message.now.bytes.now) }
 {
-    match message.kind {
-        METHOD_CALL => BusRole::CallIn,
-        METHOD_RETURN => role_of_reply(true, answered),
-        ERROR => role_of_reply(false, answered),
-        SIGNAL => role_of_bus_signal(message),
-        _ => BusRole::NoRole,
+    match message.message_type() {
+        MessageType::MethodCall => BusRole::CallIn,
+        MessageType::MethodReturn => role_of_reply(true, answered),
+        MessageType::Error => role_of_reply(false, answered),
+        MessageType::Signal => role_of_bus_signal(message),
+        MessageType::Unnamed => BusRole::NoRole,
     }
 }
 
@@ -186,11 +186,11 @@ fn role_of_answer(is_return: bool, kind: &Kind) -> BusRole<'_>
 }
 
 fn role_of_bus_signal<'a>(message: &Message<'_>) -> BusRole<'a>
-    ensures { bus_role_seen result ≡ signal_role_of (message_seen message.now) }
+    ensures { bus_role_seen result ≡ bus_signal_role (message_in message.now.bytes.now) }
 {
     if is_owner_change(message) {
         BusRole::OwnerChange
-    } else if message.destination.is_some() {
+    } else if message.destination_name().is_some() {
         BusRole::SignalIn
     } else {
         BusRole::BroadcastIn
@@ -198,12 +198,23 @@ fn role_of_bus_signal<'a>(message: &Message<'_>) -> BusRole<'a>
 }
 
 /// Whether it is NameOwnerChanged from the bus (D-Bus Specification, "org.freedesktop.DBus.NameOwnerChanged").
+#[tactic(auto, unfolding(policy_view::specs::Shown::is_owner_change))]
 pub fn is_owner_change(message: &Message<'_>) -> bool
-    ensures { result ≡ is_owner_change_of (message_seen message.now) }
+    ensures { result ≡ changes_owner (message_in message.now.bytes.now) }
 {
-    is_text(message.sender, BUS_NAME)
-        && is_text(message.interface, BUS_NAME)
-        && is_text(message.member, "NameOwnerChanged")
+    is_name(message.sender_name(), BUS_NAME)
+        && is_text(message.interface(), BUS_NAME)
+        && is_text(message.member(), "NameOwnerChanged")
+}
+
+// Whether the name is this text.
+fn is_name(name: Option<BusName<'_>>, wanted: &str) -> bool
+    ensures { result ≡ text_is (name_seen name.entry) wanted.now }
+{
+    match name {
+        None => false,
+        Some(name) => name.text == wanted,
+    }
 }
 
 /// Whether the text is this one.

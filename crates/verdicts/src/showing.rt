@@ -1,13 +1,14 @@
 //! What the client is shown of a bus message, by its role.
 ghost use Rattle.std.specs.Prelude.{◌≡◌, ◌≤◌, ◌+◌};
-ghost use Rattle.dbus_header.specs.Read.{message_seen};
-ghost use Rattle.dbus_header.specs.Seen.{name_seen, text_seen};
+ghost use Rattle.dbus_header.specs.Message.{sender as sender_of, text_list as text_list_of, three_texts as three_texts_of};
+ghost use Rattle.dbus_header.specs.Seen.{name_seen, texts_seen};
 ghost use Rattle.name_patterns.specs.Ranks.{elements};
-ghost use Rattle.unique_names.specs.Taught.{kept_level, kept_numbers};
-ghost use Rattle.verdicts.specs.Counted.{shown_steps, text_steps};
+ghost use Rattle.dbus_header.specs.Contents.{message_in};
+ghost use Rattle.policy_view.specs.Shown.{may_broadcast, on_broadcast, on_names, on_owner_change, sees_change as sees_change_of, showing_at};
+ghost use Rattle.reply_ledger.specs.Owed.{Replies};
+ghost use Rattle.verdicts.specs.Counted.{changed_name, shown_steps, text_steps};
 ghost use Rattle.verdicts.specs.Kept.{kept};
 ghost use Rattle.verdicts.specs.Seen.{bus_role_seen};
-ghost use Rattle.verdicts.specs.Showing.{broadcast_by, changed_name_in, has_list_in, may_announce as may_be_announced, names_by, owner_change_by, sees_change_by, showing_by};
 
 use crate::entries::is_announced;
 use crate::roles::BusRole;
@@ -27,8 +28,8 @@ pub(crate) fn show_as<L: Ledger>(
     role: BusRole<'_>,
     steps: &mut Steps<L>,
 ) -> Showing
-    ensures showing { result ≡ showing_by policy.now (kept_level policy.now tracker.now) (kept_numbers policy.now tracker.now) (message_seen message.now) message.now.bytes.now (bus_role_seen role.entry) }
-    ensures cost { steps.new ≤ steps.old + shown_steps policy.now tracker.now (bus_role_seen role.entry) (changed_name_in message.now.bytes.now) (text_seen message.now.sender) }
+    ensures showing { (owed : Replies) → result ≡ showing_at policy.now (kept policy.now tracker.now owed) (message_in message.now.bytes.now) (bus_role_seen role.entry) }
+    ensures cost { steps.new ≤ steps.old + shown_steps policy.now tracker.now (bus_role_seen role.entry) (changed_name (three_texts_of (message_in message.now.bytes.now))) (sender_of (message_in message.now.bytes.now)) }
 {
     match role {
         BusRole::NoRole => Showing::Hide(Reason::UnknownType),
@@ -55,20 +56,12 @@ pub(crate) fn show_as<L: Ledger>(
 
 // Shows a list of names, if the body is one.
 fn show_names(message: &Message<'_>, serial: u32) -> Showing
-    ensures { result ≡ names_by serial (has_list_in message.now.bytes.now) }
+    ensures { result ≡ on_names serial (text_list_of (message_in message.now.bytes.now)) }
 {
-    if has_list(message) {
-        Showing::Cut(serial)
-    } else {
-        Showing::Hide(Reason::BadArgument)
+    match message.text_list() {
+        None => Showing::Hide(Reason::BadArgument),
+        Some(_) => Showing::Cut(serial),
     }
-}
-
-// Whether the body is an array of strings.
-fn has_list(message: &Message<'_>) -> bool
-    ensures { result ≡ has_list_in message.now.bytes.now }
-{
-    message.text_list().is_some()
 }
 
 // The owner of a name changed. The client is shown that if it sees the change.
@@ -78,12 +71,13 @@ fn show_owner_change<L: Ledger>(
     message: &Message<'_>,
     steps: &mut Steps<L>,
 ) -> Showing
-    ensures showing { result ≡ owner_change_by policy.now.sloppy (kept_level policy.now tracker.now) (changed_name_in message.now.bytes.now) }
-    ensures cost { steps.new ≤ steps.old + text_steps policy.now tracker.now (changed_name_in message.now.bytes.now) }
+    ensures showing { (owed : Replies) → result ≡ on_owner_change policy.now.sloppy (kept policy.now tracker.now owed) (three_texts_of (message_in message.now.bytes.now)) }
+    ensures cost { steps.new ≤ steps.old + text_steps policy.now tracker.now (changed_name (three_texts_of (message_in message.now.bytes.now))) }
 {
-    match changed_name(message) {
+    match message.three_texts() {
         None => Showing::Hide(Reason::BadArgument),
-        Some(name) => {
+        // The name, its old owner and its new one.
+        Some((name, _, _)) => {
             if sees_change(policy, tracker, name, steps) {
                 Showing::Whole
             } else {
@@ -101,19 +95,11 @@ fn sees_change<L: Ledger>(
     name: &str,
     steps: &mut Steps<L>,
 ) -> bool
-    ensures seen { result ≡ sees_change_by policy.now.sloppy (kept_level policy.now tracker.now) name.now }
+    ensures seen { (owed : Replies) → result ≡ sees_change_of policy.now.sloppy (kept policy.now tracker.now owed) name.now }
     ensures cost { steps.new ≤ steps.old + elements name.now + 1 }
 {
     let level = tracker.level_counted(policy, name, steps);
     level.is_at_least(Level::See) || policy.sloppy() && is_unique(name.as_bytes())
-}
-
-// The first of the three texts that are the body: the name, its old owner and its new one.
-fn changed_name<'a>(message: &Message<'a>) -> Option<&'a str>
-    ensures { text_seen result ≡ changed_name_in message.now.bytes.now }
-{
-    let (name, _, _) = message.three_texts()?;
-    Some(name)
 }
 
 // A broadcast signal is shown if its sender may be talked to or a rule says so.
@@ -123,8 +109,8 @@ fn show_broadcast<L: Ledger>(
     message: &Message<'_>,
     steps: &mut Steps<L>,
 ) -> Showing
-    ensures showing { result ≡ broadcast_by policy.now (kept_level policy.now tracker.now) (kept_numbers policy.now tracker.now) (message_seen message.now) }
-    ensures cost { steps.new ≤ steps.old + text_steps policy.now tracker.now (text_seen message.now.sender) }
+    ensures showing { (owed : Replies) → result ≡ on_broadcast policy.now (kept policy.now tracker.now owed) (message_in message.now.bytes.now) }
+    ensures cost { steps.new ≤ steps.old + text_steps policy.now tracker.now (sender_of (message_in message.now.bytes.now)) }
 {
     if may_announce(policy, tracker, message, message.sender_name(), steps) {
         Showing::Whole
@@ -141,7 +127,7 @@ fn may_announce<L: Ledger>(
     sender: Option<BusName<'_>>,
     steps: &mut Steps<L>,
 ) -> bool
-    ensures announced { result ≡ may_be_announced policy.now (kept_level policy.now tracker.now) (kept_numbers policy.now tracker.now) (message_seen message.now) (name_seen sender.entry) }
+    ensures announced { (owed : Replies) → result ≡ may_broadcast policy.now (kept policy.now tracker.now owed) (message_in message.now.bytes.now) (name_seen sender.entry) }
     ensures cost { steps.new ≤ steps.old + text_steps policy.now tracker.now (name_seen sender.entry) }
 {
     match sender {

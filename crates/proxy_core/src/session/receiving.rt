@@ -10,7 +10,7 @@ ghost use Rattle.policy_view.specs.Sent.{OwnOwner, asked as names_asked};
 ghost use Rattle.policy_view.specs.Shown.{CallIn, NamesAnswer, bus_role, role_of_reply, role_of_signal, showing_at};
 ghost use Rattle.proxy_core.specs.Incoming.{incoming_message};
 ghost use Rattle.proxy_core.specs.Messages.{KeepsSides, known, own_names, sending, with_bus_message, with_facts, with_role, with_sent, with_shown, with_told, with_used};
-ghost use Rattle.policy_view.specs.Notes.{message_in};
+ghost use Rattle.dbus_header.specs.Contents.{message_in};
 ghost use Rattle.proxy_core.specs.Shapes.{ShownBy};
 ghost use Rattle.proxy_core.specs.Steps.{TookMessage};
 ghost use Rattle.verdicts.specs.Kept.{expected_at};

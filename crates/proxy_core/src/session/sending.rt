@@ -8,7 +8,7 @@ ghost use Rattle.policy_view.specs.Verdicts.{client_role, verdict as verdict_on}
 ghost use Rattle.policy_view.specs.declared.Verdict.TheVariants.{Pass};
 ghost use Rattle.proxy_core.specs.Incoming.{incoming_message};
 ghost use Rattle.proxy_core.specs.Messages.{KeepsSides, awaiting, known, noted, queued, with_client_message, with_due, with_replied, with_sent, with_verdict};
-ghost use Rattle.policy_view.specs.Notes.{message_in};
+ghost use Rattle.dbus_header.specs.Contents.{message_in};
 ghost use Rattle.proxy_core.specs.Steps.{TookMessage};
 
 use super::Session;

@@ -1,5 +1,5 @@
 use Rattle.verdicts.specs.Kept.{kept}
-use Rattle.verdicts.proofs.Judged.{is-judged}
+use Rattle.verdicts.proofs.Past.{is-judged}
 use Rattle.verdicts.proofs.KnowledgeLaws.{knowledge_is}
 use Rattle.verdicts.proofs.judge.Goals as goal
 

@@ -1,7 +1,7 @@
 use Rattle.std.specs.Option.{option_copied}
 use Rattle.verdicts.specs.Kept.{kept}
 use Rattle.verdicts.proofs.KnowledgeLaws.{knowledge_is}
-use Rattle.verdicts.proofs.Showings.{is-shown}
+use Rattle.verdicts.proofs.Past.{is-shown}
 use Rattle.verdicts.proofs.show.Goals as goal
 
 pub returns-clause-exact : goal.returns-clause-exact

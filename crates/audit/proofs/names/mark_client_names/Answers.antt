@@ -2,7 +2,7 @@ use Rattle.std.proofs.Common.{◌++◌, ◌∙◌, ap, append-nil, append_assoc,
 use Rattle.dbus_header.specs.Message.{first_text}
 use Rattle.dbus_header.specs.Read.{message_seen}
 use Rattle.dbus_header.specs.Seen.{text_seen}
-use Rattle.policy_view.specs.Notes.{message_in}
+use Rattle.dbus_header.specs.Contents.{message_in}
 use Rattle.audit.specs.Audit.{listed, where_well_known}
 use Rattle.audit.specs.Tallies.{Marked}
 use Rattle.audit.proofs.Messages.{client-names, listed_if, read-message}
@@ -16,7 +16,7 @@ returns-in_ok-mark_text c = λ names marked.
     let first = where_well_known (text_seen c.args.message.now.destination) in
     subst (λ t. Marked c.args.policy.now.entries t c.mark_text.new.marks)
     (append_assoc names first (listed (text_seen c.first_text.result))
-    ∙ ap (λ t. names ++ t) (ap (λ t. first ++ t) (ap listed (c.first_text.ensures (message_in bytes) read.0) ∙ ap (λ b. listed_if b (first_text (message_in bytes))) (sym tested))
+    ∙ ap (λ t. names ++ t) (ap (λ t. first ++ t) (ap listed c.first_text.ensures ∙ ap (λ b. listed_if b (first_text (message_in bytes))) (sym tested))
     ∙ client-names (message_in bytes) (message_seen c.args.message.now) read.1))
     (c.in_ok-mark_text.ensures _ (c.in_ok-mark_destination.ensures names marked))
 

@@ -1,6 +1,6 @@
 use Rattle.std.proofs.Common.{◌≡◌, ◌∙◌, ap, refl, sym}
 use Rattle.std.proofs.lemmas.Result.{on_ok_weaker}
-use Rattle.policy_view.specs.Notes.{message_in}
+use Rattle.dbus_header.specs.Contents.{message_in}
 use Rattle.policy_view.specs.declared.Decision.TheVariants.{Judged, Shown}
 use Rattle.policy_view.specs.declared.Verdict.TheVariants.{Pass}
 use Rattle.policy_view.specs.declared.Showing.TheVariants.{Whole}

@@ -1,6 +1,7 @@
 use Rattle.std.proofs.Common.{◌≡◌, ap, subst}
 use Rattle.dbus_header.specs.Message.{Valid, spell}
-use Rattle.policy_view.specs.Notes.{Note, message_in}
+use Rattle.dbus_header.specs.Contents.{message_in}
+use Rattle.policy_view.specs.Notes.{Note}
 use Rattle.policy_view.proofs.Frames.{frame_message}
 use Rattle.policy_view.proofs.note.Note.message.Goals as goal
 

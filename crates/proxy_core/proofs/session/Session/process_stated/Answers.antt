@@ -1,7 +1,7 @@
 use Rattle.std.proofs.Common.{ap, subst, sym, ◌∙◌}
 use Rattle.dbus_header.specs.Malformed.{fault}
 use Rattle.dbus_header.specs.declared.message.Message.{Message}
-use Rattle.policy_view.specs.Notes.{message_in}
+use Rattle.dbus_header.specs.Contents.{message_in}
 use Rattle.proxy_core.specs.Messages.{with_watched_message}
 use Rattle.proxy_core.specs.Seen.{TookFirst}
 use Rattle.proxy_core.specs.Sessions.{SessionView}
