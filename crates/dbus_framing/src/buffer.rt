@@ -79,15 +79,24 @@ impl Buffer {
         }
     }
 
-    /// The buffer's memory, unless others may refer to parts of it. The bytes are dropped.
-    pub(crate) fn into_room(self) -> Vec<u8>
-        ensures { result.items ≡ [] }
+    /// Lends out its memory while there are no bytes, unless others may have parts of it.
+    pub(crate) fn lend_room(&mut self) -> Vec<u8>
+        requires { self.old ≡ [] }
+        ensures room { result.items ≡ [] }
+        ensures stays { self.new ≡ [] }
     {
-        let Buffer { content, alloc } = self;
-        match content {
-            Content::Open(bytes) => bytes.into_room(),
-            Content::Shared(_) => Vec::new(alloc),
+        match &mut self.content {
+            Content::Open(bytes) => bytes.lend_room(self.alloc),
+            Content::Shared(_) => Vec::new(self.alloc),
         }
+    }
+
+    /// Puts the bytes of a vector in the place of those that there are. They stay in its memory.
+    pub(crate) fn fill(&mut self, bytes: Vec<u8>)
+        ensures { self.new ≡ bytes.items }
+    {
+        self.content = Content::Open(ByteQueue::from_vec(bytes));
+        self.release();
     }
 
     /// The bytes.

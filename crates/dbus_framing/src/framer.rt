@@ -103,31 +103,22 @@ impl Framer {
         })
     }
 
-    /// A framer with the bytes of a vector, in its memory, and with what is known of the first message.
-    pub(crate) fn with_known(alloc: Global, bytes: Vec<u8>, state: State) -> Framer
+    /// Lends out its memory while it holds no bytes.
+    pub(crate) fn lend_room(&mut self) -> Vec<u8>
+        requires { self.old ≡ [] }
+        ensures room { result.items ≡ [] }
+        ensures stays { self.new ≡ [] }
+    {
+        self.bytes.lend_room()
+    }
+
+    /// Puts in the bytes of a vector, in its memory, with what is known of the message in front.
+    pub(crate) fn fill(&mut self, bytes: Vec<u8>, state: State)
         requires { Knows state bytes.items }
-        ensures { result ≡ bytes.items }
+        ensures { self.new ≡ bytes.items }
     {
-        let mut bytes = Buffer::from_vec(alloc, bytes);
-        bytes.release();
-        Framer {
-            bytes,
-            state,
-            alloc,
-        }
-    }
-
-    /// The framer's memory. Bytes that weren't taken are dropped.
-    pub(crate) fn into_room(self) -> Vec<u8>
-        ensures { result.items ≡ [] }
-    {
-        let Framer { bytes, .. } = self;
-        bytes.into_room()
-    }
-
-    /// The allocator for what is pushed.
-    pub(crate) fn alloc(&self) -> Global {
-        self.alloc
+        self.bytes.fill(bytes);
+        self.state = state;
     }
 
     /// The number of bytes that were pushed and not taken yet.

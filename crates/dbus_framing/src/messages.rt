@@ -1,5 +1,5 @@
 //! The messages of a stream that weren't taken yet, in a framer or in a piece of the stream.
-ghost use Rattle.std.specs.Prelude.{◌≡◌, ◌≤◌, [], Some, IfOk, IfErr, IfSome, MatchResult, length, take, drop};
+ghost use Rattle.std.specs.Prelude.{◌≡◌, ◌≤◌, [], Some, IfOk, IfErr, IfSome, length, take, drop};
 ghost use Rattle.dbus_header.specs.Message.{Message as MessageTree};
 ghost use Rattle.dbus_header.specs.Malformed.{fault};
 ghost use Rattle.dbus_framing.specs.Framing.{Looks, Takes};
@@ -10,6 +10,7 @@ use crate::framer::Framer;
 use crate::passing::Passing;
 use bytes::Bytes;
 use dbus_header::{KnownTexts, Malformed, Message};
+use std::alloc::AllocError;
 use std::marker::Model;
 
 /// Where the bytes of the messages are.
@@ -22,7 +23,7 @@ pub(crate) enum Source<'a> {
 }
 
 /// The messages of a stream that weren't taken yet, in a framer or in a piece that was received with nothing left
-/// before it. Call `front`, `message` and `take`, and then `into_framer` for the framer of the next piece.
+/// before it. Call `front`, `message` and `take`, and then `put_back`, which gives the rest to the stream's framer.
 #[derive(Drop)]
 pub struct Messages<'a> {
     source: Source<'a>,
@@ -47,19 +48,17 @@ impl<'a> Messages<'a> {
         }
     }
 
-    /// The messages in a piece, which are read in place. `into_framer` copies only the rest, into the framer's memory;
-    /// room for the whole piece is reserved here. An error says that memory for this ran out, and gives the framer
-    /// back.
-    pub fn passing(framer: Framer, piece: &'a [u8]) -> Result<Messages<'a>, Framer>
-        requires { framer ≡ [] }
-        ensures { MatchResult result (λ messages. messages ≡ piece.now) (λ refused. refused ≡ []) }
+    /// The messages in a piece, which are read in place. The framer lends its memory, in which room for the whole piece is
+    /// reserved here; `put_back` copies the rest into it. An error says that memory for this ran out.
+    pub fn passing(framer: &mut Framer, piece: &'a [u8]) -> Result<Messages<'a>, AllocError>
+        requires { framer.old ≡ [] }
+        ensures piece { IfOk result (λ messages. messages ≡ piece.now) }
+        ensures stays { framer.new ≡ [] }
     {
-        match Passing::new(framer, piece) {
-            Ok(passing) => Ok(Messages {
-                source: Source::Passed(passing),
-            }),
-            Err(framer) => Err(framer),
-        }
+        let passing = Passing::new(framer.lend_room(), piece)?;
+        Ok(Messages {
+            source: Source::Passed(passing),
+        })
     }
 
     /// Says whether the first message is complete, by its head alone. Each head is read once. The stream doesn't
@@ -116,14 +115,15 @@ impl<'a> Messages<'a> {
         }
     }
 
-    /// The framer with all bytes that weren't taken. Those of a piece are copied into memory that was reserved for
-    /// them.
-    pub fn into_framer(self) -> Framer
-        ensures { result ≡ self.entry }
+    /// Puts all bytes that weren't taken into the framer, which holds none. Those of a piece are copied into memory that
+    /// was reserved for them.
+    pub fn put_back(self, framer: &mut Framer)
+        requires { framer.old ≡ [] }
+        ensures { framer.new ≡ self.entry }
     {
         match self.source {
-            Source::Kept(framer) => framer,
-            Source::Passed(passing) => passing.into_framer(),
+            Source::Kept(kept) => *framer = kept,
+            Source::Passed(passing) => passing.put_back(framer),
         }
     }
 }

@@ -1,5 +1,5 @@
 //! A piece of a stream whose messages are read in place.
-ghost use Rattle.std.specs.Prelude.{◌≡◌, ◌≤◌, [], Some, IfOk, IfErr, MatchResult, length, take, drop, vec_capacity};
+ghost use Rattle.std.specs.Prelude.{◌≡◌, ◌≤◌, [], Some, IfOk, IfErr, length, take, drop, vec_capacity};
 ghost use Rattle.dbus_header.specs.Message.{Message as MessageTree};
 ghost use Rattle.dbus_header.specs.Malformed.{fault};
 ghost use Rattle.dbus_framing.specs.Framing.{Looks, Takes};
@@ -9,10 +9,10 @@ use crate::Front;
 use crate::framer::{Framer, looked, message_in_front};
 use crate::state::State;
 use dbus_header::{KnownTexts, Malformed, Message};
-use std::alloc::Global;
+use std::alloc::AllocError;
 use std::marker::Model;
 
-/// The part of a piece that wasn't taken yet, and the memory of the stream's framer. The memory has room for the whole
+/// The part of a piece that wasn't taken yet, and memory that the stream's framer lent. The memory has room for the whole
 /// part, so keeping the rest can't fail.
 ///
 /// ```text
@@ -27,7 +27,6 @@ pub(crate) struct Passing<'a> {
     left: &'a [u8],
     state: State,
     room: Vec<u8>,
-    alloc: Global,
 }
 
 impl<'a> Model for Passing<'a> {
@@ -55,23 +54,17 @@ fn copied_into(mut room: Vec<u8>, bytes: &[u8]) -> Vec<u8>
 }
 
 impl<'a> Passing<'a> {
-    /// A piece, and the memory of a framer that holds no bytes. An error says that memory for the whole piece ran out,
-    /// and gives the framer back.
-    pub(crate) fn new(framer: Framer, piece: &'a [u8]) -> Result<Passing<'a>, Framer>
-        requires { framer ≡ [] }
-        ensures { MatchResult result (λ passing. passing ≡ piece.now) (λ refused. refused ≡ []) }
+    /// A piece, and memory without bytes. An error says that memory for the whole piece ran out.
+    pub(crate) fn new(mut room: Vec<u8>, piece: &'a [u8]) -> Result<Passing<'a>, AllocError>
+        requires { room.items ≡ [] }
+        ensures { IfOk result (λ passing. passing ≡ piece.now) }
     {
-        let alloc = framer.alloc();
-        let mut room = framer.into_room();
-        match room.reserve(piece.len()) {
-            Ok(()) => Ok(Passing {
-                left: piece,
-                state: State::AwaitsHead,
-                room,
-                alloc,
-            }),
-            Err(_) => Err(Framer::with_known(alloc, room, State::AwaitsHead)),
-        }
+        room.reserve(piece.len())?;
+        Ok(Passing {
+            left: piece,
+            state: State::AwaitsHead,
+            room,
+        })
     }
 
     /// Says whether the first message is complete, by its head alone. Each head is read once. Nothing else changes.
@@ -107,16 +100,12 @@ impl<'a> Passing<'a> {
         self.state = State::AwaitsHead;
     }
 
-    /// A framer with the rest, which is copied into memory that was reserved for it.
-    pub(crate) fn into_framer(self) -> Framer
-        ensures { result ≡ self.entry }
+    /// Gives the framer its memory back, with the rest in it.
+    pub(crate) fn put_back(self, framer: &mut Framer)
+        requires { framer.old ≡ [] }
+        ensures { framer.new ≡ self.entry }
     {
-        let Passing {
-            left,
-            state,
-            room,
-            alloc,
-        } = self;
-        Framer::with_known(alloc, copied_into(room, left), state)
+        let Passing { left, state, room } = self;
+        framer.fill(copied_into(room, left), state);
     }
 }

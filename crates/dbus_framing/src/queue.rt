@@ -57,13 +57,16 @@ impl ByteQueue {
         ByteQueue { bytes, given: 0 }
     }
 
-    /// The queue's memory. The bytes that wait are dropped.
-    pub(crate) fn into_room(self) -> Vec<u8>
-        ensures { result.items ≡ [] }
+    /// Lends out its memory while no bytes wait.
+    pub(crate) fn lend_room(&mut self, alloc: Global) -> Vec<u8>
+        requires { self.old ≡ [] }
+        ensures room { result.items ≡ [] }
+        ensures stays { self.new ≡ [] }
     {
-        let ByteQueue { mut bytes, .. } = self;
-        bytes.clear();
-        bytes
+        self.given = 0;
+        let mut room = mem::replace(&mut self.bytes, Vec::new(alloc));
+        room.clear();
+        room
     }
 
     /// A copy of bytes, in exactly as much memory as they need.

@@ -1,6 +1,6 @@
 -- What the code reads of a message is of the message that its bytes spell.
-use Rattle.std.proofs.Common.{ℕ, ◌≡◌, Bool, true, false, cond, List, Option, Some, None, refl, ap, ap₂, ◌∙◌, sym, codes}
-use Rattle.std.specs.Prelude.{◌||◌, ◌==◌, IsSome, OnOk, Result, Ok, Err, unwrap_or}
+use Rattle.std.proofs.Common.{ℕ, ◌≡◌, Bool, true, false, cond, List, Option, Some, None, refl, ap, ap₂, ◌∙◌, sym, subst, codes}
+use Rattle.std.specs.Prelude.{◌&&◌, ◌||◌, ◌==◌, IsSome, IfErr, IfOk, OnOk, Result, Ok, Err, unwrap_or}
 use Rattle.dbus_header.specs.Contents.{Contents, contents_of, message_of, message_in}
 use Rattle.dbus_header.specs.Message.{Message, Valid, destination, reply_serial, only_text, spell, text_list, with_number, with_reply_serial, with_serial}
 use Rattle.dbus_header.specs.Read.{message_seen}
@@ -11,9 +11,11 @@ use Rattle.dbus_header.specs.Kinds.{Kind, Call, Return, Error, Signal, Other, ki
 use Rattle.policy_view.specs.Past.{if_return, returned_names, returned_text}
 use Rattle.std.proofs.lemmas.Bool.{eqb-true}
 use Rattle.dbus_header.specs.Seen.{text_seen}
-use Rattle.policy_view.specs.Sent.{asks_names}
+use Rattle.policy_view.specs.Sent.{Passed, asks_names, expected_of, is_hello}
+use Rattle.policy_view.specs.Texts.{has_text}
 use Rattle.policy_view.specs.Verdicts.{number_or_0}
-use Rattle.proxy_core.specs.Messages.{is_bus_member_by}
+use Rattle.reply_ledger.specs.declared.kind.Kind.TheVariants as expects
+use Rattle.proxy_core.specs.Messages.{is_bus_call_by, is_bus_member_by}
 use Rattle.policy_view.proofs.Frames.{spelled_message}
 
 -- ---- the message
@@ -106,6 +108,18 @@ pub asks_is : (x : Seen) → asks_names (tree x) ≡ (is_bus_member_by (codes "L
 unfolding asks_names
 asks_is x = ap (λ (q : Contents). is_bus_member_by (codes "ListNames") q || is_bus_member_by (codes "ListActivatableNames") q) (seen x)
 
+no_member : (x : Seen) (name : List ℕ) → is_bus_call_by (message_seen x) ≡ false → is_bus_member_by name (message_seen x) ≡ false
+no_member x name e = ap (λ (b : Bool). b && has_text (text_seen x.member) name) e
+
+-- a call that isn't of the bus is answered as any other
+pub asks_nothing : (x : Seen) → is_bus_call_by (message_seen x) ≡ false → expected_of (Passed (tree x)) ≡ expects.Call x.serial
+unfolding is_hello
+asks_nothing x e =
+    let no_hello : is_hello (tree x) ≡ false = ap (is_bus_member_by (codes "Hello")) (seen x) ∙ no_member x (codes "Hello") e in
+    let no_names : asks_names (tree x) ≡ false = asks_is x ∙ ap₂ (λ (a b : Bool). a || b) (no_member x (codes "ListNames") e) (no_member x (codes "ListActivatableNames") e) in
+    ap₂ (λ (a b : Bool). cond a (expects.Hello (tree x).serial) (cond b (expects.Names (tree x).serial) (expects.Call (tree x).serial))) no_hello no_names
+    ∙ ap (λ (q : Contents). expects.Call q.serial) (seen x)
+
 pub replies_is : (x : Seen) (b : Bool) → (x.kind == 2 || x.kind == 3) ≡ b → ((tree x).kind == 2 || (tree x).kind == 3) ≡ b
 replies_is x b e = ap (λ (k : ℕ). k == 2 || k == 3) (kind_is x) ∙ e
 
@@ -123,6 +137,13 @@ number_is (Some n) = refl
 pub on_ok : {A E : Type 0} (r : Result A E) (P Q : Type 0) → (P → Q) → OnOk r P → OnOk r Q
 on_ok (Ok x) P Q f p = f p
 on_ok (Err e) P Q f p = p
+
+-- what is so of the value, and of the error
+pub ok_of : {A E : Type 0} (r : Result A E) (x : A) (P : A → Type 0) → r ≡ Ok x → IfOk r P → P x
+ok_of {A} {E} r x P is p = subst (λ (q : Result A E). IfOk q P) is p
+
+pub err_of : {A E : Type 0} (r : Result A E) (e : E) (P : E → Type 0) → r ≡ Err e → IfErr r P → P e
+err_of {A} {E} r e P is p = subst (λ (q : Result A E). IfErr q P) is p
 
 pub kind_number : (x : Seen) (n : ℕ) {b : Bool} → (x.kind == n) ≡ b → ((tree x).kind == n) ≡ b
 kind_number x n e = ap (λ (k : ℕ). k == n) (kind_is x) ∙ e

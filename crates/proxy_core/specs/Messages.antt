@@ -81,6 +81,10 @@ sending (s ∷ due) view new =
 
 -- ---- a message of the client
 
+-- from what is read of it, a call to the bus, with the bus's interface or none
+abbrev pub is_bus_call_by : Contents → Bool
+is_bus_call_by x = x.kind == 1 && is_bus_or_absent x.parts.destination && is_bus_or_absent x.parts.interface
+
 -- from what is read of it, a call to the bus with this member, which the table of the bus's members judges
 abbrev pub is_bus_member_by : Text → Contents → Bool
 is_bus_member_by name x = x.kind == 1 && is_bus_or_absent x.parts.destination && is_bus_or_absent x.parts.interface && has_text x.parts.member name

@@ -4,7 +4,7 @@ ghost use Rattle.dbus_header.specs.Read.{message_seen};
 ghost use Rattle.dbus_header.specs.Seen.{text_seen};
 ghost use Rattle.policy_view.specs.Sent.{Passed, asks_names as names_asked, expected_of, is_bus_or_absent as bus_or_absent, is_hello as hello};
 ghost use Rattle.policy_view.specs.Texts.{has_text as text_is};
-ghost use Rattle.proxy_core.specs.Messages.{is_bus_member_by};
+ghost use Rattle.proxy_core.specs.Messages.{is_bus_call_by, is_bus_member_by};
 ghost use Rattle.dbus_header.specs.Contents.{message_in};
 
 use dbus_header::Message;
@@ -29,14 +29,20 @@ fn has_text(text: Option<&str>, wanted: &str) -> bool
     }
 }
 
-/// Whether this is a call to the bus of this member, with the bus's interface or without one.
-fn is_bus_member(message: &Message<'_>, member: &str) -> bool
-    ensures { result ≡ is_bus_member_by member.now (message_seen message.now) }
+/// Whether it is a call to the bus, with the bus's interface or none.
+fn is_bus_call(message: &Message<'_>) -> bool
+    ensures { result ≡ is_bus_call_by (message_seen message.now) }
 {
     message.is_method_call()
         && is_bus_or_absent(message.destination)
         && is_bus_or_absent(message.interface)
-        && has_text(message.member, member)
+}
+
+/// Whether it is a call to the bus of this member, with the bus's interface or none.
+fn is_bus_member(message: &Message<'_>, member: &str) -> bool
+    ensures { result ≡ is_bus_member_by member.now (message_seen message.now) }
+{
+    is_bus_call(message) && has_text(message.member, member)
 }
 
 /// Whether this asks the bus for a unique name (D-Bus Specification, "org.freedesktop.DBus.Hello").
@@ -58,7 +64,9 @@ fn asks_names(message: &Message<'_>) -> bool
 pub(crate) fn expected(message: &Message<'_>) -> Kind
     ensures { result ≡ expected_of (Passed (message_in message.now.bytes.now)) }
 {
-    if is_hello(message) {
+    if !is_bus_call(message) {
+        Kind::Call(message.serial)
+    } else if is_hello(message) {
         Kind::Hello(message.serial)
     } else if asks_names(message) {
         Kind::Names(message.serial)

@@ -199,15 +199,12 @@ impl Stream {
         ensures ok { OnOk result (self.new ≡ record self.old { came = self.old.came + length piece.now }) }
         ensures err { OnErr result (self.new ≡ self.old) }
     {
-        let framer = self.lend_messages();
-        match Messages::passing(framer, piece) {
-            Ok(messages) => {
+        match &mut self.content {
+            Content::Lines(_) => unreachable!(),
+            Content::Messages(framer) => {
+                let messages = Messages::passing(framer, piece)?;
                 self.came += piece.len() as u64;
                 Ok(messages)
-            }
-            Err(framer) => {
-                self.put_messages(framer);
-                Err(AllocError)
             }
         }
     }
@@ -237,13 +234,14 @@ impl Stream {
     }
 
     /// Puts what is left back into the stream.
-    pub(crate) fn put_messages(&mut self, framer: Framer)
-        requires { self.old.phase ≡ InMessages }
-        ensures { self.new ≡ record self.old { left = framer } }
+    pub(crate) fn put_messages(&mut self, messages: Messages<'_>)
+        requires messages { self.old.phase ≡ InMessages }
+        requires none { self.old.left ≡ [] }
+        ensures { self.new ≡ record self.old { left = messages.entry } }
     {
         match &mut self.content {
             Content::Lines(_) => unreachable!(),
-            Content::Messages(left) => *left = framer,
+            Content::Messages(framer) => messages.put_back(framer),
         }
     }
 

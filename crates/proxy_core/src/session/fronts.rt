@@ -73,9 +73,9 @@ impl Session {
     }
 
     /// Puts what is left back into the session.
-    fn put_messages(&mut self, side: Side, messages: Framer)
-        requires { (stream_of side self.old).phase ≡ InMessages }
-        ensures { self.new ≡ with_left side messages self.old }
+    fn put_messages(&mut self, side: Side, messages: Messages<'_>)
+        requires { IsLent side self.old }
+        ensures { self.new ≡ with_left side messages.entry self.old }
     {
         match side {
             Side::Client => self.client.put_messages(messages),
@@ -106,14 +106,16 @@ impl Session {
         ensures { TookFirst policy.now side messages.old messages.new self.old self.new result }
     {
         let shared = messages.shared(len);
-        match self.read_message(side, messages, len) {
+        // (the message stays where it was read: it is large)
+        let read = self.read_message(side, messages, len);
+        match &read {
             Ok(message) => {
-                let incoming = Incoming::new(&message, shared.as_ref());
+                let incoming = Incoming::new(message, shared.as_ref());
                 self.process_message(policy, side, &incoming);
                 messages.take(len);
                 self.ended.is_none()
             }
-            Err(fault) => self.end_malformed(side, fault),
+            Err(fault) => self.end_malformed(side, *fault),
         }
     }
 
@@ -167,8 +169,7 @@ impl Session {
         let framer = self.lend_messages(side);
         let mut messages = Messages::kept(framer);
         self.process_messages(policy, side, &mut messages, most);
-        let left = messages.into_framer();
-        self.put_messages(side, left);
+        self.put_messages(side, messages);
     }
 
     /// Whether a piece of a side's stream is processed in place: the stream is in its messages, they are filtered, and
@@ -199,8 +200,7 @@ impl Session {
         match self.lend_piece(side, piece) {
             Ok(mut messages) => {
                 self.process_messages(policy, side, &mut messages, piece.len() + 2);
-                let left = messages.into_framer();
-                self.put_messages(side, left);
+                self.put_messages(side, messages);
             }
             Err(_) => self.end_with(End::Memory),
         }
