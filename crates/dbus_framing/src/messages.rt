@@ -48,8 +48,8 @@ impl<'a> Messages<'a> {
         }
     }
 
-    /// The messages in a piece, which are read in place. The framer lends its memory, in which room for the whole piece is
-    /// reserved here; `put_back` copies the rest into it. An error says that memory for this ran out.
+    /// The messages in a piece, which are read in place. The framer lends its memory, in which room for the whole piece
+    /// is reserved here; `put_back` copies the rest into it. An error says that memory for this ran out.
     pub fn passing(framer: &mut Framer, piece: &'a [u8]) -> Result<Messages<'a>, AllocError>
         requires { framer.old ≡ [] }
         ensures piece { IfOk result (λ messages. messages ≡ piece.now) }
@@ -115,8 +115,8 @@ impl<'a> Messages<'a> {
         }
     }
 
-    /// Puts all bytes that weren't taken into the framer, which holds none. Those of a piece are copied into memory that
-    /// was reserved for them.
+    /// Puts all bytes that weren't taken into the framer, which holds none. Those of a piece are copied into memory
+    /// that was reserved for them.
     pub fn put_back(self, framer: &mut Framer)
         requires { framer.old ≡ [] }
         ensures { framer.new ≡ self.entry }

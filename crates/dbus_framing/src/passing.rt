@@ -12,8 +12,8 @@ use dbus_header::{KnownTexts, Malformed, Message};
 use std::alloc::AllocError;
 use std::marker::Model;
 
-/// The part of a piece that wasn't taken yet, and memory that the stream's framer lent. The memory has room for the whole
-/// part, so keeping the rest can't fail.
+/// The part of a piece that wasn't taken yet, and memory that the stream's framer lent. The memory has room for the
+/// whole part, so keeping the rest can't fail.
 ///
 /// ```text
 ///   taken      left                     room, empty

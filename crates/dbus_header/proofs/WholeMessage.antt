@@ -322,6 +322,9 @@ has_parts t found found_is = by (whole t) refl
     by (Ok m) is e = record { message = m; is = is; found_is = found_is ∙ ap (λ (x : Message). found_of x.order x.fields) (checked t m is).is }
     by (Err f) is e = absurd cc
 
+pub are_found : (t : List ℕ) (found : Found) → found ≡ fields_found t → found ≡ fields_found t
+are_found t found is = is
+
 -- if no fault was reported
 pub parts_on_ok : {A : Type 0} (result : Result A Malformed) (t : List ℕ) (found : Found) → found ≡ fields_found t → refusal result ≡ fault_in (whole t) → OnOk result (HasParts t found)
 parts_on_ok (Ok x) t found found_is e = has_parts t found found_is (sym e)

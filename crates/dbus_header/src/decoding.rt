@@ -6,7 +6,7 @@ ghost use Rattle.dbus_values.specs.Reading.{all_zero};
 ghost use Rattle.dbus_header.specs.Malformed.{head_fault, whole_len, whole, fault, fault_in, order_in as stated_order};
 ghost use Rattle.dbus_header.specs.Refusals.{refusal};
 ghost use Rattle.dbus_header.specs.HeaderReading.{has_required_parts, nothing_found};
-ghost use Rattle.dbus_header.specs.KnownHeaders.{fields_bytes as bytes_of_fields};
+ghost use Rattle.dbus_header.specs.KnownHeaders.{AreRead, AreWithin, fields_bytes as bytes_of_fields, found_at};
 ghost use Rattle.dbus_header.specs.Contents.{message_of};
 ghost use Rattle.dbus_header.specs.Message.{body_place};
 ghost use Rattle.dbus_header.specs.Seen.{fields_seen, parts_seen};
@@ -17,6 +17,7 @@ use crate::grammars::KnownTexts;
 use crate::head::{HEAD_LEN, body_start, check_head, order_in, read_u32};
 use crate::kinds::{ERROR, METHOD_CALL, METHOD_RETURN, SIGNAL};
 use crate::message::Message;
+use crate::spans::Places;
 use crate::{Malformed, MalformedKind};
 use dbus_types::Signature;
 use dbus_values::{Order, is_zero, padding, value_end};
@@ -120,9 +121,6 @@ fn header_fields<'a>(
     ensures found { OnOk result (fields_seen fields.new ≡ fields_found bytes.now) }
 {
     let own = fields_bytes(fields_len, bytes);
-    if known.fill(order, fields_len, own, fields) {
-        return Ok(());
-    }
     let fields_end = HEAD_LEN + fields_len as usize;
     let (header, _) = bytes.split_at(fields_end);
     let end = read_fields(known, order, header, fields);
@@ -169,24 +167,67 @@ fn check_rest(
     Ok(())
 }
 
-/// Reads the header fields of a whole message whose first sixteen bytes are valid, and checks its body.
+/// What is wrong with a whole message whose first sixteen bytes are valid and which has these header fields.
+fn check_fields(
+    order: Order,
+    fields_len: u32,
+    bytes: &[u8],
+    fields: &Fields<'_>,
+) -> Result<(), Malformed>
+    requires order { order ≡ stated_order bytes.now }
+    requires long { 16 ≤ length bytes.now }
+    requires len { IsFieldsLen bytes.now fields_len }
+    requires sound { fields_fault bytes.now ≡ None }
+    requires found { fields_seen fields.now ≡ fields_found bytes.now }
+    ensures refusal { refusal result ≡ fault_in (whole bytes.now) }
+    ensures parts { OnOk result (HasParts bytes.now (fields_seen fields.now)) }
+{
+    check_rest(order, bytes, body_start(fields_len) as usize, fields)
+}
+
+/// Reads a whole message whose first sixteen bytes are valid, field by field.
+#[inline(never)]
 fn read_whole<'a>(
     known: &mut KnownTexts,
     order: Order,
+    fields_len: u32,
     bytes: &'a [u8],
-    fields: &mut Fields<'a>,
-) -> Result<(), Malformed>
-    requires none { fields_seen fields.old ≡ nothing_found }
+) -> Result<Message<'a>, Malformed>
     requires order { order ≡ stated_order bytes.now }
     requires long { 16 ≤ length bytes.now }
     requires head { head_fault bytes.now ≡ None }
     requires whole { length bytes.now ≡ whole_len bytes.now }
-    ensures refusal { refusal result ≡ fault_in (whole bytes.now) }
-    ensures parts { OnOk result (HasParts bytes.now (fields_seen fields.new)) }
+    requires len { IsFieldsLen bytes.now fields_len }
+    ensures refusal { refusal result ≡ fault bytes.now }
+    ensures bytes { IfOk result (λ m. m.bytes.now ≡ bytes.now) }
 {
-    let fields_len = header_fields_len(order, bytes);
-    header_fields(known, order, fields_len, bytes, fields)?;
-    check_rest(order, bytes, body_start(fields_len) as usize, fields)
+    let mut fields = Fields::none();
+    header_fields(known, order, fields_len, bytes, &mut fields)?;
+    check_fields(order, fields_len, bytes, &fields)?;
+    Ok(assembled(order, bytes, &fields))
+}
+
+/// Reads a whole message whose first sixteen bytes are valid and whose header fields have a known header's places.
+#[inline(always)]
+fn read_known<'a>(
+    places: &Places,
+    order: Order,
+    fields_len: u32,
+    bytes: &'a [u8],
+) -> Result<Message<'a>, Malformed>
+    requires order { order ≡ stated_order bytes.now }
+    requires long { 16 ≤ length bytes.now }
+    requires head { head_fault bytes.now ≡ None }
+    requires whole { length bytes.now ≡ whole_len bytes.now }
+    requires len { IsFieldsLen bytes.now fields_len }
+    requires within { AreWithin (bytes_of_fields fields_len bytes.now) places.now }
+    requires read { AreRead order fields_len (bytes_of_fields fields_len bytes.now) (found_at order (bytes_of_fields fields_len bytes.now) places.now) }
+    ensures refusal { refusal result ≡ fault bytes.now }
+    ensures bytes { IfOk result (λ m. m.bytes.now ≡ bytes.now) }
+{
+    let fields = places.fields(order, fields_bytes(fields_len, bytes));
+    check_fields(order, fields_len, bytes, &fields)?;
+    Ok(assembled(order, bytes, &fields))
 }
 
 /// The valid message with these bytes and these header fields.
@@ -253,26 +294,28 @@ pub fn decode_checked<'a>(bytes: &'a [u8], known: &mut KnownTexts) -> Result<Mes
     ensures bytes { IfOk result (λ m. m.bytes.now ≡ bytes.now) }
 {
     let order = order_in(bytes);
-    let mut fields = Fields::none();
-    read_whole(known, order, bytes, &mut fields)?;
-    Ok(assembled(order, bytes, &fields))
+    let fields_len = header_fields_len(order, bytes);
+    match known.places(order, fields_len, fields_bytes(fields_len, bytes)) {
+        Some(places) => read_known(&places, order, fields_len, bytes),
+        None => read_whole(known, order, fields_len, bytes),
+    }
 }
 
 /// Reads the header fields of a message that is valid.
-fn valid_fields<'a>(known: &KnownTexts, order: Order, bytes: &'a [u8], fields: &mut Fields<'a>)
-    requires none { fields_seen fields.old ≡ nothing_found }
+fn valid_fields<'a>(known: &KnownTexts, order: Order, bytes: &'a [u8]) -> Fields<'a>
     requires order { order ≡ stated_order bytes.now }
     requires valid { IsSome (message_of bytes.now) }
-    ensures { HasParts bytes.now (fields_seen fields.new) }
+    ensures { HasParts bytes.now (fields_seen result) }
 {
     let fields_len = header_fields_len(order, bytes);
     let own = fields_bytes(fields_len, bytes);
-    if known.find(order, fields_len, own, fields) {
-        return;
+    if let Some(places) = known.find(order, fields_len, own) {
+        return places.fields(order, own);
     }
     let mut none = KnownTexts::none();
-    match header_fields(&mut none, order, fields_len, bytes, fields) {
-        Ok(()) => {}
+    let mut fields = Fields::none();
+    match header_fields(&mut none, order, fields_len, bytes, &mut fields) {
+        Ok(()) => fields,
         Err(_) => unreachable!(),
     }
 }
@@ -284,7 +327,6 @@ pub fn read_valid<'a>(bytes: &'a [u8], known: &KnownTexts) -> Message<'a>
     ensures { result.bytes.now ≡ bytes.now }
 {
     let order = order_in(bytes);
-    let mut fields = Fields::none();
-    valid_fields(known, order, bytes, &mut fields);
+    let fields = valid_fields(known, order, bytes);
     assembled(order, bytes, &fields)
 }

@@ -58,6 +58,21 @@ pub(crate) struct Starts {
     pub(crate) signature: usize,
 }
 
+impl Starts {
+    /// Of no fields.
+    pub(crate) fn none() -> Starts {
+        Starts {
+            path: 0,
+            interface: 0,
+            member: 0,
+            error_name: 0,
+            destination: 0,
+            sender: 0,
+            signature: 0,
+        }
+    }
+}
+
 /// The header fields of a message, read in place.
 #[derive(Clone, Copy)]
 pub(crate) struct Fields<'a> {
@@ -308,15 +323,7 @@ impl<'a> Fields<'a> {
             sender: None,
             signature: None,
             descriptors: None,
-            starts: Starts {
-                path: 0,
-                interface: 0,
-                member: 0,
-                error_name: 0,
-                destination: 0,
-                sender: 0,
-                signature: 0,
-            },
+            starts: Starts::none(),
         }
     }
 

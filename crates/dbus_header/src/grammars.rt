@@ -2,7 +2,7 @@
 ghost use Rattle.std.specs.Prelude.{◌≡◌, ◌≢◌, ◌==◌, ◌||◌, ◌+◌, ◌<◌, true, false, Some, None, is_none, IfSome, option_map, length, if◌then◌else◌};
 ghost use Rattle.dbus_types.specs.Signature.{signature_fault};
 ghost use Rattle.dbus_header.specs.HeaderReading.{is_text_of as is_value_text, is_sound_of};
-ghost use Rattle.dbus_header.specs.KnownHeaders.{AllBeginIn, AreRead};
+ghost use Rattle.dbus_header.specs.KnownHeaders.{AllBeginIn, AreRead, AreWithin, found_at};
 ghost use Rattle.dbus_header.specs.Message.{body_place};
 ghost use Rattle.dbus_header.specs.Seen.{fields_seen};
 
@@ -135,51 +135,39 @@ impl Kept {
         self.read = self.read.wrapping_add(1);
     }
 
-    /// Takes the header fields of these bytes from a kept header that has them; if none has, they don't change.
-    fn fill<'a>(
-        &mut self,
-        order: Order,
-        fields_len: u32,
-        bytes: &'a [u8],
-        fields: &mut Fields<'a>,
-    ) -> bool
+    /// The places of the parts of these header fields, if a kept header has them.
+    fn places(&mut self, order: Order, fields_len: u32, bytes: &[u8]) -> Option<Places>
         requires { length bytes.now + 16 ≡ body_place fields_len }
-        ensures read { result ≡ true → AreRead order fields_len bytes.now (fields_seen fields.new) }
-        ensures stays { result ≡ false → fields_seen fields.new ≡ fields_seen fields.old }
+        ensures within { IfSome result (λ p. AreWithin bytes.now p) }
+        ensures read { IfSome result (λ p. AreRead order fields_len bytes.now (found_at order bytes.now p)) }
     {
         if !self.is_turn() {
-            return false;
+            return None;
         }
         let read = self.read;
         for header in self.headers.iter_mut() {
-            if header.fill(order, fields_len, bytes, fields) {
+            if let Some(places) = header.places(order, fields_len, bytes) {
                 header.used = read;
                 self.missed = self.missed.saturating_sub(1);
-                return true;
+                return Some(places);
             }
         }
         self.missed = self.missed.saturating_add(1).min(MISSES);
-        false
+        None
     }
 
-    /// Does as `fill` does, without counting hits and misses.
-    fn find<'a>(
-        &self,
-        order: Order,
-        fields_len: u32,
-        bytes: &'a [u8],
-        fields: &mut Fields<'a>,
-    ) -> bool
+    /// The same as `places`, without counting hits and misses.
+    fn find(&self, order: Order, fields_len: u32, bytes: &[u8]) -> Option<Places>
         requires { length bytes.now + 16 ≡ body_place fields_len }
-        ensures read { result ≡ true → AreRead order fields_len bytes.now (fields_seen fields.new) }
-        ensures stays { result ≡ false → fields_seen fields.new ≡ fields_seen fields.old }
+        ensures within { IfSome result (λ p. AreWithin bytes.now p) }
+        ensures read { IfSome result (λ p. AreRead order fields_len bytes.now (found_at order bytes.now p)) }
     {
         for header in &self.headers {
-            if header.fill(order, fields_len, bytes, fields) {
-                return true;
+            if let Some(places) = header.places(order, fields_len, bytes) {
+                return Some(places);
             }
         }
-        false
+        None
     }
 
     /// The place of the header that wasn't used for the longest time.
@@ -275,42 +263,30 @@ impl KnownTexts {
         }
     }
 
-    /// Takes the header fields of these bytes from a known header that has them; if none has, they don't change.
-    pub(crate) fn fill<'a>(
-        &mut self,
-        order: Order,
-        fields_len: u32,
-        bytes: &'a [u8],
-        fields: &mut Fields<'a>,
-    ) -> bool
+    /// The places of the parts of these header fields, if a known header has them.
+    pub(crate) fn places(&mut self, order: Order, fields_len: u32, bytes: &[u8]) -> Option<Places>
         requires { length bytes.now + 16 ≡ body_place fields_len }
-        ensures read { result ≡ true → AreRead order fields_len bytes.now (fields_seen fields.new) }
-        ensures stays { result ≡ false → fields_seen fields.new ≡ fields_seen fields.old }
+        ensures within { IfSome result (λ p. AreWithin bytes.now p) }
+        ensures read { IfSome result (λ p. AreRead order fields_len bytes.now (found_at order bytes.now p)) }
     {
         match &mut self.kept {
             Some(kept) => {
                 kept.count();
-                kept.fill(order, fields_len, bytes, fields)
+                kept.places(order, fields_len, bytes)
             }
-            None => false,
+            None => None,
         }
     }
 
-    /// Does as `fill` does, without counting hits and misses.
-    pub(crate) fn find<'a>(
-        &self,
-        order: Order,
-        fields_len: u32,
-        bytes: &'a [u8],
-        fields: &mut Fields<'a>,
-    ) -> bool
+    /// The same as `places`, without counting hits and misses.
+    pub(crate) fn find(&self, order: Order, fields_len: u32, bytes: &[u8]) -> Option<Places>
         requires { length bytes.now + 16 ≡ body_place fields_len }
-        ensures read { result ≡ true → AreRead order fields_len bytes.now (fields_seen fields.new) }
-        ensures stays { result ≡ false → fields_seen fields.new ≡ fields_seen fields.old }
+        ensures within { IfSome result (λ p. AreWithin bytes.now p) }
+        ensures read { IfSome result (λ p. AreRead order fields_len bytes.now (found_at order bytes.now p)) }
     {
         match &self.kept {
-            Some(kept) => kept.find(order, fields_len, bytes, fields),
-            None => false,
+            Some(kept) => kept.find(order, fields_len, bytes),
+            None => None,
         }
     }
 

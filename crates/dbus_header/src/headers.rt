@@ -1,10 +1,8 @@
 //! Headers that were read. An equal header is then read without a walk over its fields.
-ghost use Rattle.std.specs.Prelude.{◌≡◌, ◌==◌, ◌+◌, true, false, length};
+ghost use Rattle.std.specs.Prelude.{◌≡◌, ◌==◌, ◌+◌, true, false, IfSome, length};
 ghost use Rattle.dbus_header.specs.Message.{body_place};
-ghost use Rattle.dbus_header.specs.KnownHeaders.{AreKnown, AreAlike, AreRead};
-ghost use Rattle.dbus_header.specs.Seen.{fields_seen};
+ghost use Rattle.dbus_header.specs.KnownHeaders.{AreKnown, AreAlike, AreRead, AreWithin, found_at};
 
-use crate::fields::Fields;
 use crate::head::read_u32;
 use crate::spans::Places;
 use dbus_values::Order;
@@ -73,24 +71,16 @@ impl KnownHeader {
             && self.is_alike(bytes)
     }
 
-    /// Takes the parts of these header fields from the kept places, if the fields equal the kept ones except for
-    /// REPLY_SERIAL's number; else nothing changes.
-    pub(crate) fn fill<'a>(
-        &self,
-        order: Order,
-        fields_len: u32,
-        bytes: &'a [u8],
-        fields: &mut Fields<'a>,
-    ) -> bool
+    /// The places of the parts of these header fields, if they equal the kept ones except for REPLY_SERIAL's number.
+    pub(crate) fn places(&self, order: Order, fields_len: u32, bytes: &[u8]) -> Option<Places>
         requires { length bytes.now + 16 ≡ body_place fields_len }
-        ensures read { result ≡ true → AreRead order fields_len bytes.now (fields_seen fields.new) }
-        ensures stays { result ≡ false → fields_seen fields.new ≡ fields_seen fields.old }
+        ensures within { IfSome result (λ p. AreWithin bytes.now p) }
+        ensures read { IfSome result (λ p. AreRead order fields_len bytes.now (found_at order bytes.now p)) }
     {
         if !self.is_header(order, fields_len, bytes) {
-            return false;
+            return None;
         }
-        self.places.fill(order, bytes, fields);
-        true
+        Some(self.places)
     }
 
     /// Keeps header fields that were read, unless memory is short.

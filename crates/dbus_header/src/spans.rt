@@ -1,11 +1,11 @@
 //! The places of the parts of a header.
 ghost use Rattle.std.specs.Prelude.{◌≡◌, ◌+◌, ◌<◌, ◌≤◌, ◌^◌, ℕ, true, Some, IfSome, option_map, length};
-ghost use Rattle.dbus_header.specs.HeaderReading.{number_at};
+ghost use Rattle.dbus_header.specs.HeaderReading.{number_at as stated_number};
 ghost use Rattle.dbus_header.specs.KnownHeaders.{AllBeginIn, AreApart, AreWithin, BeginsIn, HasSignature, HasText, NumberIn, OfSignature, OfText, cut as cut_of, found_at, is_apart as has_none_of};
 ghost use Rattle.dbus_header.specs.Seen.{fields_seen, signature_seen, text_seen};
 ghost use Rattle.dbus_header.specs.declared.spans.Span.{Span as Stretch};
 
-use crate::fields::Fields;
+use crate::fields::{Fields, Starts};
 use crate::head::{HEAD_LEN, read_u32};
 use dbus_types::Signature;
 use dbus_values::Order;
@@ -70,6 +70,27 @@ fn signature_at(place: Option<Span>, bytes: &[u8]) -> Option<Signature<'_>>
     }
 }
 
+/// The number at a place.
+fn number_at(order: Order, place: Option<u32>, bytes: &[u8]) -> Option<u32>
+    requires { (at : ℕ) → place ≡ Some at → at + 4 ≤ length bytes.now }
+    ensures { result ≡ option_map (stated_number order bytes.now) place }
+{
+    match place {
+        Some(at) => Some(read_u32(order, bytes, at as usize)),
+        None => None,
+    }
+}
+
+/// The place in the message of a part of its header fields.
+fn place_in_message(place: Option<u32>) -> Option<usize>
+    ensures { result ≡ option_map (λ at. 16 + at) place }
+{
+    match place {
+        Some(at) => Some(HEAD_LEN + at as usize),
+        None => None,
+    }
+}
+
 /// The place of a text in the bytes of the header fields. The text begins at a place of the message.
 fn text_span(bytes: &[u8], start: usize, text: Option<&str>) -> Option<Span>
     requires short { length bytes.now < 2 ^ 32 }
@@ -111,7 +132,7 @@ fn signature_span(bytes: &[u8], start: usize, signature: Option<Signature<'_>>) 
 fn number_span(order: Order, bytes: &[u8], serial: Option<u32>, place: Option<usize>) -> Option<u32>
     requires short { length bytes.now < 2 ^ 31 }
     requires number { NumberIn order bytes.now serial place }
-    ensures is { option_map (number_at order bytes.now) result ≡ serial }
+    ensures is { option_map (stated_number order bytes.now) result ≡ serial }
     ensures place { option_map (λ at. 16 + at) result ≡ place }
     ensures within { (at : ℕ) → result ≡ Some at → at + 4 ≤ length bytes.now }
 {
@@ -211,29 +232,25 @@ impl Places {
         }
     }
 
-    /// Sets the parts of a message whose fields have these bytes.
-    pub(crate) fn fill<'a>(&self, order: Order, bytes: &'a [u8], fields: &mut Fields<'a>)
+    /// The header fields of a message whose fields have these bytes.
+    #[inline(always)]
+    pub(crate) fn fields<'a>(&self, order: Order, bytes: &'a [u8]) -> Fields<'a>
         requires { AreWithin bytes.now self.now }
-        ensures { fields_seen fields.new ≡ found_at order bytes.now self.now }
+        ensures { fields_seen result ≡ found_at order bytes.now self.now }
     {
-        fields.path = text_at(self.path, bytes);
-        fields.interface = text_at(self.interface, bytes);
-        fields.member = text_at(self.member, bytes);
-        fields.error_name = text_at(self.error_name, bytes);
-        fields.destination = text_at(self.destination, bytes);
-        fields.sender = text_at(self.sender, bytes);
-        fields.signature = signature_at(self.signature, bytes);
-        fields.has_unknown = self.has_unknown;
-        fields.descriptors = self.descriptors;
-        match self.reply_serial {
-            Some(at) => {
-                fields.reply_serial = Some(read_u32(order, bytes, at as usize));
-                fields.reply_serial_place = Some(HEAD_LEN + at as usize);
-            }
-            None => {
-                fields.reply_serial = None;
-                fields.reply_serial_place = None;
-            }
+        Fields {
+            path: text_at(self.path, bytes),
+            interface: text_at(self.interface, bytes),
+            member: text_at(self.member, bytes),
+            error_name: text_at(self.error_name, bytes),
+            reply_serial: number_at(order, self.reply_serial, bytes),
+            reply_serial_place: place_in_message(self.reply_serial),
+            has_unknown: self.has_unknown,
+            destination: text_at(self.destination, bytes),
+            sender: text_at(self.sender, bytes),
+            signature: signature_at(self.signature, bytes),
+            descriptors: self.descriptors,
+            starts: Starts::none(),
         }
     }
 }

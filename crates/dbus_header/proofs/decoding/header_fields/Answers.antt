@@ -1,19 +1,9 @@
 use Rattle.std.proofs.Common.{List, ℕ, sym, subst}
 use Rattle.dbus_header.specs.KnownHeaders.{AllBeginIn, AreRead}
 use Rattle.dbus_header.specs.Seen.{fields_seen}
-use Rattle.dbus_header.proofs.KnownHeaders.{all_begin, found-read, read-found}
+use Rattle.dbus_header.proofs.KnownHeaders.{all_begin, read-found}
 use Rattle.dbus_header.proofs.WholeMessage.{header_is_read}
 use Rattle.dbus_header.proofs.decoding.header_fields.Goals as goal
-
-pub returns-then-fill-clause-refusal : goal.returns-then-fill-clause-refusal
-returns-then-fill-clause-refusal c =
-    (found-read c.args.bytes.now c.args.order c.args.fields_len c.requires.order c.requires.len (fields_seen c.fill.new.fields)
-    (subst (λ (b : List ℕ). AreRead c.args.order c.args.fields_len b (fields_seen c.fill.new.fields)) c.fields_bytes-own.ensures.bytes (c.fill.ensures.read c.if-fill.true))).0
-
-pub returns-then-fill-clause-found : goal.returns-then-fill-clause-found
-returns-then-fill-clause-found c =
-    (found-read c.args.bytes.now c.args.order c.args.fields_len c.requires.order c.requires.len (fields_seen c.fill.new.fields)
-    (subst (λ (b : List ℕ). AreRead c.args.order c.args.fields_len b (fields_seen c.fill.new.fields)) c.fields_bytes-own.ensures.bytes (c.fill.ensures.read c.if-fill.true))).1
 
 pub returns-then-not-is_header_end-clause-refusal : goal.returns-then-not-is_header_end-clause-refusal
 returns-then-not-is_header_end-clause-refusal c = (header_is_read c.requires.order c.requires.len c.split_at.ensures.front c.read_fields-end.ensures.read c.is_header_end.ensures).wrong c.if-not-is_header_end.true

@@ -2,8 +2,7 @@ use Rattle.std.proofs.Common.{◌≡◌, ◌∙◌, ℕ, List, Some, None, sym, 
 use Rattle.byte_lists.specs.Bytes.{AreBytes}
 use Rattle.dbus_header.specs.Malformed.{fault_in, whole}
 use Rattle.dbus_header.specs.Refusals.{refusal}
-use Rattle.dbus_header.specs.KnownHeaders.{AreRead, fields_bytes}
-use Rattle.dbus_header.specs.Seen.{fields_seen}
+use Rattle.dbus_header.specs.KnownHeaders.{AreRead, fields_bytes, found_at}
 use Rattle.dbus_header.proofs.KnownHeaders.{found-read}
 use Rattle.dbus_header.proofs.NumberLaws.{is_whole, accepted}
 use Rattle.dbus_header.proofs.WholeMessage.{fault_of_whole, fields_wrong, has_parts}
@@ -32,11 +31,14 @@ returns c =
     let t = c.args.bytes.now in
     has_parts t _ c.in-Ok.ensures.found (sym (fault_of_whole t (is_whole t are c.requires.valid)) ∙ accepted t are c.requires.valid)
 
-pub returns-then-find : goal.returns-then-find
-returns-then-find c =
+pub returns-in-Some : goal.returns-in-Some
+returns-in-Some c =
     let are : AreBytes c.args.bytes.now = λ i. omega (arith, c.type_inv.bytes i) in
     let t = c.args.bytes.now in
-    let read : AreRead c.args.order c.header_fields_len-fields_len.result (fields_bytes c.header_fields_len-fields_len.result t) (fields_seen c.find.new.fields) =
-    subst (λ (b : List ℕ). AreRead c.args.order c.header_fields_len-fields_len.result b (fields_seen c.find.new.fields)) c.fields_bytes-own.ensures.bytes (c.find.ensures.read c.if-find.true) in
-    has_parts t _ (found-read t c.args.order c.header_fields_len-fields_len.result c.requires.order c.header_fields_len-fields_len.ensures (fields_seen c.find.new.fields) read).1
+    let n = c.header_fields_len-fields_len.result in
+    let own = c.fields_bytes-own.ensures.bytes in
+    let read : AreRead c.args.order n (fields_bytes n t) (found_at c.args.order (fields_bytes n t) c.in-Some.places) =
+    subst (λ (b : List ℕ). AreRead c.args.order n b (found_at c.args.order b c.in-Some.places)) own c.in-Some.ensures.read in
+    has_parts t _ (c.fields.ensures ∙ ap (λ (b : List ℕ). found_at c.args.order b c.in-Some.places) own
+    ∙ (found-read t c.args.order n c.requires.order c.header_fields_len-fields_len.ensures _ read).1)
     (sym (fault_of_whole t (is_whole t are c.requires.valid)) ∙ accepted t are c.requires.valid)
