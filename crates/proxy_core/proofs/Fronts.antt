@@ -1,7 +1,6 @@
 -- What was taken of a session and what then waits is a prefix of what its events give, whatever its End.
-use Rattle.std.proofs.Common.{◌≡◌, Bool, true, false, cond, List, [], ◌∷◌, ◌++◌, Some, refl, ap, ◌∙◌, sym, subst, append-nil}
+use Rattle.std.proofs.Common.{◌≡◌, Bool, true, false, cond, List, [], ◌∷◌, ◌++◌, refl, ap, ◌∙◌, sym, append-nil}
 use Rattle.policy_args.specs.Policy.{Policy}
-use Rattle.policy_view.specs.Elements.{elements}
 use Rattle.policy_view.specs.History.{Event, first_items, history}
 use Rattle.policy_view.specs.Laws.{IsPrefixOf}
 use Rattle.policy_view.specs.Notes.{Note, notes, notes_made, numbered}
@@ -10,9 +9,8 @@ use Rattle.policy_view.specs.Past.{Ended, History}
 use Rattle.policy_view.specs.Visible.{visible_of}
 use Rattle.policy_view.specs.declared.End.{End}
 use Rattle.policy_view.specs.declared.End.TheVariants.{Memory}
-use Rattle.policy_view.specs.declared.visible.Visible.{Visible as Element}
 use Rattle.policy_view.proofs.Growth.{bus_grows, client_grows, elements_grow, notes_grow, others_after}
-use Rattle.proxy_core.specs.Sessions.{SessionView, Taken, Holds, HoldsFirst, StandsFor, IsFront, elements_given, is_memory}
+use Rattle.proxy_core.specs.Sessions.{SessionView, Taken, Holds, StandsFor, IsFront, elements_given, is_memory}
 use Rattle.proxy_core.proofs.Placing.{given_none}
 
 -- an End gives nothing

@@ -19,7 +19,7 @@ use Rattle.policy_view.specs.declared.Side.TheVariants.{Client, Bus}
 use Rattle.proxy_core.specs.Streams.{StreamView, InLines, watch_at, GaveLine}
 use Rattle.proxy_core.specs.Sessions.{SessionView}
 use Rattle.proxy_core.specs.Steps.{behind_line, in_messages, with_line_fault, with_lines, with_cut, unanswered, has_begun, with_all_answered, step_at, Grows, Did, own_to_come, weight, IsLight}
-use Rattle.proxy_core.proofs.Keeping.{grows_as, grows_none, grows_then, bus_grows, client_grows, elements_grow}
+use Rattle.proxy_core.proofs.Keeping.{grows_as, grows_none, bus_grows, client_grows, elements_grow}
 
 -- ---- what waits after a line starts with what waited before
 

@@ -10,7 +10,7 @@ use Rattle.byte_lists.proofs.Bytes.{AreBytes-take, AreBytes-append, empty_is}
 use Rattle.byte_lists.specs.Bytes.{AreBytes}
 use Rattle.dbus_names.specs.Names.{is_empty}
 use Rattle.dbus_header.specs.Malformed.{fault as message_fault}
-use Rattle.dbus_header.specs.Stream.{split, rest}
+use Rattle.dbus_header.specs.Stream.{split}
 use Rattle.sasl_watch.proofs.Followed.{client-starts, bus-starts}
 use Rattle.policy_args.specs.Policy.{Policy}
 use Rattle.policy_view.specs.Sent.{Exchange, answered, call_at, nothing_before, owed}

@@ -1,4 +1,4 @@
-use Rattle.std.proofs.Common.{◌≡◌, ◌∙◌, ℕ, drop, sym, ap, arith}
+use Rattle.std.proofs.Common.{◌∙◌, ℕ, drop, sym, ap, arith}
 use Rattle.dbus_header.specs.Message.{body_place}
 use Rattle.dbus_header.specs.HeaderReading.{number_at}
 use Rattle.dbus_header.specs.Seen.{fields_seen}

@@ -1,4 +1,3 @@
-use Rattle.std.proofs.Common.{◌∙◌}
 use Rattle.proxy_core.proofs.Draining.{bytes_refused}
 use Rattle.proxy_core.proofs.InPlace.{came_filters, came_lent, came_runs, piece_light, piece_took}
 use Rattle.proxy_core.proofs.session.Session.receive_in_place.Goals as goal
