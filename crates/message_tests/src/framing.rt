@@ -1,11 +1,12 @@
 //! The messages of streams that come in pieces.
-ghost use Rattle.std.specs.Prelude.{◌<◌, ◌≤◌, length};
+ghost use Rattle.std.specs.Prelude.{◌≡◌, ◌<◌, ◌≤◌, [], OnOk, length};
 
 use crate::messages::{changed, long_call};
 use bytes::Bytes;
-use dbus_framing::{Framer, Front, Next};
+use dbus_framing::{Framer, Front, Messages, Next};
 use dbus_header::KnownTexts;
 use std::alloc::{AllocError, Global};
+use std::mem;
 use std::test::Fail;
 use test_tables::wrong_row;
 
@@ -58,13 +59,71 @@ fn shared_next(framer: &mut Framer, known: &mut KnownTexts) -> Result<Next, Allo
     framer.next()
 }
 
+/// The messages of a piece: read in place if nothing was left of the stream, or of the framer to which it is pushed.
+fn with_piece<'a>(
+    alloc: Global,
+    framer: &mut Framer,
+    piece: &'a [u8],
+) -> Result<Messages<'a>, AllocError>
+    ensures { OnOk result (framer.new ≡ []) }
+{
+    if framer.is_empty() {
+        return Messages::passing(framer, piece);
+    }
+    framer.push(piece)?;
+    Ok(Messages::kept(mem::replace(framer, Framer::new(alloc))))
+}
+
+/// The first message, read where it lies.
+fn next_in_place(
+    alloc: Global,
+    messages: &mut Messages<'_>,
+    known: &mut KnownTexts,
+) -> Result<Next, AllocError> {
+    let len = match messages.front() {
+        Front::Whole(len) => len,
+        Front::Rest => return Ok(Next::Rest),
+        Front::Bad(fault) => return Ok(Next::Bad(fault)),
+    };
+    let frame = match messages.message(len, known) {
+        Ok(message) => Bytes::copy_from_slice(alloc, message.bytes)?,
+        Err(fault) => return Ok(Next::Bad(fault)),
+    };
+    messages.take(len);
+    Ok(Next::Whole(frame))
+}
+
+/// What is taken of a stream: its messages, what follows them, and what is left.
+type Taken = (Vec<Bytes>, Next, Bytes);
+
+/// The messages of a stream that comes in pieces of this size, which are read in place if nothing was left before them.
+fn taken_in_place(alloc: Global, stream: &[u8], size: usize) -> Result<Taken, AllocError>
+    requires { 0 < size }
+{
+    let mut framer = Framer::new(alloc);
+    let mut known = KnownTexts::new(alloc);
+    let mut frames = Vec::new(alloc);
+    let mut last = Next::Rest;
+    for piece in stream.chunks(size) {
+        let mut messages = with_piece(alloc, &mut framer, piece)?;
+        for _ in 0..3 {
+            match next_in_place(alloc, &mut messages, &mut known)? {
+                Next::Whole(frame) => frames.push(frame)?,
+                other => last = other,
+            }
+        }
+        messages.put_back(&mut framer);
+    }
+    Ok((frames, last, framer.left()?))
+}
+
 /// The messages of a stream that is pushed in pieces of this size, what follows them, and what is left of the stream.
 fn taken(
     alloc: Global,
     stream: &[u8],
     size: usize,
     shares: bool,
-) -> Result<(Vec<Bytes>, Next, Bytes), AllocError>
+) -> Result<Taken, AllocError>
     requires { 0 < size }
 {
     let mut framer = Framer::new(alloc);
@@ -117,13 +176,29 @@ fn told_next(alloc: Global, next: &Next) -> Result<String, AllocError> {
     }
 }
 
-fn told_taken(
-    alloc: Global,
-    stream: &[u8],
-    size: usize,
-    shares: bool,
-) -> Result<String, AllocError> {
-    let (frames, next, left) = taken(alloc, stream, size.max(1), shares)?;
+/// How the messages of a stream are taken.
+#[derive(Clone, Copy)]
+enum How {
+    /// Each is copied.
+    Copied,
+    /// The bytes of each are shared if they can be.
+    Shared,
+    /// Each is read where it lies.
+    InPlace,
+}
+
+fn taken_so(alloc: Global, stream: &[u8], size: usize, how: How) -> Result<Taken, AllocError>
+    requires { 0 < size }
+{
+    match how {
+        How::Copied => taken(alloc, stream, size, false),
+        How::Shared => taken(alloc, stream, size, true),
+        How::InPlace => taken_in_place(alloc, stream, size),
+    }
+}
+
+fn told_taken(alloc: Global, stream: &[u8], size: usize, how: How) -> Result<String, AllocError> {
+    let (frames, next, left) = taken_so(alloc, stream, size.max(1), how)?;
     let (frames, next) = (
         told_frames(alloc, stream, &frames, &left)?,
         told_next(alloc, &next)?,
@@ -131,15 +206,16 @@ fn told_taken(
     format!(in alloc; "{frames}{next}")
 }
 
-/// The result, if it is the same whether the bytes of messages are shared or copied.
+/// The result, if it is the same however the messages are taken.
 fn told_stream(alloc: Global, row: &str) -> Result<String, AllocError> {
     let (size, messages) = row.split_once(", ").unwrap_or((row, ""));
     let stream = stream_of(alloc, messages)?;
     let size: usize = size.parse().unwrap_or(1);
-    let copied = told_taken(alloc, &stream, size, false)?;
-    let shared = told_taken(alloc, &stream, size, true)?;
-    if copied.as_str() != shared.as_str() {
-        return format!(in alloc; "{copied} or {shared}");
+    let copied = told_taken(alloc, &stream, size, How::Copied)?;
+    let shared = told_taken(alloc, &stream, size, How::Shared)?;
+    let in_place = told_taken(alloc, &stream, size, How::InPlace)?;
+    if copied.as_str() != shared.as_str() || copied.as_str() != in_place.as_str() {
+        return format!(in alloc; "{copied}, {shared} or {in_place}");
     }
     Ok(copied)
 }
