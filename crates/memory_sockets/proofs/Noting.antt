@@ -9,7 +9,7 @@ calls_of-append : (notes : List Noted) (noted : Noted) → calls_of (notes ++ no
 calls_of-append [] noted = refl
 calls_of-append (first ∷ notes) noted = ap (λ (calls : List SystemCall). call_of first.note first.bytes.items first.reports.items ∷ calls) (calls_of-append notes noted)
 
--- the newest call stands first
+-- the newest call is the first
 pub reverse-calls_of : (notes now : List Noted) (noted : Noted) → now ≡ notes ++ noted ∷ [] →
     reverse (calls_of now) ≡ call_of noted.note noted.bytes.items noted.reports.items ∷ reverse (calls_of notes)
 reverse-calls_of notes now noted e =

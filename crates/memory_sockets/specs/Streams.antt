@@ -57,7 +57,7 @@ is_open_in streams number = is_open_at (tree.get nat_cmp streams.rows number)
 abbrev pub awaits_room_in : Streams → ℕ → Bool
 awaits_room_in streams number = awaits_room_at (tree.get nat_cmp streams.rows number)
 
--- a report is of an open socket, and of room only where that is awaited
+-- a report is of an open socket, and of room only if that is awaited
 pub record IsWatched (streams : Streams) (report : Report) : Type 0 where
   pub is_open : is_open_in streams report.number ≡ true
   pub room : report.writable ≡ true → awaits_room_in streams report.number ≡ true

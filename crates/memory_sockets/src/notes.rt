@@ -70,7 +70,7 @@ impl CallNotes {
         if self.tells { Some(&self.calls) } else { None }
     }
 
-    /// Notes a call. If memory for it is refused, nothing is told from now on.
+    /// Notes a call. If memory for it is refused, there is no journal from now on.
     pub fn note(&mut self, note: Note, bytes: &[u8], reports: &[Report])
         ensures { Tells (told_in self.old) (told_in self.new) (call_of note bytes.now reports.now ∷ []) }
     {

@@ -1,9 +1,9 @@
 //! What happens at the sockets of a system in memory.
 //!
 //! A script has steps, in the order in which they happen: clients arrive, bytes come, streams end. A wait has the next
-//! step happen whose socket is there and is watched for it, and reports that. Beside the steps stands what goes
-//! otherwise: the first, the second or a later call of a kind fails, a stream gives no more than so many bytes in a
-//! read, or takes no more in a write or in all.
+//! step happen whose socket is there and is watched for it, and reports that. A script also says what goes
+//! wrong: the first, the second or a later call of a kind fails, a stream gives no more than some bytes in a read, or
+//! takes no more in a write or in all.
 ghost use Rattle.std.specs.Prelude.{◌≡◌, ◌≤◌, ◌<◌, ◌++◌, ℕ, [], false, take, length, IfOk, IfSome, OnOk, OnErr};
 ghost use Rattle.memory_sockets.specs.Streams.{KeepsStreams, KeepsOthers, coming_in, written_in};
 ghost use Rattle.memory_sockets.specs.Scripts.{is_of as is_of_call, kind_number};
@@ -29,7 +29,7 @@ pub enum CallKind {
     NotifyStarter,
 }
 
-/// Calls that fail, told by their places among the calls of their kind, from 1.
+/// Calls that fail, by their places among the calls of their kind, from 1.
 #[derive(Clone, Copy)]
 struct Exception {
     call: CallKind,
@@ -38,11 +38,11 @@ struct Exception {
     kind: ErrorKind,
 }
 
-/// What happens. A stream is told by the number of its socket, and a listener by its path.
+/// What happens. A stream is named by the number of its socket, and a listener by its path.
 #[derive(Drop)]
 enum Event {
     Arrival(String),
-    /// So many of the bytes that the script has for a stream come.
+    /// This number of the bytes that the script has for a stream come.
     Piece(u64, usize),
     End(u64),
     HangUp(u64),
@@ -79,7 +79,7 @@ pub struct SocketScript {
 }
 
 impl SocketScript {
-    /// Nothing happens, and nothing goes otherwise.
+    /// Nothing happens, and nothing goes wrong.
     pub fn new(alloc: Global) -> SocketScript
         ensures coming { (number : ℕ) → coming_in result.streams number ≡ [] }
         ensures written { (number : ℕ) → written_in result.streams number ≡ [] }
@@ -199,7 +199,7 @@ impl SocketScript {
         self.except_between(call, place, place, kind)
     }
 
-    /// The calls of a kind fail so from one place to another.
+    /// The calls of a kind from one place to another fail with an error.
     pub fn except_between(
         &mut self,
         call: CallKind,
@@ -218,21 +218,21 @@ impl SocketScript {
         Ok(())
     }
 
-    /// A stream gives at most so many bytes a read, and one at least.
+    /// A stream gives at most this number of bytes a read, and one at least.
     pub fn trickle(&mut self, number: u64, most: usize) -> Result<(), AllocError>
         ensures { KeepsStreams self.old.streams self.new.streams }
     {
         self.streams.trickle(number, most)
     }
 
-    /// A stream takes at most so many bytes a write. One that takes none has never room.
+    /// A stream takes at most this number of bytes a write. One that takes none never has room.
     pub fn pace(&mut self, number: u64, most: usize) -> Result<(), AllocError>
         ensures { KeepsStreams self.old.streams self.new.streams }
     {
         self.streams.pace(number, most)
     }
 
-    /// A stream takes so many bytes in all, and then each write to it fails so.
+    /// A stream takes this number of bytes in all, and then each write to it fails with this kind.
     pub fn limit(&mut self, number: u64, bytes: usize, kind: ErrorKind) -> Result<(), AllocError>
         ensures { KeepsStreams self.old.streams self.new.streams }
     {

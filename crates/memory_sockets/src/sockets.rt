@@ -36,8 +36,8 @@ struct Calls {
     starter_notices: u64,
 }
 
-/// A system of sockets in memory. Its script says what happens, and it tells what its calls answered as long as memory
-/// for that isn't refused.
+/// A system of sockets in memory. Its script says what happens, and its journal has what its calls answered as long as
+/// memory for that isn't refused.
 ///
 /// A wait has the next step of the script happen whose socket is there and watched for it. If there is none, the time
 /// that it was to wait for goes by; with no such time it fails, since nothing would ever happen. A read gives what came
@@ -293,7 +293,7 @@ impl Sockets for SocketsInMemory {
 
     ghost journal = { λ system. told_in system.notes };
 
-    /// It is refused where a file of another bind is at the path.
+    /// It is refused if a file is at the path.
     fn bind(&mut self, path: &str, number: u64) -> io::Result<Numbered<SocketInMemory>>
         ensures kept { KeepsBytes self.old self.new }
 
@@ -336,7 +336,7 @@ impl Sockets for SocketsInMemory {
         }
     }
 
-    /// It would wait where no client came to the listener's path that wasn't taken.
+    /// It would wait if no client waits at the listener's path.
     fn accept(
         &mut self,
         listener: &Numbered<SocketInMemory>,

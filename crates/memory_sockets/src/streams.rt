@@ -95,7 +95,7 @@ impl StreamInMemory {
         Ok(n)
     }
 
-    /// Has more bytes come some time.
+    /// Has more bytes come at some time.
     fn add(&mut self, bytes: &[u8]) -> Result<(), AllocError>
         ensures coming { OnOk result (coming_of self.new ≡ coming_of self.old ++ bytes.now) }
         ensures err { OnErr result (coming_of self.new ≡ coming_of self.old) }
@@ -104,7 +104,7 @@ impl StreamInMemory {
         self.bytes.extend_from_slice(bytes)
     }
 
-    /// So many bytes more came.
+    /// This number of bytes more came.
     fn come(&mut self, count: usize)
         ensures kept { IsKept self.old self.new }
         ensures is_open { self.new.is_open ≡ self.old.is_open }
@@ -113,7 +113,7 @@ impl StreamInMemory {
         self.came = self.came.saturating_add(count).min(self.bytes.len());
     }
 
-    /// Reads where no byte is left.
+    /// Reads if no byte is left.
     fn read_end(&mut self) -> Result<usize, ErrorKind>
         ensures none { IfOk result (λ n. n ≡ 0) }
         ensures kept { IsKept self.old self.new }
@@ -209,7 +209,7 @@ impl Streams {
         Ok(())
     }
 
-    /// Has more bytes come on a stream some time.
+    /// Has more bytes come on a stream at some time.
     pub fn add(&mut self, number: u64, bytes: &[u8]) -> Result<(), AllocError>
         ensures own { OnOk result (coming_in self.new number ≡ coming_in self.old number ++ bytes.now) }
         ensures err { OnErr result (KeepsStreams self.old self.new) }
@@ -223,7 +223,7 @@ impl Streams {
         }
     }
 
-    /// Has a stream give at most so many bytes a read, and one at least.
+    /// Has a stream give at most this number of bytes a read, and one at least.
     pub fn trickle(&mut self, number: u64, most: usize) -> Result<(), AllocError>
         ensures { KeepsStreams self.old self.new }
     {
@@ -234,7 +234,7 @@ impl Streams {
         Ok(())
     }
 
-    /// Has a stream take at most so many bytes a write.
+    /// Has a stream take at most this number of bytes a write.
     pub fn pace(&mut self, number: u64, most: usize) -> Result<(), AllocError>
         ensures { KeepsStreams self.old self.new }
     {
@@ -245,7 +245,7 @@ impl Streams {
         Ok(())
     }
 
-    /// Has a stream take so many bytes in all, and then refuse each write.
+    /// Has a stream take this number of bytes in all, and then refuse each write.
     pub fn limit(&mut self, number: u64, left: usize, refusal: ErrorKind) -> Result<(), AllocError>
         ensures { KeepsStreams self.old self.new }
     {

@@ -41,7 +41,8 @@ fn told_server(alloc: Global, row: &str) -> Result<String, AllocError> {
     Ok(told)
 }
 
-/// How a server ends over a net in memory that ends so over sockets. A net whose script is over is quiet, and a system's wait fails.
+/// How a server ends over a net in memory that ends so over sockets. A net whose script is over is quiet, and a
+/// system's wait fails.
 fn net_end<'a>(script: &str, end: &'a str) -> &'a str {
     if end == "Wait" && !script.contains("WaitFails") {
         "Stopped"

@@ -202,7 +202,7 @@ shut_silent false number calls is = silent_as is refl
 pub told_as : {i j : Option (List SystemCall)} (entry : List ℕ → Entry) {bytes own : List ℕ} → bytes ≡ own → Tells i j (answered (entry bytes) ∷ []) → Tells i j (answered (entry own) ∷ [])
 told_as {i} {j} entry same t = subst (λ (b : List ℕ). Tells i j (answered (entry b) ∷ [])) same t
 
--- what was asked, and then told
+-- what was asked, and then noted as the answer
 pub asked_then_told : {P : List SystemCall → Type 0} {a b c : Option (List SystemCall)} (entry : Entry) → Steps P a b → Tells b c (answered entry ∷ []) → Steps (IsAnswered entry P) a c
 asked_then_told entry s t = steps_then (answered entry ∷ []) s t (λ first p. (first, refl, p))
 
@@ -259,7 +259,7 @@ module _ {T L : Type 0} (a b : SocketSet T L) where
     retries = λ number. p.retries number (is.retries number);
   }
 
--- what is counted stays so where no answer is told ..
+-- the counts stay right if no answer is told ..
 pub counted_kept : {i j : Option (List SystemCall)} {listeners sessions new_listeners new_sessions : ℕ} → IsCounted i listeners sessions → Steps IsSilent i j → new_listeners ≡ listeners → new_sessions ≡ sessions → IsCounted j new_listeners new_sessions
 counted_kept counted keeps l s = record {
   told = λ after e.
@@ -303,7 +303,7 @@ pub listener_numbered : (i : Option (List SystemCall)) {listeners sessions : ℕ
 listener_numbered i (Ok listener) counted same = λ before e. same ∙ listens_counted i counted before e
 listener_numbered i (Err fault) counted same = same
 
--- a listen makes one listener where it succeeds, and an accept a session
+-- a listen makes one listener if it succeeds, and an accept a session
 pub listen_makes : (path : List ℕ) (answer : Result ℕ NetFault) (listeners new_listeners : ℕ) → OnOk answer (new_listeners ≡ listeners + 1) → OnErr answer (new_listeners ≡ listeners)
     → (new_listeners ≡ listeners + listens_by (listen_entry path answer)) × (accepts_by (listen_entry path answer) ≡ 0)
 listen_makes path (Ok listener) listeners new_listeners made same = (made, refl)
@@ -362,7 +362,7 @@ file_there (listener ∷ listeners) zero path at = omega arith
 file_there (listener ∷ listeners) (suc place) path at = let below = file_there listeners place path at in omega (arith, below)
 
 module _ {T L : Type 0} (a b : SocketSet T L) where
-  -- what bound the files stays told where no listener is made ..
+  -- what bound the files stays told if no listener is made ..
   pub bound_kept : {P : List SystemCall → Type 0} {i k : Option (List SystemCall)} → Steps P i k → vec_len b.listeners ≡ vec_len a.listeners
       → ((place : ℕ) (path : List ℕ) → place < vec_len a.listeners → path_at b place ≡ Some path → path_at a place ≡ Some path) → AreBound i a → AreBound k b
   bound_kept s number files bound = record {
@@ -373,7 +373,7 @@ module _ {T L : Type 0} (a b : SocketSet T L) where
         ap (was_bound (listeners_from + place) path) x.3 ∙ was_later (listeners_from + place) path x.1 x.0 was;
   }
 
-  -- .. and where one is
+  -- .. and if one is
   pub bound_more : {i k : Option (List SystemCall)} (entry : Entry) (path : List ℕ) (replaces : Bool) (answer : Result ℕ NetFault) → Steps (IsAnswered entry (IsListen (listeners_from + vec_len a.listeners) path replaces answer)) i k
       → OnOk answer (vec_len b.listeners ≡ vec_len a.listeners + 1) → OnErr answer (vec_len b.listeners ≡ vec_len a.listeners)
       → ((own : List ℕ) → path_at b (vec_len a.listeners) ≡ Some own → own ≡ path)

@@ -24,7 +24,7 @@ one_more_place P a b place before now kept other below = by (nat_lt other place)
     by true e = kept other (before other (grind (arith, nat_tests, e)))
     by false e = let same : other ≡ place = grind (arith, nat_tests, e, below) in subst (λ n. P b n ≡ false) (sym same) now
 
--- what is so of listeners alone isn't so where there is none
+-- what is true of listeners alone isn't true if there is none
 pub none_there : {L : Type 0} → (P : (ListenerSocket L) → Bool) (listeners : List (ListenerSocket L)) (place : ℕ) → length listeners ≤ place → unwrap_or (option_map P (slice_get listeners place)) false ≡ false
 none_there P [] place past = refl
 none_there P (listener ∷ listeners) zero past = absurd (omega (arith, past))

@@ -95,13 +95,13 @@ module _ {T L : Type 0} (more before room : ℕ) (listeners : List (ListenerSock
   removed_fits test new_links are = let removed = link_removed test links in let same = ap unqueued_links are in omega (arith, fits, removed, same)
 
 module _ {T L : Type 0} (more before room : ℕ) (listeners : List (ListenerSocket L)) (links : List (ℕ × LinkSocket T)) (fits : room_for (more + 1) before listeners links ≤ room) where
-  -- room for one more is enough where a link is made, or memory for it is refused ..
+  -- room for one more is enough if a link is made, or memory for it is refused ..
   pub made_fits : {A E : Type 0} (answer : Result A E) (number : ℕ) (socket : LinkSocket T) (new_links : List (ℕ × LinkSocket T)) → OnOk answer (new_links ≡ insert_entry nat_cmp links number socket)
       → OnErr answer (new_links ≡ links) → room_for more before listeners new_links ≤ room
   made_fits (Ok value) number socket new_links are same = let made = link_made links number socket in let count = ap unqueued_links are in omega (arith, fits, made, count)
   made_fits (Err fault) number socket new_links are same = let count = ap unqueued_links same in omega (arith, fits, count)
 
-  -- .. and where a listener is
+  -- .. and if a listener is
   pub listener_made_fits : (is_made : Bool) (socket : ListenerSocket L) (new_listeners : List (ListenerSocket L)) → new_listeners ≡ (if is_made then listeners ++ socket ∷ [] else listeners)
       → room_for more before new_listeners links ≤ room
   listener_made_fits true socket new_listeners are = let made = listener_made listeners socket in let count = ap unqueued_listeners are in omega (arith, fits, made, count)

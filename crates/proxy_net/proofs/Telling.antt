@@ -27,7 +27,7 @@ steps_through join p q = record {
       (x.0, y.1 ++ x.1, x.2, y.3 ∙ ap (λ (xs : List SystemCall). y.1 ++ xs) x.3 ∙ append_after y.1 x.1 x.0, join x.1 y.1 x.4 y.4);
 }
 
--- .. where nothing was called at first
+-- .. if nothing was called at first
 pub steps_after_none : {Q : List SystemCall → Type 0} {a b c : Option (List SystemCall)} → Tells a b [] → Steps Q b c → Steps Q a c
 steps_after_none t q = record { told = λ after e. let y = q.told after e in let x = t.told y.0 y.2 in (x.0, y.1, x.1, y.3 ∙ ap (λ (xs : List SystemCall). y.1 ++ xs) x.2, y.4) }
 

@@ -19,7 +19,7 @@ own_link_made old new number socket updates own other before =
     by true e = let same : number ≡ other = search (rules, e) in subst (λ n. is_own_link n (Some socket) ≡ true) same own
     by false e = before
 
--- a link that is made is tried again where it isn't connected yet
+-- a link that is made is tried again if it isn't connected yet
 pub retried_made : {T : Type 0} → (old new : BTreeMap ℕ (LinkSocket T)) (number : ℕ) (socket : LinkSocket T) (pending : List ℕ) → tree.Updates nat_cmp old new number (Some socket)
     → not (is_pending socket.connection) || list_any (nat_eq number) pending ≡ true
     → (other : ℕ) → not (unwrap_or (option_map (λ (s : LinkSocket _). is_pending s.connection) (tree.get nat_cmp old other)) false) || list_any (nat_eq other) pending ≡ true

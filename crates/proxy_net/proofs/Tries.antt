@@ -1,4 +1,4 @@
--- What goes on where a connect that is tried again takes another place, or leaves the others.
+-- What stays when a connect that is tried again takes another place, or leaves the others.
 use Rattle.std.proofs.Common.{ℕ, ◌≡◌, ◌+◌, ◌≤◌, nat_eq, Bool, true, false, not, ◌||◌, List, [], ◌∷◌, ◌++◌, drop, take, Some, None, Vec, Global, vec_len, slice_get, unwrap_or, refl, ap, ap₂, sym, ◌∙◌, arith}
 use Rattle.std.specs.BTreeMap as tree
 use Rattle.std.specs.BTreeMap.{BTreeMap}

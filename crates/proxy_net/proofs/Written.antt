@@ -1,4 +1,4 @@
--- What goes on where one listener is written.
+-- What stays when one listener is written.
 use Rattle.std.proofs.Common.{ℕ, suc, zero, ◌≡◌, ◌≢◌, ◌≤◌, ◌+◌, nat_eq, Bool, true, false, not, ◌||◌, Option, Some, None, List, [], ◌∷◌, ◌++◌, refl, ap, ap₂, sym, subst, ◌∙◌, arith, length, drop, take, slice_get, slice_set, unwrap_or}
 use Rattle.std.specs.Option.{option_map}
 use Rattle.std.specs.List.{list_any}
@@ -22,7 +22,7 @@ use Rattle.proxy_net.specs.declared.listeners.ListenerSocket.{ListenerSocket}
 use Rattle.proxy_net.specs.declared.sockets.SocketSet.{SocketSet}
 use Rattle.proxy_net.proofs.Notes.{or_kept}
 
--- what is marked as queued stands in the queue, also where it was marked now
+-- what is marked as queued is in the queue, also if it was marked now
 pub still_queued : {L : Type 0} → (old new : ListenerSocket L) (was is is_new : Bool) → (is_new ≡ true → is ≡ true) → (was ≡ true → is ≡ true) → (is_new ≡ false → new.queued ≡ old.queued)
     → (is_listener_unmarked (Some old) || was) ≡ true → (is_listener_unmarked (Some new) || is) ≡ true
 still_queued old new was is true put kept same before = ap (λ (b : Bool). not new.queued || b) (put refl) ∙ or_true (not new.queued)
@@ -32,7 +32,7 @@ still_queued old new was is true put kept same before = ap (λ (b : Bool). not n
     or_true false = refl
 still_queued old new was is false put kept same before = ap (λ (b : Bool). not b || is) (same refl) ∙ or_kept (not old.queued) was is kept before
 
--- what is so at each place stays so, where it stays so at the one that is written
+-- what is true at each place stays true, if it stays true at the one that is written
 pub at_each : {L : Type 0} → (P : ℕ → Option (ListenerSocket L) → Type 0) (listeners : List (ListenerSocket L)) (place : ℕ) (old new : ListenerSocket L) → slice_get listeners place ≡ Some old
     → (P place (Some old) → P place (Some new)) → (other : ℕ) → P other (slice_get listeners other) → P other (slice_get (slice_set listeners place new) other)
 at_each P [] place old new found kept other p = absurd (let no : None ≡ Some old = found in cc)

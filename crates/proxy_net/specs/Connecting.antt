@@ -6,7 +6,7 @@ use Rattle.std.specs.declared.time.Instant.{Instant}
 use Rattle.proxy_net.specs.declared.link_sockets.Connection.{Connection}
 use Rattle.proxy_net.specs.declared.link_sockets.Connection.TheVariants.{Open, Pending, Failed}
 
--- so many nanoseconds later, or the same time where the clock ends before
+-- this number of nanoseconds later, or the same time if the clock ends before
 pub record IsLater (start : Instant) (nanos : ℕ) (time : Instant) : Type 0 where
   pub fits : FitsClock (instant_nanos start + nanos) → instant_nanos time ≡ instant_nanos start + nanos
   pub ends : (FitsClock (instant_nanos start + nanos) → ⊥) → time ≡ start
@@ -21,13 +21,13 @@ is_given_up (Open stream) = false
 is_given_up (Pending retry) = false
 is_given_up Failed = true
 
--- when the next try is due, where there is one
+-- when the next try is due, if there is one
 abbrev pub due_of : {T : Type 0} → Connection T → Option Instant
 due_of (Open stream) = None
 due_of (Pending retry) = Some retry.due
 due_of Failed = None
 
--- the path to which a connect is tried again, where there is a try
+-- the path to which a connect is tried again, if there is a try
 abbrev pub tried_path : {T : Type 0} → Connection T → Option (List ℕ)
 tried_path (Open stream) = None
 tried_path (Pending retry) = Some (string_bytes retry.path)

@@ -7,17 +7,17 @@ use Rattle.std.specs.declared.time.Duration.{Duration}
 use Rattle.std.specs.declared.time.Instant.{Instant}
 use Rattle.proxy_net.specs.declared.listeners.ListenerSocket.{ListenerSocket}
 
--- how many milliseconds a try is put off, after the last one was put off so long: 1, 2, 4, 8, 16, 32, 32 ..
+-- how many milliseconds a try is put off, by how many the last one was: 1, 2, 4, 8, 16, 32, 32 ..
 abbrev pub next_delay : ℕ → ℕ
 next_delay delay = if nat_eq delay 0 then 1 else min (delay * 2) 32
 
--- it is time for a try that is due then. So it is where its time isn't known, or the clock can't be read.
+-- it is time for a try that is due then. It is time too if its time isn't known, or the clock can't be read.
 abbrev pub is_time : Option Instant → Option Instant → Bool
 is_time None now = true
 is_time (Some due) None = true
 is_time (Some due) (Some now) = nat_le (instant_nanos due) (instant_nanos now)
 
--- how many nanoseconds are left until then: 32 milliseconds where its time isn't known, or the clock
+-- how many nanoseconds are left until then: 32 milliseconds if its time isn't known, or the clock
 -- can't be read
 abbrev pub nanos_until : Option Instant → Option Instant → ℕ
 nanos_until None now = 32000000
@@ -32,7 +32,7 @@ is_accept_due now s = s.stalled && is_time s.due now
 abbrev pub is_accept_early : {L : Type 0} → Option Instant → ListenerSocket L → Bool
 is_accept_early now s = s.stalled && not (is_time s.due now)
 
--- how many nanoseconds are left until a listener is tried again, where it is stalled
+-- how many nanoseconds are left until a listener is tried again, if it is stalled
 abbrev pub accept_left : {L : Type 0} → Option Instant → ListenerSocket L → Option ℕ
 accept_left now s = if s.stalled then Some (nanos_until s.due now) else None
 

@@ -3,7 +3,7 @@ use Rattle.std.specs.Prelude.{ℕ, ◌+◌, Bool, if◌then◌else◌, List, [],
 use Rattle.proxy_net.specs.declared.link_sockets.LinkSocket.{LinkSocket}
 use Rattle.proxy_net.specs.declared.listeners.ListenerSocket.{ListenerSocket}
 
--- one where it isn't marked as queued
+-- one if it isn't marked as queued
 abbrev pub unqueued : Bool → ℕ
 unqueued queued = if queued then 0 else 1
 
@@ -18,6 +18,6 @@ unqueued_listeners [] = 0
 unqueued_listeners (listener ∷ listeners) = unqueued listener.queued + unqueued_listeners listeners
 
 -- how much room a queue is to have: for what is in it, for each listener and link that isn't marked
--- as queued, and for so many more
+-- as queued, and for this number more
 abbrev pub room_for : {T L : Type 0} → ℕ → ℕ → List (ListenerSocket L) → List (ℕ × LinkSocket T) → ℕ
 room_for more queued listeners links = queued + (unqueued_listeners listeners + unqueued_links links) + more

@@ -75,20 +75,20 @@ has_link_placed sockets link = is_link_placed (socket_in sockets link)
 abbrev pub has_listener_placed : {T L : Type 0} → SocketSet T L → ℕ → Bool
 has_listener_placed sockets listener = is_listener_placed (slice_get sockets.listeners.items listener)
 
--- a number stands in the queue
+-- a number is in the queue
 abbrev pub has_place : {T L : Type 0} → SocketSet T L → ℕ → Bool
 has_place sockets number = list_any (nat_eq number) sockets.ready.items
 
 -- the queue has room for what is in it, for each listener and link that isn't marked as queued, and for
--- so many more
+-- this number more
 abbrev pub HasRoomFor : {T L : Type 0} → ℕ → SocketSet T L → Type 0
 HasRoomFor more sockets = room_for more (deque_len sockets.ready) sockets.listeners.items sockets.links.entries ≤ deque_capacity sockets.ready
 
--- a link that is marked as queued stands in the queue
+-- a link that is marked as queued is in the queue
 abbrev pub is_link_queued : {T L : Type 0} → SocketSet T L → ℕ → Bool
 is_link_queued sockets number = is_link_unmarked (tree.get nat_cmp sockets.links number) || has_place sockets number
 
--- a listener that is marked as queued stands in the queue
+-- a listener that is marked as queued is in the queue
 abbrev pub is_listener_queued : {T L : Type 0} → SocketSet T L → ℕ → Bool
 is_listener_queued sockets place = is_listener_unmarked (slice_get sockets.listeners.items place) || has_place sockets (listeners_from + place)
 
@@ -111,7 +111,7 @@ path_at sockets place = path_in (slice_get sockets.listeners.items place)
 abbrev pub is_pending_at : {T L : Type 0} → SocketSet T L → ℕ → Bool
 is_pending_at sockets number = unwrap_or (option_map (λ (s : LinkSocket _). is_pending s.connection) (tree.get nat_cmp sockets.links number)) false
 
--- the path to which the connect of the link of a number is tried again, where there is a try
+-- the path to which the connect of the link of a number is tried again, if there is a try
 abbrev pub tried_path_at : {T L : Type 0} → SocketSet T L → ℕ → Option (List ℕ)
 tried_path_at sockets number = unwrap_or (option_map (λ (s : LinkSocket _). tried_path s.connection) (tree.get nat_cmp sockets.links number)) None
 
@@ -119,7 +119,7 @@ tried_path_at sockets number = unwrap_or (option_map (λ (s : LinkSocket _). tri
 abbrev pub is_retried : {T L : Type 0} → SocketSet T L → ℕ → Bool
 is_retried sockets number = not (is_pending_at sockets number) || list_any (nat_eq number) sockets.pending.items
 
--- what is ready for a wish is marked as queued, what is marked so stands in the queue, each socket is
+-- what is ready for a wish is marked as queued, what is marked so is in the queue, each socket is
 -- registered by its own number, and each connect that isn't made yet is tried again
 pub record IsConsistent {T L : Type 0} (sockets : SocketSet T L) : Type 0 where
   pub links : (link : Link) → has_link_placed sockets link ≡ true
@@ -131,7 +131,7 @@ pub record IsConsistent {T L : Type 0} (sockets : SocketSet T L) : Type 0 where
   pub retries : (number : ℕ) → is_retried sockets number ≡ true
 
 -- no count falls, nothing that is ready for a wish falls out of the queue, what is marked as queued
--- stands in it, what is registered by its own number stays so, no connect is forgotten, and no listener
+-- is in it, what is registered by its own number stays so, no connect is forgotten, and no listener
 -- gets another file
 pub record Grows {T L : Type 0} (old new : SocketSet T L) : Type 0 where
   pub each : (count : Count) → count_in old count ≤ count_in new count
@@ -145,7 +145,7 @@ pub record Grows {T L : Type 0} (old new : SocketSet T L) : Type 0 where
   pub retries : (number : ℕ) → is_retried old number ≡ true → is_retried new number ≡ true
 
 -- no count falls, the wishes of all links and the numbers of listeners and sessions are as before,
--- nothing that is ready for a wish falls out of the queue, what is marked as queued stands in it, what
+-- nothing that is ready for a wish falls out of the queue, what is marked as queued is in it, what
 -- is registered by its own number stays so, no connect is forgotten or tried at another path, and no
 -- listener gets another file
 pub record GoesOn {T L : Type 0} (old new : SocketSet T L) : Type 0 where
@@ -167,7 +167,7 @@ pub record GoesOn {T L : Type 0} (old new : SocketSet T L) : Type 0 where
 abbrev pub is_open_at : {T L : Type 0} → SocketSet T L → ℕ → Bool
 is_open_at sockets number = unwrap_or (option_map (λ (s : LinkSocket _). is_open s.connection) (tree.get nat_cmp sockets.links number)) false
 
--- when the next try to connect a link is due, where there is a link and a try
+-- when the next try to connect a link is due, if there is a link and a try
 abbrev pub due_in : {T : Type 0} → Option (LinkSocket T) → Option Instant
 due_in None = None
 due_in (Some socket) = due_of socket.connection
@@ -205,7 +205,7 @@ sessions_after NotReady before = before
 sessions_after Refused before = before
 sessions_after Memory before = before
 
--- whether the writes of the link of a number fail by now, where there is one
+-- whether the writes of the link of a number fail by now, if there is one
 abbrev pub given_up_at : {T L : Type 0} → SocketSet T L → ℕ → Option Bool
 given_up_at sockets number = option_map (λ (s : LinkSocket _). s.given_up) (tree.get nat_cmp sockets.links number)
 
@@ -261,12 +261,12 @@ abbrev pub left_in : {L : Type 0} → Option Instant → Option (ListenerSocket 
 left_in now None = None
 left_in now (Some socket) = accept_left now socket
 
--- how many nanoseconds are left until the listener at a place is tried again, where it is stalled
+-- how many nanoseconds are left until the listener at a place is tried again, if it is stalled
 abbrev pub accept_left_at : {T L : Type 0} → SocketSet T L → Option Instant → ℕ → Option ℕ
 accept_left_at sockets now place = left_in now (slice_get sockets.listeners.items place)
 
--- The shortest of the times that are left until the listeners at the first so many places are tried
--- again. It is none where none of them is stalled.
+-- The shortest of the times that are left until the listeners at the first `count` places are tried
+-- again. It is none if none of them is stalled.
 pub record IsFirstLeft {T L : Type 0} (sockets : SocketSet T L) (now : Option Instant) (count : ℕ) (first : Option ℕ) : Type 0 where
   pub by : (place left : ℕ) → place < count → accept_left_at sockets now place ≡ Some left → IsWithin left first
   pub one : (nanos : ℕ) → first ≡ Some nanos → (place : ℕ) × (accept_left_at sockets now place ≡ Some nanos)
@@ -282,7 +282,7 @@ file_at sockets place = file_in (slice_get sockets.listeners.items place)
 abbrev pub files_of : {T L : Type 0} → SocketSet T L → List (Option BoundFile)
 files_of sockets = map (λ (s : ListenerSocket _). s.file) sockets.listeners.items
 
--- where the journal is told, each file that a listener has was made by that listener's bind to its path
+-- if the journal is told, each file that a listener has was made by that listener's bind to its path
 pub record AreBound {T L : Type 0} (calls : Option (List SystemCall)) (sockets : SocketSet T L) : Type 0 where
   pub told : (before : List SystemCall) → calls ≡ Some before → (place : ℕ) (path : List ℕ) → path_at sockets place ≡ Some path → was_bound (listeners_from + place) path before ≡ true
 
@@ -302,7 +302,7 @@ is_to_fail_at sockets number = unwrap_or (option_map (is_to_fail (is_closed_at s
 abbrev pub IsJudgedAt : {T L : Type 0} → SocketSet T L → ℕ → Type 0
 IsJudgedAt sockets number = unwrap_or (given_up_at sockets number) true ≡ is_to_fail_at sockets number
 
--- when the next try to connect the link of a number is due, where there is one
+-- when the next try to connect the link of a number is due, if there is one
 abbrev pub due_at : {T L : Type 0} → SocketSet T L → ℕ → Option Instant
 due_at sockets number = due_in (tree.get nat_cmp sockets.links number)
 
@@ -311,7 +311,7 @@ abbrev pub IsBy : Instant → Option Instant → Type 0
 IsBy due None = ⊥
 IsBy due (Some time) = instant_nanos time ≤ instant_nanos due
 
--- The first of the times at which the links of these numbers are due. It is none where none of them is.
+-- The first of the times at which the links of these numbers are due. It is none if none of them is due.
 pub record IsFirstDue {T L : Type 0} (sockets : SocketSet T L) (numbers : List ℕ) (first : Option Instant) : Type 0 where
   pub by : (number : ℕ) (due : Instant) → list_any (nat_eq number) numbers ≡ true → due_at sockets number ≡ Some due → IsBy due first
   pub one : (time : Instant) → first ≡ Some time → (number : ℕ) × (list_any (nat_eq number) numbers ≡ true) × (due_at sockets number ≡ Some time)
@@ -329,7 +329,7 @@ IsWished old new (IsLink link) = HasWish (wishes_in old link) × (is_link_named 
 IsWished old new Quiet = ⊥
 IsWished old new Failed = ⊥
 
--- what the system reported of the socket of a number is noted, where there is such a socket
+-- what the system reported of the socket of a number is noted, if there is such a socket
 abbrev pub is_noted : {T L : Type 0} → SocketSet T L → ℕ → Bool → Bool → Bool
 is_noted sockets number readable writable =
     if nat_lt number listeners_from
@@ -340,7 +340,7 @@ is_noted sockets number readable writable =
 abbrev pub is_report_noted : {T L : Type 0} → SocketSet T L → Report → Bool
 is_report_noted sockets report = is_noted sockets report.number report.readable report.writable
 
--- what is reported is noted, where it is of a bus, or of all else
+-- what is reported is noted, if it is of a bus, or if it is of anything else
 abbrev pub is_side_noted : {T L : Type 0} → Bool → SocketSet T L → Report → Bool
 is_side_noted of_buses sockets report = not (same_side (is_bus_number report.number) of_buses) || is_report_noted sockets report
 

@@ -40,7 +40,7 @@ use Rattle.proxy_net.specs.declared.streams.StreamWrite.TheVariants.{Bytes as Wr
 use Rattle.proxy_net.specs.declared.link_sockets.LinkWrite.{LinkWrite}
 use Rattle.proxy_net.specs.declared.link_sockets.LinkWrite.TheVariants.{Bytes as LinkBytes, NotReady as LinkNotReady, PeerClosed as LinkClosed, Failed as LinkFailed}
 
--- where the journal is still told, it was told before, and calls of this kind were added
+-- if the journal is still told, it was told before, and calls of this kind were added
 pub record Steps (P : List SystemCall → Type 0) (old new : Option (List SystemCall)) : Type 0 where
   pub told : (after : List SystemCall) → new ≡ Some after → (before : List SystemCall) × (calls : List SystemCall) × (old ≡ Some before) × (after ≡ calls ++ before) × P calls
 
@@ -48,8 +48,8 @@ pub record Steps (P : List SystemCall → Type 0) (old new : Option (List System
 abbrev pub IsSilent : List SystemCall → Type 0
 IsSilent calls = answers_in calls ≡ []
 
--- A read of a socket: the bytes that are answered are those that the system gave, of that socket. It ends where the system gave
--- no byte, or reset it.
+-- A read of a socket: the bytes that are answered are those that the system gave, of that socket. It ends where the
+-- system gave no byte, or reset it.
 abbrev pub IsRead : ℕ → List ℕ → Got → List SystemCall → Type 0
 IsRead number into (GotBytes n) calls = calls ≡ read number (Ok (take n into)) ∷ []
 IsRead number into Finished calls = (calls ≡ read number (Ok []) ∷ []) ⊎ (calls ≡ read number (Err ConnectionReset) ∷ [])
@@ -67,15 +67,15 @@ IsStreamRead number into Fault calls = (calls ≡ []) ⊎ ((kind : ErrorKind) ×
 abbrev pub IsPolled : ℕ → List SystemCall → Type 0
 IsPolled number calls = calls ≡ read number (Err WouldBlock) ∷ []
 
--- what a link answers where its stream reads so
+-- what a link answers if its stream answers this
 abbrev pub got_of : StreamRead → Got
 got_of (Bytes n) = GotBytes n
 got_of End = Finished
 got_of Nothing = ReadNotReady
 got_of Fault = ReadFailed
 
--- A write to a socket: the bytes that are counted are those that the system took, for that socket. A socket that has no room is
--- watched until there is room.
+-- A write to a socket: the bytes that are counted are those that the system took, for that socket. A socket that has no
+-- room is watched until there is room.
 abbrev pub IsWrite : ℕ → List ℕ → Took → List SystemCall → Type 0
 IsWrite number piece (TookBytes n) calls = calls ≡ write number (Ok (take n piece)) ∷ []
 IsWrite number piece WriteNotReady calls = (calls ≡ []) ⊎ (((kind : ErrorKind) × (calls ≡ write number (Err kind) ∷ [])) ⊎ (calls ≡ watch number true None ∷ write number (Err WouldBlock) ∷ []))
@@ -105,8 +105,9 @@ IsLinkWrite number piece LinkFailed calls = IsWrite number piece WriteFailed cal
 abbrev pub IsConnected : ℕ → List ℕ → List SystemCall → Type 0
 IsConnected number path calls = (calls ≡ connect number path None ∷ []) ⊎ ((calls ≡ connect number path (Some WouldBlock) ∷ []) ⊎ (calls ≡ connect number path (Some Interrupted) ∷ []))
 
--- A connect of the link of a number: to that path, once at most. It fails for an error of the system, and without a call only if the
--- path is empty or there is a link of that number (`taken`). Memory is refused before the call, or after one that was made or put off.
+-- A connect of the link of a number: to that path, once at most. It fails for an error of the system, and without a
+-- call only if the path is empty or there is a link of that number (`taken`). Memory is refused before the call, or
+-- after one that was made or put off.
 abbrev pub IsConnect : ℕ → List ℕ → Bool → Result (Unit {0}) NetFault → List SystemCall → Type 0
 IsConnect number path taken (Ok _) calls = IsConnected number path calls
 IsConnect number path taken (Err FaultFailed) calls = ((calls ≡ []) × ((path ≡ []) ⊎ (taken ≡ true))) ⊎ ((kind : ErrorKind) × (calls ≡ connect number path (Some kind) ∷ []))
@@ -161,8 +162,8 @@ IsAnswered entry P calls = (asked : List SystemCall) × (calls ≡ answered entr
 abbrev pub IsNoted : ℕ → List SystemCall → Type 0
 IsNoted number calls = (calls ≡ []) ⊎ ((fault : Option ErrorKind) × (calls ≡ watch number false fault ∷ []))
 
--- One call that is made for reports: a link of one of these numbers is watched for reading alone, or a connect to one of these
--- paths is tried again.
+-- One call that is made for reports: a link of one of these numbers is watched for reading alone, or a connect to one
+-- of these paths is tried again.
 abbrev pub IsNoteCall : (ℕ → Type 0) → (ℕ → List ℕ → Type 0) → SystemCall → Type 0
 IsNoteCall Own To (watch number true fault) = ⊥
 IsNoteCall Own To (watch number false fault) = Own number
@@ -192,8 +193,8 @@ abbrev pub AreWaitCalls : (ℕ → Type 0) → (ℕ → List ℕ → Type 0) →
 AreWaitCalls Own To [] = Unit {0}
 AreWaitCalls Own To (call ∷ before) = IsWaitCall Own To call × AreWaitCalls Own To before
 
--- Whether a wait of the net failed, by the waits of the system: none of these failed, or the last one did. A system that reports
--- nothing that is to be named isn't asked more than 2^64 - 1 times.
+-- Whether a wait of the net failed, by the waits of the system: none of these failed, or the last one did. A system
+-- that reports nothing that is to be named isn't asked more than 2^64 - 1 times.
 abbrev pub IsFailure : Bool → List SystemCall → Type 0
 IsFailure false calls = has_failed_wait calls ≡ false
 IsFailure true calls = (has_failed_wait (take 1 calls) ≡ true) ⊎ (2 ^ 64 - 1 ≤ length calls)
@@ -246,7 +247,8 @@ IsOpened true descriptor (Ok _) calls = ⊥
 IsOpened true descriptor (Err FaultFailed) calls = calls ≡ []
 IsOpened true descriptor (Err FaultMemory) calls = ⊥
 
--- A prepare: the pipe of the starter is opened, if one is named, and nothing else is asked. With no starter it succeeds.
+-- A prepare: the pipe of the starter is opened, if one is named, and nothing else is asked. With no starter it
+-- succeeds.
 abbrev pub IsPrepare : Bool → Option ℕ → Result (Unit {0}) NetFault → List SystemCall → Type 0
 IsPrepare present None (Ok _) calls = calls ≡ []
 IsPrepare present None (Err fault) calls = ⊥
@@ -313,9 +315,9 @@ pub record IsUndone (number : ℕ) (path : List ℕ) (replaces : Bool) (fault : 
   pub awaiting : IsBoundAndAwaited number path replaces found fault awaited
   pub removing : IsMadeRemoval path found removed
 
--- A listen: what is at the path is removed if it is replaced, a socket is bound to the path, and its clients are awaited. What was
--- made is removed if the listen fails or is refused memory. It fails for an error of the system, for an empty path, and if no number
--- is left for a listener.
+-- A listen: what is at the path is removed if it is replaced, a socket is bound to the path, and its clients are
+-- awaited. What was made is removed if the listen fails or is refused memory. It fails for an error of the system, for
+-- an empty path, and if no number is left for a listener.
 abbrev pub IsListen : ℕ → List ℕ → Bool → Result ℕ NetFault → List SystemCall → Type 0
 IsListen number path replaces (Ok _) calls = (found : Option FoundFile) × IsBoundAndAwaited number path replaces found None calls
 IsListen number path replaces (Err FaultFailed) calls = ((calls ≡ []) × ((path ≡ []) ⊎ (listeners_from + 2 ^ 32 ≤ number)))
@@ -332,19 +334,19 @@ IsArrival listener number (Client _) calls = calls ≡ accept listener number No
 IsArrival listener number NobodyCame calls = IsNobody listener number calls
 IsArrival listener number ArrivalFailed calls = (kind : ErrorKind) × (calls ≡ accept listener number (Some kind) ∷ [])
 
--- .. at the listener of a place, of so many listeners. It fails without a call only if there is none at that place.
+-- .. at the listener of a place, if there are `listeners` of them. It fails without a call only if there is none there.
 abbrev pub IsArrivalAt : {T : Type 0} → ℕ → ℕ → ℕ → Arrival T → List SystemCall → Type 0
 IsArrivalAt place listeners number (Client stream) calls = IsArrival (listeners_from + place) number (Client stream) calls
 IsArrivalAt place listeners number NobodyCame calls = IsNobody (listeners_from + place) number calls
 IsArrivalAt place listeners number ArrivalFailed calls = ((calls ≡ []) × (listeners ≤ place)) ⊎ ((kind : ErrorKind) × (calls ≡ accept (listeners_from + place) number (Some kind) ∷ []))
 
--- the number of the client link of the session after so many
+-- the number of the client link of the next session
 abbrev pub next_client : ℕ → ℕ
 next_client sessions = number_of (client_link (sessions + 1))
 
--- An accept at the listener of a place, of so many listeners, after so many sessions: a client is taken there, as the client link of
--- the next session. It fails for an error of the system, and without a call only if there is no such listener or no session number is
--- left. Memory is refused before the call, or after a client was taken.
+-- An accept at the listener of a place, with `listeners` and `sessions` made before: a client is taken there, as the
+-- client link of the next session. It fails for an error of the system, and without a call only if there is no such
+-- listener or no session number is left. Memory is refused before the call, or after a client was taken.
 abbrev pub IsAccept : ℕ → ℕ → ℕ → Accepted → List SystemCall → Type 0
 IsAccept place listeners sessions (New session) calls = calls ≡ accept (listeners_from + place) (number_of (client_link session)) None ∷ []
 IsAccept place listeners sessions AcceptNotReady calls = IsNobody (listeners_from + place) (next_client sessions) calls

@@ -30,7 +30,7 @@ IsRefusalRead kind (Some End) = kind ≡ ConnectionReset
 IsRefusalRead kind (Some Nothing) = kind ≡ WouldBlock
 IsRefusalRead kind (Some Fault) = kind ≢ Interrupted
 
--- what a read that gave so many bytes means
+-- what a read that gave this number of bytes means
 abbrev pub IsGivenRead : ℕ → Option StreamRead → Type 0
 IsGivenRead given None = ⊥
 IsGivenRead given (Some (Bytes n)) = given ≡ n
@@ -51,7 +51,7 @@ IsRefusalWrite kind PeerClosed = Unit {0}
 IsRefusalWrite kind Again = Unit {0}
 IsRefusalWrite kind WriteFault = Unit {0}
 
--- what a write that took so many bytes means
+-- what a write that took this number of bytes means
 abbrev pub IsTakenWrite : ℕ → StreamWrite → Type 0
 IsTakenWrite taken (WriteBytes n) = taken ≡ n
 IsTakenWrite taken Full = ⊥

@@ -7,9 +7,9 @@ use Rattle.link_traits.specs.Entries.{Entry}
 use Rattle.proxy_net.specs.declared.bound_files.FoundFile.{FoundFile}
 use Rattle.proxy_net.specs.declared.reports.Report.{Report}
 
--- A call, with the number of its socket, its path or its bytes, and the kind of the fault for which it was refused. An accept has
--- the listener's number and that of the stream, an identify what it found, and the opening of the starter's pipe the number of its
--- descriptor. Beside its own calls stands what a net over the system answered.
+-- A call, with the number of its socket, its path or its bytes, and the kind of the fault for which it was refused. An
+-- accept has the listener's number and that of the stream, an identify what it found, and the opening of the starter's
+-- pipe the number of its descriptor. What a net over the system answered is an entry of its own.
 pub data SystemCall : Type 0 where
   bind : ℕ → List ℕ → Option ErrorKind → SystemCall
   await_clients : ℕ → Option ErrorKind → SystemCall
@@ -48,7 +48,7 @@ is_bind number path (answered entry) = false
 abbrev pub was_bound : ℕ → List ℕ → List SystemCall → Bool
 was_bound number path calls = list_any (is_bind number path) calls
 
--- the kind of the error, where there is one
+-- the kind of the error, if there is one
 abbrev pub fault_of : {T E : Type 0} → (E → ErrorKind) → Result T E → Option ErrorKind
 fault_of kind (Ok value) = None
 fault_of kind (Err error) = Some (kind error)
@@ -74,7 +74,7 @@ is_failed_wait (answered entry) = false
 abbrev pub has_failed_wait : List SystemCall → Bool
 has_failed_wait calls = list_any is_failed_wait calls
 
--- Where the journal is still told, it was told before, and these calls were added. A system may cease to tell.
+-- If the journal is still told, it was told before, and these calls were added. A system may cease to tell.
 pub record Tells (old new : Option (List SystemCall)) (added : List SystemCall) : Type 0 where
   pub told : (after : List SystemCall) → new ≡ Some after → (before : List SystemCall) × (old ≡ Some before) × (after ≡ added ++ before)
 

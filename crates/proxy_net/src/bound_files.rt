@@ -7,7 +7,8 @@ ghost use Rattle.proxy_net.specs.Steps.{Steps, IsRemoval, IsClearing};
 
 use crate::system::Sockets;
 
-/// What tells a file from every other one. As long as the socket of a bound file is open, no other file gets its number.
+/// What distinguishes a file from every other one. As long as the socket of a bound file is open, no other file gets
+/// its number.
 #[derive(Clone, Copy, Debug, PartialEq, Eq)]
 pub struct FileIdentity {
     device: u64,
@@ -75,8 +76,9 @@ pub fn remove_made<S: Sockets>(system: &mut S, path: &str, made: FileIdentity)
 
 /// Looks at what is at a path, if that is to be replaced, and removes it if it is a socket or an empty regular file.
 ///
-/// A file that another program changes or puts there after the look is removed without a look. The socket that a bind makes then has
-/// the mode 0777 without the bits of the umask, so the owner of the file can connect to it, as it could write to the file.
+/// A file that another program changes or puts there after the look is removed without a look. The socket that a bind
+/// makes then has the mode 0777 without the bits of the umask, so the owner of the file can connect to it, as it could
+/// write to the file.
 pub fn clear<S: Sockets>(system: &mut S, path: &str, replaces: bool)
     ensures { Steps (IsClearing replaces path.now) (S.journal system.old) (S.journal system.new) }
 {

@@ -7,17 +7,18 @@ ghost use Rattle.proxy_net.specs.Delays.{next_delay, is_time as is_time_for};
 
 use std::time::{Duration, Instant};
 
-/// The milliseconds before the first new try. They double from try to try: a short want of room or of descriptors costs little
-/// time, and a long one costs few calls.
+/// The milliseconds before the first new try. They double from try to try: a short want of room or of descriptors costs
+/// little time, and a long one costs few calls.
 pub const FIRST_DELAY: u64 = 1;
 
 /// The most milliseconds between two tries, so that a peer isn't kept waiting long once there is room.
 pub const LONGEST_DELAY: u64 = 32;
 
-/// The milliseconds for which the system is waited for if the clock can't be read: as long as between two tries at most.
+/// The milliseconds for which the system is waited for if the clock can't be read: as long as between two tries at
+/// most.
 pub const BLIND_DELAY: u64 = 32;
 
-/// The milliseconds before the next try, after so many before the last one. They are 0 before the first.
+/// The milliseconds before the next try, by those before the last one. Those are 0 before the first try.
 pub fn delay_after(delay: u64) -> u64
     ensures { result ≡ next_delay delay }
 {
@@ -28,7 +29,7 @@ pub fn delay_after(delay: u64) -> u64
     }
 }
 
-/// The time after so long, or the same time where the clock ends.
+/// The time after a duration, or the same time if the clock ends before.
 pub fn later(now: Instant, duration: Duration) -> Instant
     ensures { IsLater now (as_nanos duration) result }
 {
@@ -55,7 +56,7 @@ fn is_by(time: Instant, other: Instant) -> bool
     time.saturating_duration_since(other).as_nanos() == 0
 }
 
-/// How long it is until a time, or so long as the system is waited for where the clock can't be read.
+/// How long it is until a time. If the clock can't be read, it is `BLIND_DELAY`.
 pub fn delay_until(time: Instant, now: Option<Instant>) -> Duration
     ensures known { (clock : Instant) → now ≡ Some clock → as_nanos result ≡ instant_nanos time - instant_nanos clock }
     ensures blind { now ≡ None → as_nanos result ≡ BLIND_DELAY * 1_000_000 }

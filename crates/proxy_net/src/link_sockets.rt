@@ -90,10 +90,10 @@ pub enum LinkWrite {
 
 /// A link that was made and isn't shut.
 ///
-/// The system reports each change once. So a link is kept as readable until a read answers that it would wait, and as writable
-/// until a write does. It is readable again once the system reports something new of it, and once more if a write finds for the
-/// first time that its peer closed. It is registered for reading alone; for writing too from a write that would have waited until
-/// there is room again.
+/// The system reports each change once. So a link is kept as readable until a read answers that it would wait, and as
+/// writable until a write does. It is readable again once the system reports something new of it, and once more if a
+/// write finds for the first time that its peer closed. It is registered for reading alone; for writing too from a
+/// write that would have waited until there is room again.
 ///
 /// A write to a peer that closed isn't ready until what the peer wrote before was read to its end.
 #[derive(Drop)]
@@ -129,7 +129,7 @@ impl Retry {
         }
     }
 
-    /// Tries again to connect, where it is time to.
+    /// Tries again to connect, if it is time to.
     fn connect<S: Sockets>(&mut self, system: &mut S, now: Instant) -> Connected<S::Stream>
         ensures token { is_connected_by self.old.token result ≡ true }
         ensures early { instant_nanos now < instant_nanos self.old.due → (result ≡ Connected.NotDue) × (self.new ≡ self.old) }
@@ -311,9 +311,9 @@ impl<T: Drop> LinkSocket<T> {
         }
     }
 
-    /// Notes that a write was refused since the peer closed. What it wrote before is there to be read, and then the end, so the
-    /// first such write has the link read once more. A later one doesn't: a peer that only shut its reading may send nothing for
-    /// ever, and what it does next is reported.
+    /// Notes that a write was refused since the peer closed. What it wrote before is there to be read, and then the
+    /// end, so the first such write has the link read once more. A later one doesn't: a peer that only shut its reading
+    /// may never send anything, and what it does next is reported.
     fn note_closed(&mut self)
         ensures rose { Rose self.old.faults self.new.faults }
         ensures faults { self.old.faults ≤ self.new.faults }
@@ -345,8 +345,8 @@ impl<T: Drop> LinkSocket<T> {
         LinkWrite::NotReady
     }
 
-    /// Has the system report when there is something to read, and when there is room to write if that is asked for. Answers
-    /// whether it could.
+    /// Has the system report when there is something to read, and when there is room to write if that is asked for.
+    /// Answers whether it could.
     fn watch<S: Sockets<Stream = T>>(&mut self, system: &mut S, writable: bool) -> bool
         ensures same { self.new ≡ self.old }
         ensures told { (number : ℕ) → is_registered_by number self.old.connection ≡ true → Steps (IsWatched (is_open self.old.connection) number writable result) (S.journal system.old) (S.journal system.new) }
@@ -425,7 +425,8 @@ impl<T: Drop> LinkSocket<T> {
         self.wishes.read && self.readable || self.wishes.write && can_write
     }
 
-    /// Takes a place among what is to be named, where it is ready for what is wished and has none. Answers whether it took one.
+    /// Takes a place among what is to be named, if it is ready for what is wished and has none. Answers whether it took
+    /// one.
     pub fn take_place(&mut self) -> bool
         ensures took { result ≡ (is_ready self.old && not self.old.queued) }
         ensures placed { is_link_placed (Some self.new) ≡ true }
@@ -450,7 +451,7 @@ impl<T: Drop> LinkSocket<T> {
 impl<T: Drop> LinkSocket<T> {
     ghost use Rattle.std.specs.declared.time.Instant.{Instant};
 
-    /// When the next try to connect is due, where there is one.
+    /// When the next try to connect is due, if there is one.
     pub fn due(&self) -> Option<Instant>
         ensures { result ≡ due_of self.now.connection }
     {
@@ -460,7 +461,7 @@ impl<T: Drop> LinkSocket<T> {
         }
     }
 
-    /// Tries again to connect, where it is time to. Where the clock can't be read, it fails.
+    /// Tries again to connect, if it is time to. If the clock can't be read, it fails.
     pub fn attempt<S: Sockets<Stream = T>>(
         &mut self,
         system: &mut S,

@@ -14,10 +14,11 @@ use std::time::{Duration, Instant};
 
 /// A socket that listens.
 ///
-/// One whose accept failed is stalled: mostly no descriptor is left. It isn't named again until a link is shut, another client
-/// comes, or its delay is over, since to name it on would spin. The delay doubles while accepts fail.
+/// One whose accept failed is stalled: mostly no descriptor is left. It isn't named again until a link is shut, another
+/// client comes, or its delay is over, since to name it on would spin. The delay doubles while accepts fail.
 ///
-/// One that was named and of which nothing was accepted isn't named again until something is accepted or another client comes.
+/// One that was named and of which nothing was accepted isn't named again until something is accepted or another client
+/// comes.
 #[derive(Drop)]
 pub struct ListenerSocket<L> {
     /// How often it failed.
@@ -48,7 +49,7 @@ pub enum Arrival<T> {
 impl<L: Drop> ListenerSocket<L> {
     ghost use Rattle.std.specs.declared.time.Instant.{Instant};
 
-    /// A listener that nobody came to.
+    /// A listener to which nobody came.
     pub fn new(faults: u64, listener: Numbered<L>, file: Option<BoundFile>) -> ListenerSocket<L>
         ensures listener { result.listener ≡ listener }
         ensures file { result.file ≡ file }
@@ -203,7 +204,7 @@ impl<L: Drop> ListenerSocket<L> {
         }
     }
 
-    /// Is named again, where it was stalled. Answers whether it is to be queued.
+    /// Is named again, if it was stalled. Answers whether it is to be queued.
     pub fn revive(&mut self) -> bool
         ensures queued { result ≡ (self.old.stalled && not self.old.queued) }
         ensures other { self.old.stalled ≡ false → self.new ≡ self.old }
@@ -244,7 +245,7 @@ impl<L: Drop> ListenerSocket<L> {
         self.ready && !self.stalled && !self.unheeded
     }
 
-    /// Takes a place among what is to be named, where it is to be named and has none. Answers whether it took one.
+    /// Takes a place among what is to be named, if it is to be named and has none. Answers whether it took one.
     fn take_place(&mut self) -> bool
         ensures took { result ≡ (is_awaited self.old && not self.old.queued) }
         ensures placed { is_listener_placed (Some self.new) ≡ true }

@@ -14,20 +14,21 @@ use link_traits::{Accepted, Count, Got, Link, Net, NetFault, Ready, Setting, Too
 use std::alloc::{AllocError, Global};
 use std::io;
 
-/// A net over Unix sockets. It tells its journal if its system does: each of its answers is told to the system.
+/// A net over Unix sockets. It keeps its journal in that of its system: it notes each of its answers there.
 ///
-/// It names a link only for a wish that is true. A thing that is ready goes on being named, in turn with the others, until it
-/// answered that it would wait. A link that answered so to a read isn't named for reading again until the system reports
-/// something new of it, but for once when a write finds that its peer closed. A listener of which nothing is accepted when it is
-/// named isn't named again until something is accepted of it or another client comes. One whose accept failed is named again
-/// after 1 millisecond, and after twice as long each time that the accept fails again, up to 32 milliseconds.
+/// It names a link only for a wish that is true. A link or listener that is ready is named again and again, in turn
+/// with the others, until it answered that it would wait. A link that answered so to a read isn't named for reading
+/// again until the system reports something new of it, but for once when a write finds that its peer closed. A listener
+/// of which nothing is accepted when it is named isn't named again until something is accepted of it or another client
+/// comes. One whose accept failed is named again after 1 millisecond, and after twice as long each time that the accept
+/// fails again, up to 32 milliseconds.
 ///
-/// Nothing that a client wrote before it closed is lost: a write to it isn't ready until what it wrote was read to its end, and
-/// then fails. Each such write counts as one that would have waited and as a fault of its link. Where the link isn't wished to be
-/// read any more, it fails too as soon as the other link of its session is shut or closed.
+/// Nothing that a client wrote before it closed is lost: a write to it isn't ready until what it wrote was read to its
+/// end, and then fails. Each such write counts as one that would have waited and as a fault of its link. If the link
+/// isn't wished to be read any more, it fails too as soon as the other link of its session is shut or closed.
 ///
-/// A connect to a bus that has no room for one more succeeds, and is tried again while the net waits, for five seconds. Until
-/// then reads and writes of that link aren't ready, and afterwards they fail.
+/// A connect to a bus that has no room for one more succeeds, and is tried again while the net waits, for five seconds.
+/// Until then reads and writes of that link aren't ready, and afterwards they fail.
 ///
 /// A starter gets its byte when the net waits for the first time. Once it is gone, waits are quiet.
 #[derive(Drop)]
@@ -108,8 +109,8 @@ impl<S: Sockets + Drop> MioNet<S> {
         self.sockets.count(count)
     }
 
-    /// Looks at what is at the path of each file that its listens made, and removes it if it is that file. Call it once nothing
-    /// more is to be accepted: a client that connects later finds no socket.
+    /// Looks at what is at the path of each file that its listens made, and removes it if it is that file. Call it once
+    /// nothing more is to be accepted: a client that connects later finds no socket.
     pub fn remove_sockets(&mut self)
         // No listener has a file any more, and nothing else changes.
         ensures removed { (listener : ℕ) → has_file_at self.new.sockets listener ≡ false }
@@ -279,7 +280,7 @@ impl<S: Sockets + Drop> Net for MioNet<S> {
         ensures starter { OnOk result (self.new.starter ≡ after_prepare setting.starter self.old.starter) }
         ensures kept { OnErr result ((self.new.replaces ≡ self.old.replaces) × (self.new.starter ≡ self.old.starter)) }
 
-        // What the system is asked for it. It isn't told what the net answers.
+        // What the system is asked for it. The net notes no answer.
         ensures asked { Steps (IsPrepare (is_present self.old.starter) setting.starter result) (S.journal self.old.system) (S.journal self.new.system) }
 
         // What the trait says.
@@ -297,8 +298,8 @@ impl<S: Sockets + Drop> Net for MioNet<S> {
         }
     }
 
-    /// It fails if the path is empty and if a file is there, but for one that is replaced by the setting: a socket or an empty
-    /// regular file, which is looked at and removed before the bind. No other file that was there is removed.
+    /// It fails if the path is empty and if a file is there, but for one that is replaced by the setting: a socket or
+    /// an empty regular file, which is looked at and removed before the bind. No other file that was there is removed.
     fn listen(&mut self, path: &str) -> Result<u32, NetFault>
         // Listeners are numbered in the order of their listens.
         ensures order { IfOk result (λ listener. listener ≡ vec_len self.old.sockets.listeners) }
@@ -315,7 +316,7 @@ impl<S: Sockets + Drop> Net for MioNet<S> {
         // It makes no link readable.
         ensures unread { StaysUnread self.old.sockets self.new.sockets }
 
-        // What the system is asked for it, and told then.
+        // What the system is asked for it, before the net notes its answer.
         ensures asked { Steps (IsAnswered (listen_entry path.now result) (IsListen (listeners_from + vec_len self.old.sockets.listeners) path.now self.old.replaces result)) (S.journal self.old.system) (S.journal self.new.system) }
 
         // What the trait says.
@@ -331,10 +332,11 @@ impl<S: Sockets + Drop> Net for MioNet<S> {
         answer
     }
 
-    /// The first wait after a prepare with a starter writes the byte before it waits. It is quiet exactly if the starter is gone.
+    /// The first wait after a prepare with a starter writes the byte before it waits. It is quiet exactly if the
+    /// starter is gone.
     fn wait(&mut self) -> Ready
-        // It names a link only for a wish that is true, for reading only while it is readable, and a listener only for a client
-        // that came and wasn't named before.
+        // It names a link only for a wish that is true, for reading only while it is readable, and a listener only for
+        // a client that came and wasn't named before.
         ensures wished { result ≢ Ready.Failed → result ≢ Ready.Quiet → IsWished self.old.sockets self.new.sockets result }
 
         // It is quiet if the starter is gone, from then on, and never without a starter.
@@ -350,7 +352,7 @@ impl<S: Sockets + Drop> Net for MioNet<S> {
         // It forgets no close.
         ensures closed { StaysClosed self.old.sockets self.new.sockets }
 
-        // What the system is asked for it, and told then.
+        // What the system is asked for it, before the net notes its answer.
         ensures asked { Steps (IsAnswered (ready result) (IsWait (HasLink self.old.sockets) (IsTriedTo self.old.sockets) self.old.starter self.new.starter (is_failed result))) (S.journal self.old.system) (S.journal self.new.system) }
 
         // What the trait says.
@@ -365,8 +367,8 @@ impl<S: Sockets + Drop> Net for MioNet<S> {
         ready
     }
 
-    /// If it fails or is refused memory, the listener isn't named again until a link is shut, another client comes, or its delay
-    /// is over.
+    /// If it fails or is refused memory, the listener isn't named again until a link is shut, another client comes, or
+    /// its delay is over.
     fn accept(&mut self, listener: u32) -> Accepted
         // Sessions are numbered from 1 in the order of their accepts.
         ensures order { (session : ℕ) → result ≡ Accepted.New session → (session ≡ self.old.sockets.sessions + 1) × (self.new.sockets.sessions ≡ session) }
@@ -384,7 +386,7 @@ impl<S: Sockets + Drop> Net for MioNet<S> {
         // It makes no link readable.
         ensures unread { StaysUnread self.old.sockets self.new.sockets }
 
-        // What the system is asked for it, and told then.
+        // What the system is asked for it, before the net notes its answer.
         ensures asked { Steps (IsAnswered (accept_entry listener result) (IsAccept listener (vec_len self.old.sockets.listeners) self.old.sockets.sessions result)) (S.journal self.old.system) (S.journal self.new.system) }
 
         // What the trait says.
@@ -400,7 +402,7 @@ impl<S: Sockets + Drop> Net for MioNet<S> {
         answer
     }
 
-    /// It is refused where the session has a link to its bus, and where the path is empty.
+    /// It is refused if the session has a link to its bus, and if the path is empty.
     fn connect(&mut self, session: u32, path: &str) -> Result<(), NetFault>
         ensures path { OnOk result (path.now ≢ []) }
         ensures fresh { OnOk result ((shown self.old.sockets (S.journal self.old.system) self.old.starter).wishes (bus_link session) ≡ None) }
@@ -412,7 +414,7 @@ impl<S: Sockets + Drop> Net for MioNet<S> {
         // It makes no link readable.
         ensures unread { StaysUnread self.old.sockets self.new.sockets }
 
-        // What the system is asked for it, and told then.
+        // What the system is asked for it, before the net notes its answer.
         ensures asked { Steps (IsAnswered (connect_entry session path.now result) (IsConnect (number_of (bus_link session)) path.now (has_link_at self.old.sockets (number_of (bus_link session))) result)) (S.journal self.old.system) (S.journal self.new.system) }
 
         // What the trait says.
@@ -451,18 +453,19 @@ impl<S: Sockets + Drop> Net for MioNet<S> {
         ensures missing { (shown self.old.sockets (S.journal self.old.system) self.old.starter).wishes link ≡ None → result ≡ Got.Failed }
         ensures pending { is_pending_in self.old.sockets link ≡ true → result ≡ Got.NotReady }
 
-        // An end that was told is known from then on.
+        // A link that was read to its end is known to be closed from then on.
         ensures finished { result ≡ Got.Finished → is_closed_at self.new.sockets (number_of link) ≡ true }
 
         // The setting stays.
         ensures setting { (self.new.replaces ≡ self.old.replaces) × (self.new.starter ≡ self.old.starter) }
 
-        // A link that answers that it would wait isn't readable any more. A read makes no link readable, and forgets no close.
+        // A link that answers that it would wait isn't readable any more. A read makes no link readable, and forgets no
+        // close.
         ensures waits { result ≡ Got.NotReady → is_readable_at self.new.sockets (number_of link) ≡ false }
         ensures unread { StaysUnread self.old.sockets self.new.sockets }
         ensures closed { StaysClosed self.old.sockets self.new.sockets }
 
-        // What the system is asked for it, and told then.
+        // What the system is asked for it, before the net notes its answer.
         ensures asked { Steps (IsAnswered (read_entry link into.new result) (IsRead (number_of link) into.new result)) (S.journal self.old.system) (S.journal self.new.system) }
 
         // A link that is connected isn't said to have nothing yet without a read of its socket.
@@ -488,11 +491,12 @@ impl<S: Sockets + Drop> Net for MioNet<S> {
         // The setting stays.
         ensures setting { (self.new.replaces ≡ self.old.replaces) × (self.new.starter ≡ self.old.starter) }
 
-        // Only the write that finds for the first time that the peer closed makes a link readable. A write forgets no close.
+        // Only the write that finds for the first time that the peer closed makes a link readable. A write forgets no
+        // close.
         ensures unread { is_peer_closed_at self.new.sockets (number_of link) ≡ is_peer_closed_at self.old.sockets (number_of link) → StaysUnread self.old.sockets self.new.sockets }
         ensures closed { StaysClosed self.old.sockets self.new.sockets }
 
-        // What the system is asked for it, and told then.
+        // What the system is asked for it, before the net notes its answer.
         ensures asked { Steps (IsAnswered (write_entry link piece.now result) (IsWrite (number_of link) piece.now result)) (S.journal self.old.system) (S.journal self.new.system) }
 
         // A link that has a stream isn't answered without a call of the system.
@@ -522,7 +526,7 @@ impl<S: Sockets + Drop> Net for MioNet<S> {
         // It makes no link readable.
         ensures unread { StaysUnread self.old.sockets self.new.sockets }
 
-        // What the system is asked for it, and told then.
+        // What the system is asked for it, before the net notes its answer.
         ensures asked { Steps (IsAnswered (shut link) (IsShut (is_open_at self.old.sockets (number_of link)) (number_of link))) (S.journal self.old.system) (S.journal self.new.system) }
 
         // What the trait says.

@@ -1,7 +1,7 @@
 //! The sockets of a net, and what of them is to be named.
 //!
-//! What is ready and wished for stands in a queue, and what was named goes to its end, so that a busy link doesn't hold up the
-//! others. Room in it is taken where a listener or a link is made. What is marked as queued stands in it.
+//! What is ready and wished for is in a queue, and what was named goes to its end, so that a busy link doesn't hold up
+//! the others. Room in the queue is taken when a listener or a link is made. What is marked as queued is in it.
 ghost use Rattle.std.specs.Prelude.{◌≡◌, ◌≤◌, ◌+◌, ◌++◌, ◌∷◌, ◌||◌, [], not, nat_eq, ℕ, Bool, List, Option, true, if◌then◌else◌, unwrap_or, None, Some, IfOk, OnOk, OnErr, vec_len};
 ghost use Rattle.std.specs.VecDeque.{deque_len, deque_capacity};
 ghost use Rattle.std.specs.Option.{option_map};
@@ -35,8 +35,9 @@ const LISTENERS: u64 = 0x2_0000_0000;
 
 /// The sockets of listeners and links, with what is counted of them.
 ///
-/// No count falls: what is counted of a listener or a link that isn't there is `absent`, which is at least what was counted of
-/// any link that was shut, and which a new listener or link begins with. So a link that was shut takes no room.
+/// No count falls: what is counted of a listener or a link that isn't there is `absent`, which is at least what was
+/// counted of any link that was shut, and which a new listener or link begins with. So a link that was shut takes no
+/// room.
 #[derive(Drop)]
 pub struct SocketSet<T, L> {
     /// The net's own faults.
@@ -222,7 +223,7 @@ impl<T: Drop, L: Drop> SocketSet<T, L> {
         }
     }
 
-    /// Whether nothing more passes between the link of a number and its peer. So it is where there is no such link.
+    /// Whether nothing more passes between the link of a number and its peer. A link that isn't there is closed too.
     fn is_closed(&self, number: u64) -> bool
         ensures { result ≡ is_closed_at self.now number }
     {
@@ -232,7 +233,7 @@ impl<T: Drop, L: Drop> SocketSet<T, L> {
         }
     }
 
-    /// Judges whether the writes of a link whose peer closed are to fail, and queues it where they are.
+    /// Judges whether the writes of a link whose peer closed are to fail, and queues it if they are.
     fn judge(&mut self, number: u64)
         ensures judged { unwrap_or (given_up_at self.new number) true ≡ is_to_fail_at self.old number }
         ensures same { (other : ℕ) → is_to_fail_at self.new other ≡ is_to_fail_at self.old other }
@@ -257,7 +258,8 @@ impl<T: Drop, L: Drop> SocketSet<T, L> {
         }
     }
 
-    /// Puts a number at the queue's end, where it took a new place there. Room for that was taken when its socket was made.
+    /// Puts a number at the queue's end, if its socket took a new place there. Room for that was taken when its socket
+    /// was made.
     fn queue(&mut self, number: u64, is_new: bool)
         requires { is_new ≡ true → HasRoomFor 1 self.old }
         ensures queue { self.new.ready.items ≡ (if is_new then self.old.ready.items ++ number ∷ [] else self.old.ready.items) }

@@ -1,7 +1,7 @@
 //! The program that started this one.
 //!
-//! It may hold the reading end of a pipe (`--fd` in xdg-dbus-proxy(1)): one byte in the pipe tells it that clients can connect to
-//! all paths, and the run ends once it closes its end.
+//! It may hold the reading end of a pipe (`--fd` in xdg-dbus-proxy(1)): one byte in the pipe tells it that clients can
+//! connect to all paths, and the run ends once it closes its end.
 ghost use Rattle.std.specs.Prelude.{◌≡◌, false, true};
 ghost use Rattle.std.specs.List.{list_any};
 ghost use Rattle.proxy_net.specs.Starters.{after_reports, is_gone as has_gone, is_present as is_there, is_waiting, reports_end};

@@ -54,7 +54,8 @@ pub fn read_stream<S: Sockets>(
     StreamRead::Fault
 }
 
-/// What the answer of a read means. Nothing is read into room for something at the end alone. `None` if a signal interrupted it.
+/// What the answer of a read means. Nothing is read into room for something at the end alone. `None` if a signal
+/// interrupted it.
 fn read_of(answer: io::Result<usize>, has_room: bool) -> Option<StreamRead>
     ensures bytes { (n : ℕ) → answer ≡ Ok n → (has_room ≡ true → 0 < n) → result ≡ Some (StreamRead.Bytes n) }
     ensures end { answer ≡ Ok 0 → has_room ≡ true → result ≡ Some StreamRead.End }

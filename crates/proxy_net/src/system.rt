@@ -59,10 +59,10 @@ pub trait Sockets {
     /// A socket that is read and written.
     type Stream: Drop;
 
-    /// The calls that were made, with what they answered, the newest first, where that is known.
+    /// The calls that were made, with what they answered, the newest first, if that is known.
     ghost journal: { Self → Option (List SystemCall) };
 
-    /// Binds a socket to a path, where that makes a file. It isn't watched yet.
+    /// Binds a socket to a path, which makes a file there. It isn't watched yet.
     fn bind(&mut self, path: &str, number: u64) -> io::Result<Numbered<Self::Listener>>
         ensures number { IfOk result (λ listener. listener.number ≡ number) }
         ensures told { Tells (journal self.old) (journal self.new) (bind number path.now (fault_of error_kind result) ∷ []) };
@@ -113,7 +113,8 @@ pub trait Sockets {
         ensures err { OnErr result (reports.new.items ≡ []) }
         ensures told { Tells (journal self.old) (journal self.new) (wait reports.new.items (fault_of error_kind result) ∷ []) };
 
-    /// The file at a path. A link is found itself, not the file that it names. `None` if there is none, or the system doesn't say.
+    /// The file at a path. A link is found itself, not the file that it names. `None` if there is none, or the system
+    /// doesn't say.
     fn identify(&mut self, path: &str) -> Option<FoundFile>
         ensures { Tells (journal self.old) (journal self.new) (identify path.now result ∷ []) };
 
@@ -121,8 +122,8 @@ pub trait Sockets {
     fn remove_file(&mut self, path: &str) -> io::Result<()>
         ensures { Tells (journal self.old) (journal self.new) (remove path.now ∷ []) };
 
-    /// Opens the starter's pipe, which this process has as a descriptor of this number, and watches it for the close of its
-    /// reading end. That is reported by the number `STARTER`. What isn't a pipe is refused.
+    /// Opens the starter's pipe, which this process has as a descriptor of this number, and watches it for the close of
+    /// its reading end. That is reported by the number `STARTER`. What isn't a pipe is refused.
     fn open_starter(&mut self, descriptor: u32) -> io::Result<()>
         ensures { Tells (journal self.old) (journal self.new) (open_starter descriptor (fault_of error_kind result) ∷ []) };
 
@@ -140,9 +141,9 @@ pub trait Sockets {
 
 /// The sockets of the system, over epoll. It tells no journal.
 ///
-/// That each call does what it is asked is trusted: that it binds and connects the path that it is given, reads and writes the
-/// socket that it is given, watches it by its own number, looks at and removes the file of the path that it is given, and opens and
-/// writes to the pipe that it is given.
+/// That each call does what it is asked is trusted: that it binds and connects the path that it is given, reads and
+/// writes the socket that it is given, watches it by its own number, looks at and removes the file of the path that it
+/// is given, and opens and writes to the pipe that it is given.
 #[derive(Drop)]
 pub struct SystemSockets<'a> {
     rt: &'a HostRuntime,
@@ -246,11 +247,12 @@ impl<'a> Sockets for SystemSockets<'a> {
         fs::remove_file(self.rt, path)
     }
 
-    /// The pipe is opened anew by the name of the descriptor: what is opened so is closed again, and the descriptor stays as it is.
+    /// The pipe is opened anew by the name of the descriptor: what is opened so is closed again, and the descriptor
+    /// stays as it is.
     ///
-    /// An open of a FIFO for writing alone waits until another process opens it for reading. So it is opened for both before, for
-    /// a moment: a FIFO that nobody reads is then reported as one whose reading end is closed, and a FIFO that this process may
-    /// not read is refused.
+    /// An open of a FIFO for writing alone waits until another process opens it for reading. So it is opened for both
+    /// before, for a moment: a FIFO that nobody reads is then reported as one whose reading end is closed, and a FIFO
+    /// that this process may not read is refused.
     fn open_starter(&mut self, descriptor: u32) -> io::Result<()> {
         let path = format!(in self.rt.alloc(); "/dev/fd/{descriptor}")?;
         let metadata = fs::metadata(self.rt, &path)?;

@@ -159,7 +159,8 @@ impl<T: Drop, L: Drop> SocketSet<T, L> {
         }
     }
 
-    /// Answers a write that was refused since the peer closed. It isn't ready as long as there may be something to read.
+    /// Answers a write that was refused since the peer closed. It isn't ready as long as there may be something to
+    /// read.
     fn answer_closed(&mut self, number: u64) -> Took
         ensures bytes { (n : ℕ) → result ≡ Took.Bytes n → ⊥ }
         ensures failed { result ≡ Took.Failed → is_to_fail_at self.old number ≡ true }

@@ -20,8 +20,8 @@ use std::alloc::{AllocError, Global};
 impl<T: Drop, L: Drop> SocketSet<T, L> {
     ghost use Rattle.proxy_net.specs.Sockets.{HasRoomFor, RoseIn, Grows, GoesOn, KeepsWishesIn, StaysUnread, path_at};
 
-    /// Listens at a path. An empty one is refused, since the system would take a name of its own for it. A socket or an empty
-    /// regular file that is there is removed first, if it `replaces`.
+    /// Listens at a path. An empty one is refused, since the system would take a name of its own for it. A socket or an
+    /// empty regular file that is there is removed first, if it `replaces`.
     pub fn listen<S: Sockets<Stream = T, Listener = L>>(
         &mut self,
         alloc: Global,
@@ -409,8 +409,9 @@ impl<T: Drop, L: Drop> SocketSet<T, L> {
 impl<T: Drop, L: Drop> SocketSet<T, L> {
     ghost use Rattle.proxy_net.specs.Sockets.{HasRoomFor, wishes_in, RoseIn, Grows, GoesOn, KeepsOthersIn, KeepsWishesIn, StaysUnread, has_link_at};
 
-    /// Connects a session to the bus at a path. An empty one is refused, since the system would take a name of its own for it,
-    /// and so is a session that has a link to its bus. Where the bus has no room for one more, it is tried again later.
+    /// Connects a session to the bus at a path. An empty one is refused, since the system would take a name of its own
+    /// for it, and so is a session that has a link to its bus. If the bus has no room for one more, it is tried again
+    /// later.
     pub fn connect<S: Sockets<Stream = T, Listener = L>>(
         &mut self,
         alloc: Global,
@@ -510,8 +511,8 @@ impl<T: Drop, L: Drop> SocketSet<T, L> {
         }
     }
 
-    /// Makes a link that is to be connected later. The connect would have waited, and is counted so. If memory is refused, its
-    /// number stands among those that are tried again until the next try, which finds no link.
+    /// Makes a link that is to be connected later. The connect would have waited, and is counted so. If memory is
+    /// refused, its number is among those that are tried again until the next try, which finds no link.
     fn join_later<S: Sockets>(
         &mut self,
         alloc: Global,

@@ -54,7 +54,7 @@ fn is_bus(number: u64) -> bool
 impl<T: Drop, L: Drop> SocketSet<T, L> {
     ghost use Rattle.proxy_net.specs.Sockets.{is_stalled_at, GoesOn, IsReadIf, KeepsReports, IsWished, is_noted, is_report_noted, is_side_noted, KeepsNotes};
 
-    /// Asks the system what became ready, and waits for it where nothing is to be named yet.
+    /// Asks the system what became ready, and waits for it if nothing is to be named yet.
     pub fn ask<S: Sockets<Stream = T, Listener = L>>(
         &mut self,
         system: &mut S,
@@ -192,7 +192,7 @@ impl<T: Drop, L: Drop> SocketSet<T, L> {
         }
     }
 
-    /// Names the listener at a place again, where it is stalled.
+    /// Names the listener at a place again, if it is stalled.
     pub(super) fn revive(&mut self, place: usize)
         requires { place < 2 ^ 63 }
         ensures revived { is_stalled_at self.new place ≡ false }
@@ -228,7 +228,8 @@ impl<T: Drop, L: Drop> SocketSet<T, L> {
         None
     }
 
-    /// What the first number of the queue names. It goes to the queue's end, or leaves it where it isn't to be named.
+    /// What the first number of the queue names. It goes to the queue's end, or leaves the queue if it isn't to be
+    /// named.
     fn name_first(&mut self) -> Option<Ready>
         requires { 0 < deque_len self.old.ready }
         ensures named { IfSome result (λ _. self.new.ready.items ≡ drop 1 self.old.ready.items ++ take 1 self.old.ready.items) }
@@ -310,8 +311,8 @@ impl<T: Drop, L: Drop> SocketSet<T, L> {
     ghost use Rattle.proxy_net.specs.Sockets.{GoesOn, IsReadIf, KeepsNotes, due_at, IsFirstDue, IsFirstLeft, is_pending_at, accept_left_at, is_stalled_at, is_accept_due_at, is_accept_early_at};
     ghost use Rattle.std.specs.declared.time.Duration.{Duration};
 
-    /// How long the system is waited for: not at all where something is to be named, and else until the next try to connect or
-    /// to accept.
+    /// How long the system is waited for: not at all if something is to be named, and otherwise until the next try to
+    /// connect or to accept.
     fn timeout<S: Sockets>(&self, system: &S) -> Option<Duration>
         ensures busy { self.now.ready.items ≢ [] → option_map (λ (d : Duration). as_nanos d) result ≡ Some 0 }
         ensures idle { result ≡ None → self.now.ready.items ≡ [] }
@@ -388,7 +389,7 @@ impl<T: Drop, L: Drop> SocketSet<T, L> {
         }
     }
 
-    /// When the next try to connect a link is due, where there is one.
+    /// When the next try to connect a link is due, if there is one.
     fn due(&self, number: u64) -> Option<Instant>
         ensures { result ≡ due_at self.now number }
     {
@@ -398,7 +399,7 @@ impl<T: Drop, L: Drop> SocketSet<T, L> {
         }
     }
 
-    /// When the next try to connect is due, where there is one.
+    /// When the next try to connect is due, if there is one.
     fn next_due(&self) -> Option<Instant>
         ensures { IsFirstDue self.now self.now.pending.items result }
     {
@@ -497,7 +498,7 @@ impl<T: Drop, L: Drop> SocketSet<T, L> {
         }
     }
 
-    /// Tries again to connect a link. Where it isn't there any more, nothing is to be tried.
+    /// Tries again to connect a link. If it isn't there any more, nothing is to be tried.
     fn attempt<S: Sockets<Stream = T, Listener = L>>(
         &mut self,
         system: &mut S,
