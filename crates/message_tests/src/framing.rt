@@ -118,12 +118,7 @@ fn taken_in_place(alloc: Global, stream: &[u8], size: usize) -> Result<Taken, Al
 }
 
 /// The messages of a stream that is pushed in pieces of this size, what follows them, and what is left of the stream.
-fn taken(
-    alloc: Global,
-    stream: &[u8],
-    size: usize,
-    shares: bool,
-) -> Result<Taken, AllocError>
+fn taken(alloc: Global, stream: &[u8], size: usize, shares: bool) -> Result<Taken, AllocError>
     requires { 0 < size }
 {
     let mut framer = Framer::new(alloc);

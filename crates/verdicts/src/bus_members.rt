@@ -82,7 +82,14 @@ pub(crate) fn judge_bus_call<L: Ledger>(
     match demand_of(message.member().unwrap_or("")) {
         Demand::Free => Verdict::Pass,
         Demand::OnText(demand) => {
-            judge_argument(policy, tracker, message, demand, message.first_text(), steps)
+            judge_argument(
+                policy,
+                tracker,
+                message,
+                demand,
+                message.first_text(),
+                steps,
+            )
         }
         Demand::Unlisted => refused(message, Instead::AccessDenied, Reason::BusMember),
     }

@@ -46,9 +46,7 @@ fn refuse_field(message: &Message<'_>) -> Verdict
     ensures { result ≡ on_unknown_field (kind_of (message_in message.now.bytes.now)) (message_in message.now.bytes.now) }
 {
     match message.message_type() {
-        MessageType::MethodCall => {
-            refused(message, Instead::AccessDenied, Reason::UnknownField)
-        }
+        MessageType::MethodCall => { refused(message, Instead::AccessDenied, Reason::UnknownField) }
         MessageType::MethodReturn
         | MessageType::Error
         | MessageType::Signal

@@ -20,5 +20,5 @@ pub returns-clause-cost : goal.returns-clause-cost
 returns-clause-cost g c = λ m at.
     subst (λ n. c.judge_message.new.steps ≤ c.args.steps.now + n)
     (ap (λ role. role_steps c.args.policy.now c.args.tracker.now role (first_text (message_in c.args.message.now.bytes.now))) c.client_role.ensures
-        ∙ ap (judge_steps c.args.policy.now c.args.tracker.now) (message-is c.args.message.now.bytes.now m at))
+    ∙ ap (judge_steps c.args.policy.now c.args.tracker.now) (message-is c.args.message.now.bytes.now m at))
     c.judge_message.ensures.cost

@@ -22,5 +22,5 @@ returns-clause-cost g c = λ m at.
     let spelled = message_in c.args.message.now.bytes.now in
     subst (λ n. c.show_as.new.steps ≤ c.args.steps.now + n)
     (ap (λ role. shown_steps c.args.policy.now c.args.tracker.now role (changed_name (three_texts spelled)) (sender spelled)) c.bus_role.ensures
-        ∙ ap (show_steps c.args.policy.now c.args.tracker.now (option_copied c.args.answered)) (message-is c.args.message.now.bytes.now m at))
+    ∙ ap (show_steps c.args.policy.now c.args.tracker.now (option_copied c.args.answered)) (message-is c.args.message.now.bytes.now m at))
     c.show_as.ensures.cost
