@@ -1,3 +1,4 @@
 pub mod Noting
+pub mod Changing
 pub mod Prefixes
 pub mod Awaiting

@@ -1,6 +1,7 @@
 //! The time in memory.
-ghost use Rattle.std.specs.Prelude.{◌≡◌, ◌+◌, ◌-◌, ◌*◌, ◌^◌, min};
+ghost use Rattle.std.specs.Prelude.{◌≡◌, ◌+◌, ◌-◌, ◌*◌, ◌^◌, min, Ok};
 ghost use Rattle.std.specs.Duration.{as_nanos};
+ghost use Rattle.memory_sockets.specs.Clocks.{IsReading};
 
 use std::io;
 use std::time::{Clock, Duration, Instant};
@@ -8,8 +9,14 @@ use std::time::{Clock, Duration, Instant};
 /// A clock that stands still until it is moved on.
 #[derive(Clone, Copy)]
 pub struct ClockInMemory {
+    // What it read before it was moved on.
+    start: Option<Instant>,
     time: Duration,
 }
+
+/// The start of a clock.
+#[derive(Clone, Copy)]
+struct StartOfClock;
 
 impl ClockInMemory {
     /// A clock at its start.
@@ -17,13 +24,15 @@ impl ClockInMemory {
         ensures { as_nanos result.time ≡ 0 }
     {
         ClockInMemory {
+            start: Instant::now(&StartOfClock).ok(),
             time: Duration::ZERO,
         }
     }
 
     /// Moves it on, up to the longest duration.
     pub fn pass(&mut self, duration: Duration)
-        ensures { as_nanos self.new.time ≡ min (as_nanos self.old.time + as_nanos duration) (2 ^ 64 * 1_000_000_000 - 1) }
+        ensures time { as_nanos self.new.time ≡ min (as_nanos self.old.time + as_nanos duration) (2 ^ 64 * 1_000_000_000 - 1) }
+        ensures start { self.new.start ≡ self.old.start }
     {
         self.time = self.time.saturating_add(duration);
     }
@@ -36,17 +45,26 @@ impl ClockInMemory {
     }
 
     /// What it reads.
-    pub fn read(&self) -> Option<Instant> {
-        Instant::now(self).ok()
+    pub fn read(&self) -> Option<Instant>
+        ensures { IsReading self.now.start (as_nanos self.now.time) result }
+    {
+        match self.start {
+            Some(start) => start.checked_add(self.time),
+            None => None,
+        }
     }
 }
 
-impl Clock for ClockInMemory {
-    fn monotonic(&self) -> io::Result<Duration> {
-        Ok(self.time)
+impl Clock for StartOfClock {
+    fn monotonic(&self) -> io::Result<Duration>
+        ensures { result ≡ Ok Duration.ZERO }
+    {
+        Ok(Duration::ZERO)
     }
 
-    fn since_1970(&self) -> io::Result<Duration> {
-        Ok(self.time)
+    fn since_1970(&self) -> io::Result<Duration>
+        ensures { result ≡ Ok Duration.ZERO }
+    {
+        Ok(Duration::ZERO)
     }
 }

@@ -4,7 +4,7 @@
 //! step happen whose socket is there and is watched for it, and reports that. A script also says what goes
 //! wrong: the first, the second or a later call of a kind fails, a stream gives no more than some bytes in a read, or
 //! takes no more in a write or in all.
-ghost use Rattle.std.specs.Prelude.{◌≡◌, ◌≤◌, ◌<◌, ◌++◌, ℕ, [], false, take, length, IfOk, IfSome, OnOk, OnErr};
+ghost use Rattle.std.specs.Prelude.{◌≡◌, ◌≤◌, ◌<◌, ◌++◌, ℕ, [], false, take, length, IfOk, IfSome, OnOk, OnErr, vec_len};
 ghost use Rattle.memory_sockets.specs.Streams.{KeepsStreams, KeepsOthers, coming_in, written_in};
 ghost use Rattle.memory_sockets.specs.Scripts.{is_of as is_of_call, kind_number};
 
@@ -241,7 +241,7 @@ impl SocketScript {
 }
 
 impl SocketScript {
-    ghost use Rattle.memory_sockets.specs.Scripts.{refusal_in};
+    ghost use Rattle.memory_sockets.specs.Scripts.{is_joined_at, refusal_in};
     ghost use Rattle.memory_sockets.specs.Streams.{KeepsWatches, IsRoomAwaited};
 
     /// Why the call of a kind that has this place fails, if it does.
@@ -291,12 +291,16 @@ impl SocketScript {
     }
 
     /// How many steps there are.
-    pub(crate) fn steps(&self) -> usize {
+    pub(crate) fn steps(&self) -> usize
+        ensures { result ≡ vec_len self.now.steps }
+    {
         self.steps.len()
     }
 
     /// Whether the step at a place happens in the wait of the step before it.
-    pub(crate) fn is_joined(&self, place: usize) -> bool {
+    pub(crate) fn is_joined(&self, place: usize) -> bool
+        ensures { result ≡ is_joined_at self.now.steps.items place }
+    {
         match self.steps.get(place) {
             Some(step) => step.joined,
             None => false,

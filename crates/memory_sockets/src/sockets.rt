@@ -5,6 +5,10 @@ ghost use Rattle.proxy_net.specs.declared.system.TheConstants.{REPORTS};
 ghost use Rattle.memory_sockets.specs.Notes.{told_in};
 ghost use Rattle.std.specs.List.{All};
 ghost use Rattle.memory_sockets.specs.Streams.{IsRoomAwaited, KeepsWatches};
+ghost use Rattle.memory_sockets.specs.Calls.{count_of, counted as counted_calls, one_more};
+ghost use Rattle.memory_sockets.specs.Scripts.{refusal_in};
+ghost use Rattle.memory_sockets.specs.Clocks.{IsReading};
+ghost use Rattle.std.specs.Duration.{as_nanos};
 ghost use Rattle.memory_sockets.specs.Sockets.{coming, written, KeepsBytes, KeepsOtherBytes};
 
 use crate::clocks::ClockInMemory;
@@ -113,7 +117,9 @@ impl SocketsInMemory {
 
     /// Counts a call. Answers why it fails, if the script says so.
     fn refusal(&mut self, call: CallKind) -> Option<ErrorKind>
-        ensures { self.new ≡ record self.old { calls = self.new.calls } }
+        ensures refusal { result ≡ refusal_in self.old.script.exceptions.items call (count_of call self.new.calls) }
+        ensures counted { self.new.calls ≡ counted_calls call self.old.calls }
+        ensures rest { self.new ≡ record self.old { calls = self.new.calls } }
     {
         let place = counted(&mut self.calls, call);
         self.script.refusal(call, place)
@@ -558,7 +564,9 @@ impl Sockets for SocketsInMemory {
         }
     }
 
-    fn now(&self) -> Option<Instant> {
+    fn now(&self) -> Option<Instant>
+        ensures { IsReading self.now.clock.start (as_nanos self.now.clock.time) result }
+    {
         self.clock.read()
     }
 
@@ -573,19 +581,29 @@ impl Sockets for SocketsInMemory {
 }
 
 /// Counts a call of a kind. Answers its place among the calls of that kind, from 1.
-fn counted(calls: &mut Calls, call: CallKind) -> u64 {
-    let count = match call {
-        CallKind::Bind => &mut calls.binds,
-        CallKind::AwaitClients => &mut calls.awaits,
-        CallKind::Accept => &mut calls.accepts,
-        CallKind::Connect => &mut calls.connects,
-        CallKind::Watch => &mut calls.watches,
-        CallKind::Read => &mut calls.reads,
-        CallKind::Write => &mut calls.writes,
-        CallKind::Wait => &mut calls.waits,
-        CallKind::OpenStarter => &mut calls.starter_opens,
-        CallKind::NotifyStarter => &mut calls.starter_notices,
-    };
+fn counted(calls: &mut Calls, call: CallKind) -> u64
+    ensures place { result ≡ count_of call calls.new }
+    ensures calls { calls.new ≡ counted_calls call calls.old }
+{
+    match call {
+        CallKind::Bind => raised(&mut calls.binds),
+        CallKind::AwaitClients => raised(&mut calls.awaits),
+        CallKind::Accept => raised(&mut calls.accepts),
+        CallKind::Connect => raised(&mut calls.connects),
+        CallKind::Watch => raised(&mut calls.watches),
+        CallKind::Read => raised(&mut calls.reads),
+        CallKind::Write => raised(&mut calls.writes),
+        CallKind::Wait => raised(&mut calls.waits),
+        CallKind::OpenStarter => raised(&mut calls.starter_opens),
+        CallKind::NotifyStarter => raised(&mut calls.starter_notices),
+    }
+}
+
+/// Raises a count, unless it is at its greatest number. Answers the count.
+fn raised(count: &mut u64) -> u64
+    ensures value { result ≡ count.new }
+    ensures raised { count.new ≡ one_more count.old }
+{
     *count = count.saturating_add(1);
     *count
 }

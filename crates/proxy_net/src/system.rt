@@ -1,5 +1,5 @@
 //! What the system gives: Unix sockets, the files that their binds make, and the starter's pipe.
-ghost use Rattle.std.specs.Prelude.{◌≡◌, ◌≤◌, [], IfOk, length, map, true, false, vec_capacity};
+ghost use Rattle.std.specs.Prelude.{◌≡◌, ◌≤◌, [], IfOk, None, length, map, true, false, vec_capacity};
 ghost use Rattle.mio.specs.Events.{items, capacity as events_capacity};
 ghost use Rattle.mio.specs.Interest.{is_readable, is_writable, is_priority};
 ghost use Rattle.proxy_net.specs.Reports.{report_of};
@@ -156,7 +156,11 @@ pub struct SystemSockets<'a> {
 
 impl<'a> SystemSockets<'a> {
     /// The system that the runtime stands for, before a socket is made.
-    pub fn new(rt: &'a HostRuntime) -> io::Result<SystemSockets<'a>> {
+    pub fn new(rt: &'a HostRuntime) -> io::Result<SystemSockets<'a>>
+        ensures runtime { IfOk result (λ system. system.rt ≡ rt.entry) }
+        ensures starter { IfOk result (λ system. system.starter ≡ None) }
+        ensures events { IfOk result (λ system. items system.events ≡ []) }
+    {
         Ok(SystemSockets {
             rt,
             poll: Poll::new(rt)?,
