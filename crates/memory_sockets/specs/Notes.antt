@@ -2,6 +2,7 @@
 use Rattle.std.specs.Prelude.{ℕ, Bool, true, false, List, [], ◌∷◌, reverse, Option, Some, None, Result, Ok, Err}
 use Rattle.std.specs.declared.io.ErrorKind.{ErrorKind}
 use Rattle.proxy_net.specs.Answers.{entry_of}
+use Rattle.proxy_net.specs.Delays.{nanos_of}
 use Rattle.proxy_net.specs.SystemCalls.{SystemCall, bind, await_clients, accept, connect, watch, read, write, close, wait, identify, remove, open_starter, notify_starter, answered}
 use Rattle.proxy_net.specs.declared.reports.Report.{Report}
 use Rattle.memory_sockets.specs.declared.notes.Note.{Note}
@@ -24,7 +25,7 @@ call_of (Watch number writable fault) bytes reports = watch number writable faul
 call_of (Read number fault) bytes reports = read number (given fault bytes)
 call_of (Write number fault) bytes reports = write number (given fault bytes)
 call_of (Close number) bytes reports = close number
-call_of (Wait fault) bytes reports = wait reports fault
+call_of (Wait timeout fault) bytes reports = wait reports (nanos_of timeout) fault
 call_of (Identify found) path reports = identify path found
 call_of Remove path reports = remove path
 call_of (OpenStarter descriptor fault) bytes reports = open_starter descriptor fault

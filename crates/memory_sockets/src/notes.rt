@@ -6,6 +6,7 @@ ghost use Rattle.memory_sockets.specs.Notes.{call_of, calls_in, told_in};
 use proxy_net::{Answer, FoundFile, Report};
 use std::alloc::{AllocError, Global};
 use std::io::ErrorKind;
+use std::time::Duration;
 
 /// What one call was asked for and answered, without its path, its bytes and its reports. Of one that was refused it
 /// has the kind of the error.
@@ -22,7 +23,8 @@ pub enum Note {
     Read(u64, Option<ErrorKind>),
     Write(u64, Option<ErrorKind>),
     Close(u64),
-    Wait(Option<ErrorKind>),
+    /// A wait, with the time for which it waits at most.
+    Wait(Option<Duration>, Option<ErrorKind>),
     /// A look at a path, and the file that was found.
     Identify(Option<FoundFile>),
     Remove,

@@ -291,6 +291,7 @@ impl Sockets for SocketsInMemory {
     ghost use Rattle.std.specs.Prelude.{◌≤◌, ◌<◌, ◌∷◌, [], ℕ, List, Option, IfOk, OnErr, length, vec_len, vec_capacity};
     ghost use Rattle.std.specs.IoError.{error_kind};
     ghost use Rattle.proxy_net.specs.Answers.{entry_of};
+    ghost use Rattle.proxy_net.specs.Delays.{nanos_of};
     ghost use Rattle.proxy_net.specs.SystemCalls.{SystemCall, bind, await_clients, accept, connect, watch, read, write, close, wait, identify, remove, open_starter, notify_starter, answered, fault_of, IsToldRead, IsToldWrite, Tells};
 
     type Listener = SocketInMemory;
@@ -429,9 +430,7 @@ impl Sockets for SocketsInMemory {
                 Ok(n)
             }
             Err(kind) => {
-                if kind != ErrorKind::Interrupted {
-                    self.notes.note(Note::Read(number, Some(kind)), &[], &[]);
-                }
+                self.notes.note(Note::Read(number, Some(kind)), &[], &[]);
                 Err(io::Error::from(kind))
             }
         }
@@ -485,16 +484,16 @@ impl Sockets for SocketsInMemory {
         ensures count { vec_len reports.new ≤ REPORTS }
         ensures capacity { vec_capacity reports.new ≡ vec_capacity reports.old }
         ensures err { OnErr result (reports.new.items ≡ []) }
-        ensures told { Tells (told_in self.old.notes) (told_in self.new.notes) (wait reports.new.items (fault_of error_kind result) ∷ []) }
+        ensures told { Tells (told_in self.old.notes) (told_in self.new.notes) (wait reports.new.items (nanos_of timeout) (fault_of error_kind result) ∷ []) }
     {
         reports.clear();
         match self.await_reports(reports, timeout) {
             Ok(()) => {
-                self.notes.note(Note::Wait(None), &[], reports);
+                self.notes.note(Note::Wait(timeout, None), &[], reports);
                 Ok(())
             }
             Err(kind) => {
-                self.notes.note(Note::Wait(Some(kind)), &[], &[]);
+                self.notes.note(Note::Wait(timeout, Some(kind)), &[], &[]);
                 Err(io::Error::from(kind))
             }
         }

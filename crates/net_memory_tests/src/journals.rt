@@ -31,7 +31,7 @@ Connect 1 WouldBlock, arrival /p; listen /p, wait, accept 0, accept 0, connect 1
     connect b1 /bus
 arrival /p, piece b1 x, +piece c1 y, Read 1 Interrupted; listen /p, wait, accept 0, accept 0, connect 1, want c1 r, \
     wait, read c1 1, shut b1, wait => bind l0 /p, look /p Socket, await l0, wait l0r, accept l0 c1, \
-    accept l0 c2 WouldBlock, connect b1 /bus, wait b1r c1r, read c1 y, close b1
+    accept l0 c2 WouldBlock, connect b1 /bus, wait b1r c1r, read c1 Interrupted, read c1 y, close b1
 none; prepare 7, listen /p, listen /q, wait, wait => open 7, bind l0 /p, look /p Socket, await l0, bind l1 /q, look /q Socket, await l1, notify, wait TimedOut, wait TimedOut
 starter; prepare 7, listen /p, wait, wait, remove => open 7, bind l0 /p, look /p Socket, await l0, notify, wait starter, look /p Socket, remove /p
 NotifyStarter 1 BrokenPipe; prepare 7, listen /p, wait, wait => open 7, bind l0 /p, look /p Socket, await l0, notify BrokenPipe
@@ -88,7 +88,7 @@ fn told_note(alloc: Global, call: &Noted) -> Result<String, AllocError> {
         Note::Read(number, fault) => told_one(alloc, "read", number, &bytes, fault),
         Note::Write(number, fault) => told_one(alloc, "write", number, &bytes, fault),
         Note::Close(number) => told_one(alloc, "close", number, "", None),
-        Note::Wait(fault) => told_wait(alloc, call, fault),
+        Note::Wait(_, fault) => told_wait(alloc, call, fault),
         Note::Identify(Some(found)) => format!(in alloc; "look {bytes} {:?}", found.kind),
         Note::Identify(None) => format!(in alloc; "look {bytes} nothing"),
         Note::OpenStarter(descriptor, None) => format!(in alloc; "open {descriptor}"),

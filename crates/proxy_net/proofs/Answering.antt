@@ -1,5 +1,5 @@
 -- What the net answered, among the calls of its system.
-use Rattle.std.proofs.Common.{ℕ, zero, suc, ◌≡◌, ◌+◌, ◌≤◌, ◌<◌, inl, inr, nat_eq, nat_lt, bytes_eq, ◌&&◌, ◌||◌, length, slice_get, vec_len, Bool, true, false, List, [], ◌∷◌, ◌++◌, Option, Some, None, Result, Ok, Err, IfOk, OnOk, OnErr, refl, sym, subst, ap, ap₂, ◌∙◌, arith}
+use Rattle.std.proofs.Common.{ℕ, zero, suc, ◌≡◌, ◌+◌, ◌≤◌, ◌<◌, inl, inr, nat_eq, nat_lt, bytes_eq, ◌&&◌, ◌||◌, length, take, slice_get, vec_len, Bool, true, false, List, [], ◌∷◌, ◌++◌, Option, Some, None, Result, Ok, Err, IfOk, OnOk, OnErr, refl, sym, subst, ap, ap₂, ◌∙◌, arith}
 use Rattle.link_traits.specs.declared.links.Count.{Count}
 use Rattle.link_traits.specs.declared.links.Link.{Link}
 use Rattle.link_traits.specs.declared.links.NetFault.{NetFault}
@@ -21,9 +21,10 @@ use Rattle.std.proofs.lemmas.Slice.Eq.{bytes_eq-Decides}
 use Rattle.proxy_net.specs.Registering.{listeners_from}
 use Rattle.proxy_net.specs.Sockets.{GoesOn, Grows, IsConsistent, AreBound, count_in, path_in, path_at, sessions_after, shown}
 use Rattle.proxy_net.specs.Files.{removal}
-use Rattle.proxy_net.specs.Steps.{Steps, IsSilent, IsAnswered, AreRemovals, IsListen, IsAccept, IsConnected, IsConnect, IsRead, IsWrite, IsShut, IsFileRemoval, IsMadeRemoval, IsClearing, IsBindCall, IsBoundAndAwaited, IsUndone, IsOpened, IsPrepare}
+use Rattle.proxy_net.specs.Steps.{Steps, IsSilent, IsAnswered, AreRemovals, IsListen, IsAccept, IsConnected, IsConnect, AreInterrupted, IsReadCall, IsRead, IsPolled, IsWrite, IsShut, IsFileRemoval, IsMadeRemoval, IsClearing, IsBindCall, IsBoundAndAwaited, IsUndone, IsOpened, IsPrepare}
 use Rattle.proxy_net.specs.SystemCalls.{SystemCall, Tells, bind, await_clients, identify, open_starter, answered, is_bind, was_bound}
 use Rattle.std.specs.declared.io.ErrorKind.{ErrorKind}
+use Rattle.std.specs.declared.io.ErrorKind.TheVariants.{WouldBlock, ConnectionReset}
 use Rattle.proxy_net.specs.declared.bound_files.BoundFile.{BoundFile}
 use Rattle.proxy_net.specs.declared.bound_files.FoundFile.{FoundFile}
 use Rattle.proxy_net.specs.declared.starters.Starter.{Starter}
@@ -159,27 +160,43 @@ connect_silent number path taken (Err FaultMemory) calls is = elim is [
   | inr asked ↦ connected_silent number path calls asked
 ]
 
-pub read_silent : (number : ℕ) (into : List ℕ) (got : Got) (calls : List SystemCall) → IsRead number into got calls → IsSilent calls
-read_silent number into (GotBytes n) calls is = silent_as is refl
-read_silent number into Finished calls is = elim is [
-  | inl ended ↦ silent_as ended refl
-  | inr reset ↦ silent_as reset refl
+interrupted_silent : (number : ℕ) (calls : List SystemCall) → AreInterrupted number calls → IsSilent calls
+interrupted_silent number [] are = refl
+interrupted_silent number (call ∷ before) are = ap₂ (λ (x y : Journal). x ++ y) (ap answers_by are.0) (interrupted_silent number before are.1)
+
+read_call_silent : (number : ℕ) (answer : Result (List ℕ) ErrorKind) (calls : List SystemCall) → IsReadCall number answer calls → IsSilent calls
+read_call_silent number answer calls is = silent_as is.are (interrupted_silent number is.interrupted is.again)
+
+pub read_silent : (opened : Bool) (number : ℕ) (into : List ℕ) (got : Got) (calls : List SystemCall) → IsRead opened number into got calls → IsSilent calls
+read_silent true number into (GotBytes n) calls is = read_call_silent number (Ok (take n into)) calls is
+read_silent true number into Finished calls is = elim is [
+  | inl ended ↦ read_call_silent number (Ok []) calls ended
+  | inr reset ↦ read_call_silent number (Err ConnectionReset) calls reset
 ]
-read_silent number into ReadNotReady calls is = elim is [
-  | inl none ↦ silent_as none refl
-  | inr waits ↦ silent_as waits refl
+read_silent true number into ReadNotReady calls is = read_call_silent number (Err WouldBlock) calls is
+read_silent true number into ReadFailed calls is = elim is [
+  | inl refused ↦ read_call_silent number (Err refused.0) calls refused.2
+  | inr many ↦ interrupted_silent number calls many.0
 ]
-read_silent number into ReadFailed calls is = elim is [
-  | inl none ↦ silent_as none refl
-  | inr refused ↦ silent_as refused.1 refl
-]
+read_silent false number into (GotBytes n) calls is = absurd is
+read_silent false number into Finished calls is = absurd is
+read_silent false number into ReadNotReady calls is = silent_as is refl
+read_silent false number into ReadFailed calls is = silent_as is refl
+
+-- a link that isn't ready, and would fail without a stream, has one that was read
+pub read_polled : (opened : Bool) (number : ℕ) (into : List ℕ) (got : Got) → (opened ≡ false → got ≡ ReadFailed) → got ≡ ReadNotReady → (calls : List SystemCall) → IsRead opened number into got calls → IsPolled number calls
+read_polled true number into ReadNotReady fails waits calls is = is
+read_polled true number into (GotBytes n) fails waits calls is = absurd cc
+read_polled true number into Finished fails waits calls is = absurd cc
+read_polled true number into ReadFailed fails waits calls is = absurd cc
+read_polled false number into got fails waits calls is = absurd (let no : ReadNotReady ≡ ReadFailed = sym waits ∙ fails refl in cc)
 
 pub write_silent : (number : ℕ) (piece : List ℕ) (took : Took) (calls : List SystemCall) → IsWrite number piece took calls → IsSilent calls
 write_silent number piece (TookBytes n) calls is = silent_as is refl
 write_silent number piece WriteNotReady calls is = elim is [
   | inl none ↦ silent_as none refl
   | inr some ↦ elim some [
-    | inl refused ↦ silent_as refused.1 refl
+    | inl refused ↦ silent_as refused.2 refl
     | inr awaited ↦ silent_as awaited refl
   ]
 ]
@@ -188,7 +205,7 @@ write_silent number piece WriteFailed calls is = elim is [
   | inr some ↦ elim some [
     | inl nothing ↦ silent_as nothing refl
     | inr more ↦ elim more [
-      | inl refused ↦ silent_as refused.1 refl
+      | inl refused ↦ silent_as refused.2 refl
       | inr unwatched ↦ silent_as unwatched.1 refl
     ]
   ]

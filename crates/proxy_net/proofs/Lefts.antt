@@ -1,9 +1,9 @@
 -- The shortest of the times that are left until listeners are tried again, found one listener after the other.
-use Rattle.std.proofs.Common.{ℕ, ◌≡◌, ◌+◌, ◌<◌, ◌⊎◌, zero, suc, inl, inr, nat_lt, List, [], ◌∷◌, length, slice_get, Bool, true, false, Option, Some, None, refl, ap, ◌∙◌, sym, arith}
+use Rattle.std.proofs.Common.{ℕ, ◌≡◌, ◌+◌, ◌<◌, ◌⊎◌, zero, suc, inl, inr, nat_lt, List, [], ◌∷◌, length, slice_get, vec_len, Bool, true, false, Option, Some, None, refl, ap, ◌∙◌, subst, sym, arith}
 use Rattle.std.specs.declared.time.Instant.{Instant}
 use Rattle.std.proofs.lemmas.Bool.Decides.{nat_tests}
-use Rattle.proxy_net.specs.Delays.{IsWithin}
-use Rattle.proxy_net.specs.Sockets.{accept_left_at, left_in, IsFirstLeft}
+use Rattle.proxy_net.specs.Delays.{IsWithin, connect_left}
+use Rattle.proxy_net.specs.Sockets.{accept_left_at, left_in, IsFirstLeft, IsDelay}
 use Rattle.proxy_net.specs.declared.listeners.ListenerSocket.{ListenerSocket}
 use Rattle.proxy_net.specs.declared.sockets.SocketSet.{SocketSet}
 
@@ -40,3 +40,29 @@ pub left_below : {L : Type 0} → (now : Option Instant) (listeners : List (List
 left_below now [] place left e = absurd (let no : None ≡ Some left = e in cc)
 left_below now (listener ∷ listeners) zero left e = omega arith
 left_below now (listener ∷ listeners) (suc place) left e = let below = left_below now listeners place left e in omega (arith, below)
+
+none_within : (first : Option ℕ) → ((nanos : ℕ) → first ≡ Some nanos → IsWithin nanos None) → first ≡ None
+none_within None within = refl
+none_within (Some nanos) within = absurd (within nanos refl)
+
+-- the shorter of the times until a connect and until an accept
+module _ {T L : Type 0} (sockets : SocketSet T L) (due now : Option Instant) (until_connect until_accept best : Option ℕ) (is : until_connect ≡ connect_left due now) (first : IsFirstLeft sockets now (vec_len sockets.listeners) until_accept)
+    (by_connect : (nanos : ℕ) → until_connect ≡ Some nanos → IsWithin nanos best) (by_accept : (nanos : ℕ) → until_accept ≡ Some nanos → IsWithin nanos best)
+    (inside : (place time : ℕ) → accept_left_at sockets now place ≡ Some time → place < vec_len sockets.listeners) where
+  accept_within : (place time : ℕ) → accept_left_at sockets now place ≡ Some time → IsWithin time best
+  accept_within place time at = within_through until_accept best time (first.by place time (inside place time at) at) by_accept
+
+  pub delay_is : (best ≡ until_connect) ⊎ (best ≡ until_accept) → (nanos : ℕ) → best ≡ Some nanos → IsDelay sockets due now nanos
+  delay_is either nanos found = record {
+    connect = λ time at. subst (λ (o : Option ℕ). IsWithin time o) found (by_connect time (is ∙ at));
+    accept = λ place time at. subst (λ (o : Option ℕ). IsWithin time o) found (accept_within place time at);
+    one = elim either [ inl same ↦ inl (sym is ∙ sym same ∙ found) | inr same ↦ inr (inl (first.one nanos (sym same ∙ found))) ];
+  }
+
+  -- .. which is none
+  pub delay_blind : best ≡ None → IsDelay sockets due now 32000000
+  delay_blind none = record {
+    connect = λ time at. absurd (subst (λ (o : Option ℕ). IsWithin time o) none (by_connect time (is ∙ at)));
+    accept = λ place time at. absurd (subst (λ (o : Option ℕ). IsWithin time o) none (accept_within place time at));
+    one = inr (inr (sym is ∙ none_within until_connect (λ time at. subst (λ (o : Option ℕ). IsWithin time o) none (by_connect time at)), refl));
+  }

@@ -2,6 +2,7 @@
 use Rattle.std.proofs.Common.{ℕ, zero, suc, ◌≡◌, ◌≢◌, ◌<◌, ◌≤◌, ◌+◌, ◌⊎◌, inl, inr, nat_eq, Bool, true, false, append-nil, length, map, take, unwrap_or, List, [], ◌∷◌, ◌++◌, Option, Some, None, Result, Ok, Err, slice_get, refl, sym, ap, ap₂, subst, ◌∙◌, arith}
 use Rattle.std.specs.Option.{option_map}
 use Rattle.std.specs.String.{string_bytes}
+use Rattle.std.specs.declared.time.Instant.{Instant}
 use Rattle.std.specs.declared.io.ErrorKind.{ErrorKind}
 use Rattle.std.specs.declared.io.ErrorKind.TheVariants.{WouldBlock, Interrupted}
 use Rattle.std.proofs.lemmas.Bool.Decides.{nat_tests}
@@ -12,7 +13,7 @@ use Rattle.link_traits.specs.declared.links.Accepted.TheVariants.{New, NotReady 
 use Rattle.link_traits.specs.Answers.{client_link}
 use Rattle.link_traits.specs.Numbers.{number_of}
 use Rattle.proxy_net.specs.SystemCalls.{SystemCall, bind, await_clients, accept, identify, Tells}
-use Rattle.proxy_net.specs.Steps.{Steps, IsBind, IsBindCall, IsClearing, IsAwait, IsCleanUp, IsListen, IsNobody, IsArrival, IsArrivalAt, IsAccept, next_client, IsRemoval, IsFileRemoval, AreRemovals, IsRetryOf, IsRetryIn}
+use Rattle.proxy_net.specs.Steps.{Steps, IsBind, IsBindCall, IsClearing, IsAwait, IsCleanUp, IsListen, IsNobody, IsArrival, IsArrivalAt, IsAccept, next_client, IsRemoval, IsFileRemoval, AreRemovals, IsRetryOf, IsRetryIn, IsRetryBy, IsRetryAs}
 use Rattle.proxy_net.specs.Registering.{is_own_listener, listeners_from}
 use Rattle.proxy_net.specs.declared.listeners.Arrival.{Arrival}
 use Rattle.proxy_net.specs.declared.listeners.Arrival.TheVariants.{Client, NotReady as NobodyCame, Failed as ArrivalFailed}
@@ -24,7 +25,10 @@ use Rattle.proxy_net.specs.declared.bound_files.FileIdentity.{FileIdentity}
 use Rattle.proxy_net.specs.declared.bound_files.FoundFile.{FoundFile}
 use Rattle.proxy_net.specs.declared.link_sockets.Connection.{Connection}
 use Rattle.proxy_net.specs.declared.link_sockets.Connection.TheVariants.{Open, Pending, Failed}
+use Rattle.proxy_net.specs.declared.link_sockets.Connected.{Connected}
+use Rattle.proxy_net.specs.declared.link_sockets.Connected.TheVariants.{Before, Failed as Refused}
 use Rattle.proxy_net.specs.declared.link_sockets.Retry.{Retry}
+use Rattle.proxy_net.specs.Connecting.{is_pending}
 use Rattle.proxy_net.specs.declared.system.Numbered.{Numbered}
 use Rattle.proxy_net.proofs.Telling.{append_after, steps_none, steps_one, steps_then, steps_through}
 
@@ -158,6 +162,22 @@ pub not_retried : {T : Type 0} (connection : Connection T) (j : Option (List Sys
 not_retried (Open stream) j = steps_none j refl
 not_retried (Pending retry) j = steps_none j (inl refl)
 not_retried Failed j = steps_none j refl
+
+-- .. by what it answers
+pub retried_as : {T : Type 0} (connection : Connection T) (retry : Retry) (now : Option Instant) (time : Instant) (result : Connected T) {old new : Option (List SystemCall)} → connection ≡ Pending retry → now ≡ Some time
+    → Steps (IsRetryBy retry.token (string_bytes retry.path) result) old new → Steps (IsRetryAs connection now result) old new
+retried_as {T} connection retry now time result {old = old} {new = new} is at s =
+    subst (λ (c : Connection T). Steps (IsRetryAs c now result) old new) (sym is) (subst (λ (o : Option Instant). Steps (IsRetryAs (Pending retry) o result) old new) (sym at) s)
+
+pub retry_fails : {T : Type 0} (connection : Connection T) (now : Option Instant) (j : Option (List SystemCall)) → now ≡ None → Steps (IsRetryAs connection now Refused) j j
+retry_fails (Open stream) now j at = steps_none j refl
+retry_fails {T} (Pending retry) now j at = subst (λ (o : Option Instant). Steps (IsRetryAs {T = T} (Pending retry) o Refused) j j) (sym at) (steps_none j (refl, refl))
+retry_fails Failed now j at = steps_none j refl
+
+pub opened_before : {T : Type 0} (connection : Connection T) (now : Option Instant) (j : Option (List SystemCall)) → is_pending connection ≡ false → Steps (IsRetryAs connection now Before) j j
+opened_before (Open stream) now j closed = steps_none j refl
+opened_before (Pending retry) now j closed = absurd cc
+opened_before Failed now j closed = steps_none j refl
 
 -- clients of a listener that are awaited, by what came of the listener
 pub awaited : {number own : ℕ} (answer : Result ℕ NetFault) → answer ≢ Err FaultFailed → {old new : Option (List SystemCall)} → number ≡ own → Tells old new (await_clients number None ∷ []) → Steps (IsAwait own answer) old new

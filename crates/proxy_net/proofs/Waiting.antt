@@ -51,7 +51,7 @@ module _ (Own : ℕ → Type 0) (To : ℕ → List ℕ → Type 0) where
   waits_through p q = steps_through (λ first second f s. waits_join first second f s) p q
 
   silent_call : (call : SystemCall) → IsNoteCall Own To call → answers_by call ≡ []
-  silent_call (wait reports fault) is = absurd is
+  silent_call (wait reports nanos fault) is = absurd is
   silent_call (identify path found) is = absurd is
   silent_call (open_starter descriptor fault) is = absurd is
   silent_call (notify_starter fault) is = absurd is
@@ -73,7 +73,7 @@ module _ (Own : ℕ → Type 0) (To : ℕ → List ℕ → Type 0) where
 -- what is said of fewer links and paths is said of more
 module _ (Own More : ℕ → Type 0) (To Also : ℕ → List ℕ → Type 0) (own : (number : ℕ) → Own number → More number) (to : (number : ℕ) (path : List ℕ) → To number path → Also number path) where
   call_weaker : (call : SystemCall) → IsNoteCall Own To call → IsNoteCall More Also call
-  call_weaker (wait reports fault) is = is
+  call_weaker (wait reports nanos fault) is = is
   call_weaker (identify path found) is = is
   call_weaker (open_starter descriptor fault) is = is
   call_weaker (notify_starter fault) is = is
@@ -158,7 +158,7 @@ module _ (Own : ℕ → Type 0) (To : ℕ → List ℕ → Type 0) where
   notes_wait (call ∷ calls) are = (inl are.0, notes_wait calls are.1)
 
   note_succeeds : (call : SystemCall) → IsNoteCall Own To call → is_failed_wait call ≡ false
-  note_succeeds (wait reports fault) is = absurd is
+  note_succeeds (wait reports nanos fault) is = absurd is
   note_succeeds (watch number writable fault) is = refl
   note_succeeds (connect number path fault) is = refl
   note_succeeds (bind number path fault) is = refl
@@ -174,7 +174,7 @@ module _ (Own : ℕ → Type 0) (To : ℕ → List ℕ → Type 0) where
   note_succeeds (answered entry) is = refl
 
   note_keeps : (call : SystemCall) (starter : Starter) → IsNoteCall Own To call → after_call call starter ≡ starter
-  note_keeps (wait reports fault) starter is = absurd is
+  note_keeps (wait reports nanos fault) starter is = absurd is
   note_keeps (notify_starter fault) starter is = absurd is
   note_keeps (watch number writable fault) starter is = refl
   note_keeps (connect number path fault) starter is = refl
@@ -215,7 +215,7 @@ module _ (Own : ℕ → Type 0) (To : ℕ → List ℕ → Type 0) where
   wait_silent : (call : SystemCall) → IsWaitCall Own To call → answers_by call ≡ []
   wait_silent call is = elim is [
     | inl note ↦ silent_call Own To call note
-    | inr waited ↦ ap answers_by waited.2
+    | inr waited ↦ ap answers_by waited.3
   ]
 
   all_silent : (calls : List SystemCall) → AreWaitCalls Own To calls → IsSilent calls
@@ -285,12 +285,13 @@ pub again_then : {Own : ℕ → Type 0} {To : ℕ → List ℕ → Type 0} {befo
 again_then {Own} {To} turns first second p q = (waits_then Own To false first second p.0 q.0, omega (arith, p.1, q.1, length-append second first))
 
 -- the turn of a wait that was made: it is known of the starter what the reports say
-pub asked_once : {Own : ℕ → Type 0} {To : ℕ → List ℕ → Type 0} {before after : Starter} (reports : List Report) → after ≡ after_reports reports before → AreWaits Own To before after false (wait reports None ∷ [])
-asked_once reports same = record { each = (inr (reports, None, refl), tt); starter = same; failure = refl }
+pub asked_once : {Own : ℕ → Type 0} {To : ℕ → List ℕ → Type 0} {before after : Starter} {nanos : Option ℕ} (reports : List Report) → after ≡ after_reports reports before → AreWaits Own To before after false (wait reports nanos None ∷ [])
+asked_once {nanos = nanos} reports same = record { each = (inr (reports, nanos, None, refl), tt); starter = same; failure = refl }
 
 -- .. and of one that was refused
-pub asked_in_vain : {Own : ℕ → Type 0} {To : ℕ → List ℕ → Type 0} {before : Starter} (reports : List Report) (kind : ErrorKind) → reports ≡ [] → AreWaits Own To before before true (wait reports (Some kind) ∷ []) × (has_failed_wait (take 1 (wait reports (Some kind) ∷ [])) ≡ true)
-asked_in_vain {before = before} reports kind none = (record { each = (inr (reports, Some kind, refl), tt); starter = sym (ap (λ (rs : List Report). after_reports rs before) none); failure = inl refl }, refl)
+pub asked_in_vain : {Own : ℕ → Type 0} {To : ℕ → List ℕ → Type 0} {before : Starter} {nanos : Option ℕ} (reports : List Report) (kind : ErrorKind) → reports ≡ [] → AreWaits Own To before before true (wait reports nanos (Some kind) ∷ [])
+    × (has_failed_wait (take 1 (wait reports nanos (Some kind) ∷ [])) ≡ true)
+asked_in_vain {before = before} {nanos = nanos} reports kind none = (record { each = (inr (reports, nanos, Some kind, refl), tt); starter = sym (ap (λ (rs : List Report). after_reports rs before) none); failure = inl refl }, refl)
 
 -- what is asked for reports, after a wait
 pub noted_then : {Own : ℕ → Type 0} {To : ℕ → List ℕ → Type 0} {before after : Starter} (first second : List SystemCall) → AreWaits Own To before after false first × (1 ≤ length first) → AreNoteCalls Own To second

@@ -24,6 +24,11 @@ nanos_until None now = 32000000
 nanos_until (Some due) None = 32000000
 nanos_until (Some due) (Some now) = instant_nanos due - instant_nanos now
 
+-- how many nanoseconds are left until a connect is tried again, if one is due
+abbrev pub connect_left : Option Instant → Option Instant → Option ℕ
+connect_left None now = None
+connect_left (Some due) now = Some (nanos_until (Some due) now)
+
 -- a listener is stalled, and it is time to try it again
 abbrev pub is_accept_due : {L : Type 0} → Option Instant → ListenerSocket L → Bool
 is_accept_due now s = s.stalled && is_time s.due now

@@ -1,5 +1,5 @@
 -- What a set of sockets shows, and how that goes on from call to call.
-use Rattle.std.specs.Prelude.{ℕ, ◌≡◌, ◌≤◌, ◌<◌, ◌+◌, ◌-◌, ◌^◌, nat_eq, nat_lt, ◌||◌, not, if◌then◌else◌, false, true, Bool, List, Option, Some, None, slice_get, unwrap_or, is_some, map, vec_len}
+use Rattle.std.specs.Prelude.{ℕ, ◌≡◌, ◌≢◌, ◌≤◌, ◌<◌, ◌+◌, ◌-◌, ◌^◌, ◌⊎◌, nat_eq, nat_lt, ◌||◌, not, if◌then◌else◌, false, true, Bool, List, [], Option, Some, None, slice_get, unwrap_or, is_some, map, vec_len}
 use Rattle.std.specs.Option.{option_map}
 use Rattle.std.specs.List.{list_any}
 use Rattle.std.specs.Ordering.{nat_cmp}
@@ -28,7 +28,7 @@ use Rattle.std.specs.VecDeque.{deque_len, deque_capacity}
 use Rattle.proxy_net.specs.Naming.{other_of, is_link_placed, is_listener_placed, is_link_unmarked, is_listener_unmarked, is_link_closed, is_to_fail}
 use Rattle.proxy_net.specs.declared.reports.Report.{Report}
 use Rattle.proxy_net.specs.Connecting.{is_pending, is_open, due_of, tried_path}
-use Rattle.proxy_net.specs.Delays.{is_accept_due, is_accept_early, accept_left, is_put_off, IsWithin}
+use Rattle.proxy_net.specs.Delays.{connect_left, is_accept_due, is_accept_early, accept_left, is_put_off, IsWithin}
 use Rattle.std.specs.String.{string_bytes}
 use Rattle.proxy_net.specs.Registering.{is_own_link, is_own_listener, listeners_from}
 use Rattle.proxy_net.specs.Noting.{is_link_noted, is_listener_noted, is_listener_named, is_link_named, is_bus_number, same_side}
@@ -315,6 +315,23 @@ IsBy due (Some time) = instant_nanos time ≤ instant_nanos due
 pub record IsFirstDue {T L : Type 0} (sockets : SocketSet T L) (numbers : List ℕ) (first : Option Instant) : Type 0 where
   pub by : (number : ℕ) (due : Instant) → list_any (nat_eq number) numbers ≡ true → due_at sockets number ≡ Some due → IsBy due first
   pub one : (time : Instant) → first ≡ Some time → (number : ℕ) × (list_any (nat_eq number) numbers ≡ true) × (due_at sockets number ≡ Some time)
+
+-- For how many nanoseconds the system is waited for, if the first connect is due then: until that one or the first
+-- accept is tried again, whichever is earlier. It is 32 milliseconds if the clock can't be read.
+pub record IsDelay {T L : Type 0} (sockets : SocketSet T L) (due now : Option Instant) (nanos : ℕ) : Type 0 where
+  pub connect : (left : ℕ) → connect_left due now ≡ Some left → nanos ≤ left
+  pub accept : (place left : ℕ) → accept_left_at sockets now place ≡ Some left → nanos ≤ left
+  pub one : (connect_left due now ≡ Some nanos) ⊎ (((place : ℕ) × (accept_left_at sockets now place ≡ Some nanos)) ⊎ ((connect_left due now ≡ None) × (nanos ≡ 32000000)))
+
+-- .. if nothing is to be named: without end only if no connect is to be tried again and no listener is stalled
+abbrev pub IsIdleTimeout : {T L : Type 0} → SocketSet T L → Option ℕ → Type 0
+IsIdleTimeout sockets None = IsFirstDue sockets sockets.pending.items None × ((place : ℕ) → is_stalled_at sockets place ≡ false)
+IsIdleTimeout sockets (Some nanos) = (due : Option Instant) × (now : Option Instant) × IsFirstDue sockets sockets.pending.items due × IsDelay sockets due now nanos
+
+-- .. and not at all if something is
+pub record IsTimeout {T L : Type 0} (sockets : SocketSet T L) (nanos : Option ℕ) : Type 0 where
+  pub busy : sockets.ready.items ≢ [] → nanos ≡ Some 0
+  pub idle : sockets.ready.items ≡ [] → IsIdleTimeout sockets nanos
 
 -- nothing was counted, and there is no link
 pub record IsUnused (net : NetView) : Type 0 where

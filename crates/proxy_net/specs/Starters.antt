@@ -58,7 +58,7 @@ after_notice (Some kind) starter = left starter
 
 -- after one call of the system
 abbrev pub after_call : SystemCall → Starter → Starter
-after_call (wait reports fault) starter = after_reports reports starter
+after_call (wait reports nanos fault) starter = after_reports reports starter
 after_call (notify_starter fault) starter = after_notice fault starter
 after_call (open_starter descriptor fault) starter = starter
 after_call (bind number path fault) starter = starter

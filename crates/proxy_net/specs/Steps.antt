@@ -1,5 +1,5 @@
 -- Which calls of the system one call of the net made.
-use Rattle.std.specs.Prelude.{ℕ, ◌≡◌, ◌≤◌, ◌+◌, ◌-◌, ◌^◌, ◌⊎◌, Bool, true, false, List, [], ◌∷◌, ◌++◌, length, take, Option, Some, None, Result, Ok, Err}
+use Rattle.std.specs.Prelude.{ℕ, ◌≡◌, ◌≢◌, ◌≤◌, ◌+◌, ◌-◌, ◌^◌, ◌⊎◌, Bool, true, false, List, [], ◌∷◌, ◌++◌, length, take, Option, Some, None, Result, Ok, Err}
 use Rattle.std.specs.declared.io.ErrorKind.{ErrorKind}
 use Rattle.std.specs.declared.io.ErrorKind.TheVariants.{WouldBlock, ConnectionReset, Interrupted}
 use Rattle.link_traits.specs.declared.links.Got.{Got}
@@ -16,11 +16,13 @@ use Rattle.link_traits.specs.Answers.{client_link}
 use Rattle.link_traits.specs.Entries.{Entry}
 use Rattle.link_traits.specs.Numbers.{number_of}
 use Rattle.std.specs.String.{string_bytes}
+use Rattle.std.specs.declared.time.Instant.{Instant}
 use Rattle.proxy_net.specs.Answers.{answers_in}
 use Rattle.proxy_net.specs.SystemCalls.{SystemCall, bind, await_clients, accept, connect, watch, read, write, close, wait, identify, remove, open_starter, notify_starter, answered, has_failed_wait}
 use Rattle.proxy_net.specs.Files.{has_identity, is_replaceable, removal}
 use Rattle.proxy_net.specs.Registering.{listeners_from}
 use Rattle.proxy_net.specs.Starters.{after_calls}
+use Rattle.proxy_net.specs.Streams.{IsReadFault, IsPeerGone, IsWriteFault}
 use Rattle.proxy_net.specs.declared.bound_files.BoundFile.{BoundFile}
 use Rattle.proxy_net.specs.declared.bound_files.FileIdentity.{FileIdentity}
 use Rattle.proxy_net.specs.declared.bound_files.FoundFile.{FoundFile}
@@ -31,6 +33,8 @@ use Rattle.proxy_net.specs.declared.starters.Starter.{Starter}
 use Rattle.proxy_net.specs.declared.starters.Starter.TheVariants.{Absent, Waiting, Told, Gone}
 use Rattle.proxy_net.specs.declared.link_sockets.Connection.{Connection}
 use Rattle.proxy_net.specs.declared.link_sockets.Connection.TheVariants.{Open, Pending, Failed}
+use Rattle.proxy_net.specs.declared.link_sockets.Connected.{Connected}
+use Rattle.proxy_net.specs.declared.link_sockets.Connected.TheVariants.{To as ToStream, NotDue, WouldBlock as NoRoom, Before, Failed as Refused}
 use Rattle.proxy_net.specs.declared.listeners.Arrival.{Arrival}
 use Rattle.proxy_net.specs.declared.listeners.Arrival.TheVariants.{Client, NotReady as NobodyCame, Failed as ArrivalFailed}
 use Rattle.proxy_net.specs.declared.streams.StreamRead.{StreamRead}
@@ -48,24 +52,45 @@ pub record Steps (P : List SystemCall → Type 0) (old new : Option (List System
 abbrev pub IsSilent : List SystemCall → Type 0
 IsSilent calls = answers_in calls ≡ []
 
--- A read of a socket: the bytes that are answered are those that the system gave, of that socket. It ends where the
--- system gave no byte, or reset it.
-abbrev pub IsRead : ℕ → List ℕ → Got → List SystemCall → Type 0
-IsRead number into (GotBytes n) calls = calls ≡ read number (Ok (take n into)) ∷ []
-IsRead number into Finished calls = (calls ≡ read number (Ok []) ∷ []) ⊎ (calls ≡ read number (Err ConnectionReset) ∷ [])
-IsRead number into ReadNotReady calls = (calls ≡ []) ⊎ (calls ≡ read number (Err WouldBlock) ∷ [])
-IsRead number into ReadFailed calls = (calls ≡ []) ⊎ ((kind : ErrorKind) × (calls ≡ read number (Err kind) ∷ []))
+-- reads of the socket of a number, each of which a signal interrupted
+abbrev pub AreInterrupted : ℕ → List SystemCall → Type 0
+AreInterrupted number [] = Unit {0}
+AreInterrupted number (call ∷ before) = (call ≡ read number (Err Interrupted)) × AreInterrupted number before
 
--- What a stream answers to a read: nothing was there only if the system said so.
+-- A read of the socket of a number to which the system answered this. A read that a signal interrupts is made again,
+-- and no other one.
+pub record IsReadCall (number : ℕ) (answer : Result (List ℕ) ErrorKind) (calls : List SystemCall) : Type 0 where
+  pub interrupted : List SystemCall
+  pub are : calls ≡ read number answer ∷ interrupted
+  pub again : AreInterrupted number interrupted
+
+-- A read that failed: the system refused it, or a signal interrupted it each time. It is made 2^64 - 1 times at most.
+abbrev pub IsFailedRead : ℕ → List SystemCall → Type 0
+IsFailedRead number calls = ((kind : ErrorKind) × IsReadFault kind × IsReadCall number (Err kind) calls) ⊎ (AreInterrupted number calls × (2 ^ 64 - 1 ≤ length calls))
+
+-- What a stream answers to a read: the bytes are those that the system gave, of that socket. It ends if the system gave
+-- no byte, or reset it.
 abbrev pub IsStreamRead : ℕ → List ℕ → StreamRead → List SystemCall → Type 0
-IsStreamRead number into (Bytes n) calls = calls ≡ read number (Ok (take n into)) ∷ []
-IsStreamRead number into End calls = (calls ≡ read number (Ok []) ∷ []) ⊎ (calls ≡ read number (Err ConnectionReset) ∷ [])
-IsStreamRead number into Nothing calls = calls ≡ read number (Err WouldBlock) ∷ []
-IsStreamRead number into Fault calls = (calls ≡ []) ⊎ ((kind : ErrorKind) × (calls ≡ read number (Err kind) ∷ []))
+IsStreamRead number into (Bytes n) calls = IsReadCall number (Ok (take n into)) calls
+IsStreamRead number into End calls = IsReadCall number (Ok []) calls ⊎ IsReadCall number (Err ConnectionReset) calls
+IsStreamRead number into Nothing calls = IsReadCall number (Err WouldBlock) calls
+IsStreamRead number into Fault calls = IsFailedRead number calls
 
--- the system was asked once for bytes of a socket, and had none yet
+-- A read of a link: what the stream answers if the link has one. A link that has none isn't ready or fails, and the
+-- system isn't asked.
+abbrev pub IsRead : Bool → ℕ → List ℕ → Got → List SystemCall → Type 0
+IsRead true number into (GotBytes n) calls = IsReadCall number (Ok (take n into)) calls
+IsRead true number into Finished calls = IsReadCall number (Ok []) calls ⊎ IsReadCall number (Err ConnectionReset) calls
+IsRead true number into ReadNotReady calls = IsReadCall number (Err WouldBlock) calls
+IsRead true number into ReadFailed calls = IsFailedRead number calls
+IsRead false number into (GotBytes n) calls = ⊥
+IsRead false number into Finished calls = ⊥
+IsRead false number into ReadNotReady calls = calls ≡ []
+IsRead false number into ReadFailed calls = calls ≡ []
+
+-- the system was asked for bytes of a socket, and had none yet
 abbrev pub IsPolled : ℕ → List SystemCall → Type 0
-IsPolled number calls = calls ≡ read number (Err WouldBlock) ∷ []
+IsPolled number calls = IsReadCall number (Err WouldBlock) calls
 
 -- what a link answers if its stream answers this
 abbrev pub got_of : StreamRead → Got
@@ -74,12 +99,20 @@ got_of End = Finished
 got_of Nothing = ReadNotReady
 got_of Fault = ReadFailed
 
+-- a write that was refused for this may be made again: there is no room, a signal interrupted it, or the peer closed
+abbrev pub IsUntaken : ErrorKind → Type 0
+IsUntaken kind = (kind ≡ WouldBlock) ⊎ ((kind ≡ Interrupted) ⊎ IsPeerGone kind)
+
+-- a write that was refused for this may fail
+abbrev pub IsLost : ErrorKind → Type 0
+IsLost kind = (kind ≢ WouldBlock) × (kind ≢ Interrupted)
+
 -- A write to a socket: the bytes that are counted are those that the system took, for that socket. A socket that has no
 -- room is watched until there is room.
 abbrev pub IsWrite : ℕ → List ℕ → Took → List SystemCall → Type 0
 IsWrite number piece (TookBytes n) calls = calls ≡ write number (Ok (take n piece)) ∷ []
-IsWrite number piece WriteNotReady calls = (calls ≡ []) ⊎ (((kind : ErrorKind) × (calls ≡ write number (Err kind) ∷ [])) ⊎ (calls ≡ watch number true None ∷ write number (Err WouldBlock) ∷ []))
-IsWrite number piece WriteFailed calls = (calls ≡ []) ⊎ ((calls ≡ write number (Ok []) ∷ []) ⊎ (((kind : ErrorKind) × (calls ≡ write number (Err kind) ∷ []))
+IsWrite number piece WriteNotReady calls = (calls ≡ []) ⊎ (((kind : ErrorKind) × IsUntaken kind × (calls ≡ write number (Err kind) ∷ [])) ⊎ (calls ≡ watch number true None ∷ write number (Err WouldBlock) ∷ []))
+IsWrite number piece WriteFailed calls = (calls ≡ []) ⊎ ((calls ≡ write number (Ok []) ∷ []) ⊎ (((kind : ErrorKind) × IsLost kind × (calls ≡ write number (Err kind) ∷ []))
     ⊎ ((kind : ErrorKind) × (calls ≡ watch number true (Some kind) ∷ write number (Err WouldBlock) ∷ []))))
 
 -- the system was asked at least once
@@ -90,15 +123,15 @@ IsAsked calls = 1 ≤ length calls
 abbrev pub IsStreamWrite : ℕ → List ℕ → StreamWrite → List SystemCall → Type 0
 IsStreamWrite number piece (WriteBytes n) calls = calls ≡ write number (Ok (take n piece)) ∷ []
 IsStreamWrite number piece Full calls = calls ≡ write number (Err WouldBlock) ∷ []
-IsStreamWrite number piece PeerClosed calls = (kind : ErrorKind) × (calls ≡ write number (Err kind) ∷ [])
-IsStreamWrite number piece Again calls = (kind : ErrorKind) × (calls ≡ write number (Err kind) ∷ [])
-IsStreamWrite number piece WriteFault calls = (calls ≡ write number (Ok []) ∷ []) ⊎ ((kind : ErrorKind) × (calls ≡ write number (Err kind) ∷ []))
+IsStreamWrite number piece PeerClosed calls = (kind : ErrorKind) × IsPeerGone kind × (calls ≡ write number (Err kind) ∷ [])
+IsStreamWrite number piece Again calls = calls ≡ write number (Err Interrupted) ∷ []
+IsStreamWrite number piece WriteFault calls = (calls ≡ write number (Ok []) ∷ []) ⊎ ((kind : ErrorKind) × IsWriteFault kind × (calls ≡ write number (Err kind) ∷ []))
 
 -- what a link answers to a write. Of one whose peer closed nothing was taken.
 abbrev pub IsLinkWrite : ℕ → List ℕ → LinkWrite → List SystemCall → Type 0
 IsLinkWrite number piece (LinkBytes n) calls = IsWrite number piece (TookBytes n) calls
 IsLinkWrite number piece LinkNotReady calls = IsWrite number piece WriteNotReady calls
-IsLinkWrite number piece LinkClosed calls = (kind : ErrorKind) × (calls ≡ write number (Err kind) ∷ [])
+IsLinkWrite number piece LinkClosed calls = (kind : ErrorKind) × IsPeerGone kind × (calls ≡ write number (Err kind) ∷ [])
 IsLinkWrite number piece LinkFailed calls = IsWrite number piece WriteFailed calls
 
 -- one connect of the link of a number to a path: it is made, or put off since the system would have waited
@@ -140,9 +173,9 @@ IsRoomAwaited false number LinkClosed calls = ⊥
 abbrev pub IsConnectionWrite : ℕ → List ℕ → StreamWrite → List SystemCall → Type 0
 IsConnectionWrite number piece (WriteBytes n) calls = calls ≡ write number (Ok (take n piece)) ∷ []
 IsConnectionWrite number piece Full calls = calls ≡ write number (Err WouldBlock) ∷ []
-IsConnectionWrite number piece PeerClosed calls = (kind : ErrorKind) × (calls ≡ write number (Err kind) ∷ [])
-IsConnectionWrite number piece Again calls = (calls ≡ []) ⊎ ((kind : ErrorKind) × (calls ≡ write number (Err kind) ∷ []))
-IsConnectionWrite number piece WriteFault calls = (calls ≡ []) ⊎ ((calls ≡ write number (Ok []) ∷ []) ⊎ ((kind : ErrorKind) × (calls ≡ write number (Err kind) ∷ [])))
+IsConnectionWrite number piece PeerClosed calls = (kind : ErrorKind) × IsPeerGone kind × (calls ≡ write number (Err kind) ∷ [])
+IsConnectionWrite number piece Again calls = (calls ≡ []) ⊎ (calls ≡ write number (Err Interrupted) ∷ [])
+IsConnectionWrite number piece WriteFault calls = (calls ≡ []) ⊎ ((calls ≡ write number (Ok []) ∷ []) ⊎ ((kind : ErrorKind) × IsWriteFault kind × (calls ≡ write number (Err kind) ∷ [])))
 
 -- a try to connect to this path again, as the link of this number, or no try yet
 abbrev pub IsRetryOf : ℕ → List ℕ → List SystemCall → Type 0
@@ -153,6 +186,21 @@ abbrev pub IsRetryIn : {T : Type 0} → Connection T → List SystemCall → Typ
 IsRetryIn (Open stream) calls = calls ≡ []
 IsRetryIn (Pending retry) calls = IsRetryOf retry.token (string_bytes retry.path) calls
 IsRetryIn Failed calls = calls ≡ []
+
+-- what a try to connect to a path again answers, if its time is known: it is made unless it isn't due
+abbrev pub IsRetryBy : {T : Type 0} → ℕ → List ℕ → Connected T → List SystemCall → Type 0
+IsRetryBy number path (ToStream stream) calls = calls ≡ connect number path None ∷ []
+IsRetryBy number path NotDue calls = calls ≡ []
+IsRetryBy number path NoRoom calls = (kind : ErrorKind) × ((kind ≡ WouldBlock) ⊎ (kind ≡ Interrupted)) × (calls ≡ connect number path (Some kind) ∷ [])
+IsRetryBy number path Before calls = ⊥
+IsRetryBy number path Refused calls = (kind : ErrorKind) × (calls ≡ connect number path (Some kind) ∷ [])
+
+-- .. of a link's connection. It fails without a call if the clock can't be read.
+abbrev pub IsRetryAs : {T : Type 0} → Connection T → Option Instant → Connected T → List SystemCall → Type 0
+IsRetryAs (Open stream) now result calls = calls ≡ []
+IsRetryAs (Pending retry) (Some now) result calls = IsRetryBy retry.token (string_bytes retry.path) result calls
+IsRetryAs (Pending retry) None result calls = (calls ≡ []) × (result ≡ Refused)
+IsRetryAs Failed now result calls = calls ≡ []
 
 -- calls of this kind, and then the net's answer
 abbrev pub IsAnswered : Entry → (List SystemCall → Type 0) → List SystemCall → Type 0
@@ -168,7 +216,7 @@ abbrev pub IsNoteCall : (ℕ → Type 0) → (ℕ → List ℕ → Type 0) → S
 IsNoteCall Own To (watch number true fault) = ⊥
 IsNoteCall Own To (watch number false fault) = Own number
 IsNoteCall Own To (connect number path fault) = To number path
-IsNoteCall Own To (wait reports fault) = ⊥
+IsNoteCall Own To (wait reports nanos fault) = ⊥
 IsNoteCall Own To (bind number path fault) = ⊥
 IsNoteCall Own To (await_clients number fault) = ⊥
 IsNoteCall Own To (accept listener number fault) = ⊥
@@ -187,7 +235,7 @@ AreNoteCalls Own To (call ∷ before) = IsNoteCall Own To call × AreNoteCalls O
 
 -- one call that a wait makes: it waits, or notes what was reported
 abbrev pub IsWaitCall : (ℕ → Type 0) → (ℕ → List ℕ → Type 0) → SystemCall → Type 0
-IsWaitCall Own To call = (IsNoteCall Own To call) ⊎ ((reports : List Report) × (fault : Option ErrorKind) × (call ≡ wait reports fault))
+IsWaitCall Own To call = (IsNoteCall Own To call) ⊎ ((reports : List Report) × (nanos : Option ℕ) × (fault : Option ErrorKind) × (call ≡ wait reports nanos fault))
 
 abbrev pub AreWaitCalls : (ℕ → Type 0) → (ℕ → List ℕ → Type 0) → List SystemCall → Type 0
 AreWaitCalls Own To [] = Unit {0}

@@ -1,5 +1,5 @@
 -- What it means to a link that the system refused a read or a write.
-use Rattle.std.specs.Prelude.{ℕ, ◌≡◌, ◌≢◌, Option, Some, None, Result, Ok, Err}
+use Rattle.std.specs.Prelude.{ℕ, ◌≡◌, ◌≢◌, ◌⊎◌, Option, Some, None, Result, Ok, Err}
 use Rattle.std.specs.declared.io.ErrorKind.{ErrorKind}
 use Rattle.std.specs.declared.io.ErrorKind.TheVariants.{WouldBlock, Interrupted, ConnectionReset, BrokenPipe}
 use Rattle.proxy_net.specs.declared.streams.StreamRead.{StreamRead}
@@ -22,13 +22,25 @@ pub record IsRefusedWrite (kind : ErrorKind) (write : StreamWrite) : Type 0 wher
   pub reset : kind ≡ ConnectionReset → write ≡ PeerClosed
   pub fault : kind ≢ WouldBlock → kind ≢ Interrupted → kind ≢ BrokenPipe → kind ≢ ConnectionReset → write ≡ WriteFault
 
+-- a read that was refused for this fails
+abbrev pub IsReadFault : ErrorKind → Type 0
+IsReadFault kind = (kind ≢ WouldBlock) × (kind ≢ Interrupted) × (kind ≢ ConnectionReset)
+
+-- a write that was refused for this found that the peer closed
+abbrev pub IsPeerGone : ErrorKind → Type 0
+IsPeerGone kind = (kind ≡ BrokenPipe) ⊎ (kind ≡ ConnectionReset)
+
+-- a write that was refused for this fails
+abbrev pub IsWriteFault : ErrorKind → Type 0
+IsWriteFault kind = (kind ≢ WouldBlock) × (kind ≢ Interrupted) × (kind ≢ BrokenPipe) × (kind ≢ ConnectionReset)
+
 -- the kind for which a read was refused that means this
 abbrev pub IsRefusalRead : ErrorKind → Option StreamRead → Type 0
 IsRefusalRead kind None = kind ≡ Interrupted
 IsRefusalRead kind (Some (Bytes n)) = ⊥
 IsRefusalRead kind (Some End) = kind ≡ ConnectionReset
 IsRefusalRead kind (Some Nothing) = kind ≡ WouldBlock
-IsRefusalRead kind (Some Fault) = kind ≢ Interrupted
+IsRefusalRead kind (Some Fault) = IsReadFault kind
 
 -- what a read that gave this number of bytes means
 abbrev pub IsGivenRead : ℕ → Option StreamRead → Type 0
@@ -47,9 +59,9 @@ IsMeantRead kind (Err error) read = IsRefusalRead (kind error) read
 abbrev pub IsRefusalWrite : ErrorKind → StreamWrite → Type 0
 IsRefusalWrite kind (WriteBytes n) = ⊥
 IsRefusalWrite kind Full = kind ≡ WouldBlock
-IsRefusalWrite kind PeerClosed = Unit {0}
-IsRefusalWrite kind Again = Unit {0}
-IsRefusalWrite kind WriteFault = Unit {0}
+IsRefusalWrite kind PeerClosed = IsPeerGone kind
+IsRefusalWrite kind Again = kind ≡ Interrupted
+IsRefusalWrite kind WriteFault = IsWriteFault kind
 
 -- what a write that took this number of bytes means
 abbrev pub IsTakenWrite : ℕ → StreamWrite → Type 0

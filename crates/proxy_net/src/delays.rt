@@ -50,7 +50,7 @@ pub fn is_time(due: Option<Instant>, now: Option<Instant>) -> bool
 }
 
 /// Whether a time isn't after another.
-fn is_by(time: Instant, other: Instant) -> bool
+pub fn is_by(time: Instant, other: Instant) -> bool
     ensures { result ≡ nat_le (instant_nanos time) (instant_nanos other) }
 {
     time.saturating_duration_since(other).as_nanos() == 0

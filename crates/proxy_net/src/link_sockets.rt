@@ -8,11 +8,11 @@ ghost use Rattle.proxy_net.specs.Registering.{is_registered_by, is_connected_by}
 ghost use Rattle.proxy_net.specs.Noting.{is_link_noted};
 ghost use Rattle.proxy_net.specs.Connecting.{IsLater, is_open, is_pending, is_given_up as is_failed, due_of, tried_path};
 ghost use Rattle.std.specs.Prelude.{List};
-ghost use Rattle.proxy_net.specs.Steps.{Steps, IsRead, IsPolled, IsLinkWrite, IsConnectionWrite, IsAsked, IsRoomAwaited, IsWatched, IsRetryOf, IsRetryIn, IsShut, IsNoted, got_of};
+ghost use Rattle.proxy_net.specs.Steps.{Steps, IsRead, IsLinkWrite, IsConnectionWrite, IsAsked, IsRoomAwaited, IsWatched, IsRetryOf, IsRetryIn, IsRetryBy, IsRetryAs, IsShut, IsNoted, got_of};
 ghost use Rattle.std.specs.String.{string_bytes};
 ghost use Rattle.std.specs.Time.{instant_nanos};
 
-use crate::delays::{FIRST_DELAY, LONGEST_DELAY, later};
+use crate::delays::{FIRST_DELAY, LONGEST_DELAY, is_by, later};
 use crate::streams::{StreamRead, StreamWrite, read_stream, write_stream};
 use crate::system::{Numbered, Sockets};
 use link_traits::{Got, Wishes};
@@ -138,8 +138,10 @@ impl Retry {
         ensures tried { result ≢ Connected.Before }
         ensures rest { self.new ≡ record self.old { delay = self.new.delay; due = self.new.due } }
         ensures told { Steps (IsRetryOf self.old.token (string_bytes self.old.path)) (S.journal system.old) (S.journal system.new) }
+        ensures late { instant_nanos self.old.due ≤ instant_nanos now → result ≢ Connected.NotDue }
+        ensures retried { Steps (IsRetryBy self.old.token (string_bytes self.old.path) result) (S.journal system.old) (S.journal system.new) }
     {
-        if now < self.due {
+        if !is_by(self.due, now) {
             return Connected::NotDue;
         }
         match system.connect(self.path.as_str(), self.token) {
@@ -223,8 +225,8 @@ impl<T: Drop> LinkSocket<T> {
         ensures token { (token : ℕ) → is_registered_by token self.old.connection ≡ true → is_registered_by token self.new.connection ≡ true }
         ensures faults { self.old.faults ≤ self.new.faults }
         ensures wishes { self.new.wishes ≡ self.old.wishes }
-        ensures told { (number : ℕ) → is_registered_by number self.old.connection ≡ true → Steps (IsRead number into.new result) (S.journal system.old) (S.journal system.new) }
-        ensures polled { (number : ℕ) → is_registered_by number self.old.connection ≡ true → is_pending self.old.connection ≡ false → result ≡ Got.NotReady → Steps (IsPolled number) (S.journal system.old) (S.journal system.new) }
+        ensures told { (number : ℕ) → is_registered_by number self.old.connection ≡ true → Steps (IsRead (is_open self.old.connection) number into.new result) (S.journal system.old) (S.journal system.new) }
+        ensures without { is_open self.old.connection ≡ false → is_pending self.old.connection ≡ false → result ≡ Got.Failed }
         ensures connection { self.new.connection ≡ self.old.connection }
     {
         match self.read_connection(system, into) {
@@ -250,8 +252,8 @@ impl<T: Drop> LinkSocket<T> {
         ensures progress { (n : ℕ) → result ≡ StreamRead.Bytes n → 0 < length into.new → 0 < n }
         ensures pending { is_pending self.now.connection ≡ true → result ≡ StreamRead.Nothing }
         ensures never { is_failed self.now.connection ≡ true → result ≡ StreamRead.Fault }
-        ensures told { (number : ℕ) → is_registered_by number self.now.connection ≡ true → Steps (IsRead number into.new (got_of result)) (S.journal system.old) (S.journal system.new) }
-        ensures polled { (number : ℕ) → is_registered_by number self.now.connection ≡ true → is_pending self.now.connection ≡ false → result ≡ StreamRead.Nothing → Steps (IsPolled number) (S.journal system.old) (S.journal system.new) }
+        ensures told { (number : ℕ) → is_registered_by number self.now.connection ≡ true → Steps (IsRead (is_open self.now.connection) number into.new (got_of result)) (S.journal system.old) (S.journal system.new) }
+        ensures without { is_open self.now.connection ≡ false → is_pending self.now.connection ≡ false → result ≡ StreamRead.Fault }
     {
         match &self.connection {
             Connection::Open(stream) => read_stream(system, stream, into),
@@ -279,6 +281,7 @@ impl<T: Drop> LinkSocket<T> {
         ensures wishes { self.new.wishes ≡ self.old.wishes }
         ensures told { (number : ℕ) → is_registered_by number self.old.connection ≡ true → Steps (IsLinkWrite number piece.now result) (S.journal system.old) (S.journal system.new) }
         ensures asked { (number : ℕ) → is_registered_by number self.old.connection ≡ true → is_open self.old.connection ≡ true → Steps IsAsked (S.journal system.old) (S.journal system.new) }
+        ensures without { is_open self.old.connection ≡ false → is_pending self.old.connection ≡ false → result ≡ LinkWrite.Failed }
         ensures connection { self.new.connection ≡ self.old.connection }
     {
         match self.write_connection(system, piece) {
@@ -303,6 +306,7 @@ impl<T: Drop> LinkSocket<T> {
         ensures never { is_failed self.now.connection ≡ true → result ≡ StreamWrite.Fault }
         ensures told { (number : ℕ) → is_registered_by number self.now.connection ≡ true → Steps (IsConnectionWrite number piece.now result) (S.journal system.old) (S.journal system.new) }
         ensures asked { is_open self.now.connection ≡ true → Steps IsAsked (S.journal system.old) (S.journal system.new) }
+        ensures without { is_open self.now.connection ≡ false → is_pending self.now.connection ≡ false → result ≡ StreamWrite.Fault }
     {
         match &self.connection {
             Connection::Open(stream) => write_stream(system, stream, piece),
@@ -478,6 +482,7 @@ impl<T: Drop> LinkSocket<T> {
         ensures faults { self.old.faults ≤ self.new.faults }
         ensures wishes { self.new.wishes ≡ self.old.wishes }
         ensures paths { (path : List ℕ) → tried_path self.new.connection ≡ Some path → tried_path self.old.connection ≡ Some path }
+        ensures late { (time due : Instant) → now ≡ Some time → due_of self.old.connection ≡ Some due → instant_nanos due ≤ instant_nanos time → result ≢ Attempt.NotDue }
         ensures told { Steps (IsRetryIn self.old.connection) (S.journal system.old) (S.journal system.new) }
     {
         match self.connect(system, now) {
@@ -509,6 +514,8 @@ impl<T: Drop> LinkSocket<T> {
         ensures rest { self.new ≡ record self.old { connection = self.new.connection } }
         ensures path { tried_path self.new.connection ≡ tried_path self.old.connection }
         ensures told { Steps (IsRetryIn self.old.connection) (S.journal system.old) (S.journal system.new) }
+        ensures late { (time due : Instant) → now ≡ Some time → due_of self.old.connection ≡ Some due → instant_nanos due ≤ instant_nanos time → result ≢ Connected.NotDue }
+        ensures retried { Steps (IsRetryAs self.old.connection now result) (S.journal system.old) (S.journal system.new) }
     {
         match &mut self.connection {
             Connection::Pending(retry) => match now {

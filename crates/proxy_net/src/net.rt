@@ -453,6 +453,9 @@ impl<S: Sockets + Drop> Net for MioNet<S> {
         ensures missing { (shown self.old.sockets (S.journal self.old.system) self.old.starter).wishes link ≡ None → result ≡ Got.Failed }
         ensures pending { is_pending_in self.old.sockets link ≡ true → result ≡ Got.NotReady }
 
+        // Without a stream, a link whose connect isn't tried again fails.
+        ensures without { is_open_at self.old.sockets (number_of link) ≡ false → is_pending_in self.old.sockets link ≡ false → result ≡ Got.Failed }
+
         // A link that was read to its end is known to be closed from then on.
         ensures finished { result ≡ Got.Finished → is_closed_at self.new.sockets (number_of link) ≡ true }
 
@@ -466,7 +469,7 @@ impl<S: Sockets + Drop> Net for MioNet<S> {
         ensures closed { StaysClosed self.old.sockets self.new.sockets }
 
         // What the system is asked for it, before the net notes its answer.
-        ensures asked { Steps (IsAnswered (read_entry link into.new result) (IsRead (number_of link) into.new result)) (S.journal self.old.system) (S.journal self.new.system) }
+        ensures asked { Steps (IsAnswered (read_entry link into.new result) (IsRead (is_open_at self.old.sockets (number_of link)) (number_of link) into.new result)) (S.journal self.old.system) (S.journal self.new.system) }
 
         // A link that is connected isn't said to have nothing yet without a read of its socket.
         ensures polled { is_pending_in self.old.sockets link ≡ false → result ≡ Got.NotReady → Steps (IsAnswered (read_entry link into.new result) (IsPolled (number_of link))) (S.journal self.old.system) (S.journal self.new.system) }
@@ -487,6 +490,9 @@ impl<S: Sockets + Drop> Net for MioNet<S> {
     fn write(&mut self, link: Link, piece: &[u8]) -> Took
         ensures missing { (shown self.old.sockets (S.journal self.old.system) self.old.starter).wishes link ≡ None → result ≡ Took.Failed }
         ensures pending { is_pending_in self.old.sockets link ≡ true → result ≡ Took.NotReady }
+
+        // Without a stream, a link whose connect isn't tried again fails.
+        ensures without { is_open_at self.old.sockets (number_of link) ≡ false → is_pending_in self.old.sockets link ≡ false → result ≡ Took.Failed }
 
         // The setting stays.
         ensures setting { (self.new.replaces ≡ self.old.replaces) × (self.new.starter ≡ self.old.starter) }

@@ -10,7 +10,7 @@ use std::io::{self, ErrorKind};
 /// What a read of a stream gave.
 #[derive(Clone, Copy)]
 pub enum StreamRead {
-    /// So many bytes.
+    /// This number of bytes.
     Bytes(usize),
     /// No more bytes will come. A peer that closes with bytes unread resets the stream, which ends it too.
     End,
@@ -23,11 +23,11 @@ pub enum StreamRead {
 /// What a write to a stream did.
 #[derive(Clone, Copy)]
 pub enum StreamWrite {
-    /// It took so many bytes.
+    /// It took this number of bytes.
     Bytes(usize),
     /// There is no room yet.
     Full,
-    /// The peer closed, and takes nothing any more.
+    /// The peer closed, and takes no more bytes.
     PeerClosed,
     /// It is to be tried again.
     Again,
@@ -46,7 +46,7 @@ pub fn read_stream<S: Sockets>(
     ensures told { Steps (IsStreamRead stream.now.number into.new result) (S.journal system.old) (S.journal system.new) }
 {
     let has_room = !into.is_empty();
-    for _ in 0..u64::MAX {
+    for _turn in 0..u64::MAX {
         if let Some(read) = read_of(system.read(stream, into), has_room) {
             return read;
         }
@@ -54,7 +54,7 @@ pub fn read_stream<S: Sockets>(
     StreamRead::Fault
 }
 
-/// What the answer of a read means. Nothing is read into room for something at the end alone. `None` if a signal
+/// What the answer of a read means. An answer of no bytes is the end if there was room for one. `None` if a signal
 /// interrupted it.
 fn read_of(answer: io::Result<usize>, has_room: bool) -> Option<StreamRead>
     ensures bytes { (n : ℕ) → answer ≡ Ok n → (has_room ≡ true → 0 < n) → result ≡ Some (StreamRead.Bytes n) }
@@ -83,7 +83,7 @@ fn refused_read(kind: ErrorKind) -> Option<StreamRead>
     }
 }
 
-/// Writes once. The system raises no signal where the peer closed.
+/// Writes once. The system raises no signal if the peer closed.
 pub fn write_stream<S: Sockets>(
     system: &mut S,
     stream: &Numbered<S::Stream>,
@@ -96,7 +96,7 @@ pub fn write_stream<S: Sockets>(
     write_of(system.write(stream, piece), !piece.is_empty())
 }
 
-/// What the answer of a write means. Of something, something is taken.
+/// What the answer of a write means. The system takes at least one byte if it is given one.
 fn write_of(answer: io::Result<usize>, has_bytes: bool) -> StreamWrite
     ensures bytes { (n : ℕ) → answer ≡ Ok n → (has_bytes ≡ true → 0 < n) → result ≡ StreamWrite.Bytes n }
     ensures none { answer ≡ Ok 0 → has_bytes ≡ true → result ≡ StreamWrite.Fault }

@@ -51,6 +51,7 @@ pub trait Sockets {
     ghost use Rattle.std.specs.Prelude.{◌≤◌, ◌<◌, ◌∷◌, [], ℕ, List, Option, OnErr, length, vec_len, vec_capacity};
     ghost use Rattle.std.specs.IoError.{error_kind};
     ghost use Rattle.proxy_net.specs.Answers.{entry_of};
+    ghost use Rattle.proxy_net.specs.Delays.{nanos_of};
     ghost use Rattle.proxy_net.specs.SystemCalls.{SystemCall, bind, await_clients, accept, connect, watch, read, write, close, wait, identify, remove, open_starter, notify_starter, answered, fault_of, IsToldRead, IsToldWrite, Tells};
 
     /// A socket that listens.
@@ -91,7 +92,7 @@ pub trait Sockets {
         ensures same { stream.new ≡ stream.old }
         ensures told { Tells (journal self.old) (journal self.new) (watch stream.old.number writable (fault_of error_kind result) ∷ []) };
 
-    /// Reads into a prefix of a buffer. A read that a signal interrupted is in no journal.
+    /// Reads into a prefix of a buffer.
     fn read(&mut self, stream: &Numbered<Self::Stream>, into: &mut [u8]) -> io::Result<usize>
         ensures within { IfOk result (λ n. n ≤ length into.new) }
         ensures told { IsToldRead error_kind stream.now.number into.new result (journal self.old) (journal self.new) };
@@ -111,7 +112,7 @@ pub trait Sockets {
         ensures count { vec_len reports.new ≤ REPORTS }
         ensures capacity { vec_capacity reports.new ≡ vec_capacity reports.old }
         ensures err { OnErr result (reports.new.items ≡ []) }
-        ensures told { Tells (journal self.old) (journal self.new) (wait reports.new.items (fault_of error_kind result) ∷ []) };
+        ensures told { Tells (journal self.old) (journal self.new) (wait reports.new.items (nanos_of timeout) (fault_of error_kind result) ∷ []) };
 
     /// The file at a path. A link is found itself, not the file that it names. `None` if there is none, or the system
     /// doesn't say.

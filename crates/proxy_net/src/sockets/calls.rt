@@ -3,7 +3,7 @@ ghost use Rattle.std.specs.Prelude.{◌≡◌, ◌≤◌, ◌<◌, ℕ, None, le
 ghost use Rattle.std.specs.Option.{option_map};
 ghost use Rattle.link_traits.specs.Numbers.{number_of as link_number};
 ghost use Rattle.proxy_net.specs.Naming.{other_of};
-ghost use Rattle.proxy_net.specs.Steps.{Steps, IsRead, IsPolled, IsWrite, IsLinkWrite, IsAsked, IsShut};
+ghost use Rattle.proxy_net.specs.Steps.{Steps, IsRead, IsWrite, IsLinkWrite, IsAsked, IsShut};
 
 use super::{SocketSet, other_number};
 use crate::link_sockets::{LinkWrite, raised};
@@ -47,8 +47,8 @@ impl<T: Drop, L: Drop> SocketSet<T, L> {
         ensures waits { result ≡ Got.NotReady → is_readable_at self.new (link_number link) ≡ false }
         ensures unread { StaysUnread self.old self.new }
         ensures closed { StaysClosed self.old self.new }
-        ensures told { is_link_registered self.old (link_number link) ≡ true → Steps (IsRead (link_number link) into.new result) (S.journal system.old) (S.journal system.new) }
-        ensures polled { is_link_registered self.old (link_number link) ≡ true → is_pending_in self.old link ≡ false → result ≡ Got.NotReady → Steps (IsPolled (link_number link)) (S.journal system.old) (S.journal system.new) }
+        ensures told { is_link_registered self.old (link_number link) ≡ true → Steps (IsRead (is_open_at self.old (link_number link)) (link_number link) into.new result) (S.journal system.old) (S.journal system.new) }
+        ensures without { is_open_at self.old (link_number link) ≡ false → is_pending_in self.old link ≡ false → result ≡ Got.Failed }
         ensures goes { GoesOn self.old self.new }
     {
         let got = self.read_link(system, link, into);
@@ -75,8 +75,8 @@ impl<T: Drop, L: Drop> SocketSet<T, L> {
         ensures unread { StaysUnread self.old self.new }
         ensures closed { StaysClosed self.old self.new }
         ensures uncounted { self.new.waits ≡ self.old.waits }
-        ensures told { is_link_registered self.old (link_number link) ≡ true → Steps (IsRead (link_number link) into.new result) (S.journal system.old) (S.journal system.new) }
-        ensures polled { is_link_registered self.old (link_number link) ≡ true → is_pending_in self.old link ≡ false → result ≡ Got.NotReady → Steps (IsPolled (link_number link)) (S.journal system.old) (S.journal system.new) }
+        ensures told { is_link_registered self.old (link_number link) ≡ true → Steps (IsRead (is_open_at self.old (link_number link)) (link_number link) into.new result) (S.journal system.old) (S.journal system.new) }
+        ensures without { is_open_at self.old (link_number link) ≡ false → is_pending_in self.old link ≡ false → result ≡ Got.Failed }
         ensures goes { GoesOn self.old self.new }
     {
         let number = number_of(link);
@@ -111,6 +111,7 @@ impl<T: Drop, L: Drop> SocketSet<T, L> {
         ensures closed { StaysClosed self.old self.new }
         ensures told { is_link_registered self.old (link_number link) ≡ true → Steps (IsWrite (link_number link) piece.now result) (S.journal system.old) (S.journal system.new) }
         ensures asked { is_link_registered self.old (link_number link) ≡ true → is_open_at self.old (link_number link) ≡ true → Steps IsAsked (S.journal system.old) (S.journal system.new) }
+        ensures without { is_open_at self.old (link_number link) ≡ false → is_pending_in self.old link ≡ false → result ≡ Took.Failed }
         ensures goes { GoesOn self.old self.new }
     {
         match self.write_link(system, link, piece) {
@@ -142,6 +143,7 @@ impl<T: Drop, L: Drop> SocketSet<T, L> {
         ensures waits { self.new.waits ≡ self.old.waits }
         ensures told { is_link_registered self.old (link_number link) ≡ true → Steps (IsLinkWrite (link_number link) piece.now result) (S.journal system.old) (S.journal system.new) }
         ensures asked { is_link_registered self.old (link_number link) ≡ true → is_open_at self.old (link_number link) ≡ true → Steps IsAsked (S.journal system.old) (S.journal system.new) }
+        ensures without { is_open_at self.old (link_number link) ≡ false → is_pending_in self.old link ≡ false → result ≡ LinkWrite.Failed }
         ensures goes { GoesOn self.old self.new }
     {
         let number = number_of(link);

@@ -1,5 +1,5 @@
 //! What the system reports of sockets, and what is named for it.
-ghost use Rattle.std.specs.Prelude.{◌≡◌, ◌≢◌, ◌≤◌, ◌<◌, ◌%◌, ◌&&◌, ◌⊎◌, ◌++◌, ◌+◌, ◌-◌, ◌*◌, ◌^◌, ◌∷◌, min, vec_len, vec_capacity, ℕ, nat_eq, nat_lt, [], true, false, Some, None, IfSome, IfNone, OnErr, drop, take, slice_get};
+ghost use Rattle.std.specs.Prelude.{◌≡◌, ◌≢◌, ◌≤◌, ◌<◌, ◌%◌, ◌&&◌, ◌⊎◌, ◌++◌, ◌+◌, ◌-◌, ◌^◌, ◌∷◌, min, vec_len, vec_capacity, ℕ, Option, nat_eq, nat_lt, [], true, false, Some, None, IfSome, IfNone, OnErr, drop, take, slice_get};
 ghost use Rattle.std.specs.VecDeque.{deque_len};
 ghost use Rattle.std.specs.Option.{option_map};
 ghost use Rattle.std.specs.Time.{instant_nanos};
@@ -8,7 +8,7 @@ ghost use Rattle.std.specs.List.{list_all, list_any};
 ghost use Rattle.std.specs.Ordering.{nat_cmp};
 ghost use Rattle.std.specs.BTreeMap as tree;
 ghost use Rattle.link_traits.specs.Numbers.{number_of as link_number};
-ghost use Rattle.proxy_net.specs.Delays.{IsWithin, nanos_of};
+ghost use Rattle.proxy_net.specs.Delays.{IsWithin, connect_left, nanos_of};
 ghost use Rattle.proxy_net.specs.Noting.{is_link_noted, is_listener_noted, reports_read};
 ghost use Rattle.proxy_net.specs.Naming.{is_link_unmarked, is_listener_unmarked};
 ghost use Rattle.proxy_net.specs.Steps.{Steps, AreNoteCalls};
@@ -52,7 +52,7 @@ fn is_bus(number: u64) -> bool
 }
 
 impl<T: Drop, L: Drop> SocketSet<T, L> {
-    ghost use Rattle.proxy_net.specs.Sockets.{is_stalled_at, GoesOn, IsReadIf, KeepsReports, IsWished, is_noted, is_report_noted, is_side_noted, KeepsNotes};
+    ghost use Rattle.proxy_net.specs.Sockets.{is_stalled_at, GoesOn, IsTimeout, IsReadIf, KeepsReports, IsWished, is_noted, is_report_noted, is_side_noted, KeepsNotes};
 
     /// Asks the system what became ready, and waits for it if nothing is to be named yet.
     pub fn ask<S: Sockets<Stream = T, Listener = L>>(
@@ -66,7 +66,7 @@ impl<T: Drop, L: Drop> SocketSet<T, L> {
         ensures count { vec_len reports.new ≤ REPORTS }
         ensures capacity { vec_capacity reports.new ≡ vec_capacity reports.old }
         ensures reports { KeepsReports self.old self.new }
-        ensures told { Tells (S.journal system.old) (S.journal system.new) (wait reports.new.items (fault_of error_kind result) ∷ []) }
+        ensures told { (nanos : Option ℕ) × IsTimeout self.old nanos × Tells (S.journal system.old) (S.journal system.new) (wait reports.new.items nanos (fault_of error_kind result) ∷ []) }
         ensures goes { GoesOn self.old self.new }
     {
         let timeout = self.timeout(system);
@@ -308,7 +308,7 @@ impl<T: Drop, L: Drop> SocketSet<T, L> {
 }
 
 impl<T: Drop, L: Drop> SocketSet<T, L> {
-    ghost use Rattle.proxy_net.specs.Sockets.{GoesOn, IsReadIf, KeepsNotes, due_at, IsFirstDue, IsFirstLeft, is_pending_at, accept_left_at, is_stalled_at, is_accept_due_at, is_accept_early_at};
+    ghost use Rattle.proxy_net.specs.Sockets.{GoesOn, IsReadIf, KeepsNotes, due_at, IsDelay, IsIdleTimeout, IsFirstDue, IsFirstLeft, is_pending_at, accept_left_at, is_stalled_at, is_accept_due_at, is_accept_early_at};
     ghost use Rattle.std.specs.declared.time.Duration.{Duration};
 
     /// How long the system is waited for: not at all if something is to be named, and otherwise until the next try to
@@ -318,6 +318,7 @@ impl<T: Drop, L: Drop> SocketSet<T, L> {
         ensures idle { result ≡ None → self.now.ready.items ≡ [] }
         ensures waits { result ≡ None → IsFirstDue self.now self.now.pending.items None }
         ensures none_stalled { result ≡ None → (place : ℕ) → is_stalled_at self.now place ≡ false }
+        ensures until { self.now.ready.items ≡ [] → IsIdleTimeout self.now (nanos_of result) }
     {
         if !self.ready.is_empty() {
             return Some(Duration::ZERO);
@@ -331,15 +332,9 @@ impl<T: Drop, L: Drop> SocketSet<T, L> {
 
     /// How long it is until the connect that is due then, or the first accept that failed, is tried again.
     fn delay(&self, due: Option<Instant>, now: Option<Instant>) -> Duration
-        ensures connect { (time clock : Instant) → due ≡ Some time → now ≡ Some clock → as_nanos result ≤ instant_nanos time - instant_nanos clock }
-        ensures accept { (place left : ℕ) → accept_left_at self.now now place ≡ Some left → as_nanos result ≤ left }
-        ensures one { (as_nanos result ≡ BLIND_DELAY * 1_000_000) ⊎ (((time clock : Instant) → due ≡ Some time → now ≡ Some clock → as_nanos result ≡ instant_nanos time - instant_nanos clock) ⊎ ((place : ℕ) × (accept_left_at self.now now place ≡ Some (as_nanos result)))) }
+        ensures { IsDelay self.now due now (as_nanos result) }
     {
-        let until_connect = match due {
-            Some(time) => Some(delay_until(time, now)),
-            None => None,
-        };
-        match shorter(until_connect, self.accept_delay(now)) {
+        match shorter(connect_delay(due, now), self.accept_delay(now)) {
             Some(delay) => delay,
             None => Duration::from_millis(BLIND_DELAY),
         }
@@ -507,6 +502,7 @@ impl<T: Drop, L: Drop> SocketSet<T, L> {
     ) -> Attempt
         ensures pending { self.new.pending ≡ self.old.pending }
         ensures done { result ≡ Attempt.Done → is_pending_at self.new number ≡ false }
+        ensures late { (time due : Instant) → now ≡ Some time → due_at self.old number ≡ Some due → instant_nanos due ≤ instant_nanos time → result ≢ Attempt.NotDue }
         ensures reported { IsReadIf (λ _. false) self.old self.new }
         ensures kept { KeepsNotes self.old self.new }
         ensures told { ((number : ℕ) → is_link_registered self.old number ≡ true) → Steps (AreNoteCalls (HasLink self.old) (IsTriedTo self.old)) (S.journal system.old) (S.journal system.new) }
@@ -521,6 +517,16 @@ impl<T: Drop, L: Drop> SocketSet<T, L> {
             }
             None => Attempt::Done,
         }
+    }
+}
+
+/// How long it is until the connect that is due then is tried again, if one is.
+fn connect_delay(due: Option<Instant>, now: Option<Instant>) -> Option<Duration>
+    ensures { nanos_of result ≡ connect_left due now }
+{
+    match due {
+        Some(time) => Some(delay_until(time, now)),
+        None => None,
     }
 }
 

@@ -22,19 +22,19 @@ pub invariant_of-self-in-Err-clause-consistent : goal.invariant_of-self-in-Err-c
 invariant_of-self-in-Err-clause-consistent g c = consistent_goes c.args.self.now.sockets c.ask.new.self (goes_through c.next.ensures.goes c.ask.ensures.goes) c.args.self.now.consistent
 
 pub invariant_of-self-in-Err-clause-counted : goal.invariant_of-self-in-Err-clause-counted
-invariant_of-self-in-Err-clause-counted g c = let goes = goes_through c.next.ensures.goes c.ask.ensures.goes in counted_kept c.args.self.now.counted (silent_one c.in-Err.ensures.told refl) goes.number goes.sessions
+invariant_of-self-in-Err-clause-counted g c = let goes = goes_through c.next.ensures.goes c.ask.ensures.goes in counted_kept c.args.self.now.counted (silent_one c.in-Err.ensures.told.2 refl) goes.number goes.sessions
 
 pub invariant_of-self-in-Err-clause-bound : goal.invariant_of-self-in-Err-clause-bound
-invariant_of-self-in-Err-clause-bound g c = let goes = goes_through c.next.ensures.goes c.ask.ensures.goes in bound_kept c.args.self.now.sockets c.ask.new.self (silent_one c.in-Err.ensures.told refl) goes.number goes.files c.args.self.now.bound
+invariant_of-self-in-Err-clause-bound g c = let goes = goes_through c.next.ensures.goes c.ask.ensures.goes in bound_kept c.args.self.now.sockets c.ask.new.self (silent_one c.in-Err.ensures.told.2 refl) goes.number goes.files c.args.self.now.bound
 
 pub invariant_of-self-then-is_gone-clause-consistent : goal.invariant_of-self-then-is_gone-clause-consistent
 invariant_of-self-then-is_gone-clause-consistent g c = consistent_goes c.args.self.now.sockets c.ask.new.self (goes_through c.next.ensures.goes c.ask.ensures.goes) c.args.self.now.consistent
 
 pub invariant_of-self-then-is_gone-clause-counted : goal.invariant_of-self-then-is_gone-clause-counted
-invariant_of-self-then-is_gone-clause-counted g c = let goes = goes_through c.next.ensures.goes c.ask.ensures.goes in counted_kept c.args.self.now.counted (silent_one c.in-Ok.ensures.told refl) goes.number goes.sessions
+invariant_of-self-then-is_gone-clause-counted g c = let goes = goes_through c.next.ensures.goes c.ask.ensures.goes in counted_kept c.args.self.now.counted (silent_one c.in-Ok.ensures.told.2 refl) goes.number goes.sessions
 
 pub invariant_of-self-then-is_gone-clause-bound : goal.invariant_of-self-then-is_gone-clause-bound
-invariant_of-self-then-is_gone-clause-bound g c = let goes = goes_through c.next.ensures.goes c.ask.ensures.goes in bound_kept c.args.self.now.sockets c.ask.new.self (silent_one c.in-Ok.ensures.told refl) goes.number goes.files c.args.self.now.bound
+invariant_of-self-then-is_gone-clause-bound g c = let goes = goes_through c.next.ensures.goes c.ask.ensures.goes in bound_kept c.args.self.now.sockets c.ask.new.self (silent_one c.in-Ok.ensures.told.2 refl) goes.number goes.files c.args.self.now.bound
 
 pub invariant_of-self-in-Ok-clause-consistent : goal.invariant_of-self-in-Ok-clause-consistent
 invariant_of-self-in-Ok-clause-consistent g c = consistent_goes c.args.self.now.sockets c.note_all.new.self (goes_through c.next.ensures.goes (goes_through c.ask.ensures.goes c.note_all.ensures.goes)) c.args.self.now.consistent
@@ -43,19 +43,19 @@ pub invariant_of-self-in-Ok-clause-counted : goal.invariant_of-self-in-Ok-clause
 invariant_of-self-in-Ok-clause-counted g c =
     let asked = goes_through c.next.ensures.goes c.ask.ensures.goes in
     let goes = goes_through asked c.note_all.ensures.goes in
-    counted_kept c.args.self.now.counted (silent_through (silent_one c.in-Ok.ensures.told refl) (steps_weaker (waits_silent _ _) (c.note_all.ensures.told (registered_after c.args.self.now.sockets c.ask.new.self asked c.args.self.now.consistent.link_tokens)))) goes.number goes.sessions
+    counted_kept c.args.self.now.counted (silent_through (silent_one c.in-Ok.ensures.told.2 refl) (steps_weaker (waits_silent _ _) (c.note_all.ensures.told (registered_after c.args.self.now.sockets c.ask.new.self asked c.args.self.now.consistent.link_tokens)))) goes.number goes.sessions
 
 pub invariant_of-self-in-Ok-clause-bound : goal.invariant_of-self-in-Ok-clause-bound
 invariant_of-self-in-Ok-clause-bound g c =
     let asked = goes_through c.next.ensures.goes c.ask.ensures.goes in
     let goes = goes_through asked c.note_all.ensures.goes in
-    bound_kept c.args.self.now.sockets c.note_all.new.self (silent_through (silent_one c.in-Ok.ensures.told refl) (steps_weaker (waits_silent _ _) (c.note_all.ensures.told (registered_after c.args.self.now.sockets c.ask.new.self asked c.args.self.now.consistent.link_tokens)))) goes.number goes.files c.args.self.now.bound
+    bound_kept c.args.self.now.sockets c.note_all.new.self (silent_through (silent_one c.in-Ok.ensures.told.2 refl) (steps_weaker (waits_silent _ _) (c.note_all.ensures.told (registered_after c.args.self.now.sockets c.ask.new.self asked c.args.self.now.consistent.link_tokens)))) goes.number goes.files c.args.self.now.bound
 
 pub returns-in-Err-clause-goes : goal.returns-in-Err-clause-goes
 returns-in-Err-clause-goes g c = goes_through c.next.ensures.goes c.ask.ensures.goes
 
 pub returns-in-Err-clause-asked : goal.returns-in-Err-clause-asked
-returns-in-Err-clause-asked g c = steps_one _ c.in-Err.ensures.told (asked_in_vain _ _ c.in-Err.ensures.err)
+returns-in-Err-clause-asked g c = steps_one _ c.in-Err.ensures.told.2 (asked_in_vain _ _ c.in-Err.ensures.err)
 
 pub returns-then-is_gone-clause-goes : goal.returns-then-is_gone-clause-goes
 returns-then-is_gone-clause-goes g c = goes_through c.next.ensures.goes c.ask.ensures.goes
@@ -63,7 +63,7 @@ returns-then-is_gone-clause-goes g c = goes_through c.next.ensures.goes c.ask.en
 pub returns-then-is_gone-clause-asked : goal.returns-then-is_gone-clause-asked
 returns-then-is_gone-clause-asked g c =
     let same : c.after-self.result ≡ after_reports c.ask.new.reports.items c.args.self.now.starter = c.after-self.ensures.is ∙ ap (λ (reports : List Report). after_reports reports c.args.self.now.starter) c.deref.ensures.value in
-    steps_one _ c.in-Ok.ensures.told (asked_once c.ask.new.reports.items same)
+    steps_one _ c.in-Ok.ensures.told.2 (asked_once c.ask.new.reports.items same)
 
 pub returns-else-is_gone-clause-goes : goal.returns-else-is_gone-clause-goes
 returns-else-is_gone-clause-goes g c = goes_through c.next.ensures.goes (goes_through c.ask.ensures.goes c.note_all.ensures.goes)
@@ -74,5 +74,5 @@ returns-else-is_gone-clause-asked g c =
     let goes = goes_through c.next.ensures.goes c.ask.ensures.goes in
     let same : c.after-self.result ≡ after_reports c.ask.new.reports.items c.args.self.now.starter = c.after-self.ensures.is ∙ ap (λ (reports : List Report). after_reports reports c.args.self.now.starter) c.deref.ensures.value in
     let one : Steps (λ (calls : List SystemCall). AreWaits (HasLink sockets) (IsTriedTo sockets) c.args.self.now.starter c.after-self.result false calls × (1 ≤ length calls)) (g.S.Sockets.journal c.args.self.now.system) (g.S.Sockets.journal c.ask.new.system) =
-    steps_one _ c.in-Ok.ensures.told (asked_once c.ask.new.reports.items same, omega arith) in
+    steps_one _ c.in-Ok.ensures.told.2 (asked_once c.ask.new.reports.items same, omega arith) in
     steps_through (λ first second p q. noted_then first second p q) one (waits_before sockets c.ask.new.self goes (c.note_all.ensures.told (registered_after sockets c.ask.new.self goes c.args.self.now.consistent.link_tokens)))
