@@ -9,7 +9,7 @@ use Rattle.dbus_header.specs.Message.{Field, field_in, has_field, text_in, numbe
 use Rattle.dbus_header.specs.Contents.{Parts}
 use Rattle.dbus_header.specs.HeaderFields.{spelled_in, found_in}
 use Rattle.dbus_header.specs.HeaderReading.{Part, unread, Found, unless, found_with, with_part}
-use Rattle.dbus_header.proofs.FieldReading.{field, part_of}
+use Rattle.dbus_header.proofs.FieldSteps.{field, part_of}
 
 -- each may follow those after it in the list
 abbrev pub all_follow : List Field → Bool

@@ -16,7 +16,9 @@ use Rattle.dbus_header.specs.Malformed.{field_at, valid_field_at, fields_at}
 use Rattle.dbus_header.specs.HeaderReading.{Part, Found, nothing_found, part_at, with_part}
 use Rattle.dbus_header.specs.HeaderFields.{at_place, spelled_in, found_in, found_of, fields_in, FieldsRead}
 use Rattle.dbus_header.proofs.MessageRead.{FieldSpelt, field_is}
-use Rattle.dbus_header.proofs.FieldReading.{part_of, seen, parts, sound_field_at, part_at-is}
+use Rattle.dbus_header.proofs.FieldSteps.{part_of, seen, sound_field_at}
+use Rattle.dbus_header.proofs.FieldValues.{parts}
+use Rattle.dbus_header.proofs.FieldReading.{part_at-is}
 use Rattle.dbus_header.proofs.FoundParts.{all_follow, next_place, puts}
 
 -- ---- the fields in their order

@@ -12,6 +12,9 @@ pub mod StopLaws
 pub mod PingValid
 pub mod Places
 pub mod Texts
+pub mod FieldSteps
+pub mod FieldVariants
+pub mod FieldValues
 pub mod FieldReading
 pub mod FoundParts
 pub mod HeaderFields

@@ -24,6 +24,7 @@ use dbus_values::{Order, is_zero, padding, value_end};
 
 /// Whether a message of this type has the header fields that it needs (D-Bus Specification, "Message Format", "Header
 /// Fields").
+#[inline(always)]
 fn has_required(kind: u8, fields: &Fields<'_>) -> bool
     ensures { result ≡ has_required_parts kind (parts_seen fields.now) }
 {
@@ -37,6 +38,7 @@ fn has_required(kind: u8, fields: &Fields<'_>) -> bool
 }
 
 /// Whether UNIX_FDS is absent or 0.
+#[inline(always)]
 fn has_no_descriptors(fields: &Fields<'_>) -> bool
     ensures { result ≡ (unwrap_or (fields_seen fields.now).descriptors 0 == 0) }
 {
@@ -47,6 +49,7 @@ fn has_no_descriptors(fields: &Fields<'_>) -> bool
 }
 
 /// The body's signature, which is empty if SIGNATURE is absent.
+#[inline(always)]
 fn stated<'a>(fields: &Fields<'a>) -> Signature<'a>
     ensures { result.bytes.now ≡ stated_in (fields_seen fields.now) }
 {
@@ -84,6 +87,7 @@ fn is_header_end(bytes: &[u8], end: usize, fields_end: usize) -> bool
 }
 
 /// The length of the header fields of a whole message whose first sixteen bytes are valid.
+#[inline(always)]
 fn header_fields_len(order: Order, bytes: &[u8]) -> u32
     requires order { order ≡ stated_order bytes.now }
     requires long { 16 ≤ length bytes.now }
@@ -95,6 +99,7 @@ fn header_fields_len(order: Order, bytes: &[u8]) -> u32
 }
 
 /// The bytes of the header fields and of the padding after them.
+#[inline(always)]
 fn fields_bytes(fields_len: u32, bytes: &[u8]) -> &[u8]
     requires { IsFieldsLen bytes.now fields_len }
     ensures bytes { result.now ≡ bytes_of_fields fields_len bytes.now }
@@ -135,6 +140,7 @@ fn header_fields<'a>(
 }
 
 /// What else is wrong with a message that has these header fields and whose body begins at this place.
+#[inline(always)]
 fn check_rest(
     order: Order,
     bytes: &[u8],
@@ -168,6 +174,7 @@ fn check_rest(
 }
 
 /// What is wrong with a whole message whose first sixteen bytes are valid and which has these header fields.
+#[inline(always)]
 fn check_fields(
     order: Order,
     fields_len: u32,
@@ -296,7 +303,7 @@ pub fn decode_checked<'a>(bytes: &'a [u8], known: &mut KnownTexts) -> Result<Mes
     let order = order_in(bytes);
     let fields_len = header_fields_len(order, bytes);
     match known.places(order, fields_len, fields_bytes(fields_len, bytes)) {
-        Some(places) => read_known(&places, order, fields_len, bytes),
+        Some(places) => read_known(places, order, fields_len, bytes),
         None => read_whole(known, order, fields_len, bytes),
     }
 }

@@ -136,20 +136,21 @@ impl Kept {
     }
 
     /// The places of the parts of these header fields, if a kept header has them.
-    fn places(&mut self, order: Order, fields_len: u32, bytes: &[u8]) -> Option<Places>
+    fn places(&mut self, order: Order, fields_len: u32, bytes: &[u8]) -> Option<&Places>
         requires { length bytes.now + 16 ≡ body_place fields_len }
-        ensures within { IfSome result (λ p. AreWithin bytes.now p) }
-        ensures read { IfSome result (λ p. AreRead order fields_len bytes.now (found_at order bytes.now p)) }
+        ensures within { IfSome result (λ p. AreWithin bytes.now p.now) }
+        ensures read { IfSome result (λ p. AreRead order fields_len bytes.now (found_at order bytes.now p.now)) }
     {
         if !self.is_turn() {
             return None;
         }
         let read = self.read;
-        for header in self.headers.iter_mut() {
-            if let Some(places) = header.places(order, fields_len, bytes) {
-                header.used = read;
+        for place in 0..self.headers.len() {
+            if self.headers[place].has(order, fields_len, bytes) {
                 self.missed = self.missed.saturating_sub(1);
-                return Some(places);
+                let header = &mut self.headers[place];
+                header.used = read;
+                return Some(&header.places);
             }
         }
         self.missed = self.missed.saturating_add(1).min(MISSES);
@@ -157,14 +158,14 @@ impl Kept {
     }
 
     /// The same as `places`, without counting hits and misses.
-    fn find(&self, order: Order, fields_len: u32, bytes: &[u8]) -> Option<Places>
+    fn find(&self, order: Order, fields_len: u32, bytes: &[u8]) -> Option<&Places>
         requires { length bytes.now + 16 ≡ body_place fields_len }
-        ensures within { IfSome result (λ p. AreWithin bytes.now p) }
-        ensures read { IfSome result (λ p. AreRead order fields_len bytes.now (found_at order bytes.now p)) }
+        ensures within { IfSome result (λ p. AreWithin bytes.now p.now) }
+        ensures read { IfSome result (λ p. AreRead order fields_len bytes.now (found_at order bytes.now p.now)) }
     {
         for header in &self.headers {
-            if let Some(places) = header.places(order, fields_len, bytes) {
-                return Some(places);
+            if header.has(order, fields_len, bytes) {
+                return Some(&header.places);
             }
         }
         None
@@ -264,10 +265,10 @@ impl KnownTexts {
     }
 
     /// The places of the parts of these header fields, if a known header has them.
-    pub(crate) fn places(&mut self, order: Order, fields_len: u32, bytes: &[u8]) -> Option<Places>
+    pub(crate) fn places(&mut self, order: Order, fields_len: u32, bytes: &[u8]) -> Option<&Places>
         requires { length bytes.now + 16 ≡ body_place fields_len }
-        ensures within { IfSome result (λ p. AreWithin bytes.now p) }
-        ensures read { IfSome result (λ p. AreRead order fields_len bytes.now (found_at order bytes.now p)) }
+        ensures within { IfSome result (λ p. AreWithin bytes.now p.now) }
+        ensures read { IfSome result (λ p. AreRead order fields_len bytes.now (found_at order bytes.now p.now)) }
     {
         match &mut self.kept {
             Some(kept) => {
@@ -279,10 +280,10 @@ impl KnownTexts {
     }
 
     /// The same as `places`, without counting hits and misses.
-    pub(crate) fn find(&self, order: Order, fields_len: u32, bytes: &[u8]) -> Option<Places>
+    pub(crate) fn find(&self, order: Order, fields_len: u32, bytes: &[u8]) -> Option<&Places>
         requires { length bytes.now + 16 ≡ body_place fields_len }
-        ensures within { IfSome result (λ p. AreWithin bytes.now p) }
-        ensures read { IfSome result (λ p. AreRead order fields_len bytes.now (found_at order bytes.now p)) }
+        ensures within { IfSome result (λ p. AreWithin bytes.now p.now) }
+        ensures read { IfSome result (λ p. AreRead order fields_len bytes.now (found_at order bytes.now p.now)) }
     {
         match &self.kept {
             Some(kept) => kept.find(order, fields_len, bytes),

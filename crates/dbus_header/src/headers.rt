@@ -17,7 +17,7 @@ pub(crate) struct KnownHeader {
     fields_len: u32,
     /// The bytes of the fields and of the padding after them.
     bytes: Vec<u8>,
-    places: Places,
+    pub(crate) places: Places,
     ghost known: { (length bytes.items == 0) ≡ false → AreKnown order fields_len bytes.items places },
 }
 
@@ -71,16 +71,14 @@ impl KnownHeader {
             && self.is_alike(bytes)
     }
 
-    /// The places of the parts of these header fields, if they equal the kept ones except for REPLY_SERIAL's number.
-    pub(crate) fn places(&self, order: Order, fields_len: u32, bytes: &[u8]) -> Option<Places>
+    /// Whether these header fields equal the kept ones except for REPLY_SERIAL's number. If so, their parts have the same
+    /// places.
+    pub(crate) fn has(&self, order: Order, fields_len: u32, bytes: &[u8]) -> bool
         requires { length bytes.now + 16 ≡ body_place fields_len }
-        ensures within { IfSome result (λ p. AreWithin bytes.now p) }
-        ensures read { IfSome result (λ p. AreRead order fields_len bytes.now (found_at order bytes.now p)) }
+        ensures within { result ≡ true → AreWithin bytes.now self.now.places }
+        ensures read { result ≡ true → AreRead order fields_len bytes.now (found_at order bytes.now self.now.places) }
     {
-        if !self.is_header(order, fields_len, bytes) {
-            return None;
-        }
-        Some(self.places)
+        self.is_header(order, fields_len, bytes)
     }
 
     /// Keeps header fields that were read, unless memory is short.

@@ -20,6 +20,7 @@ mod spans;
 
 ghost use Rattle.std.specs.Prelude.{◌≡◌, ℕ, ◌++◌, ◌<◌, List, Some, slice_index};
 ghost use Rattle.dbus_header.specs.Message.{Message as MessageTree, Valid, spell};
+ghost use Rattle.dbus_header.specs.Contents.{message_of};
 ghost use Rattle.dbus_header.specs.Malformed.{front};
 ghost use Rattle.dbus_header.specs.Stream.{Splits, split, messages, bad};
 ghost use Rattle.dbus_header.specs.declared.Malformed.{Malformed as Fault};
@@ -98,6 +99,13 @@ pub fn spelled_is_read()
 pub fn read_is_spelled()
     ensures { (bytes : List ℕ) (m : MessageTree) (rest : List ℕ) → ((i : ℕ) → slice_index bytes i < 256) → front bytes ≡ Some (m, rest) → Valid m × (bytes ≡ spell m ++ rest) }
 {}
+
+/// A message that was read is valid, and its bytes spell it.
+pub fn is_spelled(bytes: &[u8])
+    ensures { (m : MessageTree) → message_of bytes.now ≡ Some m → Valid m × (bytes.now ≡ spell m) }
+{
+    let _bytes = bytes;
+}
 
 /// A stream can be split in one way only into valid messages and a rest that begins with none.
 pub fn one_splitting()

@@ -37,6 +37,7 @@ pub(crate) struct Places {
 }
 
 /// The bytes of a part.
+#[inline(always)]
 fn cut(part: Span, bytes: &[u8]) -> &[u8]
     requires { part.start + part.len ≤ length bytes.now }
     ensures { result.now ≡ cut_of bytes.now part }
@@ -47,6 +48,7 @@ fn cut(part: Span, bytes: &[u8]) -> &[u8]
 }
 
 /// The text at a place.
+#[inline(always)]
 fn text_at(place: Option<Span>, bytes: &[u8]) -> Option<&str>
     requires { (s : Stretch) → place ≡ Some s → HasText bytes.now s }
     ensures { text_seen result ≡ option_map (cut_of bytes.now) place }
@@ -58,6 +60,7 @@ fn text_at(place: Option<Span>, bytes: &[u8]) -> Option<&str>
 }
 
 /// The signature at a place.
+#[inline(always)]
 fn signature_at(place: Option<Span>, bytes: &[u8]) -> Option<Signature<'_>>
     requires { (s : Stretch) → place ≡ Some s → HasSignature bytes.now s }
     ensures { signature_seen result ≡ option_map (cut_of bytes.now) place }
@@ -71,6 +74,7 @@ fn signature_at(place: Option<Span>, bytes: &[u8]) -> Option<Signature<'_>>
 }
 
 /// The number at a place.
+#[inline(always)]
 fn number_at(order: Order, place: Option<u32>, bytes: &[u8]) -> Option<u32>
     requires { (at : ℕ) → place ≡ Some at → at + 4 ≤ length bytes.now }
     ensures { result ≡ option_map (stated_number order bytes.now) place }
@@ -82,6 +86,7 @@ fn number_at(order: Order, place: Option<u32>, bytes: &[u8]) -> Option<u32>
 }
 
 /// The place in the message of a part of its header fields.
+#[inline(always)]
 fn place_in_message(place: Option<u32>) -> Option<usize>
     ensures { result ≡ option_map (λ at. 16 + at) place }
 {
@@ -98,6 +103,7 @@ fn text_span(bytes: &[u8], start: usize, text: Option<&str>) -> Option<Span>
     ensures is { option_map (cut_of bytes.now) result ≡ text_seen text.entry }
     ensures within { (s : Stretch) → result ≡ Some s → HasText bytes.now s }
 {
+    // (only the contract needs the bytes)
     let _bytes = bytes;
     match text {
         Some(text) => {
@@ -118,6 +124,7 @@ fn signature_span(bytes: &[u8], start: usize, signature: Option<Signature<'_>>) 
     ensures is { option_map (cut_of bytes.now) result ≡ signature_seen signature.entry }
     ensures within { (s : Stretch) → result ≡ Some s → HasSignature bytes.now s }
 {
+    // (only the contract needs the bytes)
     let _bytes = bytes;
     match signature {
         Some(signature) => Some(Span {
@@ -136,6 +143,7 @@ fn number_span(order: Order, bytes: &[u8], serial: Option<u32>, place: Option<us
     ensures place { option_map (λ at. 16 + at) result ≡ place }
     ensures within { (at : ℕ) → result ≡ Some at → at + 4 ≤ length bytes.now }
 {
+    // (only the contract needs these)
     let (_bytes, _serial, _order) = (bytes, serial, order);
     match place {
         Some(place) => Some((place - HEAD_LEN) as u32),

@@ -37,8 +37,8 @@ returns-in-Some c =
     let t = c.args.bytes.now in
     let n = c.header_fields_len-fields_len.result in
     let own = c.fields_bytes-own.ensures.bytes in
-    let read : AreRead c.args.order n (fields_bytes n t) (found_at c.args.order (fields_bytes n t) c.in-Some.places) =
-    subst (λ (b : List ℕ). AreRead c.args.order n b (found_at c.args.order b c.in-Some.places)) own c.in-Some.ensures.read in
-    has_parts t _ (c.fields.ensures ∙ ap (λ (b : List ℕ). found_at c.args.order b c.in-Some.places) own
+    let read : AreRead c.args.order n (fields_bytes n t) (found_at c.args.order (fields_bytes n t) c.in-Some.places.now) =
+    subst (λ (b : List ℕ). AreRead c.args.order n b (found_at c.args.order b c.in-Some.places.now)) own c.in-Some.ensures.read in
+    has_parts t _ (c.fields.ensures ∙ ap (λ (b : List ℕ). found_at c.args.order b c.in-Some.places.now) own
     ∙ (found-read t c.args.order n c.requires.order c.header_fields_len-fields_len.ensures _ read).1)
     (sym (fault_of_whole t (is_whole t are c.requires.valid)) ∙ accepted t are c.requires.valid)
