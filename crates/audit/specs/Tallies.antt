@@ -15,7 +15,7 @@ pub record Counts (len : ℕ) (count : ℕ → ℕ) (numbers : List ℕ) : Type 
   pub len_is : length numbers ≡ len
   pub at : (place : ℕ) → place < len → get_or numbers place 0 ≡ count place
 
--- each entry is marked where it covers one of the names; and of the name that was looked at last nothing is left to mark
+-- each entry that covers one of the names is marked; and for the name that was looked up last nothing is left to mark
 pub record Marked (entries : List Entry) (names : List Text) (marks : Marks) : Type 0 where
   pub len_is : length marks.marks.items ≡ length entries
   pub at : (place : ℕ) (entry : Entry) → slice_get entries place ≡ Some entry → get_or marks.marks.items place false ≡ is_named names entry

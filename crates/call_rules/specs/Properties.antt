@@ -2,7 +2,7 @@
 use Rattle.std.specs.Prelude.{Bool, ◌&&◌, List, ℕ, Option, Some, None, bytes_eq}
 use Rattle.call_rules.specs.Rules.{Rule, part_matches, path_matches, rule_of}
 
--- the text as it was given, and its parts; an absent property or path stands for any
+-- the text as it was given, and its parts; an absent property or path matches any
 pub record PropertyRule : Type 0 where
   pub text : List ℕ
   pub interface : List ℕ

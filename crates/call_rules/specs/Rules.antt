@@ -4,7 +4,7 @@ use Rattle.std.specs.List.{list_any, before_first, after_first, before_last, aft
 use Rattle.dbus_names.specs.Names.{is_interface, is_member, is_path, is_empty}
 use Rattle.dbus_names.specs.Texts.{begins_with, has_end, without_last}
 
--- the text as it was given, and its parts; an absent part stands for any
+-- the text as it was given, and its parts; an absent part matches any
 pub record Rule : Type 0 where
   pub text : List ℕ
   pub interface : Option (List ℕ)

@@ -21,7 +21,7 @@ pub(crate) struct Part {
     pub(crate) end: usize,
 }
 
-// An absent part stands for any.
+// An absent part matches any.
 #[derive(Clone, Copy)]
 pub(crate) struct Parts {
     pub(crate) interface: Option<Part>,

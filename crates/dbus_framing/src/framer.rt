@@ -66,6 +66,7 @@ pub(crate) fn looked(state: State, left: &[u8]) -> Front
 }
 
 /// The first message, which has that length, or what is wrong with it.
+#[inline(always)]
 pub(crate) fn message_in_front<'a>(
     left: &'a [u8],
     len: usize,
@@ -183,6 +184,7 @@ impl Framer {
 
     /// Reads the first message in place; `front` has said its length. Headers and texts that `known` has aren't checked
     /// again.
+    #[inline(always)]
     pub fn message<'a>(
         &'a self,
         len: usize,

@@ -75,6 +75,7 @@ impl<'a> Messages<'a> {
 
     /// Reads the first message in place; `front` has said its length. Headers and texts that `known` has aren't checked
     /// again.
+    #[inline(always)]
     pub fn message<'m>(
         &'m self,
         len: usize,

@@ -78,6 +78,7 @@ impl<'a> Passing<'a> {
     }
 
     /// Reads the first message, whose length `front` has said.
+    #[inline(always)]
     pub(crate) fn message<'m>(
         &'m self,
         len: usize,

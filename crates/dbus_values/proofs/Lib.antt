@@ -5,6 +5,7 @@ pub mod ValueIs
 pub mod TextBytes
 pub mod Walks
 pub mod WalkBasic
+pub mod WalkNumbers
 pub mod WalkLaws
 pub mod Shifts
 pub mod BodyLaws

@@ -29,7 +29,7 @@ AUTH%0D%0A => [] NoNul 0 [AUTH%0D%0A]
 ~AUTH EXTERNAL 31%0D%0ANEGOTIATE_UNIX_FD%0D%0ABEGIN%0D%0Al%01~%01 => [~|AUTH EXTERNAL 31%0D%0A|NEGOTIATE_UNIX_FD%0D%0A|BEGIN%0D%0A|] Begin [l%01~%01]
 ";
 
-/// How many lines were asked for, whether BEGIN was seen, and a bus's stream, and its lines, the answer and what is left.
+/// How many lines were asked for, whether BEGIN was seen, a bus's stream, and its lines, the answer and what is left.
 const BUS: &str = "\
 0 false O => [] EarlyBus 0 [O]
 0 false ~ => [] EarlyBus 0 [~]

@@ -1,4 +1,5 @@
--- The words of a proxy line. `--args-file=FILE` stands for the words in FILE, and `--args=FD` for those in /dev/fd/FD.
+-- The words of a proxy line. `--args-file=FILE` is replaced by the words in FILE, and `--args=FD` by those in
+-- /dev/fd/FD.
 --
 -- The files are read in the order of the words, and each is cut into words before the next is read. A NUL ends each
 -- word of a file, and these two options can't be used in a file. Then all words are read as a line. An index counts all

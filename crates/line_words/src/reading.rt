@@ -33,10 +33,10 @@ pub enum LineStop {
     Memory,
 }
 
-/// Reads a proxy line. `--args-file=FILE` stands for the words in FILE, each ended by a NUL as in a policy file, and
-/// `--args=FD` for those in `/dev/fd/FD`, if `policy_args::read_descriptor` accepts FD. These two options can't be used
-/// in such a file. The files are read first, in the order of the words, and each is cut into words before the next is
-/// read.
+/// Reads a proxy line. `--args-file=FILE` is replaced by the words in FILE, each ended by a NUL as in a policy file,
+/// and `--args=FD` by those in `/dev/fd/FD`, if `policy_args::read_descriptor` accepts FD. These two options can't be
+/// used in such a file. The files are read first, in the order of the words, and each is cut into words before the
+/// next is read.
 pub fn read_words<F: Files>(
     alloc: Global,
     files: &mut F,

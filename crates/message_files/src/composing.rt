@@ -5,8 +5,8 @@ use crate::{BadTextFile, ComposeRefusal, TEXT_LIMIT};
 use message_text::{TextRefusal, read};
 use std::alloc::Global;
 
-/// The bytes of the valid message whose text a file holds. `Bad` tells that the file is above `TEXT_LIMIT`, and else why
-/// it is the text of no valid message.
+/// The bytes of the valid message whose text a file holds. `Bad` says that the file is longer than `TEXT_LIMIT`, or
+/// else why it is the text of no valid message.
 pub fn composed(alloc: Global, text: &[u8]) -> Result<Vec<u8>, ComposeRefusal>
     ensures { Composes text.now result }
 {

@@ -11,9 +11,9 @@ use dbus_header::{Malformed, Message, decode, length};
 use message_text::print;
 use std::alloc::Global;
 
-/// The text of the one valid message that a file's bytes are. `Bad` tells the first fault, in this order: the file is
-/// above `MESSAGE_LIMIT`, has fewer than 16 bytes, has a bad first 16, has fewer bytes than these state, has more, or is
-/// otherwise no valid message.
+/// The text of the one valid message that a file's bytes are. `Bad` says the first fault, in this order: the file is
+/// longer than `MESSAGE_LIMIT`, has fewer than 16 bytes, has a bad first 16, has fewer bytes than these state, has
+/// more, or is otherwise not a valid message.
 pub fn shown(alloc: Global, bytes: &[u8]) -> Result<Vec<u8>, ShowRefusal>
     ensures { Shows bytes.now result }
 {

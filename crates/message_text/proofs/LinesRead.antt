@@ -13,7 +13,7 @@ use Rattle.dbus_values.specs.Reading.{◌>>=◌}
 use Rattle.dbus_values.proofs.ValueLaws.{then_is}
 use Rattle.dbus_values.proofs.ValueAgain.{element_type, one_complete}
 use Rattle.dbus_values.proofs.BodyLaws.{starts-then, starts-if}
-use Rattle.dbus_values.proofs.WalkLaws.{type_len}
+use Rattle.dbus_values.proofs.WalkNumbers.{type_len}
 use Rattle.dbus_values.specs.declared.Order.{Order}
 use Rattle.message_text.specs.MessageText.{Text, Said, says_number, says_string, says_path, says_signature, says_variant, says_array, says_struct, says_entry, SaidField, type_said, value_text, field_line, in_range, depth_said, has_shape, field_shape, or_next, types_by_value, types_by, body_types}
 use Rattle.message_text.specs.Reading.{Bytes, Value, after_byte, with_gap, signature_bytes, read_within, read_field, valid_signature, signature_in, or_else, read_fields, read_values, or_none}

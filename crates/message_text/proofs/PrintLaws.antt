@@ -17,7 +17,7 @@ use Rattle.dbus_values.specs.Reading.{At, number_of}
 use Rattle.dbus_values.specs.Walk.{alignment_by, front_code}
 use Rattle.dbus_values.proofs.ValueLaws.{at, wide, wide_32, text_len, text_len_is}
 use Rattle.dbus_values.proofs.ValueAgain.{element_type, basic_complete, spelled_pos, one_complete}
-use Rattle.dbus_values.proofs.WalkLaws.{type_len}
+use Rattle.dbus_values.proofs.WalkNumbers.{type_len}
 use Rattle.dbus_values.specs.declared.Order.{Order}
 use Rattle.dbus_values.specs.declared.Order.TheVariants.{Little, Big}
 use Rattle.message_text.specs.MessageText.{Text, said, all_said, value_text, others_text, number_text, quoted}

@@ -14,7 +14,7 @@ use Rattle.dbus_values.specs.Values.{Value, a_number, a_variant, type_of, paddin
 use Rattle.dbus_values.specs.Reading.{At}
 use Rattle.dbus_values.proofs.ValueLaws.{at, wide, again_32}
 use Rattle.dbus_values.proofs.ValueAgain.{element_type, spelled_pos, one_complete}
-use Rattle.dbus_values.proofs.WalkLaws.{type_len}
+use Rattle.dbus_values.proofs.WalkNumbers.{type_len}
 use Rattle.dbus_values.specs.declared.Order.{Order}
 use Rattle.dbus_values.specs.declared.Order.TheVariants.{Little, Big}
 use Rattle.dbus_header.specs.Message.{Field, Message, Valid, field_value, spelled_list, spelled_fields, body_place, spell, stated, signature, are_valid, are_valid_fields}

@@ -19,7 +19,7 @@ use Rattle.dbus_values.specs.Reading.{◌>>=◌, when, number_of}
 use Rattle.dbus_values.specs.Walk.{alignment_by, front_code}
 use Rattle.dbus_values.proofs.ValueAgain.{basic_complete}
 use Rattle.dbus_values.proofs.ValueRead.{bound, when_is}
-use Rattle.dbus_values.proofs.WalkLaws.{type_len}
+use Rattle.dbus_values.proofs.WalkNumbers.{type_len}
 use Rattle.dbus_values.specs.declared.Order.{Order}
 use Rattle.message_text.specs.MessageText.{Text, Said, says_number, says_string, says_path, says_signature, says_variant, says_array, says_struct, says_entry, Saids, no_more, more, type_said, types_said, value_text, others_text, number_text, quoted, hex_byte, is_typed, are_typed, in_range, all_in_range, depth_said, depths_said}
 use Rattle.message_text.specs.Reading.{Number as NumberAt, Bytes, Value, Read, after, after_byte, number_at, hex_bytes, quoted_at, with_len, with_short_len, with_gap, no_len, number_part, read_text, read_signature, read_basic, read_items, read_elements, read_entry, read_element, before_elements, read_array, read_members, read_struct, word_len, signature_bytes, read_typed, read_variant, of_types, read_within}

@@ -19,7 +19,7 @@ use Rattle.dbus_values.specs.Reading.{◌>>=◌, when}
 use Rattle.dbus_values.specs.Walk.{front_code}
 use Rattle.dbus_values.proofs.ValueLaws.{wide, then_is, signature_of-spelled}
 use Rattle.dbus_values.proofs.ValueAgain.{element_type, basic_complete, one_complete}
-use Rattle.dbus_values.proofs.WalkLaws.{type_len}
+use Rattle.dbus_values.proofs.WalkNumbers.{type_len}
 use Rattle.dbus_values.specs.declared.Order.{Order}
 use Rattle.dbus_values.specs.declared.Order.TheVariants.{Little, Big}
 use Rattle.dbus_header.specs.Message.{with_number}

@@ -14,7 +14,7 @@ use Rattle.dbus_values.specs.Reading.{◌>>=◌, when}
 use Rattle.dbus_values.proofs.ValueRead.{bound, when_is}
 use Rattle.dbus_values.proofs.ValueAgain.{one_complete}
 use Rattle.dbus_values.proofs.BodyLaws.{starts-then}
-use Rattle.dbus_values.proofs.WalkLaws.{type_len}
+use Rattle.dbus_values.proofs.WalkNumbers.{type_len}
 use Rattle.dbus_values.specs.declared.Order.{Order}
 use Rattle.dbus_values.specs.declared.Order.TheVariants.{Little, Big}
 use Rattle.dbus_header.specs.Message.{order_byte}

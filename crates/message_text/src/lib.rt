@@ -1,8 +1,8 @@
 //! A D-Bus message as text that a person can read and write, and back.
 //!
-//! `print` gives the text of a message, and `read` the message of a text. The first line has the byte order (`l` or `B`), the type,
-//! the flags and the serial. Each header field has a line with its code, the type of its value and the value. The last line is
-//! `body` and the body's values.
+//! `print` gives the text of a message, and `read` the message of a text. The first line has the byte order (`l` or
+//! `B`), the type, the flags and the serial. Each header field has a line with its code, the type of its value and the
+//! value. The last line is `body` and the body's values.
 #![tactic(auto)]
 
 mod basic_values;

@@ -1,6 +1,6 @@
 //! Messages as text.
 ghost use Rattle.std.specs.Prelude.{◌≡◌, ◌≤◌, ◌++◌, ℕ, Some, IfOk, length};
-ghost use Rattle.dbus_header.specs.Message.{Message as MessageTree, Valid, spell};
+ghost use Rattle.dbus_header.specs.Message.{Message as MessageTree};
 ghost use Rattle.dbus_header.specs.Contents.{message_of};
 ghost use Rattle.message_text.specs.MessageText.{message_text};
 ghost use Rattle.message_text.specs.Printing.{head_line, print_field, print_fields, print_all_fields, print_values, print_body, print_message, body_in};
@@ -10,7 +10,7 @@ use crate::cursor::Cursor;
 use crate::numbers::number;
 use crate::print_values::{typed, value};
 use crate::words;
-use dbus_header::Message;
+use dbus_header::{Message, is_spelled};
 use dbus_values::Order;
 use std::alloc::{AllocError, Global};
 
@@ -120,13 +120,6 @@ fn body_of<'a>(bytes: &[u8], body: &'a [u8]) -> Cursor<'a>
         place: bytes.len().saturating_sub(body.len()),
         bytes: body,
     }
-}
-
-/// A message that is read is valid, and its bytes spell it.
-fn is_spelled(bytes: &[u8])
-    ensures { (m : MessageTree) → message_of bytes.now ≡ Some m → Valid m × (bytes.now ≡ spell m) }
-{
-    let _bytes = bytes;
 }
 
 /// The text of a message, by its parts.

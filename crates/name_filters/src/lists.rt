@@ -1,7 +1,7 @@
 //! Messages with a list of names.
 ghost use Rattle.std.specs.Prelude.{◌≡◌, ◌≤◌, ◌<◌, ◌++◌, ◌+◌, ◌^◌, IsSome, List, OnErr, OnOk, Some, codes, length, take};
 ghost use Rattle.dbus_header.specs.Contents.{message_of};
-ghost use Rattle.dbus_header.specs.Message.{Message as MessageTree, Valid, spell, with_reply_serial};
+ghost use Rattle.dbus_header.specs.Message.{Message as MessageTree, spell, with_reply_serial};
 ghost use Rattle.name_filters.specs.Names.{cut_parts, with_numbers};
 ghost use Rattle.policy_args.specs.Levels.{level_of};
 ghost use Rattle.policy_args.specs.declared.fact.Fact.{Fact};
@@ -10,7 +10,7 @@ ghost use Rattle.unique_names.specs.Taught.{Taught, kept_level};
 
 use crate::names::{put_names, write_number};
 use bytes::BytesMut;
-use dbus_header::Message;
+use dbus_header::{Message, is_spelled};
 use dbus_values::{Order, text_list};
 use policy_args::Policy;
 use std::alloc::AllocError;
@@ -84,13 +84,6 @@ fn put_parts(
     into.extend_reserved(&message.bytes[..body]);
     into.extend_reserved(&NO_LEN);
     put_names(into, policy, tracker, message.order, start, names);
-}
-
-/// A message that was read is valid, and its bytes spell it.
-fn is_spelled(bytes: &[u8])
-    ensures { (m : MessageTree) → message_of bytes.now ≡ Some m → Valid m × (bytes.now ≡ spell m) }
-{
-    let _bytes = bytes;
 }
 
 /// The place of REPLY_SERIAL's number in a message that has one.

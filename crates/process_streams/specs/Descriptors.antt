@@ -7,7 +7,7 @@ use Rattle.process_streams.specs.declared.faults.ProcessFault.TheVariants.{NotTe
 abbrev pub is_standard : ℤ → Bool
 is_standard number = int_le number (pos 2)
 
--- Of the descriptors that the system gave, those that are at most 2 are held, and only others were closed again. The standard
+-- Of the descriptors that the system gave, those of at most 2 are held, and only others were closed again. The standard
 -- descriptors are open then: three are held, or the system gave one above 2, or it says that none is closed.
 pub record Filled (given new_given held : List ℤ) (closed : Option Bool) : Type 0 where
   pub others : List ℤ
