@@ -32,7 +32,6 @@ struct Calls {
 /// A wait names the first event in the script's order that wasn't named yet and has its wish. If there is none, the
 /// script is done. If the net has no room for an entry or for a byte, `listen`, `accept` and `connect` answer that
 /// memory was refused, and `wait`, `read` and `write` fail.
-#[derive(Drop)]
 pub struct MemNet {
     transcript: Transcript,
     table: LinkTable,
@@ -43,6 +42,21 @@ pub struct MemNet {
     setting: Option<Setting>,
     ghost listeners: { vec_len table.listeners ≡ listens transcript.entries },
     ghost accepted: { sessions ≡ accepts transcript.entries },
+}
+
+// Its drop is a call, so that a function that drops one is short to prove.
+impl Drop for MemNet {
+    fn drop(self) {
+        let MemNet {
+            transcript: _transcript,
+            table: _table,
+            script: _script,
+            calls: _calls,
+            sessions: _sessions,
+            done: _done,
+            setting: _setting,
+        } = self;
+    }
 }
 
 impl MemNet {

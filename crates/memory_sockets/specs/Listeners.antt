@@ -30,11 +30,11 @@ awaited number listener = record listener { is_awaited = listener.is_awaited || 
 abbrev pub reached : List ℕ → ListenerInMemory → ListenerInMemory
 reached path listener = record listener { waiting = if is_bound_at path listener then min (listener.waiting + 1) (2 ^ 32 - 1) else listener.waiting }
 
--- the file of a listener isn't there any more, if it was at this path
+-- a listener's file isn't there any more, if it was at this path
 abbrev pub unlinked : List ℕ → ListenerInMemory → ListenerInMemory
 unlinked path listener = record listener { has_file = listener.has_file && not (is_bound_at path listener) }
 
--- the same of a file that no bind made
+-- a file that no bind made isn't there any more, if it was at this path
 abbrev pub removed : List ℕ → FileInMemory → FileInMemory
 removed path file = record file { is_there = file.is_there && not (is_file_at path file) }
 

@@ -300,6 +300,8 @@ impl Sockets for SocketsInMemory {
 
     ghost journal = { λ system. told_in system.notes };
 
+    ghost shows = { λ _. Unit {0} };
+
     /// It is refused if a file is at the path.
     fn bind(&mut self, path: &str, number: u64) -> io::Result<Numbered<SocketInMemory>>
         ensures kept { KeepsBytes self.old self.new }

@@ -30,7 +30,6 @@ const ALL_SESSIONS: u32 = 4_294_967_295;
 
 /// One proxy: the bus to which it connects its clients, and the socket on which it listens (xdg-dbus-proxy(1),
 /// "Synopsis").
-#[derive(Drop)]
 pub struct Block {
     /// The path of the bus's Unix socket, with each `%XX` of its address replaced.
     pub address: String,
@@ -38,6 +37,17 @@ pub struct Block {
     pub path: String,
     /// What the options of this block ask for.
     pub options: Options,
+}
+
+// Its drop is a call, so that a function that drops one is short to prove.
+impl Drop for Block {
+    fn drop(self) {
+        let Block {
+            address: _address,
+            path: _path,
+            options: _options,
+        } = self;
+    }
 }
 
 /// What a proxy line asks for.

@@ -17,7 +17,6 @@ pub enum Access {
 }
 
 /// A request to the owner of a well-known name, or to the bus about it.
-#[derive(Drop)]
 pub enum Asked {
     /// A method call, with an interface or without one.
     Call {
@@ -46,6 +45,35 @@ pub enum Asked {
         interface: Name,
         access: Access,
     },
+}
+
+// Its drop is a call, so that a function that drops one is short to prove.
+impl Drop for Asked {
+    fn drop(self) {
+        match self {
+            Asked::Call {
+                name: _name,
+                path: _path,
+                interface: _interface,
+                member: _member,
+            } => {}
+            Asked::Signal(_name) => {}
+            Asked::Own(_name) => {}
+            Asked::Owner(_name) => {}
+            Asked::Broadcast {
+                name: _name,
+                path: _path,
+                interface: _interface,
+                member: _member,
+            } => {}
+            Asked::Property {
+                name: _name,
+                path: _path,
+                interface: _interface,
+                access: _access,
+            } => {}
+        }
+    }
 }
 
 impl Access {

@@ -39,7 +39,7 @@ impl NameList {
 /// An element of the visible part of a history: a line, a message, or what is left of an answer that the client isn't
 /// shown unchanged. A position is a place among the messages that were sent to the bus, from 1. Messages are whole
 /// frames; those of the bus have their original REPLY_SERIAL.
-#[derive(Debug, Drop)]
+#[derive(Debug)]
 pub enum Visible {
     /// A line of the authentication protocol, as received.
     Line(Side, Bytes),
@@ -65,6 +65,30 @@ pub enum Visible {
         position: u32,
         names: Option<NameList>,
     },
+}
+
+// Its drop is a call, so that a function that drops one is short to prove.
+impl Drop for Visible {
+    fn drop(self) {
+        match self {
+            Visible::Line(_side, _bytes) => {}
+            Visible::Client(_bytes) => {}
+            Visible::Shown(_bytes) => {}
+            Visible::Cut(_bytes) => {}
+            Visible::Ping {
+                position: _position,
+                serial: _serial,
+            } => {}
+            Visible::Owner {
+                position: _position,
+                owner: _owner,
+            } => {}
+            Visible::Asked {
+                position: _position,
+                names: _names,
+            } => {}
+        }
+    }
 }
 
 impl Visible {
