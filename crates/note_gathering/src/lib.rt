@@ -9,7 +9,7 @@ ghost use Rattle.std.specs.List.{AllZip};
 ghost use Rattle.policy_args.specs.Seen.{options_seen};
 ghost use Rattle.policy_view.specs.Notes.{Note as NoteValue};
 ghost use Rattle.recording.specs.Seen.{recording_seen};
-ghost use Rattle.replay.specs.PlayedNotes.{notes_under};
+ghost use Rattle.replay.specs.PlayedNotes.{GaveNotes, notes_under};
 
 use audit_pool::{Job, answers};
 use link_traits::Gate;
@@ -42,6 +42,44 @@ pub trait Gatherer {
         ensures { (notes : List NoteValue) → stands_for self.now notes gathered.old → OnOk result (stands_for self.now (notes ++ note.now ∷ []) gathered.new) };
 }
 
+/// Takes the notes of a recording as they come, after what was gathered so far: nothing.
+fn take_all<G: Gatherer>(
+    alloc: Global,
+    gather: &G,
+    options: &Options,
+    recording: &Recording,
+    played: &mut PlayedNotes,
+    gathered: &mut G::Gathered,
+) -> Result<(), AllocError>
+    requires unplayed { GaveNotes (options_seen options.now) (recording_seen recording.now) played.old [] }
+    requires none { G.stands_for gather.now [] gathered.old }
+    ensures { OnOk result (G.stands_for gather.now (notes_under (options_seen options.now) (recording_seen recording.now)) gathered.new) }
+{
+    for _item in 0..u64::MAX {
+        match played.next_note(options, recording)? {
+            Some(note) => gather.take(alloc, gathered, &note)?,
+            None => return Ok(()),
+        }
+    }
+    Err(AllocError)
+}
+
+/// Gathers from the notes of a recording of which nothing was played yet.
+fn gathered_from<G: Gatherer>(
+    alloc: Global,
+    gather: &G,
+    options: &Options,
+    recording: &Recording,
+    played: &mut PlayedNotes,
+) -> Result<G::Gathered, AllocError>
+    requires { GaveNotes (options_seen options.now) (recording_seen recording.now) played.old [] }
+    ensures { IfOk result (G.stands_for gather.now (notes_under (options_seen options.now) (recording_seen recording.now))) }
+{
+    let mut gathered = gather.start(alloc)?;
+    take_all(alloc, gather, options, recording, played, &mut gathered)?;
+    Ok(gathered)
+}
+
 /// Plays a recording under the options, and gathers from its notes as they come.
 fn gathered_of<G: Gatherer>(
     alloc: Global,
@@ -52,14 +90,7 @@ fn gathered_of<G: Gatherer>(
     ensures { IfOk result (G.stands_for gather.now (notes_under (options_seen options.now) (recording_seen recording.now))) }
 {
     let mut played = PlayedNotes::new(alloc, options, recording)?;
-    let mut gathered = gather.start(alloc)?;
-    for _item in 0..u64::MAX {
-        match played.next_note(options, recording)? {
-            Some(note) => gather.take(alloc, &mut gathered, &note)?,
-            None => return Ok(gathered),
-        }
-    }
-    Err(AllocError)
+    gathered_from(alloc, gather, options, recording, &mut played)
 }
 
 /// The job that plays a recording and gathers from its notes.

@@ -3,7 +3,7 @@ use Rattle.policy_args.specs.Seen.{options_seen}
 use Rattle.policy_view.specs.Notes.{Note}
 use Rattle.recording.specs.Seen.{recording_seen}
 use Rattle.replay.specs.PlayedNotes.{GaveNotes}
-use Rattle.note_gathering.proofs.gathered_of.Given as goal
+use Rattle.note_gathering.proofs.take_all.Given as goal
 
 abbrev pub invariant-loop-item : goal.invariant-loop-item
 invariant-loop-item g l = record {

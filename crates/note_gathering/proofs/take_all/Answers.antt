@@ -2,10 +2,10 @@ use Rattle.std.proofs.Common.{◌≡◌, [], subst, sym}
 use Rattle.policy_args.specs.Seen.{options_seen}
 use Rattle.recording.specs.Seen.{recording_seen}
 use Rattle.replay.specs.PlayedNotes.{GaveNextNote, notes_under}
-use Rattle.note_gathering.proofs.gathered_of.Goals as goal
+use Rattle.note_gathering.proofs.take_all.Goals as goal
 
 pub loop-item-init : goal.loop-item-init
-loop-item-init g c = record { given = []; gave = c.in_ok-played.ensures; gathered = c.in_ok-gathered.ensures }
+loop-item-init g c = record { given = []; gave = c.requires.unplayed; gathered = c.requires.none }
 
 pub returns-in-None : goal.returns-in-None
 returns-in-None g c =
