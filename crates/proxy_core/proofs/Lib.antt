@@ -2,6 +2,10 @@ pub mod Untouched
 pub mod StreamPieces
 pub mod Standing
 pub mod Fronts
+pub mod Followed
+pub mod Driving
+pub mod DrivenLines
+pub mod DrivenMessages
 pub mod Driven
 pub mod Going
 pub mod LineCuts

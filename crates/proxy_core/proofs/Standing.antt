@@ -43,7 +43,10 @@ use Rattle.proxy_core.proofs.Draining.{went_drained}
 use Rattle.policy_view.proofs.Closings.{closes_at}
 use Rattle.proxy_core.proofs.Watching.{watched_holds}
 use Rattle.proxy_core.proofs.Going.{Goes, reached}
-use Rattle.proxy_core.proofs.Driven.{Steps, Final, LastOf, Midst, KnowsOther, phase_weight, weight, none_last, drained_last, end_followed, end_ignored, new_none, stream_holds, same_stream, stream_runs}
+use Rattle.proxy_core.proofs.Driving.{Steps, Final, LastOf, Midst, KnowsOther, phase_weight, weight, none_last}
+use Rattle.proxy_core.proofs.Driven.{drained_last}
+use Rattle.proxy_core.proofs.Followed.{end_followed, end_ignored, new_none, stream_holds}
+use Rattle.proxy_core.proofs.DrivenMessages.{same_stream, stream_runs}
 use Rattle.dbus_header.specs.Malformed.{front}
 use Rattle.proxy_core.proofs.Placing.{ended_holds, knows_still}
 use Rattle.proxy_core.proofs.Untouched.{other, Untouched, untouched_all, untouched_then, ended_untouched, finished_remembers, drained_untouched}

@@ -18,7 +18,7 @@ use Rattle.policy_view.proofs.Streams.{stream_more, bus_stream, client_stream, a
 use Rattle.proxy_core.specs.Streams.{StreamView, Phase, InLines, InMessages, is_in_lines, pushed, watch_at}
 use Rattle.proxy_core.specs.Sessions.{SessionView, Follows, FollowsStream, FollowsLines, StandsAt, AllGiven, lines_in, rest_of, stream_of}
 use Rattle.proxy_core.proofs.Going.{Counts, Goes, GoesAt, GoesInMessages, GoesRaw, quiet_raw, quiet_messages}
-use Rattle.proxy_core.proofs.Driven.{KnowsClient, KnowsOther}
+use Rattle.proxy_core.proofs.Driving.{KnowsClient, KnowsOther}
 use Rattle.proxy_core.proofs.Untouched.{other}
 
 -- ---- the other side's stream

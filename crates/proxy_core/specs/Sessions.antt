@@ -199,7 +199,7 @@ pub record FollowsStream (mode : Mode) (side : Side) (events : List Event) (s : 
   pub sound : fault mode side events ≡ None
   pub bytes : (i : ℕ) → get_or s.left i 0 < 256
 
--- the same of both sides of a running session
+-- both sides of a running session follow their streams
 pub record Follows (view : SessionView) (events : List Event) : Type 0 where
   pub client : FollowsStream view.mode Client events view.client
   pub bus : FollowsStream view.mode Bus events view.bus

@@ -13,9 +13,8 @@ ghost use Rattle.unique_names.specs.Taught.{kept_level};
 ghost use Rattle.verdicts.specs.Kept.{expected_at};
 
 use crate::facts::{returned_id, returned_names};
-use crate::queue::is_spelled;
 use bytes::{Bytes, BytesMut};
-use dbus_header::Message;
+use dbus_header::{Message, is_spelled};
 use dbus_names::Name;
 use dbus_values::Texts;
 use name_filters::cut;

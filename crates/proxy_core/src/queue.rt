@@ -1,28 +1,21 @@
 //! Messages that are appended to the bytes that wait for a side.
-ghost use Rattle.std.specs.Prelude.{◌≡◌, ◌≤◌, ◌<◌, ◌+◌, ◌++◌, IfOk, IsSome, Some, OnOk, OnErr, codes, length, take, drop};
+ghost use Rattle.std.specs.Prelude.{◌≡◌, ◌≤◌, ◌<◌, ◌+◌, ◌++◌, IfOk, IsSome, OnOk, OnErr, codes, length, take, drop};
 ghost use Rattle.std.specs.Int.{w32};
 ghost use Rattle.dbus_values.specs.Values.{number_bytes};
-ghost use Rattle.dbus_header.specs.Contents.{message_of, message_in};
-ghost use Rattle.dbus_header.specs.Message.{Message as MessageTree, Valid, spell, with_reply_serial, with_serial as serial_changed};
+ghost use Rattle.dbus_header.specs.Contents.{message_in};
+ghost use Rattle.dbus_header.specs.Message.{spell, with_reply_serial, with_serial as serial_changed};
 ghost use Rattle.policy_view.specs.Shown.{cut as cut_by};
 ghost use Rattle.proxy_core.specs.Incoming.{incoming_message};
 ghost use Rattle.unique_names.specs.Taught.{kept_level};
 
 use crate::incoming::Incoming;
 use bytes::BytesMut;
-use dbus_header::{Message, SERIAL_PLACE, set_serial};
+use dbus_header::{Message, SERIAL_PLACE, is_spelled, set_serial};
 use name_filters::cut;
 use out_queue::OutQueue;
 use policy_args::Policy;
 use std::alloc::{AllocError, Global};
 use unique_names::Tracker;
-
-/// A message that was read is valid, and its bytes spell it.
-pub(crate) fn is_spelled(bytes: &[u8])
-    ensures { (m : MessageTree) → message_of bytes.now ≡ Some m → Valid m × (bytes.now ≡ spell m) }
-{
-    let _bytes = bytes;
-}
 
 /// A copy of a message, with another serial.
 pub(crate) fn with_serial(

@@ -45,7 +45,6 @@ pub const LONGEST_STREAM: u64 = 1_152_921_504_606_846_976;
 pub const MOST_OWN_BYTES: u64 = 60_161_266;
 
 /// A session between a client and its bus. It takes bytes from either side and gives bytes for either side.
-#[derive(Drop)]
 pub struct Session {
     mode: Mode,
     to_bus: OutQueue,
@@ -61,6 +60,28 @@ pub struct Session {
     numbered: u64,
     watch: Option<Box<Watch>>,
     alloc: Global,
+}
+
+// Its drop is a call, so that a function that drops one is short to prove.
+impl Drop for Session {
+    fn drop(self) {
+        let Session {
+            mode: _mode,
+            to_bus: _to_bus,
+            to_client: _to_client,
+            ended: _ended,
+            client: _client,
+            bus: _bus,
+            serials: _serials,
+            greeted: _greeted,
+            ledger: _ledger,
+            tracker: _tracker,
+            notes: _notes,
+            numbered: _numbered,
+            watch: _watch,
+            alloc: _alloc,
+        } = self;
+    }
 }
 
 impl Model for Session {

@@ -27,7 +27,6 @@ pub(crate) enum Content {
 }
 
 /// The stream of a side. Its lines are the client's up to BEGIN, or as many of the bus's as answer the client's.
-#[derive(Drop)]
 pub(crate) struct Stream {
     /// The number of bytes that were received.
     came: u64,
@@ -37,6 +36,19 @@ pub(crate) struct Stream {
     /// What is known of the texts in the messages that were read.
     known: KnownTexts,
     alloc: Global,
+}
+
+// Its drop is a call, so that a function that drops one is short to prove.
+impl Drop for Stream {
+    fn drop(self) {
+        let Stream {
+            came: _came,
+            content: _content,
+            lines: _lines,
+            known: _known,
+            alloc: _alloc,
+        } = self;
+    }
 }
 
 impl Model for Stream {
@@ -211,6 +223,7 @@ impl Stream {
 
     /// Reads the first message of what was moved out; its head states its length. What is known of its texts is kept
     /// here; nothing else changes.
+    #[inline(always)]
     pub(crate) fn read_message<'a>(
         &mut self,
         lent: &'a Messages<'_>,

@@ -55,6 +55,7 @@ impl Session {
     }
 
     /// Reads the first message of what was moved out of a side's stream; its head states its length.
+    #[inline(always)]
     fn read_message<'a>(
         &mut self,
         side: Side,

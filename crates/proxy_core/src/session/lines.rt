@@ -152,6 +152,7 @@ impl Session {
         ensures step { Stepped (step_of policy.now Side.Client self.old) self.old self.new result }
         ensures light { IsLight policy.now 0 self.old self.new }
     {
+        // (only the contract needs the policy)
         let _policy = policy;
         match self.client.next_client_line() {
             Ok(NextLine::Nul) => self.send_nul(),
@@ -178,6 +179,7 @@ impl Session {
         ensures step { Stepped (step_of policy.now Side.Bus self.old) self.old self.new result }
         ensures light { IsLight policy.now 0 self.old self.new }
     {
+        // (only the contract needs the policy)
         let _policy = policy;
         let (unanswered, begun) = (self.unanswered(), self.has_begun());
         match self.bus.next_bus_line(unanswered, begun) {

@@ -8,7 +8,7 @@ ghost use Rattle.proxy_core.specs.Steps.{TookMessage};
 
 use super::Session;
 use crate::incoming::Incoming;
-use crate::queue::is_spelled;
+use dbus_header::is_spelled;
 use policy_args::Policy;
 use policy_view::{Decision, End, Note, Side};
 use std::alloc::AllocError;

@@ -44,6 +44,7 @@ impl Session {
         ensures step { Stepped (step_of policy.now side self.old) self.old self.new result }
         ensures light { IsLight policy.now 0 self.old self.new }
     {
+        // (only the contract needs the policy)
         let _policy = policy;
         match self.take_left(side) {
             Ok(bytes) => {
