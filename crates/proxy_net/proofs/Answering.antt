@@ -170,7 +170,7 @@ read_call_silent number answer calls is = silent_as is.are (interrupted_silent n
 pub read_silent : (opened : Bool) (number : ℕ) (into : List ℕ) (got : Got) (calls : List SystemCall) → IsRead opened number into got calls → IsSilent calls
 read_silent true number into (GotBytes n) calls is = read_call_silent number (Ok (take n into)) calls is
 read_silent true number into Finished calls is = elim is [
-  | inl ended ↦ read_call_silent number (Ok []) calls ended
+  | inl ended ↦ read_call_silent number (Ok []) calls ended.0
   | inr reset ↦ read_call_silent number (Err ConnectionReset) calls reset
 ]
 read_silent true number into ReadNotReady calls is = read_call_silent number (Err WouldBlock) calls is
@@ -227,7 +227,7 @@ same_some : {A : Type 0} (a b : A) → Some a ≡ Some b → a ≡ b
 same_some a b e = cc
 
 module _ {T L : Type 0} (a b : SocketSet T L) where
-  -- one answer is told, after calls that hold none
+  -- one answer is added to the journal, after calls that hold none
   pub told_one : {i j k : Option (List SystemCall)} (s t : Starter) (entry : Entry) → Steps IsSilent i j → Tells j k (answered entry ∷ []) → ((count : Count) → count_in a count ≤ count_in b count) → Adds (shown a i s) (shown b k t) (entry ∷ [])
   told_one {i} {j} {k} s t entry keeps tells counts = record { told = by k tells; counts = counts }
     where
@@ -239,7 +239,7 @@ module _ {T L : Type 0} (a b : SocketSet T L) where
           let is : answers_in calls ≡ after = same_some (answers_in calls) after e in
           (answers_in x.0, ap net_journal x.1, sym is ∙ ap answers_in y.2 ∙ ap (λ (before : Journal). entry ∷ before) x.2)
 
-  -- nothing is told
+  -- nothing is added
   pub told_none : (s t : Starter) (i : Option (List SystemCall)) → ((count : Count) → count_in a count ≤ count_in b count) → Adds (shown a i s) (shown b i t) []
   told_none s t i counts = record { told = λ after e. (after, e, refl); counts = counts }
 
@@ -276,7 +276,7 @@ module _ {T L : Type 0} (a b : SocketSet T L) where
     retries = λ number. p.retries number (is.retries number);
   }
 
--- the counts stay right if no answer is told ..
+-- the counts stay right if no answer is added ..
 pub counted_kept : {i j : Option (List SystemCall)} {listeners sessions new_listeners new_sessions : ℕ} → IsCounted i listeners sessions → Steps IsSilent i j → new_listeners ≡ listeners → new_sessions ≡ sessions → IsCounted j new_listeners new_sessions
 counted_kept counted keeps l s = record {
   told = λ after e.
@@ -379,7 +379,7 @@ file_there (listener ∷ listeners) zero path at = omega arith
 file_there (listener ∷ listeners) (suc place) path at = let below = file_there listeners place path at in omega (arith, below)
 
 module _ {T L : Type 0} (a b : SocketSet T L) where
-  -- what bound the files stays told if no listener is made ..
+  -- which bind made a file stays known if no listener is made ..
   pub bound_kept : {P : List SystemCall → Type 0} {i k : Option (List SystemCall)} → Steps P i k → vec_len b.listeners ≡ vec_len a.listeners
       → ((place : ℕ) (path : List ℕ) → place < vec_len a.listeners → path_at b place ≡ Some path → path_at a place ≡ Some path) → AreBound i a → AreBound k b
   bound_kept s number files bound = record {

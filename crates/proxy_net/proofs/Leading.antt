@@ -1,5 +1,5 @@
 -- What calls lead to, by the answer.
-use Rattle.std.proofs.Common.{ℕ, ◌==◌, length, ◌≡◌, ◌≢◌, ◌⊎◌, ◌∙◌, inl, inr, Bool, true, false, List, [], ◌∷◌, ◌++◌, Option, Some, None, Result, Ok, Err, refl, sym, ap, ap₂, arith}
+use Rattle.std.proofs.Common.{ℕ, ◌==◌, length, ◌≡◌, ◌≢◌, ◌⊎◌, ◌∙◌, inl, inr, subst, Bool, true, false, List, [], ◌∷◌, ◌++◌, Option, Some, None, Result, Ok, Err, refl, sym, ap, ap₂, arith}
 use Rattle.std.proofs.lemmas.Bool.Decides.{nat_tests}
 use Rattle.std.specs.declared.io.ErrorKind.{ErrorKind}
 use Rattle.std.specs.declared.io.ErrorKind.TheVariants.{WouldBlock, Interrupted, BrokenPipe, ConnectionReset}
@@ -9,7 +9,7 @@ use Rattle.link_traits.specs.declared.links.NetFault.{NetFault}
 use Rattle.link_traits.specs.declared.links.NetFault.TheVariants.{Failed as FaultFailed, Memory as FaultMemory}
 use Rattle.proxy_net.specs.SystemCalls.{SystemCall, connect, write, Tells}
 use Rattle.proxy_net.specs.Streams.{IsPeerGone}
-use Rattle.proxy_net.specs.Steps.{Steps, IsRetryOf, IsLost, IsWrite, IsLinkWrite, IsConnectionWrite, IsRoomAwaited, IsConnected, IsConnect}
+use Rattle.proxy_net.specs.Steps.{Steps, IsNoRoom, IsMade, IsUnmade, IsRetryOf, IsLost, IsWrite, IsLinkWrite, IsConnectionWrite, IsRoomAwaited, IsConnected, IsConnect}
 use Rattle.proxy_net.specs.declared.streams.StreamWrite.TheVariants.{Again, Fault as WriteFault}
 use Rattle.proxy_net.specs.declared.link_sockets.LinkWrite.{LinkWrite}
 use Rattle.proxy_net.specs.declared.link_sockets.LinkWrite.TheVariants.{Bytes as LinkBytes, NotReady as LinkNotReady, PeerClosed as LinkClosed, Failed as LinkFailed}
@@ -73,6 +73,20 @@ put_off_once number path taken kind (Err FaultMemory) why calls is = inr (put_of
 pub refused_once : (number : ℕ) (path : List ℕ) (taken : Bool) (kind : ErrorKind) (calls : List SystemCall) → calls ≡ connect number path (Some kind) ∷ [] → IsConnect number path taken (Err FaultFailed) calls
 refused_once number path taken kind calls is = inr (kind, is)
 
+-- a connect that was made at once
+pub made_at_once : (number own : ℕ) (path : List ℕ) (opened : Bool) → number ≡ own → opened ≡ true → {old new : Option (List SystemCall)} → Tells old new (connect number path None ∷ []) → Steps (IsMade opened own path) old new
+made_at_once number own path opened same is {old} {new} told =
+    subst (λ (o : Bool). Steps (IsMade o own path) old new) (sym is) (steps_one (connect number path None ∷ []) told (ap (λ (n : ℕ). connect n path None ∷ []) same))
+
+-- .. or is to be made later
+pub made_later : (number own : ℕ) (path : List ℕ) (opened : Bool) (kind : ErrorKind) → number ≡ own → opened ≡ false → IsNoRoom kind → {old new : Option (List SystemCall)} → Tells old new (connect number path (Some kind) ∷ []) → Steps (IsMade opened own path) old new
+made_later number own path opened kind same is why {old} {new} told =
+    subst (λ (o : Bool). Steps (IsMade o own path) old new) (sym is) (steps_one (connect number path (Some kind) ∷ []) told (kind, why, ap (λ (n : ℕ). connect n path (Some kind) ∷ []) same))
+
+-- .. or isn't to be made
+pub never_made : (number own : ℕ) (path : List ℕ) (kind : ErrorKind) → number ≡ own → (IsNoRoom kind → ⊥) → {old new : Option (List SystemCall)} → Tells old new (connect number path (Some kind) ∷ []) → Steps (IsUnmade own path) old new
+never_made number own path kind same why told = steps_one (connect number path (Some kind) ∷ []) told (inr (kind, why, ap (λ (n : ℕ). connect n path (Some kind) ∷ []) same))
+
 -- a connect that was tried again
 pub tried_once : (number : ℕ) (path own : List ℕ) (fault : Option ErrorKind) {old new : Option (List SystemCall)} → path ≡ own → Tells old new (connect number path fault ∷ []) → Steps (IsRetryOf number own) old new
 tried_once number path own fault same told = steps_one (connect number path fault ∷ []) told (inr (fault, ap (λ (p : List ℕ). connect number p fault ∷ []) same))
@@ -87,5 +101,6 @@ pub no_room_again : (number : ℕ) (path own : List ℕ) (kind : ErrorKind) {old
 no_room_again number path own kind why same told = steps_one (connect number path (Some kind) ∷ []) told (kind, why, ap (λ (p : List ℕ). connect number p (Some kind) ∷ []) same)
 
 -- .. or was refused
-pub refused_again : (number : ℕ) (path own : List ℕ) (kind : ErrorKind) {old new : Option (List SystemCall)} → path ≡ own → Tells old new (connect number path (Some kind) ∷ []) → Steps (λ (calls : List SystemCall). (why : ErrorKind) × (calls ≡ connect number own (Some why) ∷ [])) old new
-refused_again number path own kind same told = steps_one (connect number path (Some kind) ∷ []) told (kind, ap (λ (p : List ℕ). connect number p (Some kind) ∷ []) same)
+pub refused_again : (number : ℕ) (path own : List ℕ) (kind : ErrorKind) (over : Type 0) {old new : Option (List SystemCall)} → (IsNoRoom kind → over) → path ≡ own → Tells old new (connect number path (Some kind) ∷ [])
+    → Steps (λ (calls : List SystemCall). (why : ErrorKind) × (IsNoRoom why → over) × (calls ≡ connect number own (Some why) ∷ [])) old new
+refused_again number path own kind over late same told = steps_one (connect number path (Some kind) ∷ []) told (kind, late, ap (λ (p : List ℕ). connect number p (Some kind) ∷ []) same)

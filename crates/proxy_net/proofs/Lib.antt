@@ -10,6 +10,8 @@ pub mod Tries
 pub mod Waiting
 pub mod Judging
 mod Putting
+pub mod Retrying
+pub mod Attempting
 pub mod Telling
 pub mod Answering
 pub mod Listening

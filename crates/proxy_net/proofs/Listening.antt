@@ -1,5 +1,5 @@
 -- What a listen and an accept ask of the system, one call after the other.
-use Rattle.std.proofs.Common.{ℕ, zero, suc, ◌≡◌, ◌≢◌, ◌<◌, ◌≤◌, ◌+◌, ◌⊎◌, inl, inr, nat_eq, Bool, true, false, append-nil, length, map, take, unwrap_or, List, [], ◌∷◌, ◌++◌, Option, Some, None, Result, Ok, Err, slice_get, refl, sym, ap, ap₂, subst, ◌∙◌, arith}
+use Rattle.std.proofs.Common.{ℕ, zero, suc, OnOk, ◌≡◌, ◌≢◌, ◌<◌, ◌≤◌, ◌+◌, ◌⊎◌, inl, inr, nat_eq, Bool, true, false, append-nil, length, map, take, unwrap_or, List, [], ◌∷◌, ◌++◌, Option, Some, None, Result, Ok, Err, slice_get, refl, sym, ap, ap₂, subst, ◌∙◌, arith}
 use Rattle.std.specs.Option.{option_map}
 use Rattle.std.specs.String.{string_bytes}
 use Rattle.std.specs.declared.time.Instant.{Instant}
@@ -13,7 +13,7 @@ use Rattle.link_traits.specs.declared.links.Accepted.TheVariants.{New, NotReady 
 use Rattle.link_traits.specs.Answers.{client_link}
 use Rattle.link_traits.specs.Numbers.{number_of}
 use Rattle.proxy_net.specs.SystemCalls.{SystemCall, bind, await_clients, accept, identify, Tells}
-use Rattle.proxy_net.specs.Steps.{Steps, IsBind, IsBindCall, IsClearing, IsAwait, IsCleanUp, IsListen, IsNobody, IsArrival, IsArrivalAt, IsAccept, next_client, IsRemoval, IsFileRemoval, AreRemovals, IsRetryOf, IsRetryIn, IsRetryBy, IsRetryAs}
+use Rattle.proxy_net.specs.Steps.{Steps, IsBind, IsBindCall, IsClearing, IsFileKept, IsAwait, IsCleanUp, IsListen, IsNobody, IsArrival, IsArrivalAt, IsAccept, next_client, IsRemoval, IsFileRemoval, AreRemovals, IsRetryOf, IsRetryIn, IsRetryBy, IsRetryAs}
 use Rattle.proxy_net.specs.Registering.{is_own_listener, listeners_from}
 use Rattle.proxy_net.specs.declared.listeners.Arrival.{Arrival}
 use Rattle.proxy_net.specs.declared.listeners.Arrival.TheVariants.{Client, NotReady as NobodyCame, Failed as ArrivalFailed}
@@ -44,17 +44,39 @@ listened number path replaces found (Err FaultMemory) first second third bound a
     inr (record { found = found; awaited = second ++ (identify path found ∷ first); removed = third; are = refl; awaiting = record { bound = first; are = joined awaited refl; binding = bound }; removing = clean })
 
 -- a bind, a look at its file, a wait for clients, and what is done if that fails
-pub listen_steps : {L : Type 0} {i j k l m : Option (List SystemCall)} (number : ℕ) (path : List ℕ) (replaces : Bool) (found : Option FoundFile) (socket : L) (answer : Result ℕ NetFault) → Steps (IsBind number path replaces (Some socket)) i j → Tells j k (identify path found ∷ []) → Steps (IsAwait number answer) k l
-    → Steps (IsCleanUp path found answer) l m → Steps (IsListen number path replaces answer) i m
-listen_steps number path replaces found socket answer bound seen awaited clean = record {
-  told = λ after e.
-      let z = clean.told after e in
-      let y = awaited.told z.0 z.2 in
-      let n = seen.told y.0 y.2 in
-      let x = bound.told n.0 n.1 in
-      let rest = y.3 ∙ ap (λ (w : List SystemCall). y.1 ++ w) (n.2 ∙ ap (λ (w : List SystemCall). identify path found ∷ w) x.3) ∙ append_after y.1 (identify path found ∷ x.1) x.0 in
-      (x.0, z.1 ++ (y.1 ++ (identify path found ∷ x.1)), x.2, z.3 ∙ ap (λ (w : List SystemCall). z.1 ++ w) rest ∙ append_after z.1 (y.1 ++ (identify path found ∷ x.1)) x.0, listened number path replaces found answer x.1 y.1 z.1 x.4 y.4 z.4);
-}
+module _ {L : Type 0} {i j k l m : Option (List SystemCall)} (number : ℕ) (path : List ℕ) (replaces : Bool) (found : Option FoundFile) (socket : L) where
+  pub listen_through : {R : List SystemCall → Type 0} (answer : Result ℕ NetFault) → ((first second third : List SystemCall) → IsBindCall number path replaces None first → IsAwait number answer second → IsCleanUp path found answer third → R (third ++ (second ++ (identify path found ∷ first))))
+      → Steps (IsBind number path replaces (Some socket)) i j → Tells j k (identify path found ∷ []) → Steps (IsAwait number answer) k l → Steps (IsCleanUp path found answer) l m → Steps R i m
+  listen_through answer join bound seen awaited clean = record {
+    told = λ after e.
+        let z = clean.told after e in
+        let y = awaited.told z.0 z.2 in
+        let n = seen.told y.0 y.2 in
+        let x = bound.told n.0 n.1 in
+        let rest = y.3 ∙ ap (λ (w : List SystemCall). y.1 ++ w) (n.2 ∙ ap (λ (w : List SystemCall). identify path found ∷ w) x.3) ∙ append_after y.1 (identify path found ∷ x.1) x.0 in
+        (x.0, z.1 ++ (y.1 ++ (identify path found ∷ x.1)), x.2, z.3 ∙ ap (λ (w : List SystemCall). z.1 ++ w) rest ∙ append_after z.1 (y.1 ++ (identify path found ∷ x.1)) x.0, join x.1 y.1 z.1 x.4 y.4 z.4);
+  }
+
+  pub listen_steps : (answer : Result ℕ NetFault) → Steps (IsBind number path replaces (Some socket)) i j → Tells j k (identify path found ∷ []) → Steps (IsAwait number answer) k l → Steps (IsCleanUp path found answer) l m
+      → Steps (IsListen number path replaces answer) i m
+  listen_steps answer bound seen awaited clean = listen_through answer (listened number path replaces found answer) bound seen awaited clean
+
+  -- .. and the file that is kept if it doesn't
+  pub listen_keeps : (answer : Result ℕ NetFault) (made kept : Option BoundFile) → option_map (λ (file : BoundFile). file.identity) made ≡ option_map (λ (file : FoundFile). file.identity) found → OnOk answer (kept ≡ made)
+      → Steps (IsBind number path replaces (Some socket)) i j → Tells j k (identify path found ∷ []) → Steps (IsAwait number answer) k l → Steps (IsCleanUp path found answer) l m → OnOk answer (Steps (IsFileKept number path replaces kept) i m)
+  listen_keeps (Err fault) made kept same is bound seen awaited clean = tt
+  listen_keeps (Ok listener) made kept same is bound seen awaited clean =
+      listen_through (Ok listener)
+      (λ first second third b a c. (found, record { bound = first; are = joined c (joined a refl); binding = b }, ap (λ (file : Option BoundFile). option_map (λ (f : BoundFile). f.identity) file) is ∙ same)) bound seen awaited clean
+
+-- a file that is made of what was found has its identity
+pub made_identity : (make : FoundFile → BoundFile) → ((file : FoundFile) → (make file).identity ≡ file.identity) → (found : Option FoundFile) (made : Option BoundFile) → made ≡ option_map make found
+    → option_map (λ (file : BoundFile). file.identity) made ≡ option_map (λ (file : FoundFile). file.identity) found
+made_identity make same None made is = ap (λ (o : Option BoundFile). option_map (λ (file : BoundFile). file.identity) o) is
+made_identity make same (Some file) made is = ap (λ (o : Option BoundFile). option_map (λ (f : BoundFile). f.identity) o) is ∙ ap (λ (identity : FileIdentity). some_identity identity) (same file)
+  where
+    some_identity : FileIdentity → Option FileIdentity
+    some_identity identity = Some identity
 
 -- what is at a path is cleared, and then bound to
 pub bound_then : {number : ℕ} {path : List ℕ} {replaces : Bool} {fault : Option ErrorKind} {i j k : Option (List SystemCall)} → Steps (IsClearing replaces path) i j → Tells j k (bind number path fault ∷ []) → Steps (IsBindCall number path replaces fault) i k
@@ -165,7 +187,7 @@ not_retried Failed j = steps_none j refl
 
 -- .. by what it answers
 pub retried_as : {T : Type 0} (connection : Connection T) (retry : Retry) (now : Option Instant) (time : Instant) (result : Connected T) {old new : Option (List SystemCall)} → connection ≡ Pending retry → now ≡ Some time
-    → Steps (IsRetryBy retry.token (string_bytes retry.path) result) old new → Steps (IsRetryAs connection now result) old new
+    → Steps (IsRetryBy retry time result) old new → Steps (IsRetryAs connection now result) old new
 retried_as {T} connection retry now time result {old = old} {new = new} is at s =
     subst (λ (c : Connection T). Steps (IsRetryAs c now result) old new) (sym is) (subst (λ (o : Option Instant). Steps (IsRetryAs (Pending retry) o result) old new) (sym at) s)
 

@@ -1,5 +1,5 @@
 -- What the answer of a system's read or write means to a link.
-use Rattle.std.proofs.Common.{ℕ, ◌≡◌, ◌≤◌, ◌+◌, ◌++◌, length, length-append, inl, inr, Bool, true, false, is_ok, List, [], ◌∷◌, Option, Some, None, Result, Ok, Err, refl, ap, subst, ◌∙◌, take, sym, arith}
+use Rattle.std.proofs.Common.{ℕ, ◌≡◌, ◌≤◌, ◌<◌, ◌+◌, ◌++◌, length, length-append, inl, inr, Bool, true, false, is_ok, List, [], ◌∷◌, Option, Some, None, Result, Ok, Err, refl, ap, subst, ◌∙◌, take, sym, arith}
 use Rattle.std.specs.declared.io.ErrorKind.{ErrorKind}
 use Rattle.std.specs.declared.io.ErrorKind.TheVariants.{WouldBlock, ConnectionReset}
 use Rattle.proxy_net.specs.SystemCalls.{SystemCall, close, watch, read, write, fault_of, IsToldRead, IsToldWrite, Tells}
@@ -63,7 +63,7 @@ read_after number answer first second p q = record {
 pub stream_after : (number : ℕ) (into : List ℕ) (meaning : StreamRead) (first second : List SystemCall) → AreInterrupted number first → IsStreamRead number into meaning second → IsStreamRead number into meaning (second ++ first)
 stream_after number into (Bytes n) first second p q = read_after number (Ok (take n into)) first second p q
 stream_after number into End first second p q = elim q [
-  | inl ended ↦ inl (read_after number (Ok []) first second p ended)
+  | inl ended ↦ inl (read_after number (Ok []) first second p ended.0, ended.1)
   | inr reset ↦ inr (read_after number (Err ConnectionReset) first second p reset)
 ]
 stream_after number into Nothing first second p q = read_after number (Err WouldBlock) first second p q
@@ -78,22 +78,22 @@ pub again_read : (number turns : ℕ) (first second : List SystemCall) → AreIn
 again_read number turns first second p q = (interrupted_append number second first q.0 p.0, omega (arith, p.1, q.1, length-append second first))
 
 module _ {E : Type 0} (kind : E → ErrorKind) (number : ℕ) where
-  pub read_told : (into : List ℕ) (answer : Result ℕ E) (meaning : StreamRead) {old new : Option (List SystemCall)} → IsToldRead kind number into answer old new → IsMeantRead kind answer (Some meaning)
+  pub read_told : (into : List ℕ) (has_room : Bool) → (has_room ≡ true → 0 < length into) → (answer : Result ℕ E) (meaning : StreamRead) {old new : Option (List SystemCall)} → IsToldRead kind number into answer old new → IsMeantRead kind has_room answer (Some meaning)
       → Steps (IsStreamRead number into meaning) old new
-  read_told into (Ok n) (Bytes m) told meant = steps_one (read number (Ok (take n into)) ∷ []) told (once_read number (Ok (take m into)) _ (ap (λ (k : ℕ). read number (Ok (take k into)) ∷ []) meant))
-  read_told into (Ok n) End told meant = steps_one (read number (Ok (take n into)) ∷ []) told (inl (once_read number (Ok []) _ (ap (λ (k : ℕ). read number (Ok (take k into)) ∷ []) meant)))
-  read_told into (Ok n) Nothing told meant = absurd meant
-  read_told into (Ok n) Fault told meant = absurd meant
-  read_told into (Err error) (Bytes m) told meant = absurd meant
-  read_told into (Err error) End told meant = steps_one (read number (Err (kind error)) ∷ []) told (inr (once_read number (Err ConnectionReset) _ (ap (λ (k : ErrorKind). read number (Err k) ∷ []) meant)))
-  read_told into (Err error) Nothing told meant = steps_one (read number (Err (kind error)) ∷ []) told (once_read number (Err WouldBlock) _ (ap (λ (k : ErrorKind). read number (Err k) ∷ []) meant))
-  read_told into (Err error) Fault told meant = steps_one (read number (Err (kind error)) ∷ []) told (inl (kind error, meant, once_read number (Err (kind error)) _ refl))
+  read_told into has_room room (Ok n) (Bytes m) told meant = steps_one (read number (Ok (take n into)) ∷ []) told (once_read number (Ok (take m into)) _ (ap (λ (k : ℕ). read number (Ok (take k into)) ∷ []) meant))
+  read_told into has_room room (Ok n) End told meant = steps_one (read number (Ok (take n into)) ∷ []) told (inl (once_read number (Ok []) _ (ap (λ (k : ℕ). read number (Ok (take k into)) ∷ []) meant.0), room meant.1))
+  read_told into has_room room (Ok n) Nothing told meant = absurd meant
+  read_told into has_room room (Ok n) Fault told meant = absurd meant
+  read_told into has_room room (Err error) (Bytes m) told meant = absurd meant
+  read_told into has_room room (Err error) End told meant = steps_one (read number (Err (kind error)) ∷ []) told (inr (once_read number (Err ConnectionReset) _ (ap (λ (k : ErrorKind). read number (Err k) ∷ []) meant)))
+  read_told into has_room room (Err error) Nothing told meant = steps_one (read number (Err (kind error)) ∷ []) told (once_read number (Err WouldBlock) _ (ap (λ (k : ErrorKind). read number (Err k) ∷ []) meant))
+  read_told into has_room room (Err error) Fault told meant = steps_one (read number (Err (kind error)) ∷ []) told (inl (kind error, meant, once_read number (Err (kind error)) _ refl))
 
   -- a read that is made again
-  pub read_again : (into : List ℕ) (answer : Result ℕ E) {old new : Option (List SystemCall)} → IsToldRead kind number into answer old new → IsMeantRead kind answer None
+  pub read_again : (into : List ℕ) (has_room : Bool) (answer : Result ℕ E) {old new : Option (List SystemCall)} → IsToldRead kind number into answer old new → IsMeantRead kind has_room answer None
       → Steps (λ (calls : List SystemCall). AreInterrupted number calls × (1 ≤ length calls)) old new
-  read_again into (Ok n) told meant = absurd meant
-  read_again into (Err error) told meant = steps_one (read number (Err (kind error)) ∷ []) told ((ap (λ (k : ErrorKind). read number (Err k)) meant, tt), omega arith)
+  read_again into has_room (Ok n) told meant = absurd meant
+  read_again into has_room (Err error) told meant = steps_one (read number (Err (kind error)) ∷ []) told ((ap (λ (k : ErrorKind). read number (Err k)) meant, tt), omega arith)
 
   pub write_told : (piece : List ℕ) (answer : Result ℕ E) (meaning : StreamWrite) {old new : Option (List SystemCall)} → IsToldWrite kind number piece answer old new → IsMeantWrite kind answer meaning
       → Steps (IsStreamWrite number piece meaning) old new

@@ -69,7 +69,7 @@ read_weaker {less} {more} {a} {b} f p = record {
     by false false z g e = e
 
 pub reports_through : {T L : Type 0} → {a b c : SocketSet T L} → KeepsReports a b → KeepsReports b c → KeepsReports a c
-reports_through p q = record { readable = λ number. q.readable number ∙ p.readable number; closed = λ number. q.closed number ∙ p.closed number }
+reports_through p q = record { readable = λ number. q.readable number ∙ p.readable number; closed = λ number. q.closed number ∙ p.closed number; dues = λ number. q.dues number ∙ p.dues number }
 
 pub reports_closed : {T L : Type 0} → {a b : SocketSet T L} → KeepsReports a b → StaysClosed a b
 reports_closed p = record { each = λ number e. p.closed number ∙ e }

@@ -43,10 +43,10 @@ answers_in (call ∷ before) = answers_by call ++ answers_in before
 abbrev pub net_journal : Option (List SystemCall) → Option Journal
 net_journal calls = option_map answers_in calls
 
--- if the journal is told, the net's answers in it made this number of listeners and of sessions
+-- if the journal is known, the net's answers in it made this number of listeners and of sessions
 pub record IsCounted (calls : Option (List SystemCall)) (listeners sessions : ℕ) : Type 0 where
   pub told : (before : List SystemCall) → calls ≡ Some before → (listeners ≡ listens (answers_in before)) × (sessions ≡ accepts (answers_in before))
 
--- if the journal is told, no net answered anything in it yet
+-- if the journal is known, no net answered anything in it yet
 pub record IsUnanswered (calls : Option (List SystemCall)) : Type 0 where
   pub told : (before : List SystemCall) → calls ≡ Some before → answers_in before ≡ []

@@ -1,5 +1,5 @@
 -- Accepts that are tried again.
-use Rattle.std.specs.Prelude.{ℕ, ◌≤◌, ◌-◌, ◌*◌, min, nat_eq, nat_le, if◌then◌else◌, Bool, true, not, ◌&&◌, Option, Some, None}
+use Rattle.std.specs.Prelude.{ℕ, ◌≤◌, ◌-◌, ◌*◌, min, nat_eq, nat_le, nat_lt, if◌then◌else◌, Bool, true, false, not, ◌&&◌, Option, Some, None}
 use Rattle.std.specs.Option.{option_map}
 use Rattle.std.specs.Time.{instant_nanos}
 use Rattle.std.specs.Duration.{as_nanos}
@@ -16,6 +16,12 @@ abbrev pub is_time : Option Instant → Option Instant → Bool
 is_time None now = true
 is_time (Some due) None = true
 is_time (Some due) (Some now) = nat_le (instant_nanos due) (instant_nanos now)
+
+-- A try is overdue: it was due before now, or it is due and the clock can't be read.
+abbrev pub is_overdue : Option Instant → Option Instant → Bool
+is_overdue None now = false
+is_overdue (Some due) None = true
+is_overdue (Some due) (Some now) = nat_lt (instant_nanos due) (instant_nanos now)
 
 -- how many nanoseconds are left until then: 32 milliseconds if its time isn't known, or the clock
 -- can't be read

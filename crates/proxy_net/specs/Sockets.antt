@@ -28,7 +28,7 @@ use Rattle.std.specs.VecDeque.{deque_len, deque_capacity}
 use Rattle.proxy_net.specs.Naming.{other_of, is_link_placed, is_listener_placed, is_link_unmarked, is_listener_unmarked, is_link_closed, is_to_fail}
 use Rattle.proxy_net.specs.declared.reports.Report.{Report}
 use Rattle.proxy_net.specs.Connecting.{is_pending, is_open, due_of, tried_path}
-use Rattle.proxy_net.specs.Delays.{connect_left, is_accept_due, is_accept_early, accept_left, is_put_off, IsWithin}
+use Rattle.proxy_net.specs.Delays.{is_time, is_overdue, connect_left, is_accept_due, is_accept_early, accept_left, is_put_off, IsWithin}
 use Rattle.std.specs.String.{string_bytes}
 use Rattle.proxy_net.specs.Registering.{is_own_link, is_own_listener, listeners_from}
 use Rattle.proxy_net.specs.Noting.{is_link_noted, is_listener_noted, is_listener_named, is_link_named, is_bus_number, same_side}
@@ -172,6 +172,10 @@ abbrev pub due_in : {T : Type 0} → Option (LinkSocket T) → Option Instant
 due_in None = None
 due_in (Some socket) = due_of socket.connection
 
+-- when the next try to connect the link of a number is due, if there is one
+abbrev pub due_at : {T L : Type 0} → SocketSet T L → ℕ → Option Instant
+due_at sockets number = due_in (tree.get nat_cmp sockets.links number)
+
 -- there is a link of a number
 abbrev pub has_link_at : {T L : Type 0} → SocketSet T L → ℕ → Bool
 has_link_at sockets number = is_some (tree.get nat_cmp sockets.links number)
@@ -232,10 +236,12 @@ pub record IsReadIf {T L : Type 0} (reported : ℕ → Bool) (old new : SocketSe
   pub pending : (number : ℕ) → is_pending_at new number ≡ true → is_pending_at old number ≡ true
   pub closed : (number : ℕ) → is_peer_closed_at old number ≡ true → is_peer_closed_at new number ≡ true
 
--- each link is readable as before, and its peer is known to have closed as before
+-- each link is readable as before, its peer is known to have closed as before, and its connect is tried again when it
+-- was to be
 pub record KeepsReports {T L : Type 0} (old new : SocketSet T L) : Type 0 where
   pub readable : (number : ℕ) → is_readable_at new number ≡ is_readable_at old number
   pub closed : (number : ℕ) → is_peer_closed_at new number ≡ is_peer_closed_at old number
+  pub dues : (number : ℕ) → due_at new number ≡ due_at old number
 
 -- the listener at a place is stalled
 abbrev pub is_stalled_at : {T L : Type 0} → SocketSet T L → ℕ → Bool
@@ -302,9 +308,9 @@ is_to_fail_at sockets number = unwrap_or (option_map (is_to_fail (is_closed_at s
 abbrev pub IsJudgedAt : {T L : Type 0} → SocketSet T L → ℕ → Type 0
 IsJudgedAt sockets number = unwrap_or (given_up_at sockets number) true ≡ is_to_fail_at sockets number
 
--- when the next try to connect the link of a number is due, if there is one
-abbrev pub due_at : {T L : Type 0} → SocketSet T L → ℕ → Option Instant
-due_at sockets number = due_in (tree.get nat_cmp sockets.links number)
+-- the connect of the link of a number is overdue
+abbrev pub is_overdue_at : {T L : Type 0} → SocketSet T L → Option Instant → ℕ → Bool
+is_overdue_at sockets now number = is_overdue (due_at sockets number) now
 
 -- a time that is no later
 abbrev pub IsBy : Instant → Option Instant → Type 0
@@ -324,14 +330,33 @@ pub record IsDelay {T L : Type 0} (sockets : SocketSet T L) (due now : Option In
   pub one : (connect_left due now ≡ Some nanos) ⊎ (((place : ℕ) × (accept_left_at sockets now place ≡ Some nanos)) ⊎ ((connect_left due now ≡ None) × (nanos ≡ 32000000)))
 
 -- .. if nothing is to be named: without end only if no connect is to be tried again and no listener is stalled
-abbrev pub IsIdleTimeout : {T L : Type 0} → SocketSet T L → Option ℕ → Type 0
-IsIdleTimeout sockets None = IsFirstDue sockets sockets.pending.items None × ((place : ℕ) → is_stalled_at sockets place ≡ false)
-IsIdleTimeout sockets (Some nanos) = (due : Option Instant) × (now : Option Instant) × IsFirstDue sockets sockets.pending.items due × IsDelay sockets due now nanos
+abbrev pub IsIdleTimeout : {T L : Type 0} → (Option Instant → Type 0) → SocketSet T L → Option ℕ → Type 0
+IsIdleTimeout Shows sockets None = IsFirstDue sockets sockets.pending.items None × ((place : ℕ) → is_stalled_at sockets place ≡ false)
+IsIdleTimeout Shows sockets (Some nanos) = (due : Option Instant) × (now : Option Instant) × Shows now × IsFirstDue sockets sockets.pending.items due × IsDelay sockets due now nanos
 
 -- .. and not at all if something is
-pub record IsTimeout {T L : Type 0} (sockets : SocketSet T L) (nanos : Option ℕ) : Type 0 where
+pub record IsTimeout {T L : Type 0} (Shows : Option Instant → Type 0) (sockets : SocketSet T L) (nanos : Option ℕ) : Type 0 where
   pub busy : sockets.ready.items ≢ [] → nanos ≡ Some 0
-  pub idle : sockets.ready.items ≡ [] → IsIdleTimeout sockets nanos
+  pub idle : sockets.ready.items ≡ [] → IsIdleTimeout Shows sockets nanos
+
+-- What was refused for a time isn't left untried at this time: no connect is overdue, and no listener is stalled whose
+-- delay is over.
+pub record IsTriedBy {T L : Type 0} (sockets : SocketSet T L) (now : Option Instant) : Type 0 where
+  pub connects : (number : ℕ) → is_overdue_at sockets now number ≡ false
+  pub accepts : (place : ℕ) → is_accept_due_at sockets now place ≡ false
+
+-- a connect that is tried again is left as it is until it is due, by a time that the clock showed
+pub record KeepsEarly {T L : Type 0} (Shows : Option Instant → Type 0) (old new : SocketSet T L) : Type 0 where
+  pub each : (number : ℕ) (due : Instant) → due_at old number ≡ Some due → (due_at new number ≡ Some due) ⊎ ((now : Option Instant) × Shows now × (is_time (Some due) now ≡ true))
+
+-- nothing is to be tried again
+pub record HasNoTries {T L : Type 0} (sockets : SocketSet T L) : Type 0 where
+  pub connects : (number : ℕ) → due_at sockets number ≡ None
+  pub accepts : (place : ℕ) → is_stalled_at sockets place ≡ false
+
+-- nothing is left untried at a time that the clock showed, or nothing is to be tried again
+abbrev pub IsTried : {T L : Type 0} → (Option Instant → Type 0) → SocketSet T L → Type 0
+IsTried Shows sockets = HasNoTries sockets ⊎ ((now : Option Instant) × Shows now × IsTriedBy sockets now)
 
 -- nothing was counted, and there is no link
 pub record IsUnused (net : NetView) : Type 0 where

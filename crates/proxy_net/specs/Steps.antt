@@ -1,5 +1,5 @@
 -- Which calls of the system one call of the net made.
-use Rattle.std.specs.Prelude.{ℕ, ◌≡◌, ◌≢◌, ◌≤◌, ◌+◌, ◌-◌, ◌^◌, ◌⊎◌, Bool, true, false, List, [], ◌∷◌, ◌++◌, length, take, Option, Some, None, Result, Ok, Err}
+use Rattle.std.specs.Prelude.{ℕ, ◌≡◌, ◌≢◌, ◌≤◌, ◌<◌, ◌+◌, ◌-◌, ◌^◌, ◌⊎◌, Bool, true, false, List, [], ◌∷◌, ◌++◌, length, take, Option, Some, None, Result, Ok, Err}
 use Rattle.std.specs.declared.io.ErrorKind.{ErrorKind}
 use Rattle.std.specs.declared.io.ErrorKind.TheVariants.{WouldBlock, ConnectionReset, Interrupted}
 use Rattle.link_traits.specs.declared.links.Got.{Got}
@@ -15,7 +15,9 @@ use Rattle.link_traits.specs.declared.links.Accepted.TheVariants.{New, NotReady 
 use Rattle.link_traits.specs.Answers.{client_link}
 use Rattle.link_traits.specs.Entries.{Entry}
 use Rattle.link_traits.specs.Numbers.{number_of}
+use Rattle.std.specs.Option.{option_map}
 use Rattle.std.specs.String.{string_bytes}
+use Rattle.std.specs.Time.{instant_nanos}
 use Rattle.std.specs.declared.time.Instant.{Instant}
 use Rattle.proxy_net.specs.Answers.{answers_in}
 use Rattle.proxy_net.specs.SystemCalls.{SystemCall, bind, await_clients, accept, connect, watch, read, write, close, wait, identify, remove, open_starter, notify_starter, answered, has_failed_wait}
@@ -31,6 +33,8 @@ use Rattle.proxy_net.specs.declared.net.Turn.{Turn}
 use Rattle.proxy_net.specs.declared.net.Turn.TheVariants.{Named, Ended, Failed as TurnFailed, Again}
 use Rattle.proxy_net.specs.declared.starters.Starter.{Starter}
 use Rattle.proxy_net.specs.declared.starters.Starter.TheVariants.{Absent, Waiting, Told, Gone}
+use Rattle.proxy_net.specs.declared.link_sockets.Retry.{Retry}
+use Rattle.proxy_net.specs.declared.link_sockets.LinkSocket.{LinkSocket}
 use Rattle.proxy_net.specs.declared.link_sockets.Connection.{Connection}
 use Rattle.proxy_net.specs.declared.link_sockets.Connection.TheVariants.{Open, Pending, Failed}
 use Rattle.proxy_net.specs.declared.link_sockets.Connected.{Connected}
@@ -68,11 +72,15 @@ pub record IsReadCall (number : ℕ) (answer : Result (List ℕ) ErrorKind) (cal
 abbrev pub IsFailedRead : ℕ → List SystemCall → Type 0
 IsFailedRead number calls = ((kind : ErrorKind) × IsReadFault kind × IsReadCall number (Err kind) calls) ⊎ (AreInterrupted number calls × (2 ^ 64 - 1 ≤ length calls))
 
+-- A read that found the end: the system gave no byte though there was room for one, or reset the stream.
+abbrev pub IsReadEnd : ℕ → List ℕ → List SystemCall → Type 0
+IsReadEnd number into calls = (IsReadCall number (Ok []) calls × (0 < length into)) ⊎ IsReadCall number (Err ConnectionReset) calls
+
 -- What a stream answers to a read: the bytes are those that the system gave, of that socket. It ends if the system gave
--- no byte, or reset it.
+-- no byte though there was room for one, or reset it.
 abbrev pub IsStreamRead : ℕ → List ℕ → StreamRead → List SystemCall → Type 0
 IsStreamRead number into (Bytes n) calls = IsReadCall number (Ok (take n into)) calls
-IsStreamRead number into End calls = IsReadCall number (Ok []) calls ⊎ IsReadCall number (Err ConnectionReset) calls
+IsStreamRead number into End calls = IsReadEnd number into calls
 IsStreamRead number into Nothing calls = IsReadCall number (Err WouldBlock) calls
 IsStreamRead number into Fault calls = IsFailedRead number calls
 
@@ -80,7 +88,7 @@ IsStreamRead number into Fault calls = IsFailedRead number calls
 -- system isn't asked.
 abbrev pub IsRead : Bool → ℕ → List ℕ → Got → List SystemCall → Type 0
 IsRead true number into (GotBytes n) calls = IsReadCall number (Ok (take n into)) calls
-IsRead true number into Finished calls = IsReadCall number (Ok []) calls ⊎ IsReadCall number (Err ConnectionReset) calls
+IsRead true number into Finished calls = IsReadEnd number into calls
 IsRead true number into ReadNotReady calls = IsReadCall number (Err WouldBlock) calls
 IsRead true number into ReadFailed calls = IsFailedRead number calls
 IsRead false number into (GotBytes n) calls = ⊥
@@ -134,9 +142,22 @@ IsLinkWrite number piece LinkNotReady calls = IsWrite number piece WriteNotReady
 IsLinkWrite number piece LinkClosed calls = (kind : ErrorKind) × IsPeerGone kind × (calls ≡ write number (Err kind) ∷ [])
 IsLinkWrite number piece LinkFailed calls = IsWrite number piece WriteFailed calls
 
+-- a connect that was refused for this may be made again: there was no room, or a signal interrupted it
+abbrev pub IsNoRoom : ErrorKind → Type 0
+IsNoRoom kind = (kind ≡ WouldBlock) ⊎ (kind ≡ Interrupted)
+
 -- one connect of the link of a number to a path: it is made, or put off since the system would have waited
 abbrev pub IsConnected : ℕ → List ℕ → List SystemCall → Type 0
 IsConnected number path calls = (calls ≡ connect number path None ∷ []) ⊎ ((calls ≡ connect number path (Some WouldBlock) ∷ []) ⊎ (calls ≡ connect number path (Some Interrupted) ∷ []))
+
+-- .. by whether the link has a stream by it: it has one exactly if the system made the connect
+abbrev pub IsMade : Bool → ℕ → List ℕ → List SystemCall → Type 0
+IsMade true number path calls = calls ≡ connect number path None ∷ []
+IsMade false number path calls = (kind : ErrorKind) × IsNoRoom kind × (calls ≡ connect number path (Some kind) ∷ [])
+
+-- a connect that isn't to be made later: nothing was asked, or it was refused for something else than want of room
+abbrev pub IsUnmade : ℕ → List ℕ → List SystemCall → Type 0
+IsUnmade number path calls = (calls ≡ []) ⊎ ((kind : ErrorKind) × (IsNoRoom kind → ⊥) × (calls ≡ connect number path (Some kind) ∷ []))
 
 -- A connect of the link of a number: to that path, once at most. It fails for an error of the system, and without a
 -- call only if the path is empty or there is a link of that number (`taken`). Memory is refused before the call, or
@@ -187,20 +208,39 @@ IsRetryIn (Open stream) calls = calls ≡ []
 IsRetryIn (Pending retry) calls = IsRetryOf retry.token (string_bytes retry.path) calls
 IsRetryIn Failed calls = calls ≡ []
 
--- what a try to connect to a path again answers, if its time is known: it is made unless it isn't due
-abbrev pub IsRetryBy : {T : Type 0} → ℕ → List ℕ → Connected T → List SystemCall → Type 0
-IsRetryBy number path (ToStream stream) calls = calls ≡ connect number path None ∷ []
-IsRetryBy number path NotDue calls = calls ≡ []
-IsRetryBy number path NoRoom calls = (kind : ErrorKind) × ((kind ≡ WouldBlock) ⊎ (kind ≡ Interrupted)) × (calls ≡ connect number path (Some kind) ∷ [])
-IsRetryBy number path Before calls = ⊥
-IsRetryBy number path Refused calls = (kind : ErrorKind) × (calls ≡ connect number path (Some kind) ∷ [])
+-- What a try to connect to a path again answers, if the time is known: it is made unless it isn't due. It is given up
+-- only if it was refused for something else, or its time is over.
+abbrev pub IsRetryBy : {T : Type 0} → Retry → Instant → Connected T → List SystemCall → Type 0
+IsRetryBy retry now (ToStream stream) calls = calls ≡ connect retry.token (string_bytes retry.path) None ∷ []
+IsRetryBy retry now NotDue calls = (calls ≡ []) × (instant_nanos now < instant_nanos retry.due)
+IsRetryBy retry now NoRoom calls = (kind : ErrorKind) × IsNoRoom kind × (calls ≡ connect retry.token (string_bytes retry.path) (Some kind) ∷ [])
+IsRetryBy retry now Before calls = ⊥
+IsRetryBy retry now Refused calls = (kind : ErrorKind) × (IsNoRoom kind → instant_nanos retry.until ≤ instant_nanos now) × (calls ≡ connect retry.token (string_bytes retry.path) (Some kind) ∷ [])
 
 -- .. of a link's connection. It fails without a call if the clock can't be read.
 abbrev pub IsRetryAs : {T : Type 0} → Connection T → Option Instant → Connected T → List SystemCall → Type 0
 IsRetryAs (Open stream) now result calls = calls ≡ []
-IsRetryAs (Pending retry) (Some now) result calls = IsRetryBy retry.token (string_bytes retry.path) result calls
+IsRetryAs (Pending retry) (Some now) result calls = IsRetryBy retry now result calls
 IsRetryAs (Pending retry) None result calls = (calls ≡ []) × (result ≡ Refused)
 IsRetryAs Failed now result calls = calls ≡ []
+
+-- .. and what it makes of the connection: it has a stream if the system connected it, is tried again later if it wasn't
+-- due or there was no room, and fails if it is given up
+abbrev pub IsAttempt : {T : Type 0} → Connection T → Option Instant → Connection T → List SystemCall → Type 0
+IsAttempt (Open stream) now new calls = calls ≡ []
+IsAttempt Failed now new calls = calls ≡ []
+IsAttempt (Pending retry) None (Open stream) calls = ⊥
+IsAttempt (Pending retry) None (Pending later) calls = ⊥
+IsAttempt (Pending retry) None Failed calls = calls ≡ []
+IsAttempt (Pending retry) (Some now) (Open stream) calls = IsRetryBy retry now (ToStream stream) calls
+IsAttempt {T} (Pending retry) (Some now) (Pending later) calls = IsRetryBy {T = T} retry now NotDue calls ⊎ IsRetryBy {T = T} retry now NoRoom calls
+IsAttempt {T} (Pending retry) (Some now) Failed calls = IsRetryBy {T = T} retry now Refused calls
+
+-- .. and of a link. One that isn't there isn't tried.
+abbrev pub IsAttemptOf : {T : Type 0} → Option (LinkSocket T) → Option Instant → Option (LinkSocket T) → List SystemCall → Type 0
+IsAttemptOf None now new calls = calls ≡ []
+IsAttemptOf (Some old) now None calls = ⊥
+IsAttemptOf (Some old) now (Some new) calls = IsAttempt old.connection now new.connection calls
 
 -- calls of this kind, and then the net's answer
 abbrev pub IsAnswered : Entry → (List SystemCall → Type 0) → List SystemCall → Type 0
@@ -353,6 +393,11 @@ pub record IsBoundAndAwaited (number : ℕ) (path : List ℕ) (replaces : Bool) 
   pub bound : List SystemCall
   pub are : calls ≡ await_clients number fault ∷ identify path found ∷ bound
   pub binding : IsBindCall number path replaces None bound
+
+-- .. and the listener keeps the file that was found
+abbrev pub IsFileKept : ℕ → List ℕ → Bool → Option BoundFile → List SystemCall → Type 0
+IsFileKept number path replaces kept calls = (found : Option FoundFile) × IsBoundAndAwaited number path replaces found None calls
+    × (option_map (λ (file : BoundFile). file.identity) kept ≡ option_map (λ (file : FoundFile). file.identity) found)
 
 -- .. and the file is removed then
 pub record IsUndone (number : ℕ) (path : List ℕ) (replaces : Bool) (fault : Option ErrorKind) (calls : List SystemCall) : Type 0 where

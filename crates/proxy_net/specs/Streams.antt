@@ -1,5 +1,5 @@
 -- What it means to a link that the system refused a read or a write.
-use Rattle.std.specs.Prelude.{ℕ, ◌≡◌, ◌≢◌, ◌⊎◌, Option, Some, None, Result, Ok, Err}
+use Rattle.std.specs.Prelude.{ℕ, ◌≡◌, ◌≢◌, ◌⊎◌, Bool, true, Option, Some, None, Result, Ok, Err}
 use Rattle.std.specs.declared.io.ErrorKind.{ErrorKind}
 use Rattle.std.specs.declared.io.ErrorKind.TheVariants.{WouldBlock, Interrupted, ConnectionReset, BrokenPipe}
 use Rattle.proxy_net.specs.declared.streams.StreamRead.{StreamRead}
@@ -42,18 +42,18 @@ IsRefusalRead kind (Some End) = kind ≡ ConnectionReset
 IsRefusalRead kind (Some Nothing) = kind ≡ WouldBlock
 IsRefusalRead kind (Some Fault) = IsReadFault kind
 
--- what a read that gave this number of bytes means
-abbrev pub IsGivenRead : ℕ → Option StreamRead → Type 0
-IsGivenRead given None = ⊥
-IsGivenRead given (Some (Bytes n)) = given ≡ n
-IsGivenRead given (Some End) = given ≡ 0
-IsGivenRead given (Some Nothing) = ⊥
-IsGivenRead given (Some Fault) = ⊥
+-- what a read that gave this number of bytes means, by whether there was room for one
+abbrev pub IsGivenRead : Bool → ℕ → Option StreamRead → Type 0
+IsGivenRead has_room given None = ⊥
+IsGivenRead has_room given (Some (Bytes n)) = given ≡ n
+IsGivenRead has_room given (Some End) = (given ≡ 0) × (has_room ≡ true)
+IsGivenRead has_room given (Some Nothing) = ⊥
+IsGivenRead has_room given (Some Fault) = ⊥
 
 -- the answer of a read that means this
-abbrev pub IsMeantRead : {E : Type 0} → (E → ErrorKind) → Result ℕ E → Option StreamRead → Type 0
-IsMeantRead kind (Ok given) read = IsGivenRead given read
-IsMeantRead kind (Err error) read = IsRefusalRead (kind error) read
+abbrev pub IsMeantRead : {E : Type 0} → (E → ErrorKind) → Bool → Result ℕ E → Option StreamRead → Type 0
+IsMeantRead kind has_room (Ok given) read = IsGivenRead has_room given read
+IsMeantRead kind has_room (Err error) read = IsRefusalRead (kind error) read
 
 -- the kind for which a write was refused that means this
 abbrev pub IsRefusalWrite : ErrorKind → StreamWrite → Type 0

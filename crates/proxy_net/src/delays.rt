@@ -1,5 +1,5 @@
 //! When a call that the system refused for a time is tried again.
-ghost use Rattle.std.specs.Prelude.{◌≡◌, ◌-◌, ◌*◌, None, Some, nat_le};
+ghost use Rattle.std.specs.Prelude.{◌≡◌, ◌≤◌, ◌-◌, ◌*◌, None, Some, nat_le};
 ghost use Rattle.std.specs.Time.{instant_nanos};
 ghost use Rattle.std.specs.Duration.{as_nanos};
 ghost use Rattle.proxy_net.specs.Connecting.{IsLater};
@@ -31,7 +31,8 @@ pub fn delay_after(delay: u64) -> u64
 
 /// The time after a duration, or the same time if the clock ends before.
 pub fn later(now: Instant, duration: Duration) -> Instant
-    ensures { IsLater now (as_nanos duration) result }
+    ensures time { IsLater now (as_nanos duration) result }
+    ensures after { instant_nanos now ≤ instant_nanos result }
 {
     match now.checked_add(duration) {
         Some(time) => time,

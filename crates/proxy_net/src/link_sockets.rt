@@ -6,9 +6,10 @@ ghost use Rattle.link_traits.specs.Answers.{no_wishes};
 ghost use Rattle.proxy_net.specs.Naming.{is_ready, is_link_placed, is_link_closed, is_to_fail};
 ghost use Rattle.proxy_net.specs.Registering.{is_registered_by, is_connected_by};
 ghost use Rattle.proxy_net.specs.Noting.{is_link_noted};
+ghost use Rattle.proxy_net.specs.Delays.{is_overdue};
 ghost use Rattle.proxy_net.specs.Connecting.{IsLater, is_open, is_pending, is_given_up as is_failed, due_of, tried_path};
 ghost use Rattle.std.specs.Prelude.{List};
-ghost use Rattle.proxy_net.specs.Steps.{Steps, IsRead, IsLinkWrite, IsConnectionWrite, IsAsked, IsRoomAwaited, IsWatched, IsRetryOf, IsRetryIn, IsRetryBy, IsRetryAs, IsShut, IsNoted, got_of};
+ghost use Rattle.proxy_net.specs.Steps.{Steps, IsRead, IsLinkWrite, IsConnectionWrite, IsAsked, IsRoomAwaited, IsWatched, IsRetryOf, IsRetryIn, IsRetryBy, IsRetryAs, IsAttempt, IsNoRoom, IsShut, IsNoted, got_of};
 ghost use Rattle.std.specs.String.{string_bytes};
 ghost use Rattle.std.specs.Time.{instant_nanos};
 
@@ -139,7 +140,8 @@ impl Retry {
         ensures rest { self.new ≡ record self.old { delay = self.new.delay; due = self.new.due } }
         ensures told { Steps (IsRetryOf self.old.token (string_bytes self.old.path)) (S.journal system.old) (S.journal system.new) }
         ensures late { instant_nanos self.old.due ≤ instant_nanos now → result ≢ Connected.NotDue }
-        ensures retried { Steps (IsRetryBy self.old.token (string_bytes self.old.path) result) (S.journal system.old) (S.journal system.new) }
+        ensures left { (result ≡ Connected.NotDue) ⊎ (result ≡ Connected.WouldBlock) → instant_nanos now ≤ instant_nanos self.new.due }
+        ensures retried { Steps (IsRetryBy self.old now result) (S.journal system.old) (S.journal system.new) }
     {
         if !is_by(self.due, now) {
             return Connected::NotDue;
@@ -147,13 +149,24 @@ impl Retry {
         match system.connect(self.path.as_str(), self.token) {
             Ok(stream) => Connected::To(stream),
             Err(error) => {
-                if is_put_off(error.kind()) && self.has_time(now) {
+                if self.is_tried_on(error.kind(), now) {
                     self.put_off(now);
                     return Connected::WouldBlock;
                 }
                 Connected::Failed
             }
         }
+    }
+
+    /// Whether it is tried again after it was refused so.
+    fn is_tried_on(&self, kind: ErrorKind, now: Instant) -> bool
+        ensures yes { result ≡ true → IsNoRoom kind × (instant_nanos now ≤ instant_nanos self.now.until) }
+        ensures no { result ≡ false → IsNoRoom kind → instant_nanos self.now.until ≤ instant_nanos now }
+    {
+        if !is_put_off(kind) {
+            return false;
+        }
+        self.has_time(now)
     }
 
     /// Whether it may be tried again.
@@ -169,6 +182,7 @@ impl Retry {
         ensures short { self.old.delay * 2 ≤ LONGEST_DELAY → self.new.delay ≡ self.old.delay * 2 }
         ensures long { LONGEST_DELAY < self.old.delay * 2 → self.new.delay ≡ LONGEST_DELAY }
         ensures due { IsLater now (self.new.delay * 1_000_000) self.new.due }
+        ensures after { instant_nanos now ≤ instant_nanos self.new.due }
         ensures rest { self.new ≡ record self.old { delay = self.new.delay; due = self.new.due } }
     {
         self.delay = self.delay.saturating_mul(2).min(LONGEST_DELAY);
@@ -483,6 +497,8 @@ impl<T: Drop> LinkSocket<T> {
         ensures wishes { self.new.wishes ≡ self.old.wishes }
         ensures paths { (path : List ℕ) → tried_path self.new.connection ≡ Some path → tried_path self.old.connection ≡ Some path }
         ensures late { (time due : Instant) → now ≡ Some time → due_of self.old.connection ≡ Some due → instant_nanos due ≤ instant_nanos time → result ≢ Attempt.NotDue }
+        ensures tried { is_overdue (due_of self.new.connection) now ≡ false }
+        ensures made { Steps (IsAttempt self.old.connection now self.new.connection) (S.journal system.old) (S.journal system.new) }
         ensures told { Steps (IsRetryIn self.old.connection) (S.journal system.old) (S.journal system.new) }
     {
         match self.connect(system, now) {
@@ -515,6 +531,7 @@ impl<T: Drop> LinkSocket<T> {
         ensures path { tried_path self.new.connection ≡ tried_path self.old.connection }
         ensures told { Steps (IsRetryIn self.old.connection) (S.journal system.old) (S.journal system.new) }
         ensures late { (time due : Instant) → now ≡ Some time → due_of self.old.connection ≡ Some due → instant_nanos due ≤ instant_nanos time → result ≢ Connected.NotDue }
+        ensures left { (result ≡ Connected.NotDue) ⊎ (result ≡ Connected.WouldBlock) → is_overdue (due_of self.new.connection) now ≡ false }
         ensures retried { Steps (IsRetryAs self.old.connection now result) (S.journal system.old) (S.journal system.new) }
     {
         match &mut self.connection {

@@ -77,7 +77,7 @@ impl<S: Sockets + Drop> MioNet<S> {
     ghost use Rattle.proxy_net.specs.Starters.{after_prepare, is_waiting};
     ghost use Rattle.proxy_net.specs.Steps.{Steps, AreWaits, AreRemovals, IsNoticed, IsOpened, IsPrepare, IsTurn, is_failed};
     ghost use Rattle.link_traits.specs.Views.{KeepsWishes};
-    ghost use Rattle.proxy_net.specs.Sockets.{shown, RoseIn, GoesOn, IsUnused, IsWished, StaysClosed, HasLink, IsTriedTo, has_file_at, files_of};
+    ghost use Rattle.proxy_net.specs.Sockets.{IsTried, KeepsEarly, shown, RoseIn, GoesOn, IsUnused, IsWished, StaysClosed, HasLink, IsTriedTo, has_file_at, files_of};
 
     /// A net over the sockets of a system, without listeners and links. No other net may have used that system.
     pub fn over(alloc: Global, system: S) -> Result<MioNet<S>, AllocError>
@@ -183,9 +183,11 @@ impl<S: Sockets + Drop> MioNet<S> {
         requires { is_gone self.old.starter ≡ false }
         ensures wished { (ready : _) → result ≡ Turn.Named ready → IsWished self.old.sockets self.new.sockets ready }
         ensures ended { (result ≡ Turn.Ended) ↔ (is_gone self.new.starter ≡ true) }
+        ensures tried { result ≡ Turn.Again → IsTried S.shows self.new.sockets }
         ensures present { is_present self.new.starter ≡ is_present self.old.starter }
         ensures once { is_waiting self.old.starter ≡ false → is_waiting self.new.starter ≡ false }
         ensures closed { StaysClosed self.old.sockets self.new.sockets }
+        ensures early { KeepsEarly S.shows self.old.sockets self.new.sockets }
         ensures asked { Steps (IsTurn (HasLink self.old.sockets) (IsTriedTo self.old.sockets) self.old.starter self.new.starter result) (S.journal self.old.system) (S.journal self.new.system) }
         ensures goes { GoesOn self.old.sockets self.new.sockets }
         ensures replaces { self.new.replaces ≡ self.old.replaces }
@@ -214,6 +216,7 @@ impl<S: Sockets + Drop> MioNet<S> {
         ensures present { is_present self.new.starter ≡ is_present self.old.starter }
         ensures once { is_waiting self.old.starter ≡ false → is_waiting self.new.starter ≡ false }
         ensures closed { StaysClosed self.old.sockets self.new.sockets }
+        ensures early { KeepsEarly S.shows self.old.sockets self.new.sockets }
         ensures asked { Steps (AreWaits (HasLink self.old.sockets) (IsTriedTo self.old.sockets) self.old.starter self.new.starter (is_failed result)) (S.journal self.old.system) (S.journal self.new.system) }
         ensures goes { GoesOn self.old.sockets self.new.sockets }
         ensures replaces { self.new.replaces ≡ self.old.replaces }
@@ -237,6 +240,7 @@ impl<S: Sockets + Drop> MioNet<S> {
         ensures present { is_present self.new.starter ≡ is_present self.old.starter }
         ensures once { is_waiting self.old.starter ≡ false → is_waiting self.new.starter ≡ false }
         ensures closed { StaysClosed self.old.sockets self.new.sockets }
+        ensures early { KeepsEarly S.shows self.old.sockets self.new.sockets }
         ensures failed { result ≡ Ready.Failed → RoseIn Count.Own self.old.sockets self.new.sockets }
         ensures asked { Steps (AreWaits (HasLink self.old.sockets) (IsTriedTo self.old.sockets) self.old.starter self.new.starter (is_failed result)) (S.journal self.old.system) (S.journal self.new.system) }
         ensures goes { GoesOn self.old.sockets self.new.sockets }
@@ -264,10 +268,10 @@ impl<S: Sockets + Drop> Net for MioNet<S> {
     ghost use Rattle.std.specs.Option.{option_map};
     ghost use Rattle.proxy_net.specs.Naming.{other_of};
     ghost use Rattle.proxy_net.specs.Registering.{listeners_from};
-    ghost use Rattle.proxy_net.specs.Steps.{Steps, IsAnswered, IsPrepare, IsWait, IsListen, IsAccept, IsConnect, IsRead, IsPolled, IsWrite, IsAsked, IsShut, is_failed};
+    ghost use Rattle.proxy_net.specs.Steps.{Steps, IsAnswered, IsPrepare, IsWait, IsFileKept, IsListen, IsAccept, IsMade, IsUnmade, IsConnect, IsRead, IsPolled, IsWrite, IsAsked, IsShut, is_failed};
     ghost use Rattle.proxy_net.specs.Starters.{after_prepare, is_waiting};
     ghost use Rattle.std.specs.Prelude.{List};
-    ghost use Rattle.proxy_net.specs.Sockets.{path_at, is_put_off_at, delay_at, is_readable_at, StaysUnread, StaysClosed, KeepsReports, HasLink, IsTriedTo, has_link_at};
+    ghost use Rattle.proxy_net.specs.Sockets.{KeepsEarly, tried_path_at, file_at, path_at, is_put_off_at, delay_at, is_readable_at, StaysUnread, StaysClosed, KeepsReports, HasLink, IsTriedTo, has_link_at};
     ghost use Rattle.proxy_net.specs.Sockets.{shown, is_open_at, is_pending_in, is_closed_at, is_peer_closed_at, is_stalled_at, IsJudgedAt, IsWished};
 
     ghost view = { λ net. shown net.sockets (S.journal net.system) net.starter };
@@ -309,6 +313,9 @@ impl<S: Sockets + Drop> Net for MioNet<S> {
 
         // A file that is removed for the listener later is removed at this path.
         ensures file { (own : List ℕ) → path_at self.new.sockets (vec_len self.old.sockets.listeners) ≡ Some own → own ≡ path.now }
+
+        // It is the file that was found after the bind.
+        ensures kept { OnOk result (Steps (IsAnswered (listen_entry path.now result) (IsFileKept (listeners_from + vec_len self.old.sockets.listeners) path.now self.old.replaces (file_at self.new.sockets (vec_len self.old.sockets.listeners)))) (S.journal self.old.system) (S.journal self.new.system)) }
 
         // The setting stays.
         ensures setting { (self.new.replaces ≡ self.old.replaces) × (self.new.starter ≡ self.old.starter) }
@@ -352,6 +359,9 @@ impl<S: Sockets + Drop> Net for MioNet<S> {
         // It forgets no close.
         ensures closed { StaysClosed self.old.sockets self.new.sockets }
 
+        // It leaves a connect that is tried again as it is until that is due, by a time that the clock showed.
+        ensures early { KeepsEarly S.shows self.old.sockets self.new.sockets }
+
         // What the system is asked for it, before the net notes its answer.
         ensures asked { Steps (IsAnswered (ready result) (IsWait (HasLink self.old.sockets) (IsTriedTo self.old.sockets) self.old.starter self.new.starter (is_failed result))) (S.journal self.old.system) (S.journal self.new.system) }
 
@@ -372,6 +382,9 @@ impl<S: Sockets + Drop> Net for MioNet<S> {
     fn accept(&mut self, listener: u32) -> Accepted
         // Sessions are numbered from 1 in the order of their accepts.
         ensures order { (session : ℕ) → result ≡ Accepted.New session → (session ≡ self.old.sockets.sessions + 1) × (self.new.sockets.sessions ≡ session) }
+
+        // The client link of a new session has its stream.
+        ensures open { (session : ℕ) → result ≡ Accepted.New session → is_open_at self.new.sockets (number_of (client_link session)) ≡ true }
 
         // A listener whose accept failed is put off by a delay, which begins anew once a client was accepted.
         ensures put_off { (result ≡ Accepted.Failed) ⊎ (result ≡ Accepted.Memory) → is_put_off_at self.new.sockets listener ≡ true }
@@ -406,6 +419,13 @@ impl<S: Sockets + Drop> Net for MioNet<S> {
     fn connect(&mut self, session: u32, path: &str) -> Result<(), NetFault>
         ensures path { OnOk result (path.now ≢ []) }
         ensures fresh { OnOk result ((shown self.old.sockets (S.journal self.old.system) self.old.starter).wishes (bus_link session) ≡ None) }
+
+        // It fails for an error other than want of room, or if the clock can't be read when the connect is put off.
+        ensures unmade { result ≡ Err NetFault.Failed → S.shows None ⊎ Steps (IsAnswered (connect_entry session path.now result) (IsUnmade (number_of (bus_link session)) path.now)) (S.journal self.old.system) (S.journal self.new.system) }
+
+        // The link has a stream if the system made the connect, and is tried again to that path if it didn't.
+        ensures made { OnOk result (Steps (IsAnswered (connect_entry session path.now result) (IsMade (is_open_at self.new.sockets (number_of (bus_link session))) (number_of (bus_link session)) path.now)) (S.journal self.old.system) (S.journal self.new.system)) }
+        ensures later { OnOk result (is_open_at self.new.sockets (number_of (bus_link session)) ≡ false → tried_path_at self.new.sockets (number_of (bus_link session)) ≡ Some path.now) }
         ensures err { OnErr result (KeepsWishes (shown self.old.sockets (S.journal self.old.system) self.old.starter) (shown self.new.sockets (S.journal self.new.system) self.new.starter)) }
 
         // The setting stays.

@@ -12,7 +12,7 @@ ghost use Rattle.link_traits.specs.Numbers.{number_of as link_number};
 ghost use Rattle.proxy_net.specs.Naming.{is_to_fail, other_of};
 ghost use Rattle.proxy_net.specs.Room.{room_for};
 ghost use Rattle.std.specs.List.{list_any};
-ghost use Rattle.proxy_net.specs.Connecting.{is_pending};
+ghost use Rattle.proxy_net.specs.Connecting.{is_pending, is_open, tried_path};
 ghost use Rattle.proxy_net.specs.Registering.{is_registered_by};
 ghost use Rattle.proxy_net.specs.Steps.{Steps, IsShut};
 ghost use Rattle.proxy_net.specs.SystemCalls.{SystemCall};
@@ -72,7 +72,7 @@ fn other_number(number: u64) -> u64
 }
 
 impl<T: Drop, L: Drop> SocketSet<T, L> {
-    ghost use Rattle.proxy_net.specs.Sockets.{is_peer_closed_at, is_closed_at, given_up_at, is_to_fail_at, KeepsReports, StaysUnread, StaysClosed, shown, count_in, wishes_in, RoseIn, Grows, GoesOn, KeepsOthersIn, IsUnused, IsConsistent, HasRoomFor, has_place, is_link_registered, is_open_at};
+    ghost use Rattle.proxy_net.specs.Sockets.{due_at, tried_path_at, is_peer_closed_at, is_closed_at, given_up_at, is_to_fail_at, KeepsReports, StaysUnread, StaysClosed, shown, count_in, wishes_in, RoseIn, Grows, GoesOn, KeepsOthersIn, IsUnused, IsConsistent, HasRoomFor, has_place, is_link_registered, is_open_at};
     ghost use Rattle.link_traits.specs.declared.links.Wishes.{Wishes};
 
     /// No sockets.
@@ -99,6 +99,7 @@ impl<T: Drop, L: Drop> SocketSet<T, L> {
         ensures rose { RoseIn count self.old self.new }
         ensures unread { StaysUnread self.old self.new }
         ensures closed { StaysClosed self.old self.new }
+        ensures dues { (number : ℕ) → due_at self.new number ≡ due_at self.old number }
         ensures goes { GoesOn self.old self.new }
     {
         match count {
@@ -113,6 +114,7 @@ impl<T: Drop, L: Drop> SocketSet<T, L> {
         ensures rose { RoseIn (Count.Listener listener) self.old self.new }
         ensures unread { StaysUnread self.old self.new }
         ensures closed { StaysClosed self.old self.new }
+        ensures dues { (number : ℕ) → due_at self.new number ≡ due_at self.old number }
         ensures goes { GoesOn self.old self.new }
     {
         match self.listeners.get_mut(listener as usize) {
@@ -125,6 +127,7 @@ impl<T: Drop, L: Drop> SocketSet<T, L> {
         ensures rose { RoseIn (Count.Link link) self.old self.new }
         ensures unread { StaysUnread self.old self.new }
         ensures closed { StaysClosed self.old self.new }
+        ensures dues { (number : ℕ) → due_at self.new number ≡ due_at self.old number }
         ensures goes { GoesOn self.old self.new }
     {
         match self.links.get_mut(&number_of(link)) {
@@ -172,6 +175,8 @@ impl<T: Drop, L: Drop> SocketSet<T, L> {
         ensures pending { self.new.pending ≡ self.old.pending }
         ensures listeners { self.new.listeners ≡ self.old.listeners }
         ensures own { OnOk result (wishes_in self.new link ≡ Some no_wishes) }
+        ensures open { OnOk result (is_open_at self.new (link_number link) ≡ is_open connection) }
+        ensures path { OnOk result (tried_path_at self.new (link_number link) ≡ tried_path connection) }
         ensures others { KeepsOthersIn link self.old self.new }
         ensures unread { StaysUnread self.old self.new }
         ensures grows { Grows self.old self.new }

@@ -61,7 +61,7 @@ fn read_of(answer: io::Result<usize>, has_room: bool) -> Option<StreamRead>
     ensures end { answer ≡ Ok 0 → has_room ≡ true → result ≡ Some StreamRead.End }
     ensures refused { IfErr answer (λ error. IsRefusedRead (error_kind error) result) }
     ensures only { (n : ℕ) → result ≡ Some (StreamRead.Bytes n) → (answer ≡ Ok n) × (has_room ≡ true → 0 < n) }
-    ensures meant { IsMeantRead error_kind answer result }
+    ensures meant { IsMeantRead error_kind has_room answer result }
 {
     match answer {
         Ok(0) if has_room => Some(StreamRead::End),

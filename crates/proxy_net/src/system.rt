@@ -50,6 +50,7 @@ impl<T> Numbered<T> {
 pub trait Sockets {
     ghost use Rattle.std.specs.Prelude.{◌≤◌, ◌<◌, ◌∷◌, [], ℕ, List, Option, OnErr, length, vec_len, vec_capacity};
     ghost use Rattle.std.specs.IoError.{error_kind};
+    ghost use Rattle.std.specs.declared.time.Instant.{Instant};
     ghost use Rattle.proxy_net.specs.Answers.{entry_of};
     ghost use Rattle.proxy_net.specs.Delays.{nanos_of};
     ghost use Rattle.proxy_net.specs.SystemCalls.{SystemCall, bind, await_clients, accept, connect, watch, read, write, close, wait, identify, remove, open_starter, notify_starter, answered, fault_of, IsToldRead, IsToldWrite, Tells};
@@ -62,6 +63,9 @@ pub trait Sockets {
 
     /// The calls that were made, with what they answered, the newest first, if that is known.
     ghost journal: { Self → Option (List SystemCall) };
+
+    /// What its clock showed at some time. Only `now` tells it.
+    ghost shows: { Option Instant → Type 0 };
 
     /// Binds a socket to a path, which makes a file there. It isn't watched yet.
     fn bind(&mut self, path: &str, number: u64) -> io::Result<Numbered<Self::Listener>>
@@ -133,7 +137,8 @@ pub trait Sockets {
         ensures { Tells (journal self.old) (journal self.new) (notify_starter (fault_of error_kind result) ∷ []) };
 
     /// The time, if the clock can be read.
-    fn now(&self) -> Option<Instant>;
+    fn now(&self) -> Option<Instant>
+        ensures { shows result };
 
     /// Notes in the journal what a net over these sockets answered, with its path or its bytes. It does nothing else.
     fn tell(&mut self, answer: Answer, bytes: &[u8])
@@ -180,6 +185,8 @@ impl<'a> Sockets for SystemSockets<'a> {
     type Stream = UnixStream;
 
     ghost journal = { λ _. None };
+
+    ghost shows = { λ _. Unit {0} };
 
     fn bind(&mut self, path: &str, number: u64) -> io::Result<Numbered<UnixListener>> {
         Ok(Numbered::new(UnixListener::bind(self.rt, path)?, number))

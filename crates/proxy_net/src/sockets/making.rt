@@ -4,7 +4,7 @@ ghost use Rattle.std.specs.VecDeque.{deque_len, deque_capacity};
 ghost use Rattle.std.specs.Option.{option_map};
 ghost use Rattle.std.specs.String.{string_bytes};
 ghost use Rattle.proxy_net.specs.Delays.{next_delay};
-ghost use Rattle.proxy_net.specs.Steps.{Steps, IsConnect, IsListen, IsBind, IsAwait, IsCleanUp, IsMadeRemoval, IsArrivalAt, IsAccept};
+ghost use Rattle.proxy_net.specs.Steps.{Steps, IsMade, IsUnmade, IsConnect, IsFileKept, IsListen, IsBind, IsAwait, IsCleanUp, IsMadeRemoval, IsArrivalAt, IsAccept};
 ghost use Rattle.link_traits.specs.Answers.{no_wishes, client_link, bus_link};
 ghost use Rattle.link_traits.specs.Numbers.{number_of as link_number};
 
@@ -18,7 +18,7 @@ use link_traits::{Accepted, Count, Link, NetFault, Side};
 use std::alloc::{AllocError, Global};
 
 impl<T: Drop, L: Drop> SocketSet<T, L> {
-    ghost use Rattle.proxy_net.specs.Sockets.{HasRoomFor, RoseIn, Grows, GoesOn, KeepsWishesIn, StaysUnread, path_at};
+    ghost use Rattle.proxy_net.specs.Sockets.{file_at, HasRoomFor, RoseIn, Grows, GoesOn, KeepsWishesIn, StaysUnread, path_at};
 
     /// Listens at a path. An empty one is refused, since the system would take a name of its own for it. A socket or an
     /// empty regular file that is there is removed first, if it `replaces`.
@@ -34,6 +34,7 @@ impl<T: Drop, L: Drop> SocketSet<T, L> {
         ensures path { OnOk result (path.now ≢ []) }
         ensures err { OnErr result (vec_len self.new.listeners ≡ vec_len self.old.listeners) }
         ensures file { (own : List ℕ) → path_at self.new (vec_len self.old.listeners) ≡ Some own → own ≡ path.now }
+        ensures kept { OnOk result (Steps (IsFileKept (LISTENERS + vec_len self.old.listeners) path.now replaces (file_at self.new (vec_len self.old.listeners))) (S.journal system.old) (S.journal system.new)) }
         ensures failed { IsErrOf result NetFault.Failed → RoseIn Count.Own self.old self.new }
         ensures told { Steps (IsListen (LISTENERS + vec_len self.old.listeners) path.now replaces result) (S.journal system.old) (S.journal system.new) }
         ensures unread { StaysUnread self.old self.new }
@@ -63,6 +64,7 @@ impl<T: Drop, L: Drop> SocketSet<T, L> {
         ensures path { OnOk result (path.now ≢ []) }
         ensures err { OnErr result (vec_len self.new.listeners ≡ vec_len self.old.listeners) }
         ensures file { (own : List ℕ) → path_at self.new (vec_len self.old.listeners) ≡ Some own → own ≡ path.now }
+        ensures kept { OnOk result (Steps (IsFileKept (LISTENERS + vec_len self.old.listeners) path.now replaces (file_at self.new (vec_len self.old.listeners))) (S.journal system.old) (S.journal system.new)) }
         ensures told { Steps (IsListen (LISTENERS + vec_len self.old.listeners) path.now replaces result) (S.journal system.old) (S.journal system.new) }
         ensures unread { StaysUnread self.old self.new }
         ensures sessions { self.new.sessions ≡ self.old.sessions }
@@ -112,6 +114,7 @@ impl<T: Drop, L: Drop> SocketSet<T, L> {
         ensures made { OnOk result (vec_len self.new.listeners ≡ vec_len self.old.listeners + 1) }
         ensures err { OnErr result (vec_len self.new.listeners ≡ vec_len self.old.listeners) }
         ensures file { OnOk result (path_at self.new listener ≡ option_map (λ (f : BoundFile). string_bytes f.path) file) }
+        ensures kept { OnOk result (file_at self.new listener ≡ file) }
         ensures told { Steps (IsAwait (LISTENERS + listener) result) (S.journal system.old) (S.journal system.new) }
         ensures unread { StaysUnread self.old self.new }
         ensures sessions { self.new.sessions ≡ self.old.sessions }
@@ -140,6 +143,7 @@ impl<T: Drop, L: Drop> SocketSet<T, L> {
         ensures err { OnErr result (vec_len self.new.listeners ≡ vec_len self.old.listeners) }
         ensures fault { result ≢ Err NetFault.Failed }
         ensures file { OnOk result (path_at self.new listener ≡ option_map (λ (f : BoundFile). string_bytes f.path) file) }
+        ensures kept { OnOk result (file_at self.new listener ≡ file) }
         ensures unread { StaysUnread self.old self.new }
         ensures sessions { self.new.sessions ≡ self.old.sessions }
         ensures wishes { KeepsWishesIn self.old self.new }
@@ -247,7 +251,7 @@ impl<T: Drop, L: Drop> SocketSet<T, L> {
 }
 
 impl<T: Drop, L: Drop> SocketSet<T, L> {
-    ghost use Rattle.proxy_net.specs.Sockets.{HasRoomFor, wishes_in, RoseIn, Grows, GoesOn, AfterAcceptIn, StaysUnread, is_put_off_at, delay_at, sessions_after, is_listener_registered};
+    ghost use Rattle.proxy_net.specs.Sockets.{is_open_at, HasRoomFor, wishes_in, RoseIn, Grows, GoesOn, AfterAcceptIn, StaysUnread, is_put_off_at, delay_at, sessions_after, is_listener_registered};
 
     /// Takes a client that waits at a listener.
     pub fn accept<S: Sockets<Stream = T, Listener = L>>(
@@ -260,6 +264,7 @@ impl<T: Drop, L: Drop> SocketSet<T, L> {
         ensures failed { result ≡ Accepted.Failed → RoseIn (Count.Listener listener) self.old self.new }
         ensures not_ready { result ≡ Accepted.NotReady → RoseIn Count.Waits self.old self.new }
         ensures new_wishes { (session : ℕ) → result ≡ Accepted.New session → wishes_in self.new (client_link session) ≡ Some no_wishes }
+        ensures open { (session : ℕ) → result ≡ Accepted.New session → is_open_at self.new (link_number (client_link session)) ≡ true }
         ensures wishes { AfterAcceptIn result self.old self.new }
         ensures put_off { (result ≡ Accepted.Failed) ⊎ (result ≡ Accepted.Memory) → is_put_off_at self.new listener ≡ true }
         ensures served { (session : ℕ) → result ≡ Accepted.New session → delay_at self.new listener ≡ 0 }
@@ -381,6 +386,7 @@ impl<T: Drop, L: Drop> SocketSet<T, L> {
         ensures ready { result ≢ Accepted.NotReady }
         ensures fault { result ≢ Accepted.Failed }
         ensures new_wishes { (other : ℕ) → result ≡ Accepted.New other → wishes_in self.new (client_link other) ≡ Some no_wishes }
+        ensures open { (other : ℕ) → result ≡ Accepted.New other → is_open_at self.new (link_number (client_link other)) ≡ true }
         ensures wishes { AfterAcceptIn result self.old self.new }
         ensures put_off { (result ≡ Accepted.Failed) ⊎ (result ≡ Accepted.Memory) → is_put_off_at self.new listener ≡ true }
         ensures listeners { (other : ℕ) → result ≡ Accepted.New other → self.new.listeners ≡ self.old.listeners }
@@ -407,7 +413,7 @@ impl<T: Drop, L: Drop> SocketSet<T, L> {
 }
 
 impl<T: Drop, L: Drop> SocketSet<T, L> {
-    ghost use Rattle.proxy_net.specs.Sockets.{HasRoomFor, wishes_in, RoseIn, Grows, GoesOn, KeepsOthersIn, KeepsWishesIn, StaysUnread, has_link_at};
+    ghost use Rattle.proxy_net.specs.Sockets.{is_open_at, tried_path_at, HasRoomFor, wishes_in, RoseIn, Grows, GoesOn, KeepsOthersIn, KeepsWishesIn, StaysUnread, has_link_at};
 
     /// Connects a session to the bus at a path. An empty one is refused, since the system would take a name of its own
     /// for it, and so is a session that has a link to its bus. If the bus has no room for one more, it is tried again
@@ -421,9 +427,12 @@ impl<T: Drop, L: Drop> SocketSet<T, L> {
     ) -> Result<(), NetFault>
         ensures path { OnOk result (path.now ≢ []) }
         ensures fresh { OnOk result (wishes_in self.old (bus_link session) ≡ None) }
+        ensures unmade { result ≡ Err NetFault.Failed → S.shows None ⊎ Steps (IsUnmade (link_number (bus_link session)) path.now) (S.journal system.old) (S.journal system.new) }
         ensures err { OnErr result (KeepsWishesIn self.old self.new) }
         ensures failed { IsErrOf result NetFault.Failed → RoseIn (Count.Link (bus_link session)) self.old self.new }
         ensures own { OnOk result (wishes_in self.new (bus_link session) ≡ Some no_wishes) }
+        ensures made { OnOk result (Steps (IsMade (is_open_at self.new (link_number (bus_link session))) (link_number (bus_link session)) path.now) (S.journal system.old) (S.journal system.new)) }
+        ensures later { OnOk result (is_open_at self.new (link_number (bus_link session)) ≡ false → tried_path_at self.new (link_number (bus_link session)) ≡ Some path.now) }
         ensures told { Steps (IsConnect (link_number (bus_link session)) path.now (has_link_at self.old (link_number (bus_link session))) result) (S.journal system.old) (S.journal system.new) }
         ensures others { KeepsOthersIn (bus_link session) self.old self.new }
         ensures sessions { self.new.sessions ≡ self.old.sessions }
@@ -454,9 +463,12 @@ impl<T: Drop, L: Drop> SocketSet<T, L> {
     ) -> Result<(), NetFault>
         ensures path { OnOk result (path.now ≢ []) }
         ensures fresh { OnOk result (wishes_in self.old link ≡ None) }
+        ensures unmade { result ≡ Err NetFault.Failed → S.shows None ⊎ Steps (IsUnmade (link_number link) path.now) (S.journal system.old) (S.journal system.new) }
         ensures told { Steps (IsConnect (link_number link) path.now (has_link_at self.old (link_number link)) result) (S.journal system.old) (S.journal system.new) }
         ensures err { OnErr result (GoesOn self.old self.new) }
         ensures own { OnOk result (wishes_in self.new link ≡ Some no_wishes) }
+        ensures made { OnOk result (Steps (IsMade (is_open_at self.new (link_number link)) (link_number link) path.now) (S.journal system.old) (S.journal system.new)) }
+        ensures later { OnOk result (is_open_at self.new (link_number link) ≡ false → tried_path_at self.new (link_number link) ≡ Some path.now) }
         ensures others { KeepsOthersIn link self.old self.new }
         ensures sessions { self.new.sessions ≡ self.old.sessions }
         ensures number { vec_len self.new.listeners ≡ vec_len self.old.listeners }
@@ -499,6 +511,7 @@ impl<T: Drop, L: Drop> SocketSet<T, L> {
         ensures fault { result ≢ Err NetFault.Failed }
         ensures err { OnErr result (GoesOn self.old self.new) }
         ensures own { OnOk result (wishes_in self.new link ≡ Some no_wishes) }
+        ensures open { OnOk result (is_open_at self.new (link_number link) ≡ true) }
         ensures others { KeepsOthersIn link self.old self.new }
         ensures sessions { self.new.sessions ≡ self.old.sessions }
         ensures number { vec_len self.new.listeners ≡ vec_len self.old.listeners }
@@ -523,8 +536,11 @@ impl<T: Drop, L: Drop> SocketSet<T, L> {
         requires room { HasRoomFor 1 self.old }
         requires pending { deque_len self.old.pending < deque_capacity self.old.pending }
         ensures pending { OnOk result (self.new.pending.items ≡ self.old.pending.items ++ link_number link ∷ []) }
+        ensures fault { result ≡ Err NetFault.Failed → S.shows None }
         ensures err { OnErr result (GoesOn self.old self.new) }
         ensures own { OnOk result (wishes_in self.new link ≡ Some no_wishes) }
+        ensures open { OnOk result (is_open_at self.new (link_number link) ≡ false) }
+        ensures later { OnOk result (tried_path_at self.new (link_number link) ≡ Some path.now) }
         ensures others { KeepsOthersIn link self.old self.new }
         ensures sessions { self.new.sessions ≡ self.old.sessions }
         ensures number { vec_len self.new.listeners ≡ vec_len self.old.listeners }

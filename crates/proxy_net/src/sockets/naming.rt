@@ -11,7 +11,7 @@ ghost use Rattle.link_traits.specs.Numbers.{number_of as link_number};
 ghost use Rattle.proxy_net.specs.Delays.{IsWithin, connect_left, nanos_of};
 ghost use Rattle.proxy_net.specs.Noting.{is_link_noted, is_listener_noted, reports_read};
 ghost use Rattle.proxy_net.specs.Naming.{is_link_unmarked, is_listener_unmarked};
-ghost use Rattle.proxy_net.specs.Steps.{Steps, AreNoteCalls};
+ghost use Rattle.proxy_net.specs.Steps.{Steps, AreNoteCalls, IsAttemptOf};
 ghost use Rattle.proxy_net.specs.SystemCalls.{Tells, wait, fault_of};
 ghost use Rattle.std.specs.IoError.{error_kind};
 ghost use Rattle.proxy_net.specs.Sockets.{HasLink, IsTriedTo, is_link_registered};
@@ -52,7 +52,7 @@ fn is_bus(number: u64) -> bool
 }
 
 impl<T: Drop, L: Drop> SocketSet<T, L> {
-    ghost use Rattle.proxy_net.specs.Sockets.{is_stalled_at, GoesOn, IsTimeout, IsReadIf, KeepsReports, IsWished, is_noted, is_report_noted, is_side_noted, KeepsNotes};
+    ghost use Rattle.proxy_net.specs.Sockets.{due_at, is_retried, IsTried, KeepsEarly, is_stalled_at, GoesOn, IsTimeout, IsReadIf, KeepsReports, IsWished, is_noted, is_report_noted, is_side_noted, KeepsNotes};
 
     /// Asks the system what became ready, and waits for it if nothing is to be named yet.
     pub fn ask<S: Sockets<Stream = T, Listener = L>>(
@@ -66,7 +66,7 @@ impl<T: Drop, L: Drop> SocketSet<T, L> {
         ensures count { vec_len reports.new ≤ REPORTS }
         ensures capacity { vec_capacity reports.new ≡ vec_capacity reports.old }
         ensures reports { KeepsReports self.old self.new }
-        ensures told { (nanos : Option ℕ) × IsTimeout self.old nanos × Tells (S.journal system.old) (S.journal system.new) (wait reports.new.items nanos (fault_of error_kind result) ∷ []) }
+        ensures told { (nanos : Option ℕ) × IsTimeout S.shows self.old nanos × Tells (S.journal system.old) (S.journal system.new) (wait reports.new.items nanos (fault_of error_kind result) ∷ []) }
         ensures goes { GoesOn self.old self.new }
     {
         let timeout = self.timeout(system);
@@ -81,6 +81,8 @@ impl<T: Drop, L: Drop> SocketSet<T, L> {
         reports: &[Report],
     )
         ensures noted { list_all (is_report_noted self.new) reports.now ≡ true }
+        ensures tried { ((number : ℕ) → is_retried self.old number ≡ true) → IsTried S.shows self.new }
+        ensures early { KeepsEarly S.shows self.old self.new }
         ensures reported { IsReadIf (λ number. list_any (reports_read number) reports.now) self.old self.new }
         ensures kept { KeepsNotes self.old self.new }
         ensures told { ((number : ℕ) → is_link_registered self.old number ≡ true) → Steps (AreNoteCalls (HasLink self.old) (IsTriedTo self.old)) (S.journal system.old) (S.journal system.new) }
@@ -101,6 +103,7 @@ impl<T: Drop, L: Drop> SocketSet<T, L> {
         ensures noted { list_all (is_side_noted of_buses self.new) reports.now ≡ true }
         ensures reported { IsReadIf (λ number. list_any (reports_read number) reports.now) self.old self.new }
         ensures kept { KeepsNotes self.old self.new }
+        ensures dues { (number : ℕ) → due_at self.new number ≡ due_at self.old number }
         ensures told { ((number : ℕ) → is_link_registered self.old number ≡ true) → Steps (AreNoteCalls (HasLink self.old) (IsTriedTo self.old)) (S.journal system.old) (S.journal system.new) }
         ensures goes { GoesOn self.old self.new }
     {
@@ -119,6 +122,7 @@ impl<T: Drop, L: Drop> SocketSet<T, L> {
         ensures noted { is_side_noted of_buses self.new report.now ≡ true }
         ensures reported { IsReadIf (λ number. reports_read number report.now) self.old self.new }
         ensures kept { KeepsNotes self.old self.new }
+        ensures dues { (number : ℕ) → due_at self.new number ≡ due_at self.old number }
         ensures told { ((number : ℕ) → is_link_registered self.old number ≡ true) → Steps (AreNoteCalls (HasLink self.old) (IsTriedTo self.old)) (S.journal system.old) (S.journal system.new) }
         ensures goes { GoesOn self.old self.new }
     {
@@ -131,6 +135,7 @@ impl<T: Drop, L: Drop> SocketSet<T, L> {
         ensures noted { is_report_noted self.new report.now ≡ true }
         ensures reported { IsReadIf (λ number. reports_read number report.now) self.old self.new }
         ensures kept { KeepsNotes self.old self.new }
+        ensures dues { (number : ℕ) → due_at self.new number ≡ due_at self.old number }
         ensures told { ((number : ℕ) → is_link_registered self.old number ≡ true) → Steps (AreNoteCalls (HasLink self.old) (IsTriedTo self.old)) (S.journal system.old) (S.journal system.new) }
         ensures goes { GoesOn self.old self.new }
     {
@@ -148,6 +153,7 @@ impl<T: Drop, L: Drop> SocketSet<T, L> {
         ensures noted { is_noted self.new number readable writable ≡ true }
         ensures reported { IsReadIf (λ other. nat_eq number other && readable) self.old self.new }
         ensures kept { KeepsNotes self.old self.new }
+        ensures dues { (other : ℕ) → due_at self.new other ≡ due_at self.old other }
         ensures told { ((number : ℕ) → is_link_registered self.old number ≡ true) → Steps (AreNoteCalls (HasLink self.old) (IsTriedTo self.old)) (S.journal system.old) (S.journal system.new) }
         ensures goes { GoesOn self.old self.new }
     {
@@ -168,6 +174,7 @@ impl<T: Drop, L: Drop> SocketSet<T, L> {
         ensures noted { is_link_noted readable writable (tree.get nat_cmp self.new.links number) ≡ true }
         ensures reported { IsReadIf (λ other. nat_eq number other && readable) self.old self.new }
         ensures kept { KeepsNotes self.old self.new }
+        ensures dues { (other : ℕ) → due_at self.new other ≡ due_at self.old other }
         ensures told { ((number : ℕ) → is_link_registered self.old number ≡ true) → Steps (AreNoteCalls (HasLink self.old) (IsTriedTo self.old)) (S.journal system.old) (S.journal system.new) }
         ensures goes { GoesOn self.old self.new }
     {
@@ -308,7 +315,7 @@ impl<T: Drop, L: Drop> SocketSet<T, L> {
 }
 
 impl<T: Drop, L: Drop> SocketSet<T, L> {
-    ghost use Rattle.proxy_net.specs.Sockets.{GoesOn, IsReadIf, KeepsNotes, due_at, IsDelay, IsIdleTimeout, IsFirstDue, IsFirstLeft, is_pending_at, accept_left_at, is_stalled_at, is_accept_due_at, is_accept_early_at};
+    ghost use Rattle.proxy_net.specs.Sockets.{GoesOn, IsReadIf, KeepsNotes, IsTried, KeepsEarly, is_retried, is_overdue_at, due_at, IsDelay, IsIdleTimeout, IsFirstDue, IsFirstLeft, is_pending_at, accept_left_at, is_stalled_at, is_accept_due_at, is_accept_early_at};
     ghost use Rattle.std.specs.declared.time.Duration.{Duration};
 
     /// How long the system is waited for: not at all if something is to be named, and otherwise until the next try to
@@ -318,7 +325,7 @@ impl<T: Drop, L: Drop> SocketSet<T, L> {
         ensures idle { result ≡ None → self.now.ready.items ≡ [] }
         ensures waits { result ≡ None → IsFirstDue self.now self.now.pending.items None }
         ensures none_stalled { result ≡ None → (place : ℕ) → is_stalled_at self.now place ≡ false }
-        ensures until { self.now.ready.items ≡ [] → IsIdleTimeout self.now (nanos_of result) }
+        ensures until { self.now.ready.items ≡ [] → IsIdleTimeout S.shows self.now (nanos_of result) }
     {
         if !self.ready.is_empty() {
             return Some(Duration::ZERO);
@@ -409,6 +416,8 @@ impl<T: Drop, L: Drop> SocketSet<T, L> {
 
     /// Tries again what the system refused for a time, as far as it is time to.
     fn retry_all<S: Sockets<Stream = T, Listener = L>>(&mut self, system: &mut S)
+        ensures tried { ((number : ℕ) → is_retried self.old number ≡ true) → IsTried S.shows self.new }
+        ensures early { KeepsEarly S.shows self.old self.new }
         ensures reported { IsReadIf (λ _. false) self.old self.new }
         ensures kept { KeepsNotes self.old self.new }
         ensures told { ((number : ℕ) → is_link_registered self.old number ≡ true) → Steps (AreNoteCalls (HasLink self.old) (IsTriedTo self.old)) (S.journal system.old) (S.journal system.new) }
@@ -457,12 +466,15 @@ impl<T: Drop, L: Drop> SocketSet<T, L> {
         system: &mut S,
         now: Option<Instant>,
     )
+        ensures tried { (number : ℕ) → is_retried self.old number ≡ true → is_overdue_at self.new now number ≡ false }
+        ensures listeners { self.new.listeners ≡ self.old.listeners }
+        ensures early { (number : ℕ) (time due : Instant) → now ≡ Some time → due_at self.old number ≡ Some due → instant_nanos time < instant_nanos due → due_at self.new number ≡ Some due }
         ensures reported { IsReadIf (λ _. false) self.old self.new }
         ensures kept { KeepsNotes self.old self.new }
         ensures told { ((number : ℕ) → is_link_registered self.old number ≡ true) → Steps (AreNoteCalls (HasLink self.old) (IsTriedTo self.old)) (S.journal system.old) (S.journal system.new) }
         ensures goes { GoesOn self.old self.new }
     {
-        for _ in 0..self.pending.len() {
+        for _tries in 0..self.pending.len() {
             self.retry_first(system, now);
         }
     }
@@ -473,6 +485,11 @@ impl<T: Drop, L: Drop> SocketSet<T, L> {
         system: &mut S,
         now: Option<Instant>,
     )
+        ensures listeners { self.new.listeners ≡ self.old.listeners }
+        ensures first { (number : ℕ) → slice_get self.old.pending.items 0 ≡ Some number → is_overdue_at self.new now number ≡ false }
+        ensures others { (other : ℕ) → is_overdue_at self.old now other ≡ false → is_overdue_at self.new now other ≡ false }
+        ensures early { (number : ℕ) (time due : Instant) → now ≡ Some time → due_at self.old number ≡ Some due → instant_nanos time < instant_nanos due → due_at self.new number ≡ Some due }
+        ensures queue { (self.new.pending.items ≡ drop 1 self.old.pending.items ++ take 1 self.old.pending.items) ⊎ (self.new.pending.items ≡ drop 1 self.old.pending.items) }
         ensures reported { IsReadIf (λ _. false) self.old self.new }
         ensures kept { KeepsNotes self.old self.new }
         ensures told { ((number : ℕ) → is_link_registered self.old number ≡ true) → Steps (AreNoteCalls (HasLink self.old) (IsTriedTo self.old)) (S.journal system.old) (S.journal system.new) }
@@ -501,8 +518,13 @@ impl<T: Drop, L: Drop> SocketSet<T, L> {
         now: Option<Instant>,
     ) -> Attempt
         ensures pending { self.new.pending ≡ self.old.pending }
+        ensures listeners { self.new.listeners ≡ self.old.listeners }
         ensures done { result ≡ Attempt.Done → is_pending_at self.new number ≡ false }
         ensures late { (time due : Instant) → now ≡ Some time → due_at self.old number ≡ Some due → instant_nanos due ≤ instant_nanos time → result ≢ Attempt.NotDue }
+        ensures early { (time due : Instant) → now ≡ Some time → due_at self.old number ≡ Some due → instant_nanos time < instant_nanos due → (result ≡ Attempt.NotDue) × (due_at self.new number ≡ Some due) }
+        ensures tried { is_overdue_at self.new now number ≡ false }
+        ensures made { Steps (IsAttemptOf (tree.get nat_cmp self.old.links number) now (tree.get nat_cmp self.new.links number)) (S.journal system.old) (S.journal system.new) }
+        ensures others { (other : ℕ) → nat_eq number other ≡ false → due_at self.new other ≡ due_at self.old other }
         ensures reported { IsReadIf (λ _. false) self.old self.new }
         ensures kept { KeepsNotes self.old self.new }
         ensures told { ((number : ℕ) → is_link_registered self.old number ≡ true) → Steps (AreNoteCalls (HasLink self.old) (IsTriedTo self.old)) (S.journal system.old) (S.journal system.new) }

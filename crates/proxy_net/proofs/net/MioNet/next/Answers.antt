@@ -4,6 +4,7 @@ use Rattle.proxy_net.specs.Sockets.{HasLink, IsTriedTo}
 use Rattle.proxy_net.specs.declared.net.Turn.TheVariants.{Named, Ended, Again}
 use Rattle.proxy_net.proofs.Going.{goes_through, wished_before}
 use Rattle.proxy_net.proofs.Reading.{closed_through}
+use Rattle.proxy_net.proofs.Retrying.{early_through}
 use Rattle.proxy_net.proofs.Telling.{steps_through, steps_weaker}
 use Rattle.proxy_net.proofs.Waiting.{again_then, many_fail, named_succeeds, named_then, not_quiet, not_true, turns_before, waits_then}
 use Rattle.proxy_net.proofs.net.MioNet.next.Goals as goal
@@ -70,9 +71,19 @@ loop-turn-preserved g c =
     record {
       goes = goes_through c.loop-turn.invariant.goes c.turn.ensures.goes;
       closed = closed_through c.loop-turn.invariant.closed c.turn.ensures.closed;
+      early = early_through c.loop-turn.invariant.early c.turn.ensures.early;
       there = not_true _ (λ gone. absurd (let no : Again ≡ Ended = c.in-Again.ensures.ended.1 gone in cc));
       present = c.turn.ensures.present ∙ c.loop-turn.invariant.present;
       replaces = c.turn.ensures.replaces ∙ c.loop-turn.invariant.replaces;
       once = λ told. c.turn.ensures.once (c.loop-turn.invariant.once told);
       asked = steps_through (λ first second p q. again_then c.loop-turn._turn first second p (turns_before sockets c.loop-turn.self.sockets c.loop-turn.invariant.goes second q.0, q.1)) c.loop-turn.invariant.asked c.in-Again.ensures.asked;
     }
+
+pub returns-in-Named-clause-early : goal.returns-in-Named-clause-early
+returns-in-Named-clause-early g c = early_through c.loop-turn.invariant.early c.turn.ensures.early
+
+pub returns-in-Ended-clause-early : goal.returns-in-Ended-clause-early
+returns-in-Ended-clause-early g c = early_through c.loop-turn.invariant.early c.turn.ensures.early
+
+pub returns-in-Failed-clause-early : goal.returns-in-Failed-clause-early
+returns-in-Failed-clause-early g c = early_through c.loop-turn.invariant.early c.turn.ensures.early

@@ -6,6 +6,7 @@ use Rattle.proxy_net.specs.Sockets.{HasLink, IsTriedTo}
 use Rattle.proxy_net.specs.declared.reports.Report.{Report}
 use Rattle.proxy_net.proofs.Answering.{bound_kept, consistent_goes, counted_kept, silent_none, silent_one, silent_through}
 use Rattle.proxy_net.proofs.Going.{goes_through}
+use Rattle.proxy_net.proofs.Retrying.{early_same, early_through}
 use Rattle.proxy_net.proofs.Telling.{steps_one, steps_through, steps_weaker}
 use Rattle.proxy_net.proofs.Waiting.{asked_in_vain, asked_once, noted_then, registered_after, waits_before, waits_silent}
 use Rattle.proxy_net.proofs.net.MioNet.turn.Goals as goal
@@ -68,6 +69,11 @@ returns-then-is_gone-clause-asked g c =
 pub returns-else-is_gone-clause-goes : goal.returns-else-is_gone-clause-goes
 returns-else-is_gone-clause-goes g c = goes_through c.next.ensures.goes (goes_through c.ask.ensures.goes c.note_all.ensures.goes)
 
+pub returns-else-is_gone-clause-tried : goal.returns-else-is_gone-clause-tried
+returns-else-is_gone-clause-tried g c = λ _.
+    let goes = goes_through c.next.ensures.goes c.ask.ensures.goes in
+    c.note_all.ensures.tried (λ number. goes.retries number (c.args.self.now.consistent.retries number))
+
 pub returns-else-is_gone-clause-asked : goal.returns-else-is_gone-clause-asked
 returns-else-is_gone-clause-asked g c =
     let sockets = c.args.self.now.sockets in
@@ -76,3 +82,15 @@ returns-else-is_gone-clause-asked g c =
     let one : Steps (λ (calls : List SystemCall). AreWaits (HasLink sockets) (IsTriedTo sockets) c.args.self.now.starter c.after-self.result false calls × (1 ≤ length calls)) (g.S.Sockets.journal c.args.self.now.system) (g.S.Sockets.journal c.ask.new.system) =
     steps_one _ c.in-Ok.ensures.told.2 (asked_once c.ask.new.reports.items same, omega arith) in
     steps_through (λ first second p q. noted_then first second p q) one (waits_before sockets c.ask.new.self goes (c.note_all.ensures.told (registered_after sockets c.ask.new.self goes c.args.self.now.consistent.link_tokens)))
+
+pub returns-in-Some-clause-early : goal.returns-in-Some-clause-early
+returns-in-Some-clause-early g c = early_same c.args.self.now.sockets c.next.new.self c.next.ensures.reports.dues
+
+pub returns-in-Err-clause-early : goal.returns-in-Err-clause-early
+returns-in-Err-clause-early g c = early_through (early_same c.args.self.now.sockets c.next.new.self c.next.ensures.reports.dues) (early_same c.next.new.self c.ask.new.self c.ask.ensures.reports.dues)
+
+pub returns-then-is_gone-clause-early : goal.returns-then-is_gone-clause-early
+returns-then-is_gone-clause-early g c = early_through (early_same c.args.self.now.sockets c.next.new.self c.next.ensures.reports.dues) (early_same c.next.new.self c.ask.new.self c.ask.ensures.reports.dues)
+
+pub returns-else-is_gone-clause-early : goal.returns-else-is_gone-clause-early
+returns-else-is_gone-clause-early g c = early_through (early_same c.args.self.now.sockets c.next.new.self c.next.ensures.reports.dues) (early_through (early_same c.next.new.self c.ask.new.self c.ask.ensures.reports.dues) c.note_all.ensures.early)

@@ -1,4 +1,5 @@
 use Rattle.std.proofs.Common.{arith, vec_len}
+use Rattle.std.proofs.lemmas.Result.{on_ok_weaker}
 use Rattle.link_traits.specs.Answers.{listen_entry}
 use Rattle.proxy_net.proofs.Answering.{bound_more, listen_silent, listen_makes, asked_then_told, told_as, told_one, consistent_grows, counted_one, listener_numbered}
 use Rattle.proxy_net.proofs.Telling.{steps_weaker}
@@ -26,3 +27,7 @@ invariant_of-self g c =
           makes.0 (omega (arith, makes.1, c.listen-answer.ensures.sessions));
       bound = bound_more c.args.self.now.sockets c.listen-answer.new.self _ c.args.path.now _ c.listen-answer.result (asked_then_told (listen_entry c.args.path.now c.listen-answer.result) c.listen-answer.ensures.told (told_as (λ path. listen_entry path c.listen-answer.result) c.as_bytes.ensures.value c.tell.ensures)) c.listen-answer.ensures.made c.listen-answer.ensures.err c.listen-answer.ensures.file c.listen-answer.ensures.grows.files c.args.self.now.bound;
     }
+
+pub returns-clause-kept : goal.returns-clause-kept
+returns-clause-kept g c =
+    on_ok_weaker c.listen-answer.result (λ kept. asked_then_told (listen_entry c.args.path.now c.listen-answer.result) kept (told_as (λ path. listen_entry path c.listen-answer.result) c.as_bytes.ensures.value c.tell.ensures)) c.listen-answer.ensures.kept

@@ -9,6 +9,7 @@ use Rattle.proxy_net.specs.Connecting.{tried_path}
 use Rattle.proxy_net.specs.Registering.{is_own_link}
 use Rattle.proxy_net.specs.Sockets.{HasLink, IsTriedTo}
 use Rattle.proxy_net.specs.declared.link_sockets.LinkSocket.{LinkSocket}
+use Rattle.proxy_net.proofs.Attempting.{attempt_of}
 use Rattle.proxy_net.proofs.Telling.{steps_weaker}
 use Rattle.proxy_net.proofs.Waiting.{retried_waits}
 use Rattle.proxy_net.proofs.sockets.SocketSet.attempt.Goals as goal
@@ -33,3 +34,10 @@ returns-in-Some-clause-told g c = λ own.
     let registered = subst (λ (o : Option (LinkSocket _)). is_own_link c.args.number o ≡ true) found (own c.args.number) in
     steps_weaker (retried_waits (HasLink c.args.self.now) (IsTriedTo c.args.self.now) c.in-Some.socket.now.connection c.args.number registered
     (λ path e. ap (λ (o : Option (LinkSocket _)). unwrap_or (option_map (λ (s : LinkSocket _). tried_path s.connection) o) None) found ∙ e)) c.attempt-attempt.ensures.told
+
+pub returns-in-Some-clause-made : goal.returns-in-Some-clause-made
+returns-in-Some-clause-made g c =
+    let was : tree.get nat_cmp c.args.self.now.links c.args.number ≡ Some c.in-Some.socket.now = search rules in
+    let is : tree.get nat_cmp c.queue.new.self.links c.args.number ≡ Some c.take_place-is_new.new.self = search rules in
+    let same : c.take_place-is_new.new.self.connection ≡ c.attempt-attempt.new.self.connection = ap (λ (s : LinkSocket _). s.connection) c.take_place-is_new.ensures.same in
+    attempt_of _ _ c.in-Some.socket.now c.take_place-is_new.new.self c.attempt-attempt.new.self.connection c.args.now was is same c.attempt-attempt.ensures.made

@@ -18,6 +18,7 @@ loop-report-preserved g c =
     let rest = drop (c.loop-report.report-index + 1) c.args.reports.now in
     let step = drop_more c.args.reports.now c.loop-report.report-index none c.loop-report-test.true in
     record {
+      dues = λ number. c.note_of_side.ensures.dues number ∙ c.loop-report.invariant.dues number;
       goes = goes_through c.loop-report.invariant.goes c.note_of_side.ensures.goes;
       told = λ own. waits_through (HasLink c.args.self.now) (IsTriedTo c.args.self.now) (c.loop-report.invariant.told own) (waits_before c.args.self.now c.loop-report.self c.loop-report.invariant.goes (c.note_of_side.ensures.told (registered_after c.args.self.now c.loop-report.self c.loop-report.invariant.goes own)));
       kept = notes_through c.loop-report.invariant.kept c.note_of_side.ensures.kept;
