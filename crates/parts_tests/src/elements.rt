@@ -79,17 +79,26 @@ const ROWS: &[(&str, u32, &str)] = &[
 fn same_as(alloc: Global, row: &(&str, u32, &str)) -> Result<usize, AllocError> {
     let mut count = 0_usize;
     for other in ROWS {
-        if element(alloc, row)?.is_same(&element(alloc, other)?) {
+        if are_same(alloc, row, other)? {
             count = count.wrapping_add(1);
         }
     }
     Ok(count)
 }
 
+/// Whether two rows describe the same element.
+fn are_same(
+    alloc: Global,
+    row: &(&str, u32, &str),
+    other: &(&str, u32, &str),
+) -> Result<bool, AllocError> {
+    Ok(element(alloc, row)?.is_same(&element(alloc, other)?))
+}
+
 #[test]
 fn an_element_is_the_same_as_itself_alone(rt: HostRuntime) -> Result<(), Fail> {
     for row in ROWS {
-        assert!(rt; element(rt.alloc(), row)?.is_same(&element(rt.alloc(), row)?));
+        assert!(rt; are_same(rt.alloc(), row, row)?);
         assert_eq!(rt; same_as(rt.alloc(), row)?, 1);
     }
     Ok(())

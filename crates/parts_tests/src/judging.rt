@@ -2,7 +2,7 @@
 use crate::known::{Known, everything, everything_under, nothing};
 use crate::messages::message;
 use crate::whole::is_whole;
-use dbus_header::decode;
+use dbus_header::{Message, decode};
 use policy_view::Verdict;
 use std::alloc::{AllocError, Global};
 use std::test::Fail;
@@ -376,14 +376,19 @@ fn verdict_on(alloc: Global, known: &Known, row: &str) -> Result<Option<Verdict>
         return Ok(None);
     }
     match decode(&bytes) {
-        Ok(message) => Ok(Some(judge(
-            &known.options.policy,
-            &known.tracker,
-            &known.ledger,
-            &message,
-        ))),
+        Ok(message) => Ok(Some(verdict_by(known, &message))),
         Err(_) => Ok(None),
     }
+}
+
+/// The verdict on a message, by what is known.
+fn verdict_by(known: &Known, message: &Message<'_>) -> Verdict {
+    judge(
+        &known.options.policy,
+        &known.tracker,
+        &known.ledger,
+        message,
+    )
 }
 
 fn told(alloc: Global, known: &Known, row: &str) -> Result<String, AllocError> {
@@ -393,16 +398,21 @@ fn told(alloc: Global, known: &Known, row: &str) -> Result<String, AllocError> {
     }
 }
 
+/// The verdict on the message of a row under a policy of these words, with nothing known.
+fn told_under(alloc: Global, words: &str, row: &str) -> Result<String, AllocError> {
+    told(alloc, &nothing(alloc, words)?, row)
+}
+
 fn told_call(alloc: Global, row: &str) -> Result<String, AllocError> {
     let (kind, words) = row.split_once(' ').unwrap_or((row, ""));
     let row = format!(in alloc; "{kind} path=/p interface=org.a.I member=A to=org.a.T")?;
-    told(alloc, &nothing(alloc, words)?, &row)
+    told_under(alloc, words, &row)
 }
 
 fn told_rule(alloc: Global, row: &str) -> Result<String, AllocError> {
     let words = "--see=org.a.C --call=org.a.C=org.a.I.*@/p/* --call=org.a.C=org.a.J.M";
     let row = format!(in alloc; "call {row} to=org.a.C")?;
-    told(alloc, &nothing(alloc, words)?, &row)
+    told_under(alloc, words, &row)
 }
 
 fn told_property(alloc: Global, row: &str) -> Result<String, AllocError> {
@@ -414,7 +424,7 @@ fn told_no_request(alloc: Global, row: &str) -> Result<String, AllocError> {
     let words = "--see=org.a.C --property=org.a.C=org.a.I.Volume@/p/* --call=org.a.C=org.a.I.M \
         --property=org.a.C=org.a.J.*";
     let row = format!(in alloc; "{row} to=org.a.C")?;
-    told(alloc, &nothing(alloc, words)?, &row)
+    told_under(alloc, words, &row)
 }
 
 fn told_request(alloc: Global, row: &str) -> Result<String, AllocError> {
@@ -422,20 +432,24 @@ fn told_request(alloc: Global, row: &str) -> Result<String, AllocError> {
     let row = format!(in alloc;
         "{kind} path=/p interface=org.freedesktop.DBus.Properties member=Get to=org.a.T signature=ss text=org.a.I text=Volume"
     )?;
-    told(alloc, &nothing(alloc, words)?, &row)
+    told_under(alloc, words, &row)
+}
+
+/// The verdict on the message of a row under `WORDS` and further words, with all that is known.
+fn told_with_all(alloc: Global, words: &str, row: &str) -> Result<String, AllocError> {
+    told(alloc, &everything_under(alloc, words)?, row)
 }
 
 fn told_with_a_property(alloc: Global, row: &str) -> Result<String, AllocError> {
-    let known = everything_under(alloc, "--property=org.a.See=org.a.I.Volume")?;
-    told(alloc, &known, row)
+    told_with_all(alloc, "--property=org.a.See=org.a.I.Volume", row)
 }
 
 fn told_other(alloc: Global, row: &str) -> Result<String, AllocError> {
-    told(alloc, &everything(alloc)?, row)
+    told_with_all(alloc, "", row)
 }
 
 fn told_with_known_fields(alloc: Global, row: &str) -> Result<String, AllocError> {
-    told(alloc, &everything_under(alloc, "--known-fields")?, row)
+    told_with_all(alloc, "--known-fields", row)
 }
 
 fn told_start(alloc: Global, row: &str) -> Result<String, AllocError> {
@@ -443,7 +457,7 @@ fn told_start(alloc: Global, row: &str) -> Result<String, AllocError> {
     let row = format!(in alloc;
         "call path=/ member=StartServiceByName signature=su text={name} number=0"
     )?;
-    told(alloc, &nothing(alloc, words)?, &row)
+    told_under(alloc, words, &row)
 }
 
 /// The verdicts on calls of the bus with each of these bodies.
@@ -451,13 +465,25 @@ fn told_bodies(alloc: Global, call: &str, bodies: &[&str]) -> Result<String, All
     let known = everything(alloc)?;
     let mut all = String::new(alloc);
     for body in bodies {
-        let row = format!(in alloc; "{call}{body}")?;
-        if !all.is_empty() {
-            all.push(' ')?;
-        }
-        all.push_str(&told(alloc, &known, &row)?)?;
+        add_told(alloc, &mut all, &known, call, body)?;
     }
     Ok(all)
+}
+
+/// Adds the verdict on a call with a body.
+fn add_told(
+    alloc: Global,
+    all: &mut String,
+    known: &Known,
+    call: &str,
+    body: &str,
+) -> Result<(), AllocError> {
+    let row = format!(in alloc; "{call}{body}")?;
+    let verdict = told(alloc, known, &row)?;
+    if !all.is_empty() {
+        all.push(' ')?;
+    }
+    all.push_str(&verdict)
 }
 
 fn told_levels(alloc: Global, call: &str) -> Result<String, AllocError> {

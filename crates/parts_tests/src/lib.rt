@@ -16,6 +16,8 @@ mod own;
 #[cfg(test)]
 mod own_messages;
 #[cfg(test)]
+mod policies;
+#[cfg(test)]
 mod replies;
 #[cfg(test)]
 mod serials;

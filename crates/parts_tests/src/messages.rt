@@ -8,18 +8,29 @@ pub fn message(alloc: Global, row: &str) -> Result<Vec<u8>, AllocError> {
     let mut fields = Vec::new(alloc);
     let mut body = Vec::new(alloc);
     for word in words.split(' ') {
-        let (key, value) = word.split_once('=').unwrap_or((word, ""));
-        add_field(&mut fields, key, value)?;
-        add_value(&mut body, key, value)?;
+        add_word(&mut fields, &mut body, word)?;
     }
+    let mut bytes = front(alloc, kind, body.len(), fields.len())?;
+    bytes.extend_from_slice(&fields)?;
+    pad_to_eight(&mut bytes)?;
+    bytes.extend_from_slice(&body)?;
+    Ok(bytes)
+}
+
+/// Adds the header field or the value that a word describes.
+fn add_word(fields: &mut Vec<u8>, body: &mut Vec<u8>, word: &str) -> Result<(), AllocError> {
+    let (key, value) = word.split_once('=').unwrap_or((word, ""));
+    add_field(fields, key, value)?;
+    add_value(body, key, value)
+}
+
+/// The bytes before the header fields of a message of a kind, with these lengths of its body and of its fields.
+fn front(alloc: Global, kind: &str, body: usize, fields: usize) -> Result<Vec<u8>, AllocError> {
     let [kind, flags] = type_and_flags(kind);
     let mut bytes = Vec::from_slice(alloc, &[b'l', kind, flags, 1])?;
-    bytes.extend_from_slice(&number(body.len()))?;
-    bytes.extend_from_slice(&number(9))?;
-    bytes.extend_from_slice(&number(fields.len()))?;
-    bytes.extend_from_slice(&fields)?;
-    pad(&mut bytes, 8)?;
-    bytes.extend_from_slice(&body)?;
+    for value in [body, 9, fields] {
+        bytes.extend_from_slice(&number(value))?;
+    }
     Ok(bytes)
 }
 
@@ -57,20 +68,20 @@ fn add_field(fields: &mut Vec<u8>, key: &str, value: &str) -> Result<(), AllocEr
 
 /// Adds the code and the type of a header field, and its text.
 fn add_text(fields: &mut Vec<u8>, head: [u8; 4], text: &str) -> Result<(), AllocError> {
-    pad(fields, 8)?;
+    pad_to_eight(fields)?;
     fields.extend_from_slice(&head)?;
     add_string(fields, text)
 }
 
 fn add_reply(fields: &mut Vec<u8>, serial: &str) -> Result<(), AllocError> {
-    pad(fields, 8)?;
+    pad_to_eight(fields)?;
     fields.extend_from_slice(&[5, 1, b'u', 0])?;
     fields.extend_from_slice(&number(serial.parse().unwrap_or(0)))
 }
 
 fn add_signature(fields: &mut Vec<u8>, signature: &str) -> Result<(), AllocError> {
     let [len, ..] = signature.len().to_le_bytes();
-    pad(fields, 8)?;
+    pad_to_eight(fields)?;
     fields.extend_from_slice(&[8, 1, b'g', 0, len])?;
     fields.extend_from_slice(signature.as_bytes())?;
     fields.push(0)?;
@@ -81,25 +92,27 @@ fn add_signature(fields: &mut Vec<u8>, signature: &str) -> Result<(), AllocError
 /// list.
 fn add_value(body: &mut Vec<u8>, key: &str, value: &str) -> Result<(), AllocError> {
     match key {
-        "text" => {
-            pad(body, 4)?;
-            add_string(body, value)
-        }
-        "number" => {
-            pad(body, 4)?;
-            body.extend_from_slice(&number(value.parse().unwrap_or(0)))
-        }
-        "variant" => {
-            body.extend_from_slice(b"\x01u\0")?;
-            pad(body, 4)?;
-            body.extend_from_slice(&number(value.parse().unwrap_or(0)))
-        }
-        "no_texts" => {
-            pad(body, 4)?;
-            body.extend_from_slice(&number(0))
-        }
+        "text" => add_body_text(body, value),
+        "number" => add_number(body, value),
+        "variant" => add_variant(body, value),
+        "no_texts" => add_number(body, "0"),
         _ => Ok(()),
     }
+}
+
+fn add_body_text(body: &mut Vec<u8>, text: &str) -> Result<(), AllocError> {
+    pad_to_four(body)?;
+    add_string(body, text)
+}
+
+fn add_variant(body: &mut Vec<u8>, value: &str) -> Result<(), AllocError> {
+    body.extend_from_slice(b"\x01u\0")?;
+    add_number(body, value)
+}
+
+fn add_number(body: &mut Vec<u8>, value: &str) -> Result<(), AllocError> {
+    pad_to_four(body)?;
+    body.extend_from_slice(&number(value.parse().unwrap_or(0)))
 }
 
 fn add_string(bytes: &mut Vec<u8>, text: &str) -> Result<(), AllocError> {
@@ -109,15 +122,24 @@ fn add_string(bytes: &mut Vec<u8>, text: &str) -> Result<(), AllocError> {
     Ok(())
 }
 
-/// Adds zeros up to a multiple of four or eight bytes.
-fn pad(bytes: &mut Vec<u8>, alignment: usize) -> Result<(), AllocError> {
-    for _ in 0..8 {
-        if alignment != 0 && bytes.len() % alignment == 0 {
-            return Ok(());
-        }
-        bytes.push(0)?;
+/// Adds zeros up to a multiple of four bytes.
+fn pad_to_four(bytes: &mut Vec<u8>) -> Result<(), AllocError> {
+    let over = bytes.len() % 4;
+    add_zeros_from(bytes, &[0; 4], over)
+}
+
+/// Adds zeros up to a multiple of eight bytes.
+fn pad_to_eight(bytes: &mut Vec<u8>) -> Result<(), AllocError> {
+    let over = bytes.len() % 8;
+    add_zeros_from(bytes, &[0; 8], over)
+}
+
+/// Adds the zeros from a place on, and none for the place 0.
+fn add_zeros_from(bytes: &mut Vec<u8>, zeros: &[u8], place: usize) -> Result<(), AllocError> {
+    if place == 0 {
+        return Ok(());
     }
-    Ok(())
+    bytes.extend_from_slice(zeros.get(place..).unwrap_or(&[]))
 }
 
 /// A number as four bytes, the lowest byte first.

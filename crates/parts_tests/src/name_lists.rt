@@ -1,10 +1,11 @@
 //! Lists of names, cut to those that are seen.
+use crate::policies::policy_of;
 use crate::whole::is_whole;
 use bytes::BytesMut;
-use dbus_header::decode;
+use dbus_header::{Message, decode};
 use dbus_values::Order;
 use name_filters::cut;
-use policy_args::{Policy, read_options, words_of};
+use policy_args::Policy;
 use std::alloc::{AllocError, Global};
 use std::test::Fail;
 use unique_names::Tracker;
@@ -16,28 +17,34 @@ fn front(
     reply_serial: u8,
     body_len: u8,
 ) -> Result<Vec<u8>, AllocError> {
-    let mut bytes = Vec::new(alloc);
-    match order {
-        Order::Little => {
-            bytes.extend_from_slice(b"l\x02\x01\x01")?;
-            bytes.push(body_len)?;
-            bytes.extend_from_slice(b"\0\0\0\x1e\0\0\0\x40\0\0\0\x05\x01u\0")?;
-            bytes.push(reply_serial)?;
-            bytes.extend_from_slice(
-                b"\0\0\0\x06\x01s\0\x05\0\0\0:1.40\0\0\0\x07\x01s\0\x14\0\0\0",
-            )?;
-        }
-        Order::Big => {
-            bytes.extend_from_slice(b"B\x02\x01\x01\0\0\0")?;
-            bytes.push(body_len)?;
-            bytes.extend_from_slice(b"\0\0\0\x1e\0\0\0\x40\x05\x01u\0\0\0\0")?;
-            bytes.push(reply_serial)?;
-            bytes.extend_from_slice(b"\x06\x01s\0\0\0\0\x05:1.40\0\0\0\x07\x01s\0\0\0\0\x14")?;
-        }
-    }
+    let (before_len, before_serial, after_serial) = match order {
+        Order::Little => LITTLE_FRONT,
+        Order::Big => BIG_FRONT,
+    };
+    let mut bytes = Vec::from_slice(alloc, before_len)?;
+    bytes.push(body_len)?;
+    bytes.extend_from_slice(before_serial)?;
+    bytes.push(reply_serial)?;
+    bytes.extend_from_slice(after_serial)?;
     bytes.extend_from_slice(b"org.freedesktop.DBus\0\0\0\0\x08\x01g\0\x02as\0")?;
     Ok(bytes)
 }
+
+/// The bytes of a return before the length of its body, between that and REPLY_SERIAL's value, and after it up to
+/// SENDER's value.
+type Front = (&'static [u8], &'static [u8], &'static [u8]);
+
+const LITTLE_FRONT: Front = (
+    b"l\x02\x01\x01",
+    b"\0\0\0\x1e\0\0\0\x40\0\0\0\x05\x01u\0",
+    b"\0\0\0\x06\x01s\0\x05\0\0\0:1.40\0\0\0\x07\x01s\0\x14\0\0\0",
+);
+
+const BIG_FRONT: Front = (
+    b"B\x02\x01\x01\0\0\0",
+    b"\0\0\0\x1e\0\0\0\x40\x05\x01u\0\0\0\0",
+    b"\x06\x01s\0\0\0\0\x05:1.40\0\0\0\x07\x01s\0\0\0\0\x14",
+);
 
 /// The message with this body.
 pub(crate) fn message(
@@ -66,10 +73,21 @@ fn cut_behind_abc(
     let Ok(message) = decode(message) else {
         return Ok(into);
     };
-    if message.signature.as_bytes() == b"as".as_slice() && message.reply_serial.is_some() {
-        cut(&mut into, policy, tracker, &message, 7)?;
-    }
+    add_cut(&mut into, policy, tracker, &message)?;
     Ok(into)
+}
+
+/// Appends the cut message, if its body is a list.
+fn add_cut(
+    into: &mut BytesMut,
+    policy: &Policy,
+    tracker: &Tracker,
+    message: &Message<'_>,
+) -> Result<(), AllocError> {
+    if message.signature.as_bytes() == b"as".as_slice() && message.reply_serial.is_some() {
+        cut(into, policy, tracker, message, 7)?;
+    }
+    Ok(())
 }
 
 /// Bodies in little-endian order, each with the one to which it is cut.
@@ -140,12 +158,6 @@ fn is_cut_to(
     Ok(message == left)
 }
 
-/// The policy of the lists.
-fn policy_of_lists(alloc: Global) -> Result<Policy, Fail> {
-    let words = words_of(alloc, b"--filter\0--see=org.a.*\0")?;
-    Ok(read_options(alloc, &words)?.policy)
-}
-
 /// A tracker for which the client met `:1.5`.
 fn met(alloc: Global, policy: &Policy) -> Result<Tracker, AllocError> {
     let mut tracker = Tracker::new(alloc);
@@ -173,7 +185,7 @@ fn are_cut(
 
 #[test]
 fn lists_are_cut(rt: HostRuntime) -> Result<(), Fail> {
-    let policy = policy_of_lists(rt.alloc())?;
+    let policy = policy_of(rt.alloc(), "--filter\0--see=org.a.*\0")?;
     assert!(rt; are_cut(rt.alloc(), &policy, Order::Little, &LITTLE)?);
     assert!(rt; are_cut(rt.alloc(), &policy, Order::Big, &BIG)?);
     Ok(())

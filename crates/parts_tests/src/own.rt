@@ -1,5 +1,6 @@
 //! The calls by which the proxy learns who owns the names of its policy.
 use crate::name_lists::message;
+use crate::policies::policy_of;
 use crate::whole::is_whole;
 use bytes::BytesMut;
 use dbus_header::decode;
@@ -8,7 +9,7 @@ use dbus_values::{Order, Texts};
 use name_patterns::Pattern;
 use own_calls::{after_hello, after_names, asked, count};
 use ping_rewrite::{add_match, get_owner, list_names};
-use policy_args::{Policy, read_options, words_of};
+use policy_args::Policy;
 use reply_ledger::{Kind, Ledger};
 use serial_map::Serials;
 use std::alloc::{AllocError, Global};
@@ -16,11 +17,6 @@ use std::test::Fail;
 
 /// The number of serials that are given before the first own call.
 const GIVEN: u32 = 1;
-
-fn policy_of(alloc: Global, words: &str) -> Result<Policy, Fail> {
-    let words = words_of(alloc, words.as_bytes())?;
-    Ok(read_options(alloc, &words)?.policy)
-}
 
 /// Appends the call that a text names: `match PATTERN`, `owner NAME` or `names`.
 fn put(alloc: Global, calls: &mut BytesMut, serial: u32, text: &str) -> Result<(), Fail> {

@@ -79,10 +79,13 @@ fn kinds_are_given_once(rt: HostRuntime) -> Result<(), Fail> {
 fn expecting_calls(alloc: Global, count: u32) -> Result<Ledger, AllocError> {
     let mut ledger = Ledger::new(alloc);
     for before in 0..count {
-        let serial = before.wrapping_add(1);
-        ledger.expect(serial, Kind::Call(serial))?;
+        expect_call(&mut ledger, before.wrapping_add(1))?;
     }
     Ok(ledger)
+}
+
+fn expect_call(ledger: &mut Ledger, serial: u32) -> Result<(), AllocError> {
+    ledger.expect(serial, Kind::Call(serial))
 }
 
 #[test]
@@ -120,6 +123,11 @@ fn owing(alloc: Global) -> Result<Ledger, AllocError> {
     Ok(ledger)
 }
 
+/// Whether a reply is owed, and whether it is counted as one that was owed.
+fn answered(ledger: &mut Ledger, dest: &str, serial: u32) -> (bool, bool) {
+    (ledger.owed(dest, serial), ledger.answer(dest, serial))
+}
+
 #[test]
 fn replies_are_owed_to_pairs(rt: HostRuntime) -> Result<(), Fail> {
     let mut ledger = owing(rt.alloc())?;
@@ -139,7 +147,7 @@ fn replies_are_owed_to_pairs(rt: HostRuntime) -> Result<(), Fail> {
         (":1.50", 8, true),
         (":1.50", 8, false),
     ] {
-        let told = (ledger.owed(dest, serial), ledger.answer(dest, serial));
+        let told = answered(&mut ledger, dest, serial);
         assert_eq!(rt; told, (owed, owed), "{dest} {serial}");
     }
     call(&mut ledger, ":1.5", 7)?;

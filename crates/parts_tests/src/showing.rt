@@ -2,7 +2,7 @@
 use crate::known::{Known, everything, everything_under};
 use crate::messages::message;
 use crate::whole::is_whole;
-use dbus_header::decode;
+use dbus_header::{Message, decode};
 use policy_view::Showing;
 use std::alloc::{AllocError, Global};
 use std::test::Fail;
@@ -81,14 +81,15 @@ fn shown(alloc: Global, known: &Known, row: &str) -> Result<Option<Showing>, All
         return Ok(None);
     }
     match decode(&bytes) {
-        Ok(message) => Ok(Some(show(
-            &known.options.policy,
-            &known.tracker,
-            known.ledger.peek(message.reply_serial.unwrap_or(0)),
-            &message,
-        ))),
+        Ok(message) => Ok(Some(showing_by(known, &message))),
         Err(_) => Ok(None),
     }
+}
+
+/// What is shown of a message, by what is known.
+fn showing_by(known: &Known, message: &Message<'_>) -> Showing {
+    let kind = known.ledger.peek(message.reply_serial.unwrap_or(0));
+    show(&known.options.policy, &known.tracker, kind, message)
 }
 
 fn told_showing(alloc: Global, row: &str) -> Result<String, AllocError> {

@@ -1,20 +1,16 @@
 //! Levels and entries of unique names, from learned facts.
 ghost use Rattle.std.specs.Prelude.{◌≡◌, ◌<◌};
 
+use crate::policies::options_of;
 use dbus_names::{BusName, Name};
 use name_patterns::Steps;
-use policy_args::{Fact, Level, Options, Policy, read_options, words_of};
+use policy_args::{Fact, Level, Policy};
 use std::alloc::Global;
 use std::marker::Brand;
 use std::process::Abort;
 use std::sync::ledger::{Blank, Ledger};
 use std::test::Fail;
 use unique_names::{Entries, Tracker};
-
-fn options_of(alloc: Global, words: &str) -> Result<Options, Fail> {
-    let words = words_of(alloc, words.as_bytes())?;
-    Ok(read_options(alloc, &words)?)
-}
 
 fn name(alloc: Global, text: &str) -> Result<Name, Fail> {
     Ok(Name::new(String::from_str(alloc, text)?))
