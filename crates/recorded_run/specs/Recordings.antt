@@ -23,7 +23,8 @@ use Rattle.recorded_run.specs.Events.{recorded_events, recorded_history, is_refu
 abbrev pub recording_of : Journal → Sessions
 recording_of since = record { version = 2; auth = true; events = items_of since }
 
--- While no append failed, the file, if its bytes are told, is the spelling of the recording of the entries since the start.
+-- While no append failed, the file is the spelling of the recording of the entries since the start, if its bytes are
+-- known.
 abbrev pub IsExact : Option (List ℕ) → Option FileFault → Journal → Type 0
 IsExact told failed since = (bytes : List ℕ) → told ≡ Some bytes → failed ≡ None → bytes ≡ spelled_sessions (recording_of since)
 

@@ -22,8 +22,8 @@ pub record RunServed (blocks : List Block) (limit : ℕ) (before after : NetView
   pub wait : end ≡ Err Wait → RoseAt OfNet before after
   pub count : first.faults ≤ last.faults
 
--- Where the journal is told at the end it was told at the start, and entries were added to it. This holds of the journal at
--- the start and of these entries.
+-- If the journal is known at the end, it was known at the start, and entries were added to it. This holds of the
+-- journal at the start and of these entries.
 abbrev pub RunAdded : NetView → NetView → (Journal → Journal → Type 0) → Type 0
 RunAdded before after Holds = (now : Journal) → after.journal ≡ Some now →
     (was : Journal) × (since : Journal) × (before.journal ≡ Some was) × (now ≡ since ++ was) × Holds was since
@@ -32,8 +32,8 @@ RunAdded before after Holds = (now : Journal) → after.journal ≡ Some now →
 abbrev pub FromNoSessions : (Journal → Type 0) → Journal → Journal → Type 0
 FromNoSessions Holds was since = WithoutSessions was → Holds since
 
--- Each number whose connect was not refused memory is of no session, or what was written to its session's links is a prefix
--- of the bytes of the history of its recorded events, under the block of the listener that accepted it.
+-- Each number whose connect was not refused memory belongs to no session, or what was written to its session's links is
+-- a prefix of the bytes of the history of its recorded events, under the block of the listener that accepted it.
 abbrev pub LinksRecorded : List Block → Journal → Journal → Type 0
 LinksRecorded blocks was since = WithoutSessions was → (n : ℕ) → is_refused n since ≡ false →
     Fresh n (since ++ was) ⊎ StandsRecordedUnder blocks n (items_of since) (since ++ was)

@@ -1,4 +1,4 @@
--- A session of a recording while its events are played: at its start, after an event of its own, and after one of another session.
+-- A session of a recording while its events are played: at its start, after its own event, and after another session's.
 use Rattle.std.proofs.Common.{◌≡◌, ◌≤◌, ℕ, List, [], ◌∷◌, ◌++◌, Bool, true, false, if◌then◌else◌, refl, ap, sym, ◌∙◌, subst, arith, length, drop, map}
 use Rattle.std.specs.Prelude.{◌==◌, OnOk, Result, Ok, Err}
 use Rattle.std.proofs.lemmas.Bool.{eq-eqb}

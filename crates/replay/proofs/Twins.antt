@@ -45,8 +45,8 @@ mode_under policy recording = mode_of (compared_under policy) recording
 abbrev so_far : Policy → Recording → List Event → History
 so_far policy recording events = history policy (mode_under policy recording) events
 
--- These elements were given of events that bring bytes, and the next is this one or there is none. As far as that the part of
--- these events is that of the recording.
+-- These elements were given for events that bring bytes, and the next is this one or there is none. Up to there the
+-- part of these events is that of the recording.
 record Fixed (policy : Policy) (recording : Recording) (given : List Element) (next : Option Element) : Type 0 where
   events : List Event
   bytes : AllByRecursion BringsBytes events

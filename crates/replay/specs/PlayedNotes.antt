@@ -30,7 +30,8 @@ most_pieces events = sum_by (λ event. size_of event + 1) events
 abbrev pub notes_under : PolicyOptions → Recording → List Note
 notes_under options recording = notes options.policy (history_of (with_log options) recording)
 
--- The session stands for events that have the recording's notes once what is left is played too, and these notes were taken from it.
+-- The session represents events that have the recording's notes once what is left is played too, and these notes were
+-- taken from it.
 pub record GaveNotes (options : PolicyOptions) (recording : Recording) (played : PlayedNotes) (given : List Note) : Type 0 where
   pub taken : Taken
   pub events : List Event

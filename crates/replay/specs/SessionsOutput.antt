@@ -1,5 +1,5 @@
--- What a replay writes of a recording of many sessions: of each session the records that a replay of it alone writes, with the
--- session's number after the kind; and a log, if one is asked for.
+-- What a replay writes of a recording of many sessions: for each session the records that a replay of it alone writes,
+-- with the session's number after the kind; and a log, if one is asked for.
 use Rattle.std.specs.Prelude.{ℕ, Bool, not, ◌==◌, if◌then◌else◌, List, [], ◌∷◌, ◌++◌, length, map, reverse, Option, Some, None}
 use Rattle.std.specs.List.{filter, flat_map}
 use Rattle.explain_log.specs.Lines.{log_line}

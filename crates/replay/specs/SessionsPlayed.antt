@@ -32,8 +32,8 @@ noted_by policy mode earlier (event ∷ events) =
 abbrev pub notes_taken : List Note → Taken
 notes_taken notes = record { bus_side = []; client_side = []; notes = notes; visible = []; held = 0 }
 
--- The session of a number runs, or ended for a cause other than memory. It stands for its own events among these, and all notes that
--- it made were taken. What waits in it is bounded by the size of all events.
+-- The session of a number runs, or ended for a cause other than memory. It represents its own events among these, and
+-- all notes that it made were taken. What waits in it is bounded by the size of all events.
 pub record Plays (policy : Policy) (mode : Mode) (events : List SessionEvent) (number : ℕ) (session : SessionView) : Type 0 where
   pub mode_is : session.mode ≡ mode
   pub sound : is_memory session.ended ≡ false

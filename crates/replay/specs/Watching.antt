@@ -11,7 +11,8 @@ use Rattle.replay_output.specs.Output.{events_of, history_of, mode_of}
 use Rattle.replay.specs.Twins.{compared_under}
 use Rattle.replay.specs.declared.watching.Watched.{Watched}
 
--- the session stands for the events of the recording that were played, which bring bytes, and these elements were taken from it
+-- the session represents the events of the recording that were played, which bring bytes, and these elements were taken
+-- from it
 pub record Gave (policy : Policy) (recording : Recording) (watched : Watched) (given : List Element) : Type 0 where
   pub taken : Taken
   pub mode : watched.session.mode ≡ mode_of (compared_under policy) recording

@@ -74,6 +74,21 @@ fn compare_watched(
     Err(AllocError)
 }
 
+/// Plays another recording beside the first, of which nothing was played yet, and compares what is left of both.
+fn compare_with(
+    alloc: Global,
+    policy: &Policy,
+    one: &Recording,
+    other: &Recording,
+    first: &mut Watched,
+) -> Result<TwinAnswer, AllocError>
+    requires { Gave policy.now (recording_seen one.now) first.old [] }
+    ensures { IfOk result (λ answer. Compares (part_of_recording policy.now (recording_seen one.now)) (part_of_recording policy.now (recording_seen other.now)) answer) }
+{
+    let mut second = Watched::new(alloc, policy, other)?;
+    compare_watched(policy, one, other, first, &mut second)
+}
+
 /// Plays both recordings, and compares what is left of them.
 fn compare(
     alloc: Global,
@@ -84,8 +99,7 @@ fn compare(
     ensures { IfOk result (λ answer. Compares (part_of_recording policy.now (recording_seen one.now)) (part_of_recording policy.now (recording_seen other.now)) answer) }
 {
     let mut first = Watched::new(alloc, policy, one)?;
-    let mut second = Watched::new(alloc, policy, other)?;
-    compare_watched(policy, one, other, &mut first, &mut second)
+    compare_with(alloc, policy, one, other, &mut first)
 }
 
 /// Plays two recordings under a policy, always filtering, and compares the policy-visible parts of their histories,

@@ -23,8 +23,8 @@ note_at notes (suc n) = slice_get notes n
 abbrev pub explanation : Policy → Note → List ℕ
 explanation policy note = log_line 1 note ++ unwrap_or (entry_line policy note) []
 
--- The explanation of the recording's message of a number, from 1; none where no message has the number. A message is told whether
--- the options ask for a log or not. Without the filter a recording has no messages.
+-- The explanation of the recording's message of a number, from 1; none if no message has the number. It doesn't depend
+-- on whether the options ask for a log. Without the filter a recording has no messages.
 unfoldable pub explained : PolicyOptions → Recording → ℕ → Option (List ℕ)
 explained options recording number =
     option_map (explanation options.policy) (note_at (notes options.policy (history_of (with_log options) recording)) number)

@@ -1,5 +1,5 @@
--- What a replay writes: a record of the bytes for the bus, one of those for the client, and one of the session's End; and a
--- log, where one is asked for.
+-- What a replay writes: a record of the bytes for the bus, one of those for the client, and one of the session's End;
+-- and a log, if one is asked for.
 use Rattle.std.specs.Prelude.{ℕ, ◌==◌, if◌then◌else◌, List, [], ◌∷◌, ◌++◌, length, map, reverse, Option, Some, None}
 use Rattle.std.specs.Int.{w32, w64, to_le_bytes}
 use Rattle.dbus_header.specs.Malformed.{kind_number}
@@ -50,8 +50,8 @@ record_where_any kind bytes = if length bytes == 0 then [] else record_of kind b
 
 -- ---- the record of an End
 
--- a byte for the form of the fault, which is 0 for a line's and 1 for a message's, a byte for its kind, and its place in
--- eight bytes
+-- a byte for the form of the fault, which is 0 for a line's and 1 for a message's, a byte for its kind, and its place
+-- in eight bytes
 abbrev pub fault_bytes : Fault → List ℕ
 fault_bytes (Line f) = 0 ∷ line_number f.kind ∷ to_le_bytes w64 f.at
 fault_bytes (Message m) = 1 ∷ kind_number m.kind ∷ to_le_bytes w64 m.at

@@ -19,14 +19,6 @@ pub returns-in_err-put_line-clause-refused : goal.returns-in_err-put_line-clause
 returns-in_err-put_line-clause-refused g c =
     λ refused. log-refused _ _ _ _ _ _ _ c.loop-note.invariant.taken c.in-Some.ensures.some.0 c.in-Some.note c.loop-note.invariant.logged c.in-Some.ensures.some.1 c.in-Some.ensures.some.2 (c.put_line.ensures.memory (same_fault c.from_residual.result c.put_line.result c.in_err-put_line.field-0.0 Memory c.from_residual.ensures.1 c.in_err-put_line.was refused))
 
-pub loop-note-preserved-in_ok-put_line : goal.loop-note-preserved-in_ok-put_line
-loop-note-preserved-in_ok-put_line g c = record {
-  taken = c.loop-note.invariant.taken ++ c.in-Some.note ∷ [];
-  logged = log-step _ _ _ _ _ _ _ _ c.loop-note.invariant.taken c.in-Some.ensures.some.0 c.in-Some.note c.loop-note.invariant.logged c.in-Some.ensures.some.1 c.in-Some.ensures.some.2
-      c.in_ok-put_line.ensures.ok;
-  count = omega arith;
-}
-
 pub loop-note-preserved : goal.loop-note-preserved
 loop-note-preserved g c = record {
   taken = c.loop-note.invariant.taken ++ c.in-Some.note ∷ [];
