@@ -28,7 +28,8 @@ open_within before base now (item ∷ added, e) runs (inr (end, same)) =
     let longer : suc (length base) ≡ suc (length (added ++ before)) = ap length (sym same ∙ e) in
     omega (arith, longer, length-append added before)
 
--- The first `done` items of the journal's history give what was written and then waits, and the notes that were taken and those that wait.
+-- The first `done` items of the journal's history give what was written and then waits, and the notes that were taken
+-- and those that wait.
 pub record HeldFirst (policy : Policy) (n : ℕ) (session : SessionView) (journal : Journal) (told : List Note) (least : ℕ) : Type 0 where
   pub done : ℕ
   pub before : least ≤ done

@@ -68,8 +68,8 @@ unread_wrote : (n : ℕ) (side : Side) (idle : Bool) (link : Link) (reads : Jour
 unread_wrote n side true link reads none = ap (written link) none
 unread_wrote n side false link reads once = ap (written link) once.1.one ∙ read_wrote link (link_at n side) once.1.into once.1.answer
 
--- What waited is a prefix of what was written and then waits: the first writes take from its front, the read adds to its end, and the second
--- writes take from its front.
+-- What waited is a prefix of what was written and then waits: the first writes take from its start, the read adds to
+-- its end, and the second writes take from its start.
 kept_front : (link : Link) (shuts second reads first : Journal) (q0 q1 q2 q3 : List ℕ) → written link shuts ≡ [] → written link reads ≡ [] →
     q0 ≡ written link first ++ q1 → IsFront q1 q2 → q2 ≡ written link second ++ q3 →
     IsFront q0 (written link (shuts ++ (second ++ (reads ++ first))) ++ q3)

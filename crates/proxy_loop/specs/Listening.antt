@@ -59,8 +59,8 @@ path_at block = string_bytes block.path
 abbrev pub ListensForBlocks : List Block → Journal → Type 0
 ListensForBlocks blocks journal = IsFront (listeners_of journal) (numbered_from 0 (map path_at blocks))
 
--- The first blocks' paths were listened at, in order, and nothing else was done. Their listeners are numbered from the number of
--- those that were there before, which is none at a fresh net: then a block's listener has the block's place.
+-- The first blocks' paths were listened at, in order, and nothing else was done. Their listeners are numbered on from
+-- those that were there before. A new net has none: then a block's listener has the block's place as its number.
 pub record Heard (blocks : List Block) (count : ℕ) (before after : NetView) : Type 0 where
   pub told : (now : Journal) → after.journal ≡ Some now → (was : Journal) × (before.journal ≡ Some was)
       × (added : Journal) × (now ≡ added ++ was) × (all_are is_listened added ≡ true) × (listeners_of added ≡ numbered_from (listens was) (map path_at (take count blocks)))

@@ -38,7 +38,8 @@ abbrev pub LogEnds : Bool → SessionView → SessionView → List Note → List
 LogEnds false old new left rest before after = (left ≡ []) × (rest ≡ []) × (new ≡ record old { notes = [] })
 LogEnds true old new left rest before after = Rose before.faults after.faults × (new ≡ stopped_at old.ended LogFault (record old { notes = left }))
 
--- The notes of a session were logged: the lines of those that were taken were written, or a prefix of these, and then the sink failed.
+-- The notes of a session were logged: the lines of those that were taken were written, or a prefix of these, and then
+-- the sink failed.
 pub record Logs (n : ℕ) (old new : SessionView) (before after : SinkView) : Type 0 where
   pub taken : List Note
   pub left : List Note

@@ -26,7 +26,8 @@ use Rattle.proxy_loop.specs.Kinds.{writes_of, gave_bytes, all_are, some_of, gone
 use Rattle.proxy_loop.specs.Works.{Only, Goes, Stood, Cause, OneRead, FedOnce, KeepsWaiting, IsDrained, WritesInOrder, link_at, is_full, ShutBoth}
 use Rattle.proxy_loop.specs.Logging.{stop_events, Logs}
 
--- To a link that is gone nothing more is written: then an End stands. While a session that makes notes runs, none is left.
+-- Nothing more is written to a link that is gone: the session has an End then. While a session runs, no note is left in
+-- it.
 pub record Sound (running : Running) : Type 0 where
   pub client : running.client.gone ≡ true → is_some running.session.ended ≡ true
   pub bus : running.bus.gone ≡ true → is_some running.session.ended ≡ true
@@ -52,8 +53,8 @@ is_over running = is_some running.session.ended && (running.client.shut && runni
 
 -- ---- the parts of a turn
 
--- What was written to both links of a session: what waited was taken from the front of each queue, until nothing waited,
--- or a write failed or wasn't ready. A failed write ends the session.
+-- What was written to both links of a session: bytes were taken from the start of each queue, until nothing waited, or
+-- a write failed or wasn't ready. A failed write ends the session.
 pub record WroteBoth (n : ℕ) (old new : Running) (added : Journal) : Type 0 where
   pub all : all_are (writes_of n) added ≡ true
   pub order : WritesInOrder n (old.client.gone || old.client.shut) (old.bus.gone || old.bus.shut) added
@@ -88,8 +89,8 @@ abbrev pub ReadUnless : Bool → Link → Journal → Type 0
 ReadUnless true link added = added ≡ []
 ReadUnless false link added = (is_last : Bool) × OneRead link is_last added
 
--- The read of a turn, and what it does to the states of the links. It takes nothing that waits, whatever the End. If it gave no bytes, no
--- memory is refused.
+-- The read of a turn, and what it does to the states of the links. It takes nothing that waits, whatever the End. If it
+-- gave no bytes, no memory is refused.
 pub record ReadPart (n : ℕ) (side : Side) (idle : Bool) (old new : Running) (added : Journal) : Type 0 where
   pub once : ReadUnless idle (link_at n side) added
   pub client_gone : new.client.gone ≡ (some_of (gone_by (client_link n)) added || old.client.gone)
@@ -106,8 +107,8 @@ WrittenUnless true rest before after = Rose before.faults after.faults
 abbrev pub IsLogEnd : End → SinkView → SinkView → Type 0
 IsLogEnd end before after = (end ≡ LogFault) × Rose before.faults after.faults
 
--- The read of a turn and the lines of the new notes: the session is first fed; then notes are taken, and their lines written,
--- or a prefix of these, and then the sink failed and an End stands.
+-- The read of a turn and the lines of the new notes: the session first receives what was read; then notes are taken,
+-- and their lines are written, or a prefix of these if the sink failed, which ends the session.
 pub record ReadsAndLogs (policy : Policy) (logs : Bool) (n : ℕ) (side : Side) (idle : Bool) (old new : Running) (before after : NetView) (first last : SinkView) : Type 0 where
   pub fed : SessionView
   pub goes : Goes (Only policy) n old.session fed before after (ReadPart n side idle old new)
@@ -135,11 +136,11 @@ pub record ReadsAndLogs (policy : Policy) (logs : Bool) (n : ℕ) (side : Side) 
 abbrev pub IsDone : Link → List ℕ → Bool → Journal → Type 0
 IsDone link queue shut added = (queue ≡ []) ⊎ (shut ≡ true) ⊎ (last_write link added ≡ Some (not_ready (Write link)))
 
--- What a turn does for a session on one of whose links something is ready: it writes to both links, reads that link exactly
--- once unless the session has ended by then or too much waits for the other side, writes again, and shuts links. Both times it
--- writes to the client first. It writes nothing to a link that is gone or shut, and nothing after a write that wasn't ready or
--- failed. What waited before the turn is a prefix of what the turn wrote and then waits, whatever the End. If the read gave no bytes, no
--- memory is refused.
+-- What a turn does for a session on one of whose links something is ready: it writes to both links, reads that link
+-- exactly once unless the session has ended by then or too much waits for the other side, writes again, and shuts
+-- links. Both times it writes to the client first. It writes nothing to a link that is gone or shut, and nothing after
+-- a write that wasn't ready or failed. What waited before the turn is a prefix of what the turn wrote and then waits,
+-- whatever the End. If the read gave no bytes, no memory is refused.
 pub record Served (n : ℕ) (side : Side) (old new : Running) (added : Journal) : Type 0 where
   pub mid : SessionView
   pub first : Journal
@@ -174,8 +175,9 @@ pub record Served (n : ℕ) (side : Side) (old new : Running) (added : Journal) 
 unfoldable pub log_of : Policy → Mode → ℕ → Journal → List ℕ
 log_of policy mode n journal = log n (notes policy (history policy mode (events_of n journal)))
 
--- Memory was refused to the session in this turn: it holds the first `done` items of its history. All items from before the turn are among them.
--- The log has the lines of these items and of no later one, and what was written to each link and then waits is what these items give.
+-- Memory was refused to the session in this turn: it holds the first `done` items of its history. All items from before
+-- the turn are among them. The log has the lines of these items and of no later one, and what was written to each link
+-- and then waits is what these items give.
 pub record HoldsFirstOf (policy : Policy) (n : ℕ) (new : SessionView) (first last : Journal) (lines : List ℕ) : Type 0 where
   pub memory : is_memory new.ended ≡ true
   pub done : ℕ
@@ -185,7 +187,8 @@ pub record HoldsFirstOf (policy : Policy) (n : ℕ) (new : SessionView) (first l
   pub for_bus : written (bus_link n) last ++ new.bus_side ≡ bus_bytes policy (first_items done (history policy new.mode (events_of n last)))
   pub for_client : written (client_link n) last ++ new.client_side ≡ client_bytes policy (first_items done (history policy new.mode (events_of n last)))
 
--- why lines weren't written: memory was refused to the session, at a message that has no effect then, as the later ones; or the sink failed
+-- why lines weren't written: memory was refused to the session at a message, and neither it nor a later one has an
+-- effect; or the sink failed
 abbrev pub WhyCut : Policy → ℕ → SessionView → Journal → Journal → List ℕ → SinkView → SinkView → Type 0
 WhyCut policy n new first last lines before after = HoldsFirstOf policy n new first last lines ⊎ Rose before.faults after.faults
 
@@ -193,8 +196,8 @@ WhyCut policy n new first last lines before after = HoldsFirstOf policy n new fi
 abbrev pub AreLines : ℕ → List ℕ → Type 0
 AreLines n lines = (told : List Note) × (lines ≡ log n told)
 
--- The log got the lines of the session's new notes in order; or a prefix of these, and then the session has an End and it is known
--- why the others weren't written. Unless the sink failed each line is whole.
+-- The log got the lines of the session's new notes in order; or a prefix of these, and then the session has an End and
+-- it is known why the others weren't written. Unless the sink failed, each line is whole.
 pub record Logged (policy : Policy) (n : ℕ) (new : SessionView) (first last : Journal) (before after : SinkView) : Type 0 where
   pub lines : List ℕ
   pub rest : List ℕ
@@ -203,8 +206,8 @@ pub record Logged (policy : Policy) (n : ℕ) (new : SessionView) (first last : 
   pub cut : (rest ≡ []) ⊎ ((is_some new.ended ≡ true) × WhyCut policy n new first last lines before after)
   pub whole : Rose before.faults after.faults ⊎ AreLines n lines
 
--- The session's events in the journal, with the stop that its log put in, if any, close with this End at an event that came after those
--- of the journal before.
+-- The session's events in the journal, with the stop that its log put in, if any, close with this End at an event that
+-- came after those of the journal before.
 pub record ClosesIn (policy : Policy) (n : ℕ) (new : SessionView) (end : End) (first last : Journal) : Type 0 where
   pub put : Bool
   pub events : List Event
@@ -213,14 +216,15 @@ pub record ClosesIn (policy : Policy) (n : ℕ) (new : SessionView) (end : End) 
   pub closes : closing policy new.mode events ≡ Some (end, at)
   pub here : length (events_of n first) < at
 
--- A session that stood for the journal before stands for the one after, and the log is exact. An End that came in between, other than
--- that of refused memory, is the one with which the session's events close, at an event that came in between.
+-- A session that represented the journal before represents the one after, and the log is exact. An End that came in
+-- between, other than that of refused memory, is the one with which the session's events close, at an event that came
+-- in between.
 pub record ServedStands (policy : Policy) (logs : Bool) (n : ℕ) (old new : SessionView) (first last : Journal) (before after : SinkView) : Type 0 where
   pub holds : Holds policy n new last
   pub closes : old.ended ≡ None → (end : End) → new.ended ≡ Some end → is_memory new.ended ≡ false → ClosesIn policy n new end first last
   pub logged : logs ≡ true → Logged policy n new first last before after
 
--- what shows why a session has an End: the count that rose, of its link or of the log; an End of the session's own needs none
+-- why a session has an End: the count of its link or of the log rose; an End of the session's own needs no such count
 abbrev pub CauseOf : ℕ → End → NetView → NetView → SinkView → SinkView → Type 0
 CauseOf n end before after first last = Cause n end before after ⊎ IsLogEnd end first last
 

@@ -102,8 +102,8 @@ pub record GoesOn (blocks : List Block) (old new : Table) (before after : NetVie
 
 -- ---- the log
 
--- The lines of the new notes of a session that was served were logged. It is held on as it is after the turn, unless it is over
--- then.
+-- The lines of the new notes of a session that was served were logged. The session is kept as it is after the turn,
+-- unless it is over then.
 pub record SessionLogged (block : Block) (n : ℕ) (new : Table) (was now : Journal) (first last : SinkView) : Type 0 where
   pub served : Running
   pub left : new.at n ≡ unless_over served
@@ -136,8 +136,8 @@ pub record LogExact (blocks : List Block) (old new : Table) (before after : NetV
 
 -- ---- what was written
 
--- A session under the block of the listener that accepted it: what was written to each of its links is a front of that side's
--- bytes of the history of its events.
+-- A session under the block of the listener that accepted it: what was written to each of its links is a prefix of that
+-- side's bytes of the history of its events.
 pub record StandsUnder (blocks : List Block) (n : ℕ) (journal : Journal) : Type 0 where
   pub listener : ℕ
   pub accepted : listener_of n journal ≡ Some listener
@@ -155,7 +155,8 @@ pub record LinksHold (policy : Policy) (n : ℕ) (session : SessionView) (journa
 abbrev pub items_under : Block → ℕ → Journal → History
 items_under block n journal = history block.options.policy (session_mode block.options) (events_of n journal)
 
--- For each session that isn't over these are the items of its history; or the first of them if memory was refused to it.
+-- For each session that isn't over these are the items of its history, or the first of them if memory was refused to
+-- it.
 pub record QueuesStand (blocks : List Block) (table : Table) (journal : Journal) : Type 0 where
   pub whole : (n : ℕ) (running : Running) (block : Block) → table.at n ≡ Some running → slice_get blocks running.block ≡ Some block → is_memory running.session.ended ≡ false →
       LinksHold block.options.policy n running.session journal (items_under block n journal)

@@ -74,15 +74,15 @@ is_stop (Bytes side piece) = false
 is_stop (Finished side) = false
 is_stop (Stopped end) = true
 
--- What was recorded of a session is its events in the journal. If its log failed, the stop for that is added to them, and nothing is
--- read after that stop.
+-- What was recorded of a session is its events in the journal. If its log failed, the stop for that is added to them,
+-- and nothing is read after that stop.
 abbrev pub IsWithStop : Bool → List Event → List Event → Type 0
 IsWithStop false events told = events ≡ told
 IsWithStop true events told =
     (later : List Event) × (earlier : List Event) × (told ≡ later ++ earlier) × (events ≡ later ++ Stopped LogFault ∷ earlier) × (list_all is_stop later ≡ true)
 
--- Session n stands for its events in the journal; what was written to its links was taken from it, and so were some notes. The stop of a
--- log is put in only if the session makes notes.
+-- Session n represents its events in the journal; what was written to its links was taken from it, and so were some
+-- notes. The stop of a log is put in only if the session makes notes.
 pub record Holds (policy : Policy) (n : ℕ) (session : SessionView) (journal : Journal) : Type 0 where
   pub put : Bool
   pub events : List Event

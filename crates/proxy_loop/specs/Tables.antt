@@ -39,8 +39,8 @@ pub record Sets (n : ℕ) (now : Option Running) (old new : At) : Type 0 where
 abbrev pub unless_over : Running → Option Running
 unless_over running = if is_over running then None else Some running
 
--- how a session is held under the options of its block: both streams begin with lines, messages are filtered where the filter
--- is asked for, and make notes where the log is
+-- how a session works under the options of its block: both streams begin with lines, messages are filtered if the
+-- filter is asked for, and make notes if the log is
 abbrev pub session_mode : Options → Mode
 session_mode options = record { auth = true; filter = options.filter; notes = options.log }
 

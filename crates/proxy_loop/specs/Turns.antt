@@ -47,8 +47,9 @@ pub record Still (old new : Table) (before after : NetView) (first last : SinkVi
 
 -- ---- where a link is named
 
--- One session was served, under its block. A link is shut where it was, or where an End stands and nothing is to be written
--- to it any more; the wishes of a link that isn't are stated, where the net knows it; those of other sessions stay.
+-- One session was served, under its block. A link is shut if it was shut before, or if the session has an End and
+-- nothing more is to be written to the link. The wishes of any other link of the session are stated, if the net knows
+-- it; those of other sessions stay.
 pub record IsServed (blocks : List Block) (side : Side) (old new : Running) (before after : NetView) (first last : SinkView) : Type 0 where
   pub own : Block
   pub at : slice_get blocks old.block ≡ Some own
@@ -103,8 +104,8 @@ pub record Opened (n : ℕ) (address : List ℕ) (running : Running) (added : Jo
   pub client_gone : running.client.gone ≡ some_of (gone_by (client_link n)) added
   pub bus_gone : running.bus.gone ≡ some_of (gone_by (bus_link n)) added
 
--- A session was accepted: it stood for no events, runs under the listener's block, and was connected to that block's bus. It
--- is held unless it is over.
+-- A session was accepted: it represented no events, runs under the listener's block, and was connected to that block's
+-- bus. It is kept unless it is over.
 pub record NewDid (blocks : List Block) (listener : ℕ) (address : List ℕ) (n : ℕ) (old new : Table) (before after : NetView) : Type 0 where
   pub session : SessionView
   pub fresh : (block : Block) → slice_get blocks listener ≡ Some block → StandsFor block.options.policy session [] nothing
@@ -173,7 +174,8 @@ pub record WouldAccept (limit : ℕ) (blocks : List Block) (ready : Ready) (old 
   pub among : listener < length blocks
   pub room : old.accepted < limit
 
--- after its wait, a turn does the work for what was ready and answers by it; or it was refused memory where it would have accepted
+-- after its wait, a turn does the work for what was ready and answers by it; or memory was refused to it when it would
+-- have accepted a session
 abbrev pub AfterWait : List Block → ℕ → Ready → Table → Table → NetView → NetView → SinkView → SinkView → Result Turn ServerEnd → Type 0
 AfterWait blocks limit ready old new before after first last (Err EndMemory) = Still old new before after first last × WouldAccept limit blocks ready old
 AfterWait blocks limit ready old new before after first last (Err Wait) =

@@ -96,8 +96,8 @@ pub record WroteOut (link : Link) (old new : SessionView) (fails : Bool) (added 
   pub stops : only_newest_stops link added ≡ true
   pub drained : IsDrained link (queue_of link.side new) fails added
 
--- What is written to one link at a time: nothing where nothing is to be written to it any more; else one write after another, until
--- one isn't ready or fails.
+-- What is written to one link at a time: nothing if nothing more is to be written to it; otherwise one write after
+-- another, until one isn't ready or fails.
 pub record WritesTo (link : Link) (closed : Bool) (added : Journal) : Type 0 where
   pub all : all_are (is_write link) added ≡ true
   pub stops : only_newest_stops link added ≡ true
@@ -115,7 +115,7 @@ pub record WritesInOrder (n : ℕ) (client_closed bus_closed : Bool) (added : Jo
 abbrev pub read_room : ℕ
 read_room = 65536
 
--- one read of a link into that room, of which it got a byte at least where it got any; and whether nothing more is written to
+-- one read of a link into that room, which got at least one byte if it got any; and whether nothing more is written to
 -- the link after it
 pub record OneRead (link : Link) (is_last : Bool) (added : Journal) : Type 0 where
   pub into : List ℕ
@@ -161,7 +161,8 @@ pub record KeepsWaiting (old new : SessionView) : Type 0 where
   pub client : IsFront old.client_side new.client_side
   pub bus : IsFront old.bus_side new.bus_side
 
--- One read for a session, which takes nothing that waits. If the read gave no bytes, no note is made and no memory is refused.
+-- One read for a session, which takes nothing that waits. If the read gave no bytes, no note is made and no memory is
+-- refused.
 pub record FedOnce (link : Link) (old new : SessionView) (is_last : Bool) (added : Journal) : Type 0 where
   pub once : OneRead link is_last added
   pub waits : KeepsWaiting old new

@@ -7,8 +7,8 @@ use Rattle.proxy_loop.specs.declared.link_work.LinkState.{LinkState}
 use Rattle.proxy_loop.specs.Kinds.{is_write, all_are, some_of, gone_by, only_newest_stops}
 use Rattle.proxy_loop.specs.Works.{queue_of, IsDrained}
 
--- What was written to a link: nothing where it is gone or shut; else what waited was taken from the front of its queue, until nothing
--- waited, or a write failed or wasn't ready, which is the last. A failed write ends the session.
+-- What was written to a link: nothing if it is gone or shut; otherwise bytes were taken from the start of its queue,
+-- until nothing waited, or a write failed or wasn't ready, which is the last one. A failed write ends the session.
 pub record Written (link : Link) (old new : SessionView) (state after : LinkState) (added : Journal) : Type 0 where
   pub all : all_are (is_write link) added ≡ true
   pub stops : only_newest_stops link added ≡ true

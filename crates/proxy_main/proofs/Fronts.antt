@@ -1,4 +1,4 @@
--- Whatever the ending, out got a front of the answer's output, and err a front of the log and then of the status's line.
+-- Whatever the ending, out got a prefix of the answer's output, and err a prefix of the log and the status's line.
 use Rattle.std.proofs.Common.{◌≡◌, ◌⊎◌, inl, inr, ℕ, List, [], Option, refl}
 use Rattle.link_traits.specs.Told.{Part}
 use Rattle.link_traits.specs.Views.{FilesView, SinkView, SinkRose}

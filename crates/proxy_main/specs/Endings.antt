@@ -1,6 +1,6 @@
 -- The ways in which a run ends.
 --
---     0    the whole output was written, and on err the whole log; of two recordings, that they are the same to the policy
+--     0    the whole output was written, and the whole log on err; of two recordings: they are the same to the policy
 --     1    the words name nothing
 --     2    the policy file is refused
 --     3    a recording, or the file of a message or of a text, is refused

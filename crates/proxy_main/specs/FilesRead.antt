@@ -68,8 +68,9 @@ up_to_bad zero told paths = recordings_up_to_bad told paths
 up_to_bad (suc policies) told [] = []
 up_to_bad (suc policies) told (policy ∷ others) = policy ∷ behind (told policy) checked_policy (up_to_bad policies told others)
 
--- The files that a command needs: those that it names, up to the first that is bad by what is told of it. The last one is
--- needed whatever it holds: so are the recording of a replay or of one session, and the file of a message or of a text.
+-- The files that a command needs: those that it names, up to the first that is bad, if its content is known. The last
+-- one is needed whatever it holds, as are the recording of a replay or of one session, and the file of a message or of
+-- a text.
 abbrev pub needed : (List ℕ → Option (List ℕ)) → Option Command → List (List ℕ)
 needed told command = up_to_bad (policies_of command) told (paths_of command)
 

@@ -79,16 +79,17 @@ asks_setting line = line.replaces || is_some line.starter
 abbrev pub MadeBy : {N : Type 0} → (N → NetView) → (N → Setting → N → Type 0) → N → Setting → NetView → Type 0
 MadeBy {N = N} view takes old setting after = (new : N) × takes old setting new × (view new ≡ after)
 
--- What was made of the net before anything was recorded or listened at. A line without --replace and --fd left it as it was. For any other
--- it took the line's setting: nothing was added to its journal, and the wishes of its links are as before.
+-- What was done to the net before anything was recorded or listened at. A line without --replace and --fd left it as it
+-- was. For any other line it took the line's setting: nothing was added to its journal, and the wishes of its links are
+-- as before.
 pub record Prepared (made : Setting → NetView → Type 0) (line : ProxyLine) (before after : NetView) : Type 0 where
   pub unasked : asks_setting line ≡ false → after ≡ before
   pub taken : asks_setting line ≡ true → made (setting_of line) after
   pub told : Adds before after []
   pub wishes : KeepsWishes before after
 
--- The net didn't take the line's setting, and nothing was done over it but that: nothing was added to its journal, and the wishes of its
--- links are as before. Its own count rose, or memory ran out.
+-- The net didn't take the line's setting, and nothing else was done over it: nothing was added to its journal, and the
+-- wishes of its links are as before. Its own count rose, or memory ran out.
 pub record Unprepared (line : ProxyLine) (err_rose : Type 0) (before after : NetView) (first last : SinkView) (code : ℕ) : Type 0 where
   pub asked : asks_setting line ≡ true
   pub told : Adds before after []
@@ -97,8 +98,8 @@ pub record Unprepared (line : ProxyLine) (err_rose : Type 0) (before after : Net
 
 -- ---- the run
 
--- A run of a line: listening, and turns; what was written to each link, and to the log; the net's own count rose where listening or
--- waiting failed.
+-- A run of a line: listening, and turns; what was written to each link, and to the log; the net's own count rose if
+-- listening or waiting failed.
 pub record ServedBy (blocks : List Block) (limit : ℕ) (before after : NetView) (first last : SinkView) (end : RunEnd) : Type 0 where
   pub did : RunDid blocks limit before after first last end
   pub links : RunLinks blocks before after
@@ -247,17 +248,18 @@ pub record LineRun (made : Setting → NetView → Type 0) (texts : List (List �
   pub net_failed : code ≡ 5 → RoseAt OfNet net net'
   -- Unless a file, the net or memory fails, words that give a line end with 0.
   pub complete : IsSettled (line_in files.told texts) → words_code (line_in files.told texts) ≡ 0 → (code ≡ 0) ⊎ IsLineFree code
-  -- With 0 the line was served until nothing was left to be done, or as many turns were taken as may be; err got the log
+  -- With 0 the line was served until nothing was left to do, or for as many turns as may be taken; err got the log
   -- alone; and the file of a recording is that of the whole run.
   pub done : code ≡ 0 → LineDone made texts files files' net net' err err'
-  -- Unless a line was served, nothing was done over the net, but that it may have refused the setting of a line with --replace or --fd.
+  -- Unless a line was served, nothing was done over the net, except that it may have refused the setting of a line with
+  -- --replace or --fd.
   pub unserved : (net' ≡ net) ⊎ (LineServed made texts files files' net net' err err' code ⊎ LineUntaken texts files net net' err err' code)
-  -- Only files that the words name by --args-file and --args were read: the first of them, each once and in their order. Nothing was
-  -- done over the net unless all were.
+  -- Only files that the words name by --args-file and --args were read: a prefix of them, each once and in their order.
+  -- Nothing was done over the net unless all were read.
   pub reads_named : LineReads (paths_in texts) files.reads files'.reads (SinkRose err err') err.told err'.told code
   pub reads_first : (net' ≡ net) ⊎ (files'.reads ≡ files.reads ++ paths_in texts)
-  -- No file was read behind one that is bad, by what is told of the files. Where that settles what the words come to, exactly those were
-  -- read that they need, unless a file failed or memory ran out.
+  -- No file was read after one that is bad, if the files' contents are known. If these settle what the words come to,
+  -- exactly the files that the words need were read, unless a file failed or memory ran out.
   pub reads_needed : ReadFront (needed_by files.told texts) files.reads files'.reads
   pub reads_exactly : IsSettled (line_in files.told texts) → (files'.reads ≡ files.reads ++ needed_by files.told texts) ⊎ ((code ≡ 4) ⊎ (code ≡ 8))
   -- No file changed but that of a recording.

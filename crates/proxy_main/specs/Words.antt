@@ -1,12 +1,12 @@
--- The words of the command line, where they name a tool.
+-- The words of the command line, if they name a tool.
 --
 --     replay POLICY RECORDING       plays the recording of one file under the policy of another
---     explain POLICY RECORDING N    tells what was decided there on the recording's message of number N, from 1, and by which entry
---     twin POLICY A B               tells whether the recordings A and B are the same to the policy, or where they first differ
+--     explain POLICY RECORDING N    says what was decided on message N of the recording, from 1, and by which entry
+--     twin POLICY A B               says whether recordings A and B are the same to the policy, or where they differ
 --     sample N SEED                 plays a sample of N draws from a seed, and sums it up
---     audit POLICY RECORDING..      tells what the policy denies of one recording or more, up to 16, and which of its entries none of them names
---     within A B                    tells whether the policy A permits nothing that the policy B doesn't permit
---     suggest RECORDING..           writes the least policy that permits what is asked in one recording or more, up to 16
+--     audit POLICY RECORDING..      says what the policy denies of 1 to 16 recordings, and which entries none names
+--     within A B                    says whether the policy A permits nothing that the policy B doesn't permit
+--     suggest RECORDING..           writes the least policy that permits what is asked in 1 to 16 recordings
 --     show FILE                     writes the text of the message that the file holds
 --     compose FILE                  writes the message whose text the file holds
 --     session RECORDING N           writes session N of the recording, as a recording of its own
@@ -14,9 +14,9 @@
 --     --help                        writes what the program can do
 --     --version                     writes its version
 --
--- The words of a tool are those that its command takes. POLICY, RECORDING, A, B and FILE are paths. Each number is decimal,
--- in digits alone and with no zero in front of others: the N of a sample is at most 100,000, and any other number is
--- below 2^64. Words of any other form are none of a tool's.
+-- The words of a tool are those that its command takes. POLICY, RECORDING, A, B and FILE are paths. Each number is
+-- decimal, in digits alone and with no zero in front of others: the N of a sample is at most 100,000, and any other
+-- number is below 2^64. Words of any other form are none of a tool's.
 use Rattle.std.specs.Prelude.{ℕ, ◌-◌, ◌^◌, ◌||◌, nat_le, Bool, false, List, [], ◌∷◌, Option, Some, None, option_map, codes, bytes_eq, if◌then◌else◌}
 use Rattle.policy_args.specs.ProxyLine.{number_of}
 pub use Rattle.process_streams.specs.Faults.{is_tool_name}

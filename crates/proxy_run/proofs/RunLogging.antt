@@ -251,7 +251,8 @@ pub record LogsSoFar (log_failed : Type 0) (blocks : List Block) (table : Table)
   pub log : LogOf log_failed blocks journal cut got
   pub ends : CutEnd table cut
 
--- what comes of a journal's log by what is done: where the journal is told after it was told before, and its log grew by what the sink got
+-- what is done makes of a journal's log: if the journal is known after it, it was known before, and its log grew by
+-- what the sink got
 pub record LogsOn (log_failed : Type 0) (blocks : List Block) (old new : Table) (before after : NetView) (first last : SinkView) : Type 0 where
   pub counts : first.faults ≤ last.faults
   pub each : (now : Journal) → after.journal ≡ Some now → (was : Journal) × (before.journal ≡ Some was)

@@ -57,8 +57,8 @@ abbrev pub is_cut : ℕ → List ℕ → Bool
 is_cut n [] = false
 is_cut n (m ∷ cut) = nat_eq m n || is_cut n cut
 
--- The lines of a read are written, or a part of them, and then the session is among those. Unless the log failed the part is the lines of the
--- first items of its history: memory was refused to the session at the next one.
+-- The lines of a read are written, or a prefix of them; then the session is in the list. Unless the log failed, the
+-- prefix is the lines of the first items of its history: memory was refused to the session at the next item.
 abbrev pub IsWritten : Type 0 → ℕ → ((History → History) → List ℕ) → List ℕ → List ℕ → List ℕ → Type 0
 IsWritten log_failed n due before cut lines =
     ((lines ≡ due all_items) × (cut ≡ before)) ⊎ (IsFront lines (due all_items) × (log_failed ⊎ (done : ℕ) × (lines ≡ due (first_items done))) × (cut ≡ n ∷ before))
@@ -77,14 +77,14 @@ abbrev pub EntryLogs : Type 0 → Option ℕ → (ℕ → (History → History) 
 EntryLogs log_failed None due Rest cut got = Rest cut got
 EntryLogs log_failed (Some n) due Rest cut got = ReadLogs log_failed n (due n) Rest cut got
 
--- The log of a journal: for each read, in order, the lines of the messages that it adds to its session's history. Of the last read
--- of a session it may be a part of them; these sessions are listed.
+-- The log of a journal: for each read, in order, the lines of the messages that it adds to its session's history. Of
+-- the last read of a session it may be a prefix of them; these sessions are listed.
 abbrev pub LogOf : Type 0 → List Block → Journal → List ℕ → List ℕ → Type 0
 LogOf log_failed blocks [] cut got = (cut ≡ []) × (got ≡ [])
 LogOf log_failed blocks (entry ∷ before) cut got = EntryLogs log_failed (read_of entry) (λ n. lines_of blocks n entry before) (λ c g. LogOf log_failed blocks before c g) cut got
 
--- Where the journal is told at the end it was told at the start. Where it was without sessions then, the sink got the journal's log,
--- which failed only where the sink's count rose.
+-- If the journal is known at the end, it was known at the start. If it had no sessions then, the sink got the journal's
+-- log, which failed only if the sink's count rose.
 pub record RunLogs (blocks : List Block) (before after : NetView) (first last : SinkView) : Type 0 where
   pub each : (now : Journal) → after.journal ≡ Some now → (was : Journal) × (before.journal ≡ Some was)
       × (WithoutSessions was → (cut : List ℕ) × (got : List ℕ) × LogOf (Rose first.faults last.faults) blocks now cut got × Appends first last got)

@@ -22,9 +22,9 @@ end_at (Ok Went) = None
 end_at (Ok Stopped) = Some (Ok tt)
 end_at (Err end) = Some (Err end)
 
--- One turn: each session was held under its number, and wasn't over; what was done for what was ready; sessions that served the
--- journal go on serving it; the wishes of their links stay as they are to be; what was added to the log; and what waits behind what
--- was written.
+-- One turn: each session was held under its number and wasn't over; what was done for what was ready; sessions that
+-- served the journal go on serving it; the wishes of their links are as they have to be; what was added to the log; and
+-- what waits after what was written.
 pub record OneTurn (blocks : List Block) (limit : ℕ) (old new : Table) (before after : NetView) (first last : SinkView) (answer : Result Turn ServerEnd) : Type 0 where
   pub sound : SoundTable blocks old.at
   pub did : TurnDid blocks limit old new before after first last answer
@@ -52,8 +52,8 @@ pub record LastTurn (blocks : List Block) (limit : ℕ) (old new : Table) (befor
 abbrev pub most_turns : ℕ
 most_turns = 18446744073709551615
 
--- A run goes on until a turn answers Stopped, and then it is done, or until one ends the server. It is done, too, where it has
--- taken as many turns as it may.
+-- A run goes on until a turn answers Stopped, and then it is done, or until a turn ends the server. It is done, too,
+-- after as many turns as it may take.
 abbrev pub TurnsEnd : List Block → ℕ → Table → Table → NetView → NetView → SinkView → SinkView → RunEnd → Type 0
 TurnsEnd blocks limit old new before after first last (Ok done) =
     LastTurn blocks limit old new before after first last (Ok Stopped) ⊎ Turns blocks limit most_turns old new before after first last
@@ -88,9 +88,10 @@ pub record Unserved (before after : NetView) (first last : SinkView) (end : RunE
 abbrev pub RunDid : List Block → ℕ → NetView → NetView → SinkView → SinkView → RunEnd → Type 0
 RunDid blocks limit before after first last end = ListensAndTurns blocks limit before after first last end ⊎ Unserved before after first last end
 
--- Where the journal is told at the end it was told at the start. Where it was without sessions then, what was written to each link
--- is a prefix of that side's bytes of the history of its session's events, under the block of the listener that accepted it. Where the
--- journal was without listeners then, its listeners are those of the blocks: so a session is under the block whose path its client came to.
+-- If the journal is known at the end, it was known at the start. If it had no sessions then, what was written to each
+-- link is a prefix of that side's bytes of the history of its session's events, under the block of the listener that
+-- accepted it. If the journal had no listeners then, its listeners are those of the blocks: a session is under the
+-- block to whose path its client connected.
 pub record RunLinks (blocks : List Block) (before after : NetView) : Type 0 where
   pub each : (now : Journal) → after.journal ≡ Some now → (was : Journal) × (before.journal ≡ Some was) × (WithoutSessions was → LinksStand blocks now)
       × (listeners_of was ≡ [] → ListensForBlocks blocks now)

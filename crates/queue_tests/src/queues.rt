@@ -7,9 +7,10 @@ use std::alloc::{AllocError, Global};
 use std::test::Fail;
 use test_tables::{text_of, wrong_row};
 
-/// What is put and taken, one after the other: `slice` puts a copy of a text, `with` one with `----` from a place on, `long` so
-/// many bytes of one letter that are given whole, `shared` so many of `s` with `----` from a place on, and `took` takes so many.
-/// What is told of each step is how many bytes wait, how many of these lie together in front, and the first of them.
+/// What is put and taken, in order: `slice` puts a copy of a text, `with` a copy with `----` from a place on, `long`
+/// that number of one letter, given whole, `shared` that number of `s` with `----` from a place on, and `took` takes
+/// that number. The result of each step is how many bytes wait, how many of them lie together at the start, and the
+/// first of them.
 const QUEUES: &str = "\
 took 0 => 0 0 []
 slice abc, slice de, took 1, took 4 => 3 3 [abc], 5 5 [abcd], 4 4 [bcde], 0 0 []

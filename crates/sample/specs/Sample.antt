@@ -79,15 +79,15 @@ echo name serial t = call serial name (codes "/s") name (codes "Echo") (text t)
 abbrev pub tick : Text → Text → ℕ → Text → Message
 tick sender interface serial t = signal serial sender (codes "/s") interface (codes "Tick") (text t)
 
--- The client's message of a draw of a kind, with its serial: a call to a name that it may talk to, or to one that it doesn't
--- see; or none.
+-- The client's message of a draw of a kind, with its serial: a call to a name that it may talk to, or to one that it
+-- can't see; or none.
 abbrev pub asked : ℕ → ℕ → Text → Option Message
 asked kind serial t =
     if kind == 0 then Some (echo (codes "org.sample.A") serial t)
     else (if kind == 1 then Some (echo (codes "org.sample.B") serial t) else None)
 
--- The bus's message of a draw, with its serial: the answer to the call, at its place among the messages that the proxy sends,
--- or to the ping in the call's place; or a signal of either name's owner.
+-- The bus's message of a draw, with its serial: the answer to the call, at its place among the messages that the proxy
+-- sends, or to the ping in the call's place; or a signal of either name's owner.
 abbrev pub told : ℕ → ℕ → ℕ → Text → Message
 told kind place serial t =
     if kind == 0 then return serial place (codes ":1.5") own_id (text t)
@@ -103,7 +103,8 @@ asked_event (Some m) = from_client m ∷ []
 abbrev pub serial_behind : ℕ → ℕ → ℕ
 serial_behind kind serial = if nat_lt kind 2 then serial + 1 else serial
 
--- a draw's events, with the next serial of either side; the client's messages go to the bus behind the three of the opening
+-- a draw's events, with the next serial of either side; the client's messages go to the bus after the three of the
+-- opening
 abbrev pub drawn : ℕ → ℕ → ℕ → Text → List Event
 drawn kind client_serial bus_serial t =
     asked_event (asked kind client_serial t) ++ from_bus (told kind (client_serial + 2) bus_serial t) ∷ []

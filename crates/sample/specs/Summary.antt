@@ -1,4 +1,4 @@
--- The summary of a sample: how many messages its session has, what becomes of them, and how many bytes there are for either
+-- The summary of a sample: how many messages its session has, what becomes of them, and how many bytes are sent to each
 -- side.
 use Rattle.std.specs.Prelude.{ℕ, Bool, true, false, List, [], ◌∷◌, length, count_by, codes, decimal}
 use Rattle.dbus_names.specs.Texts.{Text}

@@ -10,7 +10,8 @@ use Rattle.session_files.specs.OneSession.{session_file_of}
 abbrev line : List ℕ → List ℕ
 line t = t ++ 10 ∷ []
 
--- a file of version 2: session 3 says AB, session 2 is told C, the bus of session 3 fails, and then the client of session 3 and the bus of session 2 end
+-- a file of version 2: session 3's client sends AB, session 2's bus sends C, the bus of session 3 fails, and then the
+-- client of session 3 and the bus of session 2 end
 file : List ℕ
 file = codes "DBPR" ++ 2 ∷ 1
     ∷ 0 ∷ 3 ∷ 0 ∷ 0 ∷ 0 ∷ 2 ∷ 0 ∷ 0 ∷ 0 ∷ 65 ∷ 66

@@ -26,7 +26,8 @@ bus_len (Happened (Bytes Bus bytes)) = length bytes
 bus_len (Happened (Finished side)) = 0
 bus_len (Stopped end) = 0
 
--- the number of the End that a session has by it: 3 by the client's end, 4 by the bus's, and by a failed call the number of its record
+-- the number of the End that it gives a session: 3 for the client's end, 4 for the bus's, and for a failed call the
+-- number of its record
 abbrev pub end_number : What → Option ℕ
 end_number (Happened (Bytes side bytes)) = None
 end_number (Happened (Finished Client)) = Some 3

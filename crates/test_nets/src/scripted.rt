@@ -8,9 +8,9 @@ use memory_links::{Exception, MemNet, Script};
 use std::alloc::{AllocError, Global};
 use test_tables::{plain, text_of};
 
-/// A net of a script that is written in words: `arrival 0`, `piece c1 bytes`, `end c1`, `pace b1 2`, `limit b1 9`, an
-/// exception with its place as `ReadFails 2`, and `room 9 8` for the room of entries and of bytes, which is else ample. In a piece
-/// `~` is a zero, and `%` stands before two hexadecimal digits of a byte.
+/// A net by a script that is written in words: `arrival 0`, `piece c1 bytes`, `end c1`, `pace b1 2`, `limit b1 9`, an
+/// exception with its place as `ReadFails 2`, and `room 9 8` for the room of entries and of bytes, which is ample
+/// otherwise. In a piece `~` is a zero, and `%` is followed by the two hexadecimal digits of a byte.
 pub fn net_of(alloc: Global, words: &str) -> Result<MemNet, AllocError>
     ensures { IfOk result (λ net. IsNew (mem_view net)) }
 {

@@ -12,9 +12,9 @@
 --     session RECORDING N
 --     sessions RECORDING
 --
--- The first word is the tool's name. Each place after it is for one word, which has to be there. Of recordings there are up to 16 places, of
--- which the first alone has to be filled. There is no option but the wish for help that every command has, and no command takes that.
--- Operands tells the words that are taken without a command.
+-- The first word is the tool's name. Each place after it is for one word, which must be given. There are up to 16
+-- places for recordings, of which only the first must be filled. The only option is the request for help, which every
+-- command line has and which belongs to no command. Operands has the words that are taken without a command.
 use Rattle.std.specs.Prelude.{◌≡◌, true, List, [], ◌∷◌, ◌++◌, Option, Some, None, Result, IfOk, codes, fold, option_to_list}
 use Rattle.clap.specs.Words.{App, Row, Rule, Text, FailsBy, Kinds, fault_of, first_of, found_of, matches_of, new_app, new_rule, rows_of, with_rule}
 use Rattle.clap.specs.declared.error.Error.{Error}

@@ -1,8 +1,9 @@
 //! How long it takes to pass over a body and to read a message.
 //!
-//! With no words each input is looked at once, and nothing is printed. With a word each is measured, and gets a line
-//! `NAME NANOSECONDS BYTES SUM`: what one call takes at best, how many bytes it looks at, and a sum of the input. With the name of a
-//! stream (`calls`, `members` or `replies`) its messages are read 10,000 times, for a count of instructions, and their number is printed.
+//! Without words each input is read once, and nothing is printed. With a word each is measured, and gets a line `NAME
+//! NANOSECONDS BYTES SUM`: the shortest time of one call, the number of bytes that it reads, and a sum of the input.
+//! With the name of a stream (`calls`, `members` or `replies`) its messages are read 10,000 times, to count
+//! instructions, and their number is printed.
 #![tactic(auto)]
 
 mod inputs;

@@ -6,7 +6,7 @@ use std::alloc::{AllocError, Global};
 use std::test::Fail;
 use test_tables::wrong_row;
 
-/// Texts, and whether they are a unique name, a well-known name, a bus name, an interface, an error name, a member and a
+/// Texts, and whether each is a unique name, a well-known name, a bus name, an interface, an error name, a member and a
 /// path.
 const NAMES: &str = "\
 org.freedesktop.DBus => 0111100

@@ -37,8 +37,8 @@ a(i} => Form
 i\0 => Form
 ";
 
-/// Codes, each with how often it stands, and whether they are a signature, or why they aren't: at most 255 bytes, and arrays
-/// and structs that lie at most 32 deep, which are counted along one path.
+/// Type codes, each with its number of repetitions, and whether they are a signature, or why they aren't. A signature
+/// has at most 255 bytes, and arrays and structs are nested at most 32 deep each, counted along one path.
 const LIMITS: &str = "\
 y*255 => signature
 y*256 => TooLong

@@ -13,14 +13,6 @@ loop-note-preserved g c =
     c.in-Some.ensures.some.0 c.in-Some.ensures.some.1 c.in-Some.ensures.some.2 c.in-Some.ensures.stands c.put_line.new.self
     (on_ok c.put_line.result _ (sym c.is_err.ensures.value ∙ c.if-is_err.false) c.put_line.ensures.ok) c.put_line.ensures.count
 
-pub loop-note-preserved-else-is_err : goal.loop-note-preserved-else-is_err
-loop-note-preserved-else-is_err g c =
-    one_logged c.args.number c.args.session.now c.loop-note.session c.next_note.new.self
-    (g.S.Sink.view c.args.sink.now) (g.S.Sink.view c.loop-note.sink) (g.S.Sink.view c.put_line.new.sink)
-    c.loop-note.lines c.in-Some.note c.loop-note.invariant
-    c.in-Some.ensures.some.0 c.in-Some.ensures.some.1 c.in-Some.ensures.some.2 c.in-Some.ensures.stands c.put_line.new.self
-    (on_ok c.put_line.result _ (sym c.is_err.ensures.value ∙ c.if-is_err.false) c.put_line.ensures.ok) c.put_line.ensures.count
-
 pub returns-then-is_err : goal.returns-then-is_err
 returns-then-is_err g c =
     let short = on_err c.put_line.result _ (sym c.is_err.ensures.value ∙ c.if-is_err.true) c.put_line.ensures.err in
