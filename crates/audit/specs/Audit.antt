@@ -37,7 +37,7 @@ denial note = denied_by note.decision
 abbrev pub is_denial : Note → Bool
 is_denial note = is_some (denial note)
 
--- the reasons in their order; those that rest on an entry stand for all entries
+-- the reasons in their order; each that rests on an entry is one reason for all entries
 abbrev pub reasons : List Reason
 reasons =
     NotVisible ∷ OnlySee 0 ∷ NoRule 0 ∷ BusMember ∷ BusInterface ∷ ArgNotVisible ∷ ArgNotTalk ∷ ArgNotOwn ∷ Eavesdrop

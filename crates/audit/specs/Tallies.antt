@@ -10,7 +10,7 @@ use Rattle.audit.specs.declared.marks.Marks.{Marks}
 use Rattle.audit.specs.declared.sums.Sums.{Sums}
 use Rattle.audit.specs.declared.tally.Tally.{Tally}
 
--- so many numbers, each what the function says of its place
+-- this many numbers, each the function's value at its index
 pub record Counts (len : ℕ) (count : ℕ → ℕ) (numbers : List ℕ) : Type 0 where
   pub len_is : length numbers ≡ len
   pub at : (place : ℕ) → place < len → get_or numbers place 0 ≡ count place

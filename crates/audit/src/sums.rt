@@ -13,7 +13,7 @@ use policy_args::Policy;
 use policy_view::{Decision, Note, Reason, Showing, Verdict};
 use std::alloc::{AllocError, Global};
 
-/// The reasons in their order. Those that rest on an entry stand for all entries.
+/// The reasons in their order. Each that rests on an entry is one reason for all entries.
 pub const REASONS: [Reason; 17] = [
     Reason::NotVisible,
     Reason::OnlySee(0),

@@ -157,7 +157,7 @@ impl Kept {
         None
     }
 
-    /// The same as `places`, without counting hits and misses.
+    /// Answers as `places` does, without counting hits and misses.
     fn find(&self, order: Order, fields_len: u32, bytes: &[u8]) -> Option<&Places>
         requires { length bytes.now + 16 ≡ body_place fields_len }
         ensures within { IfSome result (λ p. AreWithin bytes.now p.now) }
@@ -279,7 +279,7 @@ impl KnownTexts {
         }
     }
 
-    /// The same as `places`, without counting hits and misses.
+    /// Answers as `places` does, without counting hits and misses.
     pub(crate) fn find(&self, order: Order, fields_len: u32, bytes: &[u8]) -> Option<&Places>
         requires { length bytes.now + 16 ≡ body_place fields_len }
         ensures within { IfSome result (λ p. AreWithin bytes.now p.now) }

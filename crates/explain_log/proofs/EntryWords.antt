@@ -49,7 +49,7 @@ line_of_number policy note n word b₀ b₁ b₂ b₃ b₄ b₅ is from_one foun
     ∙ sym (line_by_word n word (entry_at policy.entries n) (ap (option_map entry_word) (at_place policy.entries n from_one) ∙ found))
     ∙ ap (λ k. option_map (numbered_word k) (entry_at policy.entries k)) is
 
--- a number within the policy's entries has a line exactly where it is above 0
+-- a number within the policy's entries has a line exactly if it is above 0
 stands_at : (entries : List Entry) (n : ℕ) → n ≤ length entries → IsSome (option_map (numbered_word n) (entry_at entries n)) ↔ (0 < n)
 stands_at entries zero within = (λ (stands : false ≡ true). absurd cc, λ above. absurd (omega arith))
 stands_at entries (suc n) within = (λ stands. omega arith, λ above. by (slice_get_cases entries n).1)

@@ -14,7 +14,7 @@ abbrev pub TellsMessage : ℕ → ℕ → Side → Message → Decision → Type
 TellsMessage session number side m decision =
     log_line session (record { number = number; side = side; frame = spell m; decision = decision }) ≡ line_of session side number m decision
 
--- The entry of a note's decision is one of the policy's, and its line stands exactly where the decision rests on one.
+-- The entry of a note's decision is one of the policy's, and it has a line exactly if the decision rests on one.
 pub record SpeaksOf (policy : Policy) (note : Note) : Type 0 where
   pub within : decision_entry note.decision ≤ length policy.entries
   pub told : IsSome (entry_line policy note) ↔ (0 < decision_entry note.decision)

@@ -8,7 +8,7 @@ use std::alloc::{AllocError, Global};
 use std::test::Fail;
 use test_tables::{add_text, plain, text_of, wrong_row};
 
-/// A client's stream, and its lines, each with a `|` behind it, the answer behind them, and what is left.
+/// A client's stream, and its lines, each followed by a `|`, then the answer, and what is left.
 const CLIENT: &str = "\
 ~ => [~|] Rest []
 A => [] NoNul 0 [A]
@@ -49,7 +49,7 @@ const BUS: &str = "\
 ";
 
 /// What stands before a client's line, and how many bytes that has with its ending, and how many bytes are left of the
-/// stream behind the last of its lines, or the fault.
+/// stream after the last of its lines, or the fault.
 const LONG: &str = "\
 ~ 16383 => 16383
 ~ 16384 => 16384
@@ -58,7 +58,7 @@ const LONG: &str = "\
 ~AUTH%0D%0A 20000 => LineTooLong 16390
 ";
 
-/// How many lines of the bus were asked for, and the same of its stream.
+/// How many lines of the bus were asked for, and its stream and what is given of it, as for a client.
 const BUS_LONG: &str = "\
 1  16383 => 16383
 1  16384 => 16384
@@ -88,7 +88,7 @@ DATA BEGIN%0D%0A => DATA BEGIN%0D%0A
 /// How many bytes follow the word of the longest line that is tried.
 const LONG_ARGUMENT: usize = 16_000;
 
-/// What was given of a stream: its lines, the answer behind them, and the bytes that are left.
+/// What was given of a stream: its lines, then the answer, and the bytes that are left.
 type Told = (Vec<Bytes>, NextLine, Vec<u8>);
 
 /// Takes all that stands in front of the client's stream.
@@ -138,7 +138,7 @@ fn client_told(alloc: Global, stream: &[u8], size: usize) -> Result<Told, AllocE
     Ok((given, last, left))
 }
 
-/// Takes all that stands in front of the bus's stream, where so many lines wait for their answer.
+/// Takes all that can be taken from the start of the bus's stream, while this many lines wait for their answer.
 fn take_bus(
     lines: &mut Lines,
     unanswered: &mut u64,
@@ -173,7 +173,7 @@ fn bus_step(
     take_bus(lines, unanswered, begun, given)
 }
 
-/// What a bus's stream gives that comes in pieces of a size, where so many lines were asked for.
+/// What a bus's stream gives that comes in pieces of a size, if this many lines were asked for.
 fn bus_told(
     alloc: Global,
     stream: &[u8],
@@ -197,7 +197,7 @@ fn bus_told(
     Ok((given, last, left))
 }
 
-/// The lines, each with a `|` behind it, the answer behind them, and what is left.
+/// The lines, each followed by a `|`, then the answer, and what is left.
 fn told(alloc: Global, given: &Told) -> Result<String, AllocError> {
     let (lines, last, left) = given;
     let mut told = String::from_str(alloc, "[")?;
@@ -311,7 +311,7 @@ fn bus_last_in(alloc: Global, stream: &[u8], size: usize, asked: u64) -> Result<
     told_last(alloc, &bus_told(alloc, stream, size, asked, false)?)
 }
 
-/// How many bytes the last line has, or the fault behind it.
+/// How many bytes the last line has, or the fault after it.
 fn told_last(alloc: Global, given: &Told) -> Result<String, AllocError> {
     let (lines, last, _) = given;
     match (lines.last(), last) {
@@ -360,7 +360,7 @@ fn descriptors_are_not_asked_for(rt: HostRuntime) -> Result<(), Fail> {
     Ok(())
 }
 
-/// The answers where a line comes from the bus before it was asked for, what was left then, and how much is left.
+/// The answers if a line comes from the bus before it was asked for, what was left then, and how much is left.
 fn told_early(alloc: Global) -> Result<String, AllocError> {
     let mut lines = Lines::new(alloc);
     let mut told = String::new(alloc);

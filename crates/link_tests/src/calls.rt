@@ -78,7 +78,7 @@ fn told_ready(alloc: Global, ready: Ready) -> Result<String, AllocError> {
     }
 }
 
-/// What a read into a buffer of so many bytes, nine at most, gives.
+/// What a read into a buffer of this length, at most nine bytes, gives.
 fn told_read<N: Net>(
     alloc: Global,
     net: &mut N,

@@ -43,10 +43,10 @@ const MESSAGES: [(&[u8], &str); 7] = [
 /// How a line begins that tells of a message of type 5.
 const FRONT: &str = "0 b 1 type5 serial=1 reply=- from=- dest=- path=- iface=- member=- ";
 
-/// The same of one that was dropped.
+/// How the log line of a message that was dropped begins.
 const DROPPED: &str = "0 b 1 type5 serial=1 reply=- from=- dest=- path=- iface=- member=- drop ";
 
-/// The same of one that was hidden.
+/// How the log line of a message that was hidden begins.
 const HIDDEN: &str = "0 b 1 type5 serial=1 reply=- from=- dest=- path=- iface=- member=- hide ";
 
 /// Decisions, and how the line of each ends.
@@ -148,7 +148,7 @@ fn line_of_passed(alloc: Global, bytes: &[u8]) -> Result<String, AllocError> {
     line(alloc, 1, &note)
 }
 
-/// Whether the line of a message of type 5, on which this was decided, is the front and the end.
+/// Whether the line of a message of type 5, on which this was decided, is the beginning and the end.
 fn is_line(alloc: Global, decision: Decision, front: &str, end: &str) -> Result<bool, AllocError> {
     let note = noted(alloc, 1, Side::Bus, TYPE_5, decision)?;
     let line = line(alloc, 0, &note)?;

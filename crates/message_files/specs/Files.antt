@@ -94,7 +94,7 @@ abbrev pub reading_by_bytes : Text → Option (List ℕ) → Result Message BadT
 reading_by_bytes text None = Err Form
 reading_by_bytes text (Some bytes) = reading_by_message text (message_of bytes)
 
--- what a text is read as: where it has the form, the valid message of the bytes that it gives, if that has this text
+-- what a text is read as: if it has the form, the valid message of the bytes that it gives, if that has this text
 unfoldable pub reading : Text → Result Message BadText
 reading text = reading_by_bytes text (read_message text)
 

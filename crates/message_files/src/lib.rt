@@ -39,8 +39,8 @@ pub enum MessageFault {
     Malformed(MalformedKind),
 }
 
-/// A file that isn't one valid message, by what is wrong with it and the place in its bytes, from 0: the limit where it
-/// is too long, the file's length where it is cut, and the message's length where bytes follow.
+/// A file that isn't one valid message, by what is wrong with it and the place in its bytes, from 0: the limit if it
+/// is too long, the file's length if it is cut, and the message's length if bytes follow.
 #[derive(Clone, Copy, Debug, PartialEq, Eq, Error)]
 #[error("byte {at}: {kind}")]
 pub struct BadMessage {

@@ -106,7 +106,8 @@ const SERIALS: &str = "\
 258 big_call, 8=0 9=0 10=1 11=2 => true
 ";
 
-/// The same for a reply serial.
+/// A reply serial and a message, a change, and whether the message with that reply serial is the message with that
+/// change.
 const REPLY_SERIALS: &str = "\
 7 return, 20=7 => true
 258 big_boolean, 20=0 21=0 22=1 23=2 => true

@@ -113,7 +113,7 @@ abbrev pub with_len : Order → ℕ → ℕ → List ℕ → List ℕ
 with_len order place start bytes =
     if nat_le 4 (length bytes) && nat_le place (length bytes - 4) then with_number order place (min (length bytes - start) (2 ^ 32 - 1)) bytes else bytes
 
--- the same for a signature, whose length is one byte
+-- with a signature's length, which is one byte
 abbrev pub with_short_len : ℕ → List ℕ → List ℕ
 with_short_len place bytes = slice_set bytes place (min (length bytes - (place + 1)) 255)
 
@@ -202,7 +202,7 @@ abbrev pub read_element : Read → Read
 read_element inner [] out text = inner [] out text
 read_element inner (c ∷ types) out text = if c == 123 then read_entry inner types out text else inner (c ∷ types) out text
 
--- where an array's elements begin, behind room for their length
+-- where an array's elements begin, after room for their length
 abbrev pub before_elements : ℕ → List ℕ → List ℕ
 before_elements n out = with_gap n (with_gap 4 out ++ no_len)
 

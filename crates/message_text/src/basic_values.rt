@@ -129,14 +129,14 @@ fn write_len(order: Order, place: usize, start: usize, out: &mut [u8])
     }
 }
 
-/// The same, in bytes that may grow.
+/// Writes the length as `write_len` does, in bytes that may grow.
 pub(crate) fn put_len(order: Order, place: usize, start: usize, out: &mut Vec<u8>)
     ensures { out.new.items ≡ with_len order place start out.old.items }
 {
     write_len(order, place, start, out);
 }
 
-/// The same for a signature, whose length is one byte.
+/// Writes a signature's length, which is one byte.
 fn put_short_len(place: usize, out: &mut [u8])
     ensures { out.new ≡ with_short_len place out.old }
 {

@@ -18,7 +18,7 @@ use std::alloc::{AllocError, Global};
 /// Signatures").
 pub(crate) const CONTAINERS: usize = 65;
 
-/// The same for a header field's value, which lies in a variant.
+/// That number for a header field's value, which lies in a variant.
 pub(crate) const FIELD_CONTAINERS: usize = 64;
 
 /// The first line: byte order, type, flags and serial.

@@ -14,7 +14,7 @@ use std::alloc::AllocError;
 /// What printing a value leaves: the types that follow, and the cursor after it.
 type Printed<'a> = Result<(&'a [u8], Cursor<'a>), AllocError>;
 
-/// The code of the type in front, or 0.
+/// The first code of these types, or 0.
 #[inline]
 pub(crate) fn front_code(types: &[u8]) -> u8
     ensures { result ≡ code_in_front types.now }
@@ -25,7 +25,7 @@ pub(crate) fn front_code(types: &[u8]) -> u8
     }
 }
 
-/// What follows the code in front.
+/// What follows the first code.
 #[inline]
 pub(crate) fn after_code(types: &[u8]) -> &[u8]
     ensures { result.now ≡ drop 1 types.now }
@@ -88,7 +88,7 @@ fn untyped<'a>(
     }
 }
 
-/// The same, the types that follow its own being given.
+/// Prints a value of a basic type, given the types that follow its own.
 fn basic<'a>(
     order: Order,
     code: u8,
@@ -102,7 +102,7 @@ fn basic<'a>(
     Ok((types, after))
 }
 
-/// A value of the type in front, round whose innermost value lie fewer than this many containers.
+/// Prints a value of the first type. Its innermost value lies within fewer containers than this number.
 #[cycle(print_value)]
 pub(crate) fn value<'a>(
     order: Order,
@@ -119,7 +119,7 @@ pub(crate) fn value<'a>(
     value_within(order, containers - 1, types, at, out)
 }
 
-/// The same, where this many containers may lie round a value that is within this one.
+/// Prints a value of the first type; a value within it may lie within this number of containers.
 #[cycle(print_value)]
 fn value_within<'a>(
     order: Order,
@@ -136,7 +136,7 @@ fn value_within<'a>(
     }
 }
 
-/// The same, by the type's first code and what follows that code.
+/// Prints such a value, given the first code of its type and what follows that code.
 #[cycle(print_value)]
 fn coded<'a>(
     order: Order,
@@ -156,7 +156,7 @@ fn coded<'a>(
     }
 }
 
-/// An array, its element's type standing in front.
+/// Prints an array whose element's type comes first.
 #[cycle(print_value)]
 fn array<'a>(
     order: Order,

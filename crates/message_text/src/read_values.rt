@@ -33,7 +33,7 @@ fn basic_value<'a>(
     Ok(Some((types, rest)))
 }
 
-/// A value of the type in front, round whose innermost value lie fewer than this many containers.
+/// Reads a value of the first type. Its innermost value lies within fewer containers than this number.
 #[cycle(read_value)]
 pub(crate) fn value<'a>(
     order: Order,
@@ -50,7 +50,7 @@ pub(crate) fn value<'a>(
     value_within(order, containers - 1, types, text, out)
 }
 
-/// The same, where this many containers may lie round a value that is within this one.
+/// Reads a value of the first type; a value within it may lie within this number of containers.
 #[cycle(read_value)]
 fn value_within<'a>(
     order: Order,
@@ -67,7 +67,7 @@ fn value_within<'a>(
     }
 }
 
-/// The same, by the type's first code and what follows that code.
+/// Reads such a value, given the first code of its type and what follows that code.
 #[cycle(read_value)]
 fn coded<'a>(
     order: Order,
@@ -87,7 +87,7 @@ fn coded<'a>(
     }
 }
 
-/// An array, its element's type standing in front.
+/// Reads an array whose element's type comes first.
 #[cycle(read_value)]
 fn array<'a>(
     order: Order,

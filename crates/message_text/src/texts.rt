@@ -11,7 +11,7 @@ use crate::{BadText, TextRefusal};
 use dbus_header::{Message, decode, length};
 use std::alloc::{AllocError, Global};
 
-/// Whether the bytes are as many as they state, where they state it.
+/// Whether the bytes have the length that they state, if they state one.
 fn is_whole(bytes: &[u8]) -> bool
     ensures long { IsTrue result → 16 ≤ length bytes.now }
     ensures whole { IsTrue result → head_fault bytes.now ≡ None → length bytes.now ≡ whole_len bytes.now }

@@ -64,7 +64,7 @@ pub(crate) fn number_up_to(most: u64, text: &[u8]) -> Option<(u64, &[u8])>
     }
 }
 
-/// A negative number after its sign: the greater half stands for those.
+/// A negative number after its sign: the greater half of the unsigned numbers represents those.
 fn negative(half: u64, text: &[u8]) -> Option<(u64, &[u8])>
     requires { half ≤ 2 ^ 63 }
     ensures { option_map number_seen result ≡ negative_at half text.now }
@@ -77,7 +77,7 @@ fn negative(half: u64, text: &[u8]) -> Option<(u64, &[u8])>
     }
 }
 
-/// A number of which the greater half stands for the negative ones.
+/// A number whose greater half represents the negative ones.
 fn signed(half: u64, text: &[u8]) -> Option<(u64, &[u8])>
     requires high { half ≤ 2 ^ 63 }
     requires low { 0 < half }

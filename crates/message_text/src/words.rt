@@ -16,7 +16,7 @@ pub(crate) fn decimal(out: &mut Vec<u8>, number: u64) -> Result<(), AllocError>
     out.extend_from_slice(buffer.format(number).as_bytes())
 }
 
-/// A number of which the greater half stands for the negative ones, in decimal.
+/// A number whose greater half represents the negative ones, in decimal.
 fn signed(out: &mut Vec<u8>, half: u64, number: u64) -> Result<(), AllocError>
     ensures { IfOk result (λ done. out.new.items ≡ out.old.items ++ signed_from half number) }
 {

@@ -3,7 +3,7 @@ use crate::rows::told;
 use std::test::Fail;
 use test_tables::wrong_row;
 
-/// Empty arrays of each kind of element. The first byte of the body puts the array's length behind padding, and
+/// Empty arrays of each kind of element. The first byte of the body puts the array's length after padding, and
 /// elements aligned to eight bytes have their padding after the length.
 const EMPTY: &str = "\
 l 5 0 1|8 g \"yay\"|body 7 []| => l%05~%01%08~~~%01~~~%09~~~%08%01g~%03yay~~~~~~~~%07~~~~~~~

@@ -6,7 +6,7 @@ use std::alloc::{AllocError, Global};
 use test_nets::{link_of, name_of};
 use test_tables::text_of;
 
-/// What each call of a row answers, one after the other. The calls stand behind the script.
+/// What each call of a row answers, one after the other. The calls follow the script.
 pub fn told_calls(alloc: Global, row: &str) -> Result<String, AllocError> {
     let (script, calls) = row.split_once("; ").unwrap_or((row, ""));
     let mut net = net_over(alloc, script)?;
@@ -102,7 +102,7 @@ fn told_ready(alloc: Global, ready: Ready) -> Result<String, AllocError> {
     }
 }
 
-/// What a read into a buffer of so many bytes, nine at most, gives.
+/// What a read into a buffer of this length, at most nine bytes, gives.
 fn told_read(
     alloc: Global,
     net: &mut NetInMemory,

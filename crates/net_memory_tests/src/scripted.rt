@@ -117,7 +117,7 @@ fn call_of(name: &str) -> Option<CallKind> {
     }
 }
 
-/// An error of a name. Any other one stands for those without a kind of their own, as that no descriptor is left.
+/// An error of a name. Any other name is an error without a kind of its own, such as that no descriptor is left.
 fn error_of(name: &str) -> ErrorKind {
     match name {
         "WouldBlock" => ErrorKind::WouldBlock,

@@ -52,7 +52,7 @@ pub fn one_client(
     Ok(stream)
 }
 
-/// Connects session 1, which a client of the test's own made, to the net itself, where it makes session 2.
+/// Connects session 1, which a client of the test's own made, to the net itself, in which that makes session 2.
 pub fn two_sessions(
     rt: &HostRuntime,
     net: &mut MioNet<SystemSockets<'_>>,

@@ -263,7 +263,7 @@ not_gone true ended h e = let t : is_some ended ≡ true = h refl in let f : is_
 nothing_more : (was : Taken) → was ≡ record was { notes = was.notes ++ [] }
 nothing_more was = rw (append-nil was.notes) refl
 
--- what waits for either side, where the queues are the same
+-- what waits for either side, if the queues are the same
 same_queues : (old mid new : SessionView) → new.bus_side ≡ mid.bus_side → new.client_side ≡ mid.client_side → KeepsWaiting old mid → KeepsWaiting old new
 same_queues old mid new b c g = record {
   client = subst (λ (l : List ℕ). IsFront old.client_side l) (sym c) g.client;

@@ -1,4 +1,4 @@
--- What was taken of a session is a front of what the journal's events give.
+-- What was taken of a session is a prefix of what the journal's events give.
 use Rattle.std.proofs.Common.{ℕ, suc, ◌≡◌, ◌≤◌, ◌⊎◌, Bool, true, false, if◌then◌else◌, List, [], ◌∷◌, ◌++◌, Option, Some, None, refl, ap, ◌∙◌, sym, subst, append-nil, append_assoc, arith, inl, inr}
 use Rattle.std.proofs.lemmas.Bool.Decides.{nat_tests}
 use Rattle.std.specs.List.{list_all}
@@ -43,7 +43,7 @@ module _ (policy : Policy) (mode : Mode) where
       let over = stopped_end earlier end in
       ended_is_final policy mode (later ++ Stopped end ∷ earlier) event over.0 (ap end_of rest ∙ over.1) ∙ rest
 
--- ---- the first items, where a stop was put in or not
+-- ---- the first items, whether or not a stop was put in
 
 -- the same items, with an End after them or none
 abbrev pub IsSameButEnd : History → History → Type 0

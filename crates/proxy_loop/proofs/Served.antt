@@ -292,7 +292,7 @@ module _ (policy : Policy) (log : Bool) (n : ℕ) (side : Side) (r0 r1 r2 r3 r4 
     unlogged = b.unlogged;
   }
 
--- the same, where each part names the session by its own number
+-- the same, if each part names the session by its own number
 module _ (policy : Policy) (log : Bool) (side : Side) (r0 r1 r2 r3 r4 : Running) (v0 v1 v2 v3 v4 v5 : NetView) (l0 l1 : SinkView)
     (p1 : KeepsPlace r0 r1) (p2 : KeepsPlace r1 r2) (p3 : KeepsPlace r2 r3) (k1 : KeepsShut r0 r1) (k2 : KeepsShut r1 r2) (k3 : KeepsShut r2 r3) where
   n1 : r1.number ≡ r0.number

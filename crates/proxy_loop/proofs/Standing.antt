@@ -91,7 +91,7 @@ no_stop_in true events told e s = cc
 made_all : (mode : Mode) (policy : Policy) (events : List Event) → mode.notes ≡ true → notes_made mode policy (history policy mode events) ≡ notes policy (history policy mode events)
 made_all mode policy events e = ap (λ (b : Bool). if b then notes policy (history policy mode events) else []) e
 
--- all notes of a session that runs, where none is left
+-- all notes of a session that runs, if none is left
 exact_notes : (policy : Policy) (n : ℕ) (session : SessionView) (journal : Journal) (h : Holds policy n session journal) →
     session.ended ≡ None → session.mode.notes ≡ true → session.notes ≡ [] → notes policy (history policy session.mode (events_of n journal)) ≡ h.notes
 exact_notes policy n session journal h e k none =
@@ -253,7 +253,7 @@ module _ (policy : Policy) (logs : Bool) (n : ℕ) (side : Side) (full : Bool) (
         )
         ∙ more_lines s3.notes
 
-    -- behind an End nothing is read, and there is no new note
+    -- after an End nothing is read, and there is no new note
     unchanged : is_some s0.ended ≡ true → log_of policy s3.mode n ((late ++ early) ++ was) ≡ log_of policy s3.mode n was
     unfolding log_of
     unchanged e =

@@ -1,4 +1,4 @@
--- What is told of a session where nothing is read: failed calls, which end it.
+-- What is told of a session if nothing is read: failed calls, which end it.
 use Rattle.std.proofs.Common.{ℕ, nat_eq, ◌≡◌, Bool, true, false, ◌&&◌, List, [], ◌∷◌, ◌++◌, if◌then◌else◌, refl, sym, subst}
 use Rattle.std.specs.List.{list_all}
 use Rattle.link_traits.specs.Journals.{Journal}

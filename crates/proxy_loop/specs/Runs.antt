@@ -79,7 +79,7 @@ pub record Reads (policy : Policy) (n : ℕ) (side : Side) (old new : Running) (
   pub client : new.client.gone ≡ true → is_some new.session.ended ≡ true
   pub bus : new.bus.gone ≡ true → is_some new.session.ended ≡ true
 
--- the notes are logged, where there is a log
+-- the notes are logged, if there is a log
 abbrev pub LogsIf : Bool → ℕ → SessionView → SessionView → SinkView → SinkView → Type 0
 LogsIf true n old new before after = Logs n old new before after
 LogsIf false n old new before after = (new ≡ old) × (after ≡ before)

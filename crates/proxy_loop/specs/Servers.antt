@@ -95,7 +95,7 @@ pub record WithoutSessions (journal : Journal) : Type 0 where
   pub fresh : (n : ℕ) → Fresh n journal
   pub accepted : accepts journal ≡ 0
 
--- sessions that served the journal before serve the one after; where it is told after, it was told before, and it grew
+-- sessions that served the journal before serve the one after; if it is told after, it was told before, and it grew
 pub record GoesOn (blocks : List Block) (old new : Table) (before after : NetView) : Type 0 where
   pub each : (now : Journal) → after.journal ≡ Some now → (was : Journal) × (before.journal ≡ Some was)
       × (added : Journal) × (now ≡ added ++ was) × (Serves blocks old was → Serves blocks new now)
@@ -127,7 +127,7 @@ ReadyLogs blocks (Listener listener) old new was now first last = last ≡ first
 ReadyLogs blocks Quiet old new was now first last = last ≡ first
 ReadyLogs blocks ReadyFailed old new was now first last = last ≡ first
 
--- What a turn adds to the log: the lines of the new notes of the session that it served, where its block has a log, and
+-- What a turn adds to the log: the lines of the new notes of the session that it served, if its block has a log, and
 -- nothing else; or a part of these, and then that session has an End.
 pub record LogExact (blocks : List Block) (old new : Table) (before after : NetView) (first last : SinkView) : Type 0 where
   pub each : (now : Journal) → after.journal ≡ Some now → (was : Journal) × (before.journal ≡ Some was)

@@ -14,7 +14,7 @@ use Rattle.proxy_loop.specs.declared.table.Sessions.{Sessions}
 use Rattle.proxy_loop.specs.Works.{Stood, wishes_of}
 use Rattle.proxy_loop.specs.Runs.{Sound, is_over}
 
--- the session with a number, where it isn't over
+-- the session with a number, if it isn't over
 abbrev pub At : Type 0
 At = ℕ → Option Running
 

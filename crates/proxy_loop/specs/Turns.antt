@@ -31,7 +31,7 @@ use Rattle.proxy_loop.specs.Works.{Any, Cause, Goes, ShutBoth, shuts_now, wishes
 use Rattle.proxy_loop.specs.Runs.{Sound, KeepsPlace, KeepsSessions, Serving}
 use Rattle.proxy_loop.specs.Tables.{Table, Sets, unless_over, SoundUnder, IsCounted}
 
--- ---- where nothing is done
+-- ---- if nothing is done
 
 -- the same sessions
 pub record SameTable (old new : Table) : Type 0 where
@@ -45,7 +45,7 @@ pub record Still (old new : Table) (before after : NetView) (first last : SinkVi
   pub net : after ≡ before
   pub log : last ≡ first
 
--- ---- where a link is named
+-- ---- if a link is named
 
 -- One session was served, under its block. A link is shut if it was shut before, or if the session has an End and
 -- nothing more is to be written to the link. The wishes of any other link of the session are stated, if the net knows
@@ -74,7 +74,7 @@ abbrev pub LinkDid : List Block → Link → Option Running → Table → Table 
 LinkDid blocks link None old new before after first last = Still old new before after first last
 LinkDid blocks link (Some running) old new before after first last = ServedDid blocks link running old new before after first last
 
--- ---- where a listener is named
+-- ---- if a listener is named
 
 -- the state of a link that was just made
 abbrev pub at_first : LinkState
@@ -94,7 +94,7 @@ pub record OneConnect (n : ℕ) (address : List ℕ) (ended : Option End) (gone 
   pub client_gone : some_of (gone_by (client_link n)) added ≡ false
   pub bus_gone : some_of (gone_by (bus_link n)) added ≡ gone
 
--- a new session is connected, and its links are shut where it could not be
+-- a new session is connected, and its links are shut if it could not be
 pub record Opened (n : ℕ) (address : List ℕ) (running : Running) (added : Journal) : Type 0 where
   pub answer : Result (Unit {0}) NetFault
   pub shuts : Journal
@@ -141,7 +141,7 @@ pub record AcceptDid (blocks : List Block) (listener : ℕ) (address : List ℕ)
   pub wishes : AfterAccept answer before between
   pub brings : Brought blocks listener address answer old new between after
 
--- nothing where all sessions were accepted or the listener isn't the server's, else one accept
+-- nothing if all sessions were accepted or the listener isn't the server's, else one accept
 abbrev pub ListenerDid : Bool → List Block → ℕ → Option Block → Table → Table → NetView → NetView → SinkView → SinkView → Type 0
 ListenerDid true blocks listener (Some block) old new before after first last = AcceptDid blocks listener (string_bytes block.address) old new before after × (last ≡ first)
 ListenerDid true blocks listener None old new before after first last = Still old new before after first last

@@ -25,7 +25,7 @@ pub contained_done : (one other : Policy) (answer : WithinAnswer) (code : ℕ) (
 contained_done one other answer code out new_out exact decides is written = λ settled.
     (contained_code one other answer code decides is, (within_text (answer_of one other), refl, written ∙ ap (λ (a : WithinAnswer). added (within_text a) out) exact), λ zero. tt)
 
--- .. or a front of it
+-- .. or a prefix of it
 pub contained_front : (one other : Policy) (answer : WithinAnswer) (out new_out : Option (List ℕ)) → answer ≡ answer_of one other → IsFront (Wrote (within_text answer) []) out new_out → IsFront (Contained one other) out new_out
 contained_front one other answer out new_out exact front = λ settled. let f = front tt in (f.0, ap within_text (sym exact) ∙ f.1, f.2)
 

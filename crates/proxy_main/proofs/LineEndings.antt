@@ -63,7 +63,7 @@ pub untaken : (line : ProxyLine) (rose : Type 0) (before after : NetView) (first
 untaken line rose before after first last code NotTaken asked told wishes cause said = record { asked = asked; told = told; wishes = wishes; said = inl (said.0, (cause refl, said.1)) }
 untaken line rose before after first last code NoNetMemory asked told wishes cause said = record { asked = asked; told = told; wishes = wishes; said = inr said }
 
--- ---- where a line was served
+-- ---- if a line was served
 
 pub said_all : (first mid last : SinkView) (code : ℕ) (end : RunEnd) → first.faults ≤ mid.faults → EndSaid (Rose mid.faults last.faults) mid last code end → EndSaid (Rose first.faults last.faults) mid last code end
 said_all first mid last code (Ok done) le s = s

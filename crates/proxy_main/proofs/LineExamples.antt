@@ -9,7 +9,7 @@ use Rattle.replay.specs.declared.comparing.TwinAnswer.TheVariants.{Same, Differ}
 use Rattle.proxy_main.specs.Answers.{checked_recording, twin_line}
 use Rattle.proxy_main.specs.Lines.{recording_line, refusal_line}
 
--- the line of a recording, where it is refused
+-- the line of a recording, if it is refused
 abbrev line_of : Result Recording Refusal → List ℕ
 line_of (Ok recording) = []
 line_of (Err refusal) = refusal_line refusal

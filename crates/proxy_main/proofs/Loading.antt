@@ -1,4 +1,4 @@
--- A file that is told was read, or is above its limit; and what it means for a run where it stops that.
+-- A file that is told was read, or is above its limit; and what it means for a run that it stops.
 use Rattle.std.proofs.Common.{◌≡◌, ◌<◌, ℕ, List, [], Option, Some, None, Result, Ok, Err, IfSome, refl, ap, sym, ◌∙◌, length, cond, nat_lt, arith, subst, Bool, true, false, bytes_eq}
 use Rattle.std.proofs.lemmas.Bool.Decides.{nat_tests}
 use Rattle.byte_lists.proofs.Bytes.{bytes_eq-refl}

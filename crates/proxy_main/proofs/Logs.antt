@@ -30,7 +30,7 @@ unfolding log_of_sessions noted_in
 none_of_many o r is =
     ap (λ (asked : Bool). session_log (if not asked then [] else (if r.version == 1 then map (in_session 1) (notes o.policy (history_of o (only_session r))) else sessions_noted o.policy (session_mode o r.auth) [] r.events))) is
 
--- the answer of a replay has a log only where it is asked for
+-- the answer of a replay has a log only if it is asked for
 replay_unasked : (o : PolicyOptions) (recording : Result Sessions Refusal) → o.log ≡ false → log_of (then_go recording (replayed o)) ≡ []
 unfolding replayed
 replay_unasked o (Ok r) is = none_of_many o r is
@@ -104,7 +104,7 @@ unasked told (Some (ListSessions recording)) is = read_none (told recording) che
 unasked told (Some Help) is = refl
 unasked told (Some Version) is = refl
 
--- nothing is a front of the log
+-- nothing is a prefix of the log
 pub front_none : (told : List ℕ → Option (List ℕ)) (command : Option Command) (err new_err : Option (List ℕ)) → new_err ≡ err → IsLogFront told command err new_err
 front_none told command err new_err same =
     (log_of (answer_to told command), record { settled = λ settled. refl; unasked = unasked told command }, part_none _ _ _ same)
@@ -114,7 +114,7 @@ pub lines_none : (told : List ℕ → Option (List ℕ)) (command : Option Comma
 lines_none told command err new_err same =
     (log_of (answer_to told command), record { settled = λ settled. refl; unasked = unasked told command }, inl same)
 
--- whole lines are a front of the log
+-- whole lines are a prefix of the log
 lines_part : (err new_err : Option (List ℕ)) (log : List ℕ) → (new_err ≡ err) ⊎ WholeLinesOf err new_err log → Part err new_err log
 lines_part err new_err log (inl same) = part_none err new_err log same
 lines_part err new_err log (inr (noted, is, lines)) =

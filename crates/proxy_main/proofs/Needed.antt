@@ -21,7 +21,7 @@ use Rattle.proxy_main.specs.FilesRead.{paths_of, policies_of, needed, up_to_bad,
 use Rattle.proxy_main.proofs.Endings.{file_told}
 use Rattle.proxy_main.proofs.Loading.{read_ok}
 
--- ---- what is needed behind a file
+-- ---- what is needed after a file
 
 pub good : {A : Type 0} (t : Option (List ℕ)) (check : List ℕ → Result A Refusal) (x : A) (more : List (List ℕ)) → IfSome t (λ bytes. check bytes ≡ Ok x) → behind t check more ≡ more
 good None check x more is = refl
@@ -68,7 +68,7 @@ module _ {A : Type 0} (t : Option (List ℕ)) (check : List ℕ → Result A Ref
   this_needed Log is = absurd is
   this_needed Memory is = this_front
 
--- nothing behind the last
+-- nothing after the last
 none_behind : {A : Type 0} (r : Result A Refusal) → unless_refused r [] ≡ []
 none_behind (Ok x) = refl
 none_behind (Err refusal) = refl
@@ -83,7 +83,7 @@ pub policy_needed : (told : List ℕ → Option (List ℕ)) (p : List ℕ) (reco
     (s : Stop) → LoadStops checked_policy (told p) p s → NeededUntil (IsSettled (then_read (told p) checked_policy go)) (up_to_bad 1 told (p ∷ recordings)) reads new_reads s
 policy_needed told p recordings reads new_reads go next s is = this_needed (told p) checked_policy go p (recordings_up_to_bad told recordings) reads new_reads next s is
 
--- ---- behind a good policy file
+-- ---- after a good policy file
 
 module _ (told : List ℕ → Option (List ℕ)) (p r : List ℕ) (o : PolicyOptions) (ok : IfSome (told p) (λ bytes. checked_policy bytes ≡ Ok o)) where
   good_policy : (recordings : List (List ℕ)) → up_to_bad 1 told (p ∷ recordings) ≡ p ∷ recordings_up_to_bad told recordings
@@ -94,7 +94,7 @@ module _ (told : List ℕ → Option (List ℕ)) (p r : List ℕ) (o : PolicyOpt
   both_needed reads new_reads all =
       all ∙ ap (λ (files : List (List ℕ)). reads ++ files) (sym (good_policy (r ∷ []) ∙ ap (λ (more : List (List ℕ)). p ∷ r ∷ more) (last (told r) checked_recording)))
 
-  -- .. and of a comparison, where the first recording is good
+  -- .. and of a comparison, if the first recording is good
   pub twins_needed : (b : List ℕ) (x : Recording) → IfSome (told r) (λ bytes. checked_recording bytes ≡ Ok x) → (reads new_reads : List (List ℕ)) → new_reads ≡ reads ++ (p ∷ r ∷ b ∷ []) →
       new_reads ≡ reads ++ up_to_bad 1 told (p ∷ r ∷ b ∷ [])
   twins_needed b x one reads new_reads all =

@@ -44,7 +44,7 @@ to_front path named reads new_reads to = record {
       ∙ ap (λ (paths : List (List ℕ)). reads ++ paths) (sym (ap (take (length to.before + 1)) to.among ∙ take-append-add to.before (path ∷ to.after) 1));
 }
 
--- a file is why a run stopped, behind those before
+-- a file is why a run stopped, after those before it
 module _ (policies : ℕ) (before after reads now new_reads : List (List ℕ)) (path : List ℕ) (so_far : now ≡ reads ++ before) (next : new_reads ≡ now ++ path ∷ []) where
   to_path : (p : List ℕ) → p ≡ path → ReadTo p (before ++ path ∷ after) reads new_reads
   to_path p e = record {
@@ -102,7 +102,7 @@ module _ (policies : ℕ) (after reads new_reads : List (List ℕ)) (path : List
   policy_stops Log h = absurd h
   policy_stops Memory h = front 0 [] after reads reads new_reads path (none_named reads) next
 
--- the others are why, behind a first file of which nothing is refused; it is a policy file where one of them may be the
+-- the others are why, after a first file of which nothing is refused; it is a policy file if one of them may be the
 -- last
 module _ (policies all_policies : ℕ) (named reads now new_reads : List (List ℕ)) (path : List ℕ) (first : (n : ℕ) → 1 ≤ n → n ≤ policies → n + 1 ≤ all_policies) (next : now ≡ reads ++ path ∷ []) where
   later_all : new_reads ≡ now ++ named → new_reads ≡ reads ++ path ∷ named
@@ -260,7 +260,7 @@ module _ (policies : ℕ) (named reads new_reads : List (List ℕ)) (rose : Type
   refusal_front (Message bad) h = h
   refusal_front (Text bad) h = h
 
--- the count of err's faults is a at the start, b behind the work and c behind the line
+-- the count of err's faults is a at the start, b after the work and c after the line
 pub stop_reads : (told : List ℕ → Option (List ℕ)) (command : Option Command) (policies : ℕ) (named reads new_reads : List (List ℕ)) (err between new_err : Option (List ℕ)) (a b c code : ℕ) (s : Stop) → a ≤ b →
     ReadUntil policies named reads new_reads s → KeepsLog told command err between s → StopTold (Rose b c) between new_err code s → ToolReads policies named reads new_reads (Rose a c) err new_err code
 stop_reads told command policies named reads new_reads err between new_err a b c code (Refuses refusal) le until log (inl t) =

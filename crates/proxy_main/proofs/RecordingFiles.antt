@@ -1,4 +1,4 @@
--- Recordings that are read one after the other behind a policy file, and two policy files.
+-- Recordings that are read one after the other after a policy file, and two policy files.
 use Rattle.std.proofs.Common.{◌≡◌, ◌≤◌, ◌-◌, ℕ, List, [], ◌∷◌, ◌++◌, Bor, Option, Some, Result, Ok, Err, IfErr, IfSome, OnOk, ap, arith, drop, get_or, length, map, append_assoc, bytes_eq, refl, subst, sym, take, ◌∙◌}
 use Rattle.std.proofs.lemmas.List.{take_all}
 use Rattle.policy_args.specs.Words.{PolicyOptions}
@@ -64,7 +64,7 @@ module _ (told : List ℕ → Option (List ℕ)) (p : List ℕ) (ps reads now ne
         (h.needed (λ others. work (x ∷ others)));
   }
 
--- One recording was read and is good, and others are read behind it. What is told of the files then is what was told at
+-- One recording was read and is good, and others are read after it. What is told of the files then is what was told at
 -- the start.
 module _ (start mid : List ℕ → Option (List ℕ)) (kept : IsTold mid start) (p : List ℕ) (paths others reads now new_reads : List (List ℕ)) (names : paths ≡ p ∷ others) (x : Recording)
     (ok : IfSome (start p) (λ bytes. checked_recording bytes ≡ Ok x)) where
@@ -104,7 +104,7 @@ pub first_text : (texts : List (Bor (List ℕ))) (d : Bor (List ℕ)) → 1 ≤ 
 first_text [] d le = absurd (omega (arith, le))
 first_text (t ∷ texts) d le = ap (λ (ts : List (Bor (List ℕ))). t.now ∷ map (λ u. u.now) ts) (sym (take_all (length (t ∷ texts) - 1) texts (omega arith)))
 
--- ---- an audit: recordings behind a policy file
+-- ---- an audit: recordings after a policy file
 
 module _ (told : List ℕ → Option (List ℕ)) (p : List ℕ) (ps reads now new_reads : List (List ℕ)) (o : PolicyOptions) (ok : IfSome (told p) (λ bytes. checked_policy bytes ≡ Ok o)) where
   pub audit_loaded : (xs : List Recording) → AreGood told ps xs → Agrees (answer_to told (Some (Audit p ps))) (audited o xs)

@@ -46,7 +46,7 @@ pub data Answer : Type 0 where
 
 -- ---- reading and checking
 
--- what follows a check, where that refuses nothing
+-- what follows a check, if that refuses nothing
 abbrev pub then_go : {A : Type 0} → Result A Refusal → (A → Answer) → Answer
 then_go (Ok x) go = go x
 then_go (Err refusal) go = Refused refusal
@@ -90,7 +90,7 @@ checked_text bytes = or_refused BadTextFile (bytes_composed bytes)
 unfoldable pub replayed : PolicyOptions → Sessions → Answer
 replayed options sessions = Wrote (output_of_sessions options sessions) (log_of_sessions options sessions)
 
--- a message of that number is explained, where there is one
+-- a message of that number is explained, if there is one
 abbrev pub explaining : Option (List ℕ) → Answer
 explaining None = Refused NoSuchMessage
 explaining (Some bytes) = Wrote bytes []
@@ -277,7 +277,7 @@ may_log told (Some (ListSessions recording)) = false
 may_log told (Some Help) = false
 may_log told (Some Version) = false
 
--- a run's log is the answer's where that is settled, and empty where no log may be asked for
+-- a run's log is the answer's if that is settled, and empty if no log may be asked for
 pub record IsLog (told : List ℕ → Option (List ℕ)) (command : Option Command) (log : List ℕ) : Type 0 where
   pub settled : IsSettled (answer_to told command) → log ≡ log_of (answer_to told command)
   pub unasked : may_log told command ≡ false → log ≡ []

@@ -23,7 +23,7 @@ use Rattle.proxy_main.specs.Answers.{Untold, Refused, answer_to, IsSettled, Agre
 use Rattle.proxy_main.specs.Lines.{refusal_line, file_line, memory_line}
 use Rattle.proxy_main.specs.Loads.{IsOfWords, IsEnd, IsDone, IsFront, IsLogged, IsLogFront, IsLogInLines}
 
--- a sink got a line, or a front of it where its count of faults rose
+-- a sink got a line, or a prefix of it if its count of faults rose
 pub data Said (rose : Type 0) (old new : Option (List ℕ)) (line : List ℕ) : Type 0 where
   Whole : new ≡ added line old → Said rose old new line
   Cut : rose → Part old new line → Said rose old new line
@@ -77,7 +77,7 @@ pub data LineOf (code : ℕ) (line : List ℕ) : Type 0 where
   OfFile : (path : List ℕ) → code ≡ 4 → line ≡ file_line path → LineOf code line
   OfMemory : code ≡ 8 → line ≡ memory_line → LineOf code line
 
--- err got a front of the log, then a front of the status's line, and nothing else
+-- err got a prefix of the log, then a prefix of the status's line, and nothing else
 pub record ErrFront (told : List ℕ → Option (List ℕ)) (command : Option Command) (err new_err : Option (List ℕ)) (code : ℕ) : Type 0 where
   pub between : Option (List ℕ)
   pub log : IsLogFront told command err between
@@ -87,7 +87,7 @@ pub record ErrFront (told : List ℕ → Option (List ℕ)) (command : Option Co
 
 -- ---- one status
 
--- a status comes exactly where its cause stands, unless memory ran out
+-- a status comes exactly if its cause stands, unless memory ran out
 abbrev pub Exactly : ℕ → ℕ → Type 0 → Type 0
 Exactly code this cause = (code ≡ this → cause) × (cause → (code ≡ this) ⊎ (code ≡ 8))
 
@@ -99,7 +99,7 @@ ExactlyOfFiles code this cause = (code ≡ this → cause) × (cause → (code �
 abbrev pub IsFree : ℕ → Type 0
 IsFree code = (code ≡ 4) ⊎ ((code ≡ 6) ⊎ (code ≡ 8))
 
--- a status comes exactly where its cause stands, unless such a fault gave another
+-- a status comes exactly if its cause stands, unless such a fault gave another
 abbrev pub ExactlyOfWork : ℕ → ℕ → Type 0 → Type 0
 ExactlyOfWork code this cause = (code ≡ this → cause) × (cause → (code ≡ this) ⊎ IsFree code)
 

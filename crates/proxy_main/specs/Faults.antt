@@ -7,7 +7,7 @@ use Rattle.link_traits.specs.declared.FileFault.TheVariants.{Failed}
 abbrev pub one_more : ℕ → ℕ
 one_more faults = min (faults + 1) (2 ^ 64 - 1)
 
--- behind a read
+-- after a read
 abbrev pub reads_failed : {A : Type 0} → Result A FileFault → ℕ → ℕ
 reads_failed (Err Failed) faults = one_more faults
 reads_failed _ faults = faults

@@ -1,5 +1,5 @@
 -- The files that a run reads: those that its words name and no other, each once and in the order of the words, up to
--- the one at which it stops. None is read behind one that is bad.
+-- the one at which it stops. None is read after one that is bad.
 use Rattle.std.specs.Prelude.{◌≡◌, ◌≤◌, ◌⊎◌, ℕ, zero, suc, List, [], ◌∷◌, ◌++◌, take, Option, Some, None, Result, Ok, Err}
 use Rattle.link_traits.specs.Told.{ReadFront, ReadTo}
 use Rattle.proxy_main.specs.declared.Refusal.{Refusal}
@@ -47,12 +47,12 @@ policies_of (Some Version) = 0
 
 -- ---- the files that are needed
 
--- more files are needed behind a check that refuses nothing, ..
+-- more files are needed after a check that refuses nothing, ..
 abbrev pub unless_refused : {A : Type 0} → Result A Refusal → List (List ℕ) → List (List ℕ)
 unless_refused (Ok x) more = more
 unless_refused (Err refusal) more = []
 
--- .. and behind a file that isn't bad, by what is told of it
+-- .. and after a file that isn't bad, by what is told of it
 abbrev pub behind : {A : Type 0} → Option (List ℕ) → (List ℕ → Result A Refusal) → List (List ℕ) → List (List ℕ)
 behind None check more = more
 behind (Some bytes) check more = unless_refused (check bytes) more
@@ -62,7 +62,7 @@ abbrev pub recordings_up_to_bad : (List ℕ → Option (List ℕ)) → List (Lis
 recordings_up_to_bad told [] = []
 recordings_up_to_bad told (path ∷ others) = path ∷ behind (told path) checked_recording (recordings_up_to_bad told others)
 
--- this many policy files and the recordings behind them, up to the first that is bad
+-- this many policy files and the recordings after them, up to the first that is bad
 abbrev pub up_to_bad : ℕ → (List ℕ → Option (List ℕ)) → List (List ℕ) → List (List ℕ)
 up_to_bad zero told paths = recordings_up_to_bad told paths
 up_to_bad (suc policies) told [] = []
@@ -89,7 +89,7 @@ pub record EndsAtPolicy (policies : ℕ) (named reads new_reads : List (List ℕ
 
 -- which files a tool's run read of those that its words name, of which the first are policy files, by its status
 pub record ToolReads (policies : ℕ) (named reads new_reads : List (List ℕ)) (err_rose : Type 0) (err new_err : Option (List ℕ)) (code : ℕ) : Type 0 where
-  -- Those that were read are a front of them, and no other file was read.
+  -- Those that were read are a prefix of them, and no other file was read.
   pub front : ReadFront named reads new_reads
   -- With 0, 6, 7 and 9 all were, with 2 the last is a policy file, and with 4 it is the one that could not be.
   pub all : (code ≡ 0) ⊎ ((code ≡ 6) ⊎ ((code ≡ 7) ⊎ (code ≡ 9))) → new_reads ≡ reads ++ named
@@ -98,7 +98,7 @@ pub record ToolReads (policies : ℕ) (named reads new_reads : List (List ℕ)) 
 
 -- which files of words a proxy line's run read, by its status
 pub record LineReads (named reads new_reads : List (List ℕ)) (err_rose : Type 0) (err new_err : Option (List ℕ)) (code : ℕ) : Type 0 where
-  -- Those that were read are a front of those that the words name, and no other file was read.
+  -- Those that were read are a prefix of those that the words name, and no other file was read.
   pub front : ReadFront named reads new_reads
   -- With 0 and 5 all were, and with 4 the last is the one that could not be, or all were, and the file of a recording
   -- failed.
@@ -190,7 +190,7 @@ ReadUntil policies named reads new_reads Memory = ReadFront named reads new_read
 
 -- ---- which of the needed files were read ..
 
--- .. before a tool's run stopped: all, where a refusal is settled by what is told or the work had begun
+-- .. before a tool's run stopped: all, if a refusal is settled by what is told or the work had begun
 abbrev pub NeededUntil : Type 0 → List (List ℕ) → List (List ℕ) → List (List ℕ) → Stop → Type 0
 NeededUntil settled files reads new_reads (Refuses refusal) = ReadFront files reads new_reads × (settled → new_reads ≡ reads ++ files)
 NeededUntil settled files reads new_reads (File path) = ReadFront files reads new_reads
@@ -198,7 +198,7 @@ NeededUntil settled files reads new_reads Output = new_reads ≡ reads ++ files
 NeededUntil settled files reads new_reads Log = new_reads ≡ reads ++ files
 NeededUntil settled files reads new_reads Memory = ReadFront files reads new_reads
 
--- .. and before it ended, where it didn't stop: all
+-- .. and before it ended, if it didn't stop: all
 abbrev pub ReadsNeeded : {A : Type 0} → Type 0 → List (List ℕ) → List (List ℕ) → List (List ℕ) → Result A Stop → Type 0
 ReadsNeeded settled files reads new_reads (Ok done) = new_reads ≡ reads ++ files
 ReadsNeeded settled files reads new_reads (Err stop) = NeededUntil settled files reads new_reads stop

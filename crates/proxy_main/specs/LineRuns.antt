@@ -39,7 +39,7 @@ use Rattle.proxy_main.specs.FilesRead.{LineReads}
 
 -- ---- the words
 
--- why the words are refused, where they are
+-- why the words are refused, if they are
 abbrev pub refusal_of : Line → Option Refusal
 refusal_of Untold = None
 refusal_of TooLong = Some ArgsTooLong

@@ -156,7 +156,7 @@ IsOfWords (Message bad) command = IsShow command
 IsOfWords (Text bad) command = IsCompose command
 
 -- why a run stops: what is told settles it so, or a file failed without which nothing is settled, or the work had
--- begun, with a log where it was that which failed
+-- begun, with a log if it was that which failed
 abbrev pub StopsBy : (List ℕ → Option (List ℕ)) → Option Command → Stop → Type 0
 StopsBy told command (Refuses refusal) = Agrees (answer_to told command) (Refused refusal) × IsOfWords refusal command
 StopsBy told command (File path) = answer_to (without path.now told) command ≡ Untold
@@ -172,7 +172,7 @@ CausedBy files out err Output = out
 CausedBy files out err Log = err
 CausedBy files out err Memory = Unit {0}
 
--- a front of the output was written
+-- a prefix of the output was written
 abbrev pub IsFront : Answer → Option (List ℕ) → Option (List ℕ) → Type 0
 IsFront answer out new_out = IsSettled answer → (bytes : List ℕ) × HasOut answer bytes × Part out new_out bytes
 
@@ -209,7 +209,7 @@ IsComparison (Some (ListSessions recording)) = ⊥
 IsComparison (Some Help) = ⊥
 IsComparison (Some Version) = ⊥
 
--- the status of work that is done: 0, or that of a difference where there is a comparison
+-- the status of work that is done: 0, or that of a difference if there is a comparison
 abbrev pub IsEnd : Option Command → ℕ → Type 0
 IsEnd command code = (code ≡ 0) ⊎ ((code ≡ 7) × IsComparison command)
 
@@ -219,7 +219,7 @@ IsEnd command code = (code ≡ 0) ⊎ ((code ≡ 7) × IsComparison command)
 abbrev pub IsLogged : (List ℕ → Option (List ℕ)) → Option Command → Option (List ℕ) → Option (List ℕ) → Type 0
 IsLogged told command err new_err = (log : List ℕ) × IsLog told command log × (new_err ≡ added log err)
 
--- a front of the log was written
+-- a prefix of the log was written
 abbrev pub IsLogFront : (List ℕ → Option (List ℕ)) → Option Command → Option (List ℕ) → Option (List ℕ) → Type 0
 IsLogFront told command err new_err = (log : List ℕ) × IsLog told command log × Part err new_err log
 

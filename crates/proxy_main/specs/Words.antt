@@ -25,7 +25,7 @@ use Rattle.tool_words.specs.Tools.{taken, taken_with, replay_places, explain_pla
 pub data Command : Type 0 where
   -- the paths of the policy file and of the recording
   Replay : List ℕ → List ℕ → Command
-  -- the same, and the number of a message
+  -- the paths of a policy file and of a recording, and the number of a message
   Explain : List ℕ → List ℕ → ℕ → Command
   -- the paths of the policy file and of both recordings
   Twin : List ℕ → List ℕ → List ℕ → Command
@@ -142,7 +142,7 @@ named_by tool words =
     else (if bytes_eq tool (codes "sessions") then list_sessions_of (taken (codes "sessions") sessions_places words)
     else alone_of words))))))))))
 
--- the command that the words name, where they name one
+-- the command that the words name, if they name one
 abbrev pub reading : List (List ℕ) → Option Command
 reading [] = None
 reading (tool ∷ words) = named_by tool (tool ∷ words)

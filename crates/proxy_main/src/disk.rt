@@ -75,7 +75,7 @@ pub struct SystemDisk<'a> {
 }
 
 impl<'a> SystemDisk<'a> {
-    /// The disk of the system that the runtime stands for, before any file was opened.
+    /// The disk of the system that the runtime gives access to, before any file was opened.
     pub fn new(rt: &'a HostRuntime) -> SystemDisk<'a>
         ensures { result.paths.paths ≡ [] }
     {

@@ -1,4 +1,4 @@
-//! The program behind its command line.
+//! What the program does with its command line.
 //!
 //! `ADDRESS PATH [OPTION..]` and further such blocks are a proxy line: the program listens at each PATH, and serves
 //! each client that comes between it and the bus at ADDRESS, by the block's options. With the option `--record=FILE` it

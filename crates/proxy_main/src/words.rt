@@ -24,7 +24,7 @@ pub enum CommandWords<'a> {
         policy: &'a str,
         recording: &'a str,
     },
-    /// The same, and the number of the message that is explained.
+    /// The paths of a policy file and of a recording, and the number of the message that is explained.
     Explain {
         policy: &'a str,
         recording: &'a str,

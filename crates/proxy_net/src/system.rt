@@ -161,7 +161,7 @@ pub struct SystemSockets<'a> {
 }
 
 impl<'a> SystemSockets<'a> {
-    /// The system that the runtime stands for, before a socket is made.
+    /// The system that the runtime gives access to, before a socket is made.
     pub fn new(rt: &'a HostRuntime) -> io::Result<SystemSockets<'a>>
         ensures runtime { IfOk result (λ system. system.rt ≡ rt.entry) }
         ensures starter { IfOk result (λ system. system.starter ≡ None) }

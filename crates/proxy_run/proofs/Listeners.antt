@@ -76,7 +76,7 @@ first_numbered n zero (block ∷ blocks) = record { rest = numbered_from n (map 
 first_numbered n (suc count) (block ∷ blocks) =
     let later = first_numbered (n + 1) count blocks in record { rest = later.rest; is = ap (λ (l : List (ℕ × List ℕ)). (n, path_at block) ∷ l) later.is }
 
--- where no listener was made before, those that were made are the first blocks'
+-- if no listener was made before, those that were made are the first blocks'
 pub record HeardBlocks (blocks : List Block) (before after : NetView) : Type 0 where
   pub each : (now : Journal) → after.journal ≡ Some now → (was : Journal) × (before.journal ≡ Some was) × (listeners_of was ≡ [] → ListensForBlocks blocks now)
 

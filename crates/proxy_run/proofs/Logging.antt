@@ -70,7 +70,7 @@ shut_unread n false false = refl
 pub shuts_unread : (n : ℕ) (client bus : Bool) (added : Journal) → ShutBoth n client bus added → all_are is_unread added ≡ true
 shuts_unread n client bus added s = rw s.is (shut_unread n client bus)
 
--- ---- what a session's log is where nothing was read of it
+-- ---- what a session's log is if nothing was read of it
 
 module _ (policy : Policy) (mode : Mode) (n : ℕ) where
   pub stops_log : (added was : Journal) → AllStops (events_of n added) → log_of policy mode n (added ++ was) ≡ log_of policy mode n was

@@ -26,7 +26,7 @@ none_empty = record { at = λ k. refl; accepted = refl; left = refl }
 
 -- ---- the links
 
--- sessions serve the journal at the end, where it was without sessions at the start
+-- sessions serve the journal at the end, if it was without sessions at the start
 pub record RunServes (blocks : List Block) (before after : NetView) : Type 0 where
   pub each : (now : Journal) → after.journal ≡ Some now → (was : Journal) × (before.journal ≡ Some was) × (WithoutSessions was → (table : Table) × Serves blocks table now)
 

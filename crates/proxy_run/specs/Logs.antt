@@ -29,7 +29,7 @@ read_of (failed call) = None
 read_of (refused call) = None
 read_of (shut link) = None
 
--- the lines of the messages that an entry adds to a part of a session's history, where its block has a log
+-- the lines of the messages that an entry adds to a part of a session's history, if its block has a log
 abbrev pub lines_under : Block → ℕ → Entry → Journal → (History → History) → List ℕ
 lines_under block n entry before part =
     if block.options.log

@@ -16,7 +16,7 @@ use Rattle.proxy_loop.specs.Listening.{ListenDid, ListensForBlocks, listeners_of
 abbrev pub RunEnd : Type 0
 RunEnd = Result (Unit {0}) ServerEnd
 
--- how a run ends with the answer of a turn, where it does
+-- how a run ends with the answer of a turn, if it does
 abbrev pub end_at : Result Turn ServerEnd → Option RunEnd
 end_at (Ok Went) = None
 end_at (Ok Stopped) = Some (Ok tt)
@@ -33,7 +33,7 @@ pub record OneTurn (blocks : List Block) (limit : ℕ) (old new : Table) (before
   pub log : LogExact blocks old new before after first last
   pub queues : (journal : Journal) → Serves blocks new journal → QueuesStand blocks new journal
 
--- so many turns that went on, one after the other
+-- this many turns that went on, one after the other
 abbrev pub Turns : List Block → ℕ → ℕ → Table → Table → NetView → NetView → SinkView → SinkView → Type 0
 Turns blocks limit zero old new before after first last = (new ≡ old) × (after ≡ before) × (last ≡ first)
 Turns blocks limit (suc count) old new before after first last = (mid : Table) × (between : NetView) × (so_far : SinkView)
@@ -66,7 +66,7 @@ pub record TookTurns (blocks : List Block) (limit : ℕ) (before after : NetView
   pub new : Table
   pub ended : TurnsEnd blocks limit old new before after first last end
 
--- what follows listening: turns; or nothing, where a path was refused
+-- what follows listening: turns; or nothing, if a path was refused
 abbrev pub AfterListen : List Block → ℕ → RunEnd → NetView → NetView → SinkView → SinkView → RunEnd → Type 0
 AfterListen blocks limit (Ok done) before after first last end = TookTurns blocks limit before after first last end
 AfterListen blocks limit (Err refused) before after first last end = (after ≡ before) × (last ≡ first) × (end ≡ Err refused)

@@ -84,7 +84,7 @@ fn take(queue: &mut OutQueue, count: usize) {
     }
 }
 
-/// So many bytes of one letter.
+/// This many bytes of one letter.
 fn letters(alloc: Global, count: usize, letter: &str) -> Result<Vec<u8>, AllocError> {
     let mut all = Vec::new(alloc);
     all.resize(count, letter.as_bytes().first().copied().unwrap_or(b'?'))?;

@@ -117,7 +117,7 @@ untold n (entry ∷ before) f =
 
 -- ---- what is recorded since
 
--- where a recording tells each session's events in their order
+-- if a recording tells each session's events in their order
 pub histories : ((n : ℕ) (journal : Journal) → events_in n (items_of journal) ≡ reverse (session_events n journal)) →
     (was since : Journal) → WithoutSessions was → TellsHistories was since
 histories told was since none n h =

@@ -83,7 +83,7 @@ pub fn serve_recorded<F: Files, N: Net, E: Sink>(
     serve_from_start(alloc, line, path, files, net, err)
 }
 
-/// The same, by what the run did and by what the recorder kept.
+/// That a run recorded its sessions, by what the run did and by what the recorder kept.
 fn serve_from_start<F: Files, N: Net, E: Sink>(
     alloc: Global,
     line: ProxyLine,

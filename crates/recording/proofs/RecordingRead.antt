@@ -133,6 +133,6 @@ recording-is bytes r are e =
     made : Bool → List Event → Recording
     made auth events = record { auth = auth; events = events }
 
--- both ways: a file is that recording exactly where it spells it
+-- both ways: a file is that recording exactly if it spells it
 pub recording-exact : (bytes : List ℕ) (r : Recording) → AreBytes bytes → Spelled r bytes → recording_of bytes ≡ Ok r
 recording-exact bytes r are s = ap recording_of (sym s.is) ∙ recording_again r s.fits (omega (arith, ap length s.is, s.short))

@@ -19,7 +19,7 @@ use Rattle.recording.proofs.Named.{named-push}
 use Rattle.recording.proofs.SessionFronts.{names_session, session_front_is, stop_has_byte}
 use Rattle.recording.proofs.Walk.{bind_same, behind, number, counted-behind, with_front, with_front-behind, tail}
 
--- the events behind a record's head, at most this many
+-- the events after a record's head, at most this many
 abbrev rest_at : ℕ → ℕ → ℕ → List ℕ → List ℕ → ℕ → ℕ → Result (List SessionEvent) BadRecording
 rest_at n place kind before bytes session len =
     session_events_at n (with_session before session) (place + 9 + len) (drop (8 + len) bytes) >>= λ es. Ok (record { session = session; what = what_of kind (take len (drop 8 bytes)) } ∷ es)
@@ -41,7 +41,7 @@ enough (suc n) (suc m) before place (kind ∷ bytes) h k =
     (λ len. ap (λ (r : Result (List SessionEvent) BadRecording). r >>= λ es. Ok (record { session = session; what = what_of kind (take len (drop 8 bytes)) } ∷ es))
     (enough n m (with_session before session) (place + 9 + len) (drop (8 + len) bytes) (omega (arith, h, length-drop (8 + len) bytes)) (omega (arith, k, length-drop (8 + len) bytes)))))
 
--- a record without a fault, and then those behind it
+-- a record without a fault, and then those after it
 records-cons : (before : List ℕ) (place session len : ℕ) (bytes : List ℕ) → 0 < length bytes → record_session before place bytes ≡ Ok session → session_record_len place bytes ≡ Ok len →
     session_records before place bytes
     ≡ behind (record { session = session; what = what_of (get_or bytes 0 0) (take len (drop 9 bytes)) }) (session_records (with_session before session) (place + 9 + len) (drop (9 + len) bytes))
@@ -166,7 +166,7 @@ found n count before at len file lt e is = by_session (record_session before at 
     by_session (Ok session) s = by_len session s (session_record_len at (drop at file)) refl
     by_session (Err fault) s = let bad = sym (session_counted-bad_session n before at file fault lt s) ∙ e in absurd cc
 
--- the same, where the length was read in a slice of the file
+-- the same, if the length was read in a slice of the file
 pub found-slice : (n count : ℕ) (before : List ℕ) (at len : ℕ) (slice file : List ℕ) → slice ≡ file → at < length file → counted n (session_records before at (drop at file)) ≡ Ok count →
     len ≡ number_at 5 (take (length slice - at) (drop at slice)) → IsFound before at len file
 found-slice n count before at len slice file e lt c is = found n count before at len file lt c (is ∙ ap (number_at 5) (tail at slice file e))
@@ -178,7 +178,7 @@ named es = sessions_named [] (map session_event_seen es)
 named-more : (es fs : List DeclaredEvent) (e : DeclaredEvent) → fs ≡ es ++ e ∷ [] → named fs ≡ with_session (named es) e.session
 named-more es fs e more = ap named more ∙ ap (sessions_named []) (map_push session_event_seen es e) ∙ named-push [] (map session_event_seen es) (session_event_seen e)
 
--- the loop goes on behind a record
+-- the loop goes on after a record
 pub record GoesOn (es fs : List DeclaredEvent) (at len end : ℕ) (file : List ℕ) : Type 0 where
   pub same : with_front (map session_event_seen fs) (session_records (named fs) end (drop end file)) ≡ with_front (map session_event_seen es) (session_records (named es) at (drop at file))
   pub sound : counted (length es + 1) (session_records (named fs) end (drop end file)) ≡ counted (length es) (session_records (named es) at (drop at file))

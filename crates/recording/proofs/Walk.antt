@@ -34,11 +34,11 @@ enough (suc n) (suc m) place (kind ∷ bytes) h k =
     (λ len. ap (λ (r : Result (List Event) BadRecording). r >>= λ es. Ok (event_of kind (take len (drop 4 bytes)) ∷ es))
     (enough n m (place + 5 + len) (drop (4 + len) bytes) (omega (arith, h, length-drop (4 + len) bytes)) (omega (arith, k, length-drop (4 + len) bytes))))
 
--- an event in front of those that are read behind it
+-- an event before those that are read after it
 abbrev pub behind : {A : Type 0} → A → Result (List A) BadRecording → Result (List A) BadRecording
 behind event read = read >>= λ events. Ok (event ∷ events)
 
--- a record without a fault, and then those behind it
+-- a record without a fault, and then those after it
 records-cons : (place len : ℕ) (bytes : List ℕ) → 0 < length bytes → record_len place bytes ≡ Ok len →
     records place bytes ≡ behind (event_of (get_or bytes 0 0) (take len (drop 5 bytes))) (records (place + 5 + len) (drop (5 + len) bytes))
 unfolding events_at
@@ -143,12 +143,12 @@ pub tail : (at : ℕ) (slice file : List ℕ) → slice ≡ file → take (lengt
 tail at slice file e =
     ap (λ (b : List ℕ). take (length b - at) (drop at b)) e ∙ take_all (length file - at) (drop at file) (omega (arith, length-drop at file))
 
--- the same, where the length was read in a slice of the file
+-- the same, if the length was read in a slice of the file
 pub sound-slice : (n count at len : ℕ) (slice file : List ℕ) → slice ≡ file → at < length file → counted n (records at (drop at file)) ≡ Ok count →
     len ≡ from_le_bytes w32 (take 4 (drop 1 (take (length slice - at) (drop at slice)))) → IsSound at len file
 sound-slice n count at len slice file e lt c is = sound n count at len file lt c (is ∙ ap (λ (b : List ℕ). from_le_bytes w32 (take 4 (drop 1 b))) (tail at slice file e))
 
--- events in front of those that are read behind them
+-- events before those that are read after them
 abbrev pub with_front : {A : Type 0} → List A → Result (List A) BadRecording → Result (List A) BadRecording
 with_front front read = read >>= λ events. Ok (front ++ events)
 
@@ -157,7 +157,7 @@ pub with_front-behind : {A : Type 0} (front : List A) (e : A) (read : Result (Li
 with_front-behind {A} front e (Ok events) = ap (λ (es : List A). ok es) (append_assoc front (e ∷ []) events)
 with_front-behind front e (Err fault) = refl
 
--- the loop goes on behind a record
+-- the loop goes on after a record
 pub events-on : (es fs : List DeclaredEvent) (e : DeclaredEvent) (at len end : ℕ) (file : List ℕ) → fs ≡ es ++ e ∷ [] → at < length file →
     IsSound at len file → end ≡ at + 5 + len → seen e ≡ event_at file at end →
     with_front (map seen fs) (records end (drop end file)) ≡ with_front (map seen es) (records at (drop at file))

@@ -68,7 +68,7 @@ record_len place bytes =
     else (if nat_lt (length bytes) (5 + len) then refused Cut (place + length bytes)
     else Ok len)))
 
--- records up to the end, at most so many
+-- records up to the end, at most this many
 unfoldable pub events_at : ℕ → ℕ → List ℕ → Result (List Event) BadRecording
 events_at zero place bytes = Ok []
 events_at (suc n) place [] = Ok []
@@ -77,7 +77,7 @@ events_at (suc n) place (kind ∷ bytes) = do
   events ← events_at n (place + 5 + len) (drop (4 + len) bytes)
   Ok (event_of kind (take len (drop 4 bytes)) ∷ events)
 
--- the six first bytes, each looked at where it stands; then the auth byte
+-- the six first bytes, each checked at its place; then the auth byte
 unfoldable pub head_of : List ℕ → Result Bool BadRecording
 head_of bytes =
     if nat_lt (length bytes) 4 then refused Cut (length bytes)

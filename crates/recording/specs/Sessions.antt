@@ -126,7 +126,7 @@ pub record FileHead : Type 0 where
   pub version : ℕ
   pub auth : Bool
 
--- the six first bytes, each looked at where it stands
+-- the six first bytes, each checked at its place
 unfoldable pub file_head_of : List ℕ → Result FileHead BadRecording
 file_head_of bytes =
     if nat_lt (length bytes) 4 then refused Cut (length bytes)

@@ -46,7 +46,7 @@ const HEAD_LEN: usize = 6;
 /// The bytes of a record before those that it counts: its kind and its length.
 const RECORD_HEAD_LEN: usize = 5;
 
-/// The same in a file of version 2, with the session between them.
+/// Those bytes in a file of version 2, with the session between them.
 const SESSION_RECORD_HEAD_LEN: usize = 9;
 
 const MAGIC: [u8; 4] = *b"DBPR";

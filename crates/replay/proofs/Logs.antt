@@ -61,7 +61,7 @@ log-part start old told before after joined taken rest note logged next part =
 pub same_fault : (r s : Result (Unit {0}) ReplayFault) (e x : ReplayFault) → IsErrAnd r (λ y. y ≡ e) → s ≡ Err e → IsErrOf r x → IsErrOf s x
 same_fault r s e x given was is = let p = err_from_is_err_and r given in subst (λ t. IsErrOf t x) (p.1 ∙ ap Err p.2 ∙ sym was) is
 
--- a line was refused memory, and a front of those before it was written
+-- a line was refused memory, and a prefix of those before it was written
 pub front_before : (r : Result (Unit {0}) AllocError) (told new : Option (List ℕ)) (joined left line : List ℕ) → is_err r ≡ true → OnErr r (left ≡ joined) → Part told new left → Part told new (joined ++ line)
 front_before (Ok x) told new joined left line e same part = cc
 front_before (Err x) told new joined left line e same part = part_first told new joined line (subst (λ l. Part told new l) same part)
@@ -82,7 +82,7 @@ pub log-some : (start old : SessionView) (told before : Option (List ℕ)) (join
 log-some start old told before joined taken rest note logged next =
     subst (λ n. 0 < n) (sym (ap length (logged.split ∙ ap (λ ns. taken ++ ns) next) ∙ length-append taken (note ∷ rest))) (omega arith)
 
--- .. or was taken, where something is still to be written
+-- .. or was taken, if something is still to be written
 pub log-some-joined : (start now : SessionView) (told new : Option (List ℕ)) (left : List ℕ) (taken : List Note) → Logged start now told new left taken → ((left ≡ []) → ⊥) → 0 < length start.notes
 log-some-joined start now told new left [] logged some = absurd (some (nothing logged.got logged.lines))
   where
@@ -102,11 +102,11 @@ module _ (start now : SessionView) (told new : Option (List ℕ)) (left : List �
   pub log-then : (after : Option (List ℕ)) → after ≡ added left new → after ≡ added (log 1 start.notes) told
   log-then after got = then_all told new after logged.got left logged.is got ∙ ap (λ t. added t told) (sym all_lines)
 
-  -- .. or a front of it
+  -- .. or a prefix of it
   pub log-last : (after : Option (List ℕ)) → Part new after left → Part told after (log 1 start.notes)
   log-last after part = subst (λ t. Part told after t) (sym all_lines) (part_second told new after logged.got left logged.is part)
 
--- a log of notes that are made where they are asked for
+-- a log of notes that are made if they are asked for
 where-asked : (asked : Bool) (ns : List Note) → log 1 (if asked then ns else []) ≡ (if asked then log 1 ns else [])
 where-asked true ns = refl
 where-asked false ns = refl
@@ -138,7 +138,7 @@ lines-before told new ns left all e refused = record {
   is = refused.is;
 }
 
--- and it has notes only where they are asked for
+-- and it has notes only if they are asked for
 some-where-asked : (asked : Bool) (ns : List Note) → 0 < length (if asked then ns else []) → asked ≡ true
 some-where-asked true ns some = refl
 some-where-asked false ns some = absurd (omega arith)
@@ -148,7 +148,7 @@ pub asked-is : (options : PolicyOptions) (r : Recording) (v : SessionView) → v
 asked-is options r v mode holds some =
     ap (λ (m : Mode). m.notes) (sym mode) ∙ some-where-asked v.mode.notes (notes options.policy (history options.policy v.mode (events_of r.events))) (subst (λ ns. 0 < length ns) holds.noted some)
 
--- and its notes are those of the history, where they are asked for
+-- and its notes are those of the history, if they are asked for
 asked-notes : (asked : Bool) (ns : List Note) → asked ≡ true → (if asked then ns else []) ≡ ns
 asked-notes asked ns is = ap (λ b. if b then ns else []) is
 

@@ -223,7 +223,7 @@ TakesPiece n bytes old new =
     (length bytes - old.begun ≤ n → (new.played ≡ old.played + 1) × (new.begun ≡ 0))
     × (n < length bytes - old.begun → (new.played ≡ old.played) × (new.begun ≡ old.begun + n))
 
--- a piece is all that is left, or more is left behind it
+-- a piece is all that is left, or more is left after it
 by_piece : (n : ℕ) (bytes : List ℕ) (old new : PlayedNotes) (Q : PlayedNotes → Type 0) → TakesPiece n bytes old new →
     (length bytes - old.begun ≤ n → Q (record { session = new.session; played = old.played + 1; begun = 0 })) →
     (n < length bytes - old.begun → Q (record { session = new.session; played = old.played; begun = old.begun + n })) → Q new

@@ -26,7 +26,7 @@ at-front (x ∷ xs) ys (suc n) lt = at-front xs ys n (omega arith)
 one-behind : (n : ℕ) → n ≡ (n + 1) - 1
 one-behind n = omega arith
 
--- lists that differ first behind so many elements
+-- lists that differ first after this many elements
 pub differ-behind : {A : Type 0} (n : ℕ) (xs ys : List A) → take n xs ≡ take n ys → (slice_get xs n ≡ slice_get ys n → ⊥) → DifferFirst (n + 1) xs ys
 differ-behind n xs ys before there = record {
   counted = omega arith;
@@ -53,7 +53,7 @@ grows policy (item ∷ added) before =
 split : (es : List Recorded) (k : ℕ) → events_of es ≡ events_of (drop k es) ++ events_of (take k es)
 split es k = ap events_of (sym (take-append-drop k es)) ∙ ap reverse (map-append event_of (take k es) (drop k es)) ∙ reverse-append (map event_of (take k es)) (map event_of (drop k es))
 
--- the part of the first events is a front of that of all
+-- the part of the first events is a prefix of that of all
 pub part-front : (policy : Policy) (mode : Mode) (es : List Recorded) (k : ℕ) → OnlyGrows policy mode (events_of (drop k es)) (events_of (take k es)) →
     IsPrefixOf (part policy (history policy mode (events_of (take k es)))) (part policy (history policy mode (events_of es)))
 part-front policy mode es k growing =

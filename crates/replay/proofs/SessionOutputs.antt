@@ -62,7 +62,7 @@ module _ (policy : Policy) (mode : Mode) (events : List SessionEvent) (players :
 
 -- ---- the notes
 
--- all where they are asked for, and else none
+-- all if they are asked for, and none otherwise
 noted-all : (policy : Policy) (auth filter : Bool) (earlier events : List SessionEvent) → let mode : Mode = record { auth = auth; filter = filter; notes = true } in
     noted_by policy mode earlier events ≡ sessions_noted policy mode earlier events
 noted-all policy auth filter earlier [] = refl

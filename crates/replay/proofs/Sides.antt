@@ -54,7 +54,7 @@ unfolding output_of_recording
 output-is options r v mode holds = holds-output options.policy v _ holds
     ∙ ap (λ m. given options.policy (history options.policy m (events_of r.events))) mode
 
--- what waits after so many bytes from the start on
+-- what waits after this many bytes from the start
 pub few : (policy : Policy) (start after : SessionView) (came : ℕ) → weight policy start ≤ 60161266 → IsLight policy came start after → came ≤ 67108864 → length after.bus_side + length after.client_side ≤ 1335229682
 few policy start after came first light most = omega (arith, light.weighs, first, most)
 

@@ -55,7 +55,7 @@ record Fixed (policy : Policy) (recording : Recording) (given : List Element) (n
   before : take (length given) (part policy (so_far policy recording events)) ≡ take (length given) (part_of_recording policy recording)
   there : slice_get (part policy (so_far policy recording events)) (length given) ≡ slice_get (part_of_recording policy recording) (length given)
 
--- an element behind others, of which it is known that the part goes on with it
+-- an element after others, of which it is known that the part goes on with it
 fixed-some : (policy : Policy) (recording : Recording) (given rest : List Element) (element : Element) (k : ℕ) → Grow → Tell →
     AllByRecursion BringsBytes (events_of (take k recording.events)) →
     given ++ element ∷ rest ≡ elements policy (so_far policy recording (events_of (take k recording.events))) → Fixed policy recording given (Some element)
@@ -129,7 +129,7 @@ ends-decide policy one other first second given (Differ at) so gave_one gave_oth
 
 -- ---- as they are compared
 
--- both gave the same elements, so many
+-- both gave the same elements, this many
 pub record GaveBoth (policy : Policy) (one other : Recording) (first second : Watched) (n : ℕ) : Type 0 where
   pub given : List Element
   pub count : length given ≡ n

@@ -6,7 +6,7 @@ use Rattle.policy_view.specs.Notes.{Note}
 use Rattle.replay.specs.SessionsOutput.{session_log}
 use Rattle.replay.specs.declared.session_notes.SessionNote.{SessionNote}
 
--- a front of the bytes was written, and these are left
+-- a prefix of the bytes was written, and these are left
 pub record Joins (told new : Option (List ℕ)) (bytes left : List ℕ) : Type 0 where
   pub got : List ℕ
   pub split : bytes ≡ got ++ left

@@ -12,7 +12,7 @@ use Rattle.replay_output.specs.Explained.{with_log}
 use Rattle.replay_output.specs.Output.{events_of, history_of, mode_of}
 use Rattle.replay.specs.declared.played_notes.PlayedNotes.{PlayedNotes}
 
--- the events that are left where so many bytes of the first were played
+-- the events that are left when this many bytes of the first were played
 abbrev pub left_behind : ℕ → List recorded.Event → List recorded.Event
 left_behind begun [] = []
 left_behind begun (recorded.Bytes side piece ∷ events) = recorded.Bytes side (drop begun piece) ∷ events

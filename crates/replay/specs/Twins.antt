@@ -23,7 +23,7 @@ abbrev pub Compares : List Visible → List Visible → TwinAnswer → Type 0
 Compares one other Same = one ≡ other
 Compares one other (Differ place) = DifferFirst place one other
 
--- and so the Ends, which stand at this place behind equal elements
+-- and so the Ends, which have this index after equal elements
 abbrev pub ComparesEnds : Option End → Option End → ℕ → TwinAnswer → Type 0
 ComparesEnds one other place Same = one ≡ other
 ComparesEnds one other place (Differ at) = (at ≡ place) × (one ≡ other → ⊥)

@@ -19,7 +19,7 @@ abbrev pub note_at : List Note → ℕ → Option Note
 note_at notes zero = None
 note_at notes (suc n) = slice_get notes n
 
--- the log line of a note, and behind it the line of the entry on which its decision rests, where there is one
+-- the log line of a note, and after it the line of the entry on which its decision rests, if there is one
 abbrev pub explanation : Policy → Note → List ℕ
 explanation policy note = log_line 1 note ++ unwrap_or (entry_line policy note) []
 

@@ -44,7 +44,7 @@ header kind len = kind ∷ to_le_bytes w32 len
 abbrev pub record_of : ℕ → List ℕ → List ℕ
 record_of kind bytes = header kind (length bytes) ++ bytes
 
--- a record where there are bytes
+-- a record if there are bytes
 abbrev pub record_where_any : ℕ → List ℕ → List ℕ
 record_where_any kind bytes = if length bytes == 0 then [] else record_of kind bytes
 
@@ -85,12 +85,12 @@ mode_of options recording = record { auth = recording.auth; filter = options.fil
 abbrev pub history_of : PolicyOptions → recorded.Recording → History
 history_of options recording = history options.policy (mode_of options recording) (events_of recording.events)
 
--- of a history all bytes for the bus, all bytes for the client, and the End, where there are any
+-- of a history all bytes for the bus, all bytes for the client, and the End, if there are any
 unfoldable pub output_of_recording : PolicyOptions → recorded.Recording → List ℕ
 output_of_recording options recording =
     let h = history_of options recording in
     record_where_any 16 (bus_bytes options.policy h) ++ record_where_any 17 (client_bytes options.policy h) ++ end_record (end_of h)
 
--- the line of each note, where the options ask for a log; the session is number 1
+-- the line of each note, if the options ask for a log; the session is number 1
 unfoldable pub log_of_recording : PolicyOptions → recorded.Recording → List ℕ
 log_of_recording options recording = if options.log then log 1 (notes options.policy (history_of options recording)) else []

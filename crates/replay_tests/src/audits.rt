@@ -111,7 +111,7 @@ client call 1 path=/p interface=org.a.I member=M destination=org.h.X
 says recording 1 items 0 denied 0
 says unnamed 1 --talk=org.a.T
 ",
-    // Nothing at all, behind lines of authentication.
+    // Nothing at all after lines of authentication.
     "\
 policy --filter
 recording

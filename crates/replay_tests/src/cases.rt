@@ -112,7 +112,7 @@ pub fn empty_recording(alloc: Global, case: &Case) -> Result<Vec<u8>, AllocError
     Vec::from_slice(alloc, &[b'D', b'B', b'P', b'R', 1, case.auth])
 }
 
-/// The recording of what came, in pieces of so many bytes at most.
+/// The recording of what came, in pieces of at most this many bytes.
 pub fn recording_of(alloc: Global, case: &Case, size: usize) -> Result<Vec<u8>, AllocError> {
     let mut recording = empty_recording(alloc, case)?;
     for came in &case.came {

@@ -1,7 +1,7 @@
 //! The bytes of what tables name: D-Bus messages in little order, the program's own messages, and other bytes.
 //!
-//! A message has its kind, its serial and its header fields in ascending order of their codes, and behind ` | ` the
-//! signature and the values of its body, which spaces part. If nothing stands behind, it has neither a SIGNATURE nor a
+//! A message has its kind, its serial and its header fields in ascending order of their codes, and after ` | ` the
+//! signature and the values of its body, which spaces part. If nothing follows, it has neither a SIGNATURE nor a
 //! body.
 use crate::values::{add_number, add_string, add_values, length, number, pad_to_eight};
 use std::alloc::{AllocError, Global};

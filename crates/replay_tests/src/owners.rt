@@ -1,7 +1,7 @@
-//! What the proxy asks of the bus behind the first Hello, and what it learns of the owners of names.
+//! What the proxy asks of the bus after the first Hello, and what it learns of the owners of names.
 use crate::cases::assert_cases;
 
-/// The first Hello, and the calls behind it.
+/// The first Hello, and the calls after it.
 const HELLOS: [&str; 9] = [
     // The owner of a name is asked for, and may be called by its unique name.
     "\

@@ -1,4 +1,4 @@
-//! Sessions whose messages aren't filtered: behind its lines each side's bytes go on as they came.
+//! Sessions whose messages aren't filtered: after its lines each side's bytes are passed on as they came.
 use crate::cases::assert_cases;
 
 /// Bytes from the first on.
@@ -42,7 +42,7 @@ bus bytes
 ",
 ];
 
-/// Lines of authentication, and the bytes behind them.
+/// Lines of authentication, and the bytes after them.
 const BEHIND_LINES: [&str; 7] = [
     // Descriptors are declined, and of each side what comes in a piece with its last line goes on.
     "\
@@ -77,7 +77,7 @@ client bytes second
 bus bytes DATA%0D
 to_bus bytes ~AUTH%0D%0ABEGIN%0D%0Afirstsecond
 ",
-    // Before BEGIN the bus has no byte behind its lines.
+    // Before BEGIN the bus sends no byte after its lines.
     "\
 policy --talk=org.a.T
 lines

@@ -1,7 +1,7 @@
 //! Sessions from their first lines of authentication on.
 use crate::cases::assert_cases;
 
-/// Lines of authentication, and the messages behind them.
+/// Lines of authentication, and the messages after them.
 const LINES: [&str; 13] = [
     "\
 policy --filter --talk=org.a.T

@@ -255,7 +255,7 @@ fn assert_suggestion<R: Abort + Threads + Sync>(
     Ok(())
 }
 
-/// The same of recordings in pieces of one size.
+/// Asserts what is suggested from recordings in pieces of one size.
 fn assert_suggested<R: Abort + Threads + Sync>(
     rt: &R,
     alloc: Global,

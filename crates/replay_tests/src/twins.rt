@@ -1,7 +1,7 @@
 //! Two recordings under one policy: where the visible parts of their sessions first differ.
 //!
 //! A comparison has a line for each thing. `policy`, `lines`, `client`, `bus` and `client_ends` are as in a case, and
-//! of both recordings; behind `one` or `other` they are of that one alone, and behind `many` with a count so often of
+//! of both recordings; after `one` or `other` they are of that one alone, and after `many` with a count so often of
 //! the other, with a number from 0 on in the place of each `#`. `says` has what is printed.
 use crate::cases::{Case, SIZES, add_line, empty_case, recording_of};
 use crate::runs::{Ended, twin};
@@ -10,7 +10,7 @@ use std::process::Abort;
 use std::str;
 use std::thread::Threads;
 
-/// Comparisons. Each element counts one: of `--talk=org.a.T` behind a Hello the client's Hello, its answer, and the
+/// Comparisons. Each element counts one: of `--talk=org.a.T` after a Hello the client's Hello, its answer, and the
 /// answer that the proxy itself asked for.
 const TWINS: [&str; 28] = [
     // Owner changes of unique names make a difference if the policy shows them.

@@ -20,7 +20,7 @@ pub fn add_values(
     Ok(())
 }
 
-/// The first of some types, and those behind it.
+/// The first of some types, and those after it.
 fn first_type(types: &str) -> (&str, &str) {
     for first in TYPES {
         if let Some(rest) = types.strip_prefix(first) {

@@ -134,7 +134,7 @@ none_asked m asked = ap (λ a. if a then Bytes Client m.client.items ∷ [] else
 
 -- ---- the whole
 
--- the sample's events, one behind the other
+-- the sample's events, in their order
 pub sample_events : (n seed : ℕ) (events : List Event) → events ≡ draws n 1 (seed % 2 ^ 31) 2 4 → opening ++ events ≡ (sample n seed).events
 unfolding sample
 sample_events n seed events e = ap (λ es. opening ++ es) e

@@ -10,7 +10,7 @@ use Rattle.sample.specs.declared.messages.Peer.{Peer}
 use Rattle.sample.specs.declared.messages.Peer.TheVariants.{A, B}
 use Rattle.sample.specs.declared.messages.TheConstants.{ECHO_A, ECHO_B, TICK_A, TICK_B, ECHOED, PINGED}
 
--- a body of one text has four bytes of length in front of it and a NUL behind it, wherever it begins
+-- a body of one text has four bytes of length before it and a NUL after it, at any place
 echo_body : (t : List ℕ) → length t + 5 ≡ length (spelled_list Little 104 (a_string t ∷ []))
 echo_body t = simp length-append (omega arith)
 
@@ -23,7 +23,7 @@ echoed_body t = simp length-append (omega arith)
 behind : (t : List ℕ) → t ++ 0 ∷ [] ≡ (t ++ 0 ∷ []) ++ []
 behind t = sym (append-nil (t ++ 0 ∷ []))
 
--- a front, by the lengths that stand in it, and what is behind it
+-- the first bytes, by the lengths in them, and what follows
 abbrev front_and : ℕ → ℕ → ℕ → List ℕ → ℕ → List ℕ → List ℕ
 front_and place serial text_len front body_len rest =
     with_number Little place text_len (with_number Little 8 serial (with_number Little 4 body_len front)) ++ rest

@@ -1,4 +1,4 @@
--- What was written, what was made and what is still to come, one behind the other, are a sample.
+-- What was written, what was made and what is still to come are together a sample.
 use Rattle.std.proofs.Common.{ℕ, ◌≡◌, ◌++◌, ◌∷◌, List, flat_map, sym, ap, ap₂, ◌∙◌, append_assoc, append-nil}
 use Rattle.std.proofs.lemmas.Grind.{flat_map-append}
 use Rattle.std.specs.Prelude.{◌%◌, ◌^◌}
@@ -20,7 +20,7 @@ at_first n seed out events o e =
     ∙ append_assoc magic (1 ∷ 0 ∷ bytes_of opening) (bytes_of (draws n 1 (seed % 2 ^ 31) 2 4))
     ∙ ap (λ t. magic ++ 1 ∷ 0 ∷ t) (sym (bytes_behind opening (draws n 1 (seed % 2 ^ 31) 2 4)))
 
--- a draw is made behind what was made
+-- a draw is made after what was made
 pub one_more : (written out : List ℕ) (made to_come all : List Event) (whole : List ℕ) → all ≡ made ++ to_come → written ++ (out ++ bytes_of all) ≡ whole →
     written ++ ((out ++ bytes_of made) ++ bytes_of to_come) ≡ whole
 one_more written out made to_come all whole e split =

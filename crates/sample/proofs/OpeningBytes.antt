@@ -15,7 +15,7 @@ opening_bytes :
     ≡ magic ++ 1 ∷ 0 ∷ flat_map spelled_event opening
 opening_bytes = ap (λ events. magic ++ 1 ∷ 0 ∷ flat_map spelled_event events) opening_events
 
--- five parts, one behind the other
+-- five parts, in their order
 five_parts : (o a b c d e : List ℕ) → ((((o ++ a) ++ b) ++ c) ++ d) ++ e ≡ o ++ (a ++ (b ++ (c ++ (d ++ e))))
 five_parts o a b c d e = simp append_assoc
 

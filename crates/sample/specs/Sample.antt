@@ -109,7 +109,7 @@ abbrev pub drawn : ℕ → ℕ → ℕ → Text → List Event
 drawn kind client_serial bus_serial t =
     asked_event (asked kind client_serial t) ++ from_bus (told kind (client_serial + 2) bus_serial t) ∷ []
 
--- so many draws, of which the next has this number, behind the number drawn last
+-- this many draws after the number that was drawn last; the first of them has this index
 abbrev pub draws : ℕ → ℕ → ℕ → ℕ → ℕ → List Event
 draws zero i x client_serial bus_serial = []
 draws (suc left) i x client_serial bus_serial =

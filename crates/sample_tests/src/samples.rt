@@ -94,7 +94,7 @@ fn told_events(alloc: Global, row: &str) -> Result<String, AllocError> {
     }
 }
 
-/// What is told of the events behind the first four.
+/// The events after the first four.
 fn told_recording(alloc: Global, len: usize, recording: &Recording) -> Result<String, AllocError> {
     let mut told = format!(in alloc; "{len} bytes: ")?;
     let [_, _, _, _, drawn @ ..] = recording.events.as_slice() else {

@@ -43,7 +43,7 @@ bus-within (Happened (Bytes Bus bytes)) = omega arith
 bus-within (Happened (Finished side)) = omega arith
 bus-within (Stopped end) = omega arith
 
--- a count with one more term, where the sum has room
+-- a count with one more term, if the sum has room
 added : (f : What → ℕ) (ws : List What) (w : What) (old new : ℕ) → ((x : What) → f x ≤ what_size x) → sum_by what_size (ws ++ w ∷ []) < 2 ^ 64 →
     old ≡ sum_by f ws → new ≡ min (old + f w) (2 ^ 64 - 1) → new ≡ sum_by f (ws ++ w ∷ [])
 added f ws w old new within small was is =

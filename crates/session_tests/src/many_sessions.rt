@@ -63,7 +63,7 @@ const LOGGED: &str = "\
     => Err(Err) [] [2 c 1 call] 1
 ";
 
-/// What the words of a policy file ask for; a dash stands for no words.
+/// What the words of a policy file ask for; a dash means no words.
 fn policy_of(alloc: Global, words: &str) -> Result<Options, AllocError> {
     if words != "-" {
         return options_of(alloc, words);

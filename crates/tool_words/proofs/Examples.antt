@@ -19,7 +19,7 @@ options : map replay ((codes "-p" ∷ codes "r" ∷ []) ∷ (codes "--p" ∷ cod
 unfolding words_on_literals
 options = refl
 
--- a dash alone is a word, and so is all that stands behind `--`
+-- a dash alone is a word, and so is all that follows `--`
 dashes : map replay ((codes "-" ∷ codes "-" ∷ []) ∷ (codes "--" ∷ codes "-p" ∷ codes "--" ∷ []) ∷ (codes "p" ∷ codes "--" ∷ codes "r" ∷ []) ∷ (codes "p" ∷ codes "r" ∷ codes "--" ∷ []) ∷ (codes "--" ∷ codes "p" ∷ []) ∷ [])
     ≡ Some (codes "-" ∷ codes "-" ∷ []) ∷ Some (codes "-p" ∷ codes "--" ∷ []) ∷ Some (codes "p" ∷ codes "r" ∷ []) ∷ Some (codes "p" ∷ codes "r" ∷ []) ∷ None ∷ []
 unfolding words_on_literals

@@ -54,7 +54,7 @@ help_short : (c : List Rule) (is_help : Bool) (rest : Text) (h : Held) (next : H
 help_short c true rest h next = or_else_faulty _ _ (help_fault c h)
 help_short c false rest h next = record { kind = UnknownArgument; more = []; is = refl }
 
--- ---- lists of so many words
+-- ---- lists of this many words
 
 -- P holds of each list of this length
 abbrev OfLength : ℕ → (List Text → Type 0) → Type 0
@@ -77,7 +77,7 @@ shorter zero words P all lt = absurd (omega arith)
 shorter (suc n) [] P all lt = all.0
 shorter (suc n) (word ∷ words) P all lt = shorter n words (λ more. P (word ∷ more)) (all.1 word) (omega arith)
 
--- ---- a command, and where it stands behind words of its places
+-- ---- a command, and its place after words of its places
 
 -- what is held where each of these words goes to its place
 abbrev held_from : List Rule → List Text → List Text → Held → Held

@@ -31,13 +31,13 @@ none_found [] found e (inl memory) other = absurd (other memory)
 none_found [] found e (inr among) other = absurd among
 none_found (kind ∷ kinds) found e h other = refl
 
--- where a parse fails for another cause than memory, the command doesn't take the words
+-- if a parse fails for another cause than memory, the command doesn't take the words
 pub not_taken : (command : App) (found : List Row → Option (List Text)) (words : List Text) (e : Error) (is_memory : Bool) → Parses command words (Err e) → IsTrue is_memory ↔ (kind_of e ≡ OutOfMemory)
     → is_memory ≡ false → None ≡ taken_by command found words
 not_taken command found words e true parse means is = absurd (true≢false is)
 not_taken command found words e false parse means is = none_found _ _ e parse.fails (λ memory. false≢true (means.1 memory))
 
--- where a parse doesn't fail, the command takes the words, and they stand where it found them
+-- if a parse doesn't fail, the command takes the words, and each is in its place
 pub is_taken : (command : App) (found : List Row → Option (List Text)) (words : List Text) (m : ArgMatches) → Parses command words (Ok m)
     → found (rows_of (found_of m)) ≡ taken_by command found words
 is_taken command found words m parse = ap found parse.finds

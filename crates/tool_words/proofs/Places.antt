@@ -31,7 +31,7 @@ filled_at-more places i d rows lt =
     ∙ filled_at-append (take i (map (λ p. p.now) places)) ((get_or places i d).now ∷ []) rows
     ∙ ap (λ words. filled_at (take i (map (λ p. p.now) places)) rows ++ words) (append-nil (option_to_list (first_of (get_or places i d).now rows)))
 
--- a word more behind those of the places before
+-- one more word after those of the places before
 pub pushed-more : (before found new word : List Text) (places : List (Bor Text)) (i : ℕ) (d : Bor Text) (rows : List Row) → i < length places
     → found ≡ before ++ filled_at (take i (map (λ p. p.now) places)) rows → word ≡ option_to_list (first_of (get_or places i d).now rows) → new ≡ found ++ word
     → new ≡ before ++ filled_at (take (i + 1) (map (λ p. p.now) places)) rows

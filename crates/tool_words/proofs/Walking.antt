@@ -36,7 +36,7 @@ module _ (s : Shape) (found : List Row → Option (List Text)) where
       ap (λ (k : Kinds). unless_faulty (or_else (or_else k (walk_fault s [] (walked s.rules [] w word) words)) (after_walk s (fold (walked s.rules []) (walked s.rules [] w word) words).held))
       (found (finished s.rules (fold (walked s.rules []) (walked s.rules [] w word) words).held))) f.is
 
--- where the walk stands behind these words of its places
+-- where the walk is after these words of its places
 abbrev pub standing : (List Text → Held) → (List Text → ℕ) → List Text → Bool → Walk
 standing held position words is_trailing = record { held = held words; waiting = idle; position = position words; is_trailing = is_trailing; stopped = None }
 
@@ -51,7 +51,7 @@ pub record OneEach (s : Shape) (found : List Row → Option (List Text)) (most :
   pub short : (c : ℕ) (rest : Text) (h : Held) (next : Held → Kinds) → Faulty (short_fault s.rules s.args_override_self (arg_by_short s.rules c) rest h next)
   pub no_skip : (words : List Text) → (held words).skip ≡ 0
 
--- words behind others
+-- words after others
 abbrev pub behind : List Text → Option (List Text) → Option (List Text)
 behind words None = None
 behind words (Some more) = Some (words ++ more)
@@ -104,7 +104,7 @@ module _ (s : Shape) (found : List Row → Option (List Text)) (most : ℕ) (fit
   unfolding walked
   trailing_next words word = refl
 
-  -- `--`, where it ends the options
+  -- `--`, if it ends the options
   end_turn : (words : List Text) (word : Text) → bytes_eq word (45 ∷ 45 ∷ []) ≡ true → turn_fault s [] (standing held position words false) word ≡ []
   end_turn words word e = ap₂ (λ (k : Kinds) (m : Held × Step). or_else k (step_fault s (position words) m.0 m.1))
       (ap (λ (b : Bool). if b then [] else flag_word_fault s.rules s.args_override_self (long_of word) word (held words)) e)

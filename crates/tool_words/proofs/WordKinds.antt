@@ -60,7 +60,7 @@ module _ (c d : ℕ) (word : Text) where
   short_then : (c == 45) ≡ true → (d == 45) ≡ false → short_of (c ∷ d ∷ word) ≡ Some (d ∷ word)
   short_then e f = short_by true e ∙ ap (λ (x : Bool). if x then None else Some (d ∷ word)) f
 
--- behind two dashes
+-- after two dashes
 kind_long : (c d : ℕ) (word : Text) → (c == 45) ≡ true → (d == 45) ≡ true → bytes_eq (c ∷ d ∷ word) (45 ∷ 45 ∷ []) ≡ false → Kind (c ∷ d ∷ word)
 kind_long c d [] e f other =
     let yes : bytes_eq (c ∷ d ∷ []) (45 ∷ 45 ∷ []) ≡ true = rw (e, f) refl in
@@ -105,7 +105,7 @@ module _ (s : Shape) (word : Text) (h : Held) where
   fault_short e flags other is f = faulty_as _ _ (fault_not_end e ∙ ap (λ (o : Option (Text × Option Text)). flag_word_fault s.rules s.args_override_self o word h) other
       ∙ ap (λ (o : Option Text). option_map_or (λ flags. bundle_fault s.rules s.args_override_self flags h) o []) is) f
 
--- ---- the characters behind a dash
+-- ---- the characters after a dash
 
 first_there : (first : ℕ) (flags cs : Text) → chars (first ∷ flags) ≡ cs → encode_utf8_all (45 ∷ cs) ≡ 45 ∷ first ∷ flags → (c : ℕ) × (slice_get (chars (first ∷ flags)) 0 ≡ Some c)
 unfolding encode_utf8

@@ -10,7 +10,7 @@ is_option [] = false
 is_option (first ∷ []) = false
 is_option (first ∷ second ∷ word) = first == 45
 
--- all words but a first `--`, where in front of that no word is an option
+-- all words but a first `--`, if no word before that is an option
 abbrev pub operands : List Text → Option (List Text)
 operands [] = Some []
 operands (word ∷ words) =

@@ -32,7 +32,7 @@ command_of name places = fold (λ command place. with_rule command (required_wor
 abbrev pub command_with : Text → List Text → List Text → App
 command_with name places others = fold (λ command place. with_rule command (new_rule place)) (command_of name places) others
 
--- a word in front of others, where all are there
+-- a word in front of others, if all are there
 abbrev pub in_front : Option Text → Option (List Text) → Option (List Text)
 in_front None words = None
 in_front (Some word) None = None
@@ -48,20 +48,20 @@ abbrev pub filled_at : List Text → List Row → List Text
 filled_at [] rows = []
 filled_at (place ∷ places) rows = option_to_list (first_of place rows) ++ filled_at places rows
 
--- what is found, where nothing is at fault
+-- what is found, if nothing is at fault
 abbrev pub unless_faulty : Kinds → Option (List Text) → Option (List Text)
 unless_faulty [] found = found
 unless_faulty (kind ∷ kinds) found = None
 
--- what is read of the rows that the command finds, where it takes the words
+-- what is read of the rows that the command finds, if it takes the words
 abbrev pub taken_by : App → (List Row → Option (List Text)) → List Text → Option (List Text)
 taken_by command read words = unless_faulty (fault_of command words) (read (matches_of command words))
 
--- the words in the places of the command, where it takes them
+-- the words in the places of the command, if it takes them
 unfoldable pub taken : Text → List Text → List Text → Option (List Text)
 taken name places words = taken_by (command_of name places) (words_at places) words
 
--- the words in those places of the command that are filled, where it takes them
+-- the words in those places of the command that are filled, if it takes them
 unfoldable pub taken_with : Text → List Text → List Text → List Text → Option (List Text)
 taken_with name places others words = taken_by (command_with name places others) (λ rows. Some (filled_at (places ++ others) rows)) words
 

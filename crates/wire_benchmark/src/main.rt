@@ -33,7 +33,7 @@ const DECODE_CALLS: u32 = 1_000;
 /// How often a stream is read.
 const STREAM_READINGS: u32 = 10_000;
 
-/// A place of the bytes: the one given, or the first where they end there.
+/// A place in the bytes: the given one, or the first if they end there.
 fn next_place(bytes: &[u8], end: usize) -> usize
     ensures { result ≤ length bytes.now }
 {
@@ -52,7 +52,7 @@ fn walk(signature: Signature<'_>, bytes: &[u8], calls: u32) -> bool {
     end == bytes.len()
 }
 
-/// Whether the bytes are as many as they state, where they state it.
+/// Whether the bytes have the length that they state, if they state one.
 fn is_whole(bytes: &[u8]) -> bool
     ensures long { IsTrue result → 16 ≤ length bytes.now }
     ensures whole { IsTrue result → head_fault bytes.now ≡ None → length bytes.now ≡ whole_len bytes.now }
@@ -86,7 +86,7 @@ fn read(first: &[u8], second: &[u8], calls: u32, known: &mut KnownTexts) -> bool
     serial == 8
 }
 
-/// Reads the messages of a stream, and counts them; none where one isn't valid.
+/// Reads the messages of a stream, and counts them; none if one isn't valid.
 fn read_stream(stream: &[u8], known: &mut KnownTexts) -> Option<u32> {
     let mut rest = stream;
     let mut count: u32 = 0;
@@ -106,7 +106,7 @@ fn read_stream(stream: &[u8], known: &mut KnownTexts) -> Option<u32> {
     Some(count)
 }
 
-/// The shortest time that so many passes take, of many measures.
+/// The shortest time that this many passes take, of many measures.
 fn walk_time(
     rt: &HostRuntime,
     signature: Signature<'_>,
@@ -125,7 +125,7 @@ fn walk_time(
     Ok(shortest)
 }
 
-/// The shortest time in which so many messages are read, of many measures.
+/// The shortest time in which this many messages are read, of many measures.
 fn read_time(
     rt: &HostRuntime,
     first: &[u8],

@@ -53,7 +53,7 @@ a*31 (*1 a*1 i*1 a*1 i*1 )*1 i*1 => signature
 a*31 (*1 a*2 i*2 )*1 i*1 => Depth
 ";
 
-/// Types, and what is behind the first.
+/// Types, and what follows the first.
 const BEHIND: &str = "\
 a{sv}us => us
 (i(ss))x => x
@@ -77,7 +77,7 @@ fn told_reason(alloc: Global, why: BadSignature) -> Result<String, AllocError> {
     format!(in alloc; "{why:?}")
 }
 
-/// Refusals are equal exactly where they are the same.
+/// Refusals are equal exactly if they are the same.
 fn are_equal(one: BadSignature, other: BadSignature) -> bool
     ensures { IsTrue result ↔ (one ≡ other) }
 {

@@ -143,7 +143,7 @@ fn told_first(
     }
 }
 
-/// The same of bodies in little order, one after the other.
+/// What is read of bodies in little order, one after the other.
 fn told_in_little(alloc: Global) -> Result<String, AllocError> {
     let order = Order::Little;
     let none = told_first(alloc, order, b"", b"")?;
@@ -154,7 +154,7 @@ fn told_in_little(alloc: Global) -> Result<String, AllocError> {
     format!(in alloc; "{none}|{s}|{ss}|{su}|{us}")
 }
 
-/// The same of bodies in big order.
+/// What is read of bodies in big order.
 fn told_in_big(alloc: Global) -> Result<String, AllocError> {
     let order = Order::Big;
     let s = told_first(alloc, order, b"s", b"\0\0\0\x01a\0")?;
@@ -173,7 +173,7 @@ fn told_in_big(alloc: Global) -> Result<String, AllocError> {
     format!(in alloc; "{s}|{sss}|{ssv}")
 }
 
-/// The strings of a list, where one was taken from a clone of it.
+/// The strings of a list, one of which was taken from a clone of it.
 fn told_list(alloc: Global) -> Result<String, AllocError> {
     let list = b"\x0f\0\0\0\x01\0\0\0a\0\0\0\x02\0\0\0bc\0";
     let texts = text_list(Order::Little, list);

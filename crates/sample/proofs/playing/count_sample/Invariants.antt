@@ -7,7 +7,7 @@ use Rattle.sample.specs.Sample.{sample as sample_of}
 use Rattle.sample.specs.Summary.{sample_options}
 use Rattle.sample.proofs.playing.count_sample.Given as goal
 
--- what was played, and what is still to come, one behind the other, are the whole
+-- what was played and what is still to come are together the whole
 abbrev pub invariant-loop-draws : goal.invariant-loop-draws
 invariant-loop-draws l = record {
   so_far : List Event;

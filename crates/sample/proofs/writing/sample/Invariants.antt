@@ -5,7 +5,7 @@ use Rattle.sample.specs.Made.{to_come}
 use Rattle.sample.specs.Sample.{sample as sample_of}
 use Rattle.sample.proofs.writing.sample.Given as goal
 
--- what was written, what was made, and what is still to come, one behind the other, are the whole
+-- what was written, what was made and what is still to come are together the whole
 abbrev pub invariant-loop-draws : goal.invariant-loop-draws
 invariant-loop-draws g l = record {
   written : List ℕ;
