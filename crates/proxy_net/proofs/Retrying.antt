@@ -1,6 +1,6 @@
 -- Each connect that is due is tried again, one after the other: the first of a queue goes to its end or leaves it, as
 -- often as the queue was long.
-use Rattle.std.proofs.Common.{ℕ, suc, zero, ◌≡◌, ◌+◌, ◌<◌, ◌⊎◌, inl, inr, nat_eq, nat_le, nat_lt, Bool, true, false, not, ◌||◌, Option, Some, None, List, [], ◌∷◌, ◌++◌, length, drop, take, slice_get, unwrap_or, refl, ap, sym, subst, ◌∙◌, append_assoc, arith}
+use Rattle.std.proofs.Common.{ℕ, suc, zero, ◌≡◌, ◌+◌, ◌<◌, ◌⊎◌, inl, inr, nat_eq, nat_le, nat_lt, Bool, true, false, not, ◌||◌, Option, Some, None, List, [], ◌∷◌, ◌++◌, length, drop, take, slice_get, unwrap_or, Vec, Global, refl, ap, sym, subst, ◌∙◌, append_assoc, arith}
 use Rattle.std.specs.BTreeMap as tree
 use Rattle.std.specs.List.{list_any}
 use Rattle.std.specs.Option.{option_map}
@@ -9,11 +9,13 @@ use Rattle.std.specs.Time.{instant_nanos}
 use Rattle.std.specs.declared.time.Instant.{Instant}
 use Rattle.std.proofs.lemmas.Bool.Decides.{nat_tests}
 use Rattle.proxy_net.specs.Connecting.{is_pending, due_of}
-use Rattle.proxy_net.specs.Delays.{is_overdue, is_time}
-use Rattle.proxy_net.specs.Sockets.{KeepsEarly, due_at, due_in, is_overdue_at, is_pending_at, is_retried}
+use Rattle.proxy_net.specs.Delays.{is_accept_due, is_overdue, is_time}
+use Rattle.proxy_net.specs.Registering.{listeners_from}
+use Rattle.proxy_net.specs.Sockets.{IsTried, KeepsAccepts, KeepsEarly, KeepsStalls, KeepsUnreported, is_accept_due_at, due_at, due_in, is_overdue_at, is_pending_at, is_retried}
 use Rattle.proxy_net.specs.declared.link_sockets.Connection.{Connection}
 use Rattle.proxy_net.specs.declared.link_sockets.Connection.TheVariants.{Open, Pending, Failed}
 use Rattle.proxy_net.specs.declared.link_sockets.LinkSocket.{LinkSocket}
+use Rattle.proxy_net.specs.declared.listeners.ListenerSocket.{ListenerSocket}
 use Rattle.proxy_net.specs.declared.sockets.SocketSet.{SocketSet}
 
 -- the first of a queue, after this number of its first ones
@@ -147,3 +149,80 @@ early_through p q = record {
     | inr tried ↦ inr tried
   ];
 }
+
+-- ---- accepts that are tried again
+
+pub stalls_through : {T L : Type 0} {a b c : SocketSet T L} → KeepsStalls a b → KeepsStalls b c → KeepsStalls a c
+stalls_through p q = record { stalled = λ place. q.stalled place ∙ p.stalled place; due = λ now place. q.due now place ∙ p.due now place }
+
+pub unreported_through : {T L : Type 0} {reported : ℕ → Bool} {a b c : SocketSet T L} → KeepsUnreported reported a b → KeepsUnreported reported b c → KeepsUnreported reported a c
+unreported_through p q = record { each = λ place e. q.each place e ∙ p.each place e }
+
+-- less was reported
+pub unreported_weaker : {T L : Type 0} {less more : ℕ → Bool} {a b : SocketSet T L} → ((number : ℕ) → less number ≡ true → more number ≡ true) → KeepsUnreported less a b → KeepsUnreported more a b
+unreported_weaker {less} {more} {a} {b} f p = record { each = λ place e. p.each place (by (listeners_from + place) e (less (listeners_from + place)) refl) }
+  where
+    by : (number : ℕ) → more number ≡ false → (is : Bool) → less number ≡ is → less number ≡ false
+    by number e true g = absurd (let no : true ≡ false = sym (f number g) ∙ e in cc)
+    by number e false g = g
+
+-- when a listener is tried again, if it stays as it is
+pub due_same : {L : Type 0} (now : Option Instant) {one other : Option (ListenerSocket L)} → one ≡ other → unwrap_or (option_map (is_accept_due now) one) false ≡ unwrap_or (option_map (is_accept_due now) other) false
+due_same now same = ap (λ (o : Option (ListenerSocket _)). unwrap_or (option_map (is_accept_due now) o) false) same
+
+pub stalls_same : {T L : Type 0} (a b : SocketSet T L) → b.listeners ≡ a.listeners → KeepsStalls a b
+stalls_same a b same = record {
+  stalled = λ place. ap (λ (v : Vec (ListenerSocket _) Global). unwrap_or (option_map (λ (s : ListenerSocket _). s.stalled) (slice_get v.items place)) false) same;
+  due = λ now place. due_same now (ap (λ (v : Vec (ListenerSocket _) Global). slice_get v.items place) same);
+}
+
+-- reports are noted, and then accepts are tried again
+pub accepts_after : {T L : Type 0} {Shows : Option Instant → Type 0} {reported : ℕ → Bool} {a b c : SocketSet T L} → KeepsUnreported reported a b → KeepsAccepts Shows (λ _. false) b c → KeepsAccepts Shows reported a c
+accepts_after {Shows} {reported} {a} {b} {c} p q = record { each = λ place. by place (reported (listeners_from + place)) refl }
+  where
+    by : (place : ℕ) (is : Bool) → reported (listeners_from + place) ≡ is
+        → ((now : Option Instant) → is_accept_due_at c now place ≡ is_accept_due_at a now place) ⊎ ((reported (listeners_from + place) ≡ true) ⊎ ((now : Option Instant) × Shows now × (is_accept_due_at a now place ≡ true)))
+    by place true e = inr (inl e)
+    by place false e = elim (q.each place) [
+      | inl due ↦ inl (λ now. due now ∙ due_same now (p.each place e))
+      | inr other ↦ elim other [
+        | inl never ↦ absurd (let none : false ≡ true = never in cc)
+        | inr (now, shown, due) ↦ inr (inr (now, shown, sym (due_same now (p.each place e)) ∙ due))
+      ]
+    ]
+
+-- .. after calls that keep the stalls
+pub accepts_before : {T L : Type 0} {Shows : Option Instant → Type 0} {reported : ℕ → Bool} {a b c : SocketSet T L} → KeepsStalls a b → KeepsAccepts Shows reported b c → KeepsAccepts Shows reported a c
+accepts_before p q = record {
+  each = λ place. elim (q.each place) [
+    | inl due ↦ inl (λ now. due now ∙ p.due now place)
+    | inr other ↦ elim other [
+      | inl reported ↦ inr (inl reported)
+      | inr (now, shown, due) ↦ inr (inr (now, shown, sym (p.due now place) ∙ due))
+    ]
+  ];
+}
+
+-- accepts are tried at a time that the clock showed
+pub accepts_tried : {T L : Type 0} (Shows : Option Instant → Type 0) (a b : SocketSet T L) (now : Option Instant) → Shows now
+    → ((place : ℕ) → is_accept_due_at a now place ≡ false → slice_get b.listeners.items place ≡ slice_get a.listeners.items place) → KeepsAccepts Shows (λ _. false) a b
+accepts_tried Shows a b now shown others = record { each = λ place. by place (is_accept_due_at a now place) refl }
+  where
+    by : (place : ℕ) (is : Bool) → is_accept_due_at a now place ≡ is
+        → ((time : Option Instant) → is_accept_due_at b time place ≡ is_accept_due_at a time place) ⊎ ((false ≡ true) ⊎ ((time : Option Instant) × Shows time × (is_accept_due_at a time place ≡ true)))
+    by place true e = inr (inr (now, shown, e))
+    by place false e = inl (λ time. due_same time (others place e))
+
+-- what was tried stays so while all is tried again when it was to be
+pub tried_kept : {T L : Type 0} {Shows : Option Instant → Type 0} (a b : SocketSet T L) → ((number : ℕ) → due_at b number ≡ due_at a number) → KeepsStalls a b → IsTried Shows a → IsTried Shows b
+tried_kept a b dues stalls tried = elim tried [
+  | inl none ↦ inl (record { connects = λ number. dues number ∙ none.connects number; accepts = λ place. stalls.stalled place ∙ none.accepts place })
+  | inr (now, shown, by) ↦ inr (
+    now,
+    shown,
+    record {
+      connects = λ number. ap (λ (due : Option Instant). is_overdue due now) (dues number) ∙ by.connects number;
+      accepts = λ place. stalls.due now place ∙ by.accepts place;
+    },
+  )
+]

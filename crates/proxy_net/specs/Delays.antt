@@ -1,5 +1,5 @@
 -- Accepts that are tried again.
-use Rattle.std.specs.Prelude.{ℕ, ◌≤◌, ◌-◌, ◌*◌, min, nat_eq, nat_le, nat_lt, if◌then◌else◌, Bool, true, false, not, ◌&&◌, Option, Some, None}
+use Rattle.std.specs.Prelude.{ℕ, ◌≤◌, ◌-◌, ◌*◌, min, nat_eq, nat_le, nat_lt, if◌then◌else◌, Bool, true, false, ◌&&◌, Option, Some, None}
 use Rattle.std.specs.Option.{option_map}
 use Rattle.std.specs.Time.{instant_nanos}
 use Rattle.std.specs.Duration.{as_nanos}
@@ -38,10 +38,6 @@ connect_left (Some due) now = Some (nanos_until (Some due) now)
 -- a listener is stalled, and it is time to try it again
 abbrev pub is_accept_due : {L : Type 0} → Option Instant → ListenerSocket L → Bool
 is_accept_due now s = s.stalled && is_time s.due now
-
--- a listener is stalled, and it isn't time yet to try it again
-abbrev pub is_accept_early : {L : Type 0} → Option Instant → ListenerSocket L → Bool
-is_accept_early now s = s.stalled && not (is_time s.due now)
 
 -- how many nanoseconds are left until a listener is tried again, if it is stalled
 abbrev pub accept_left : {L : Type 0} → Option Instant → ListenerSocket L → Option ℕ

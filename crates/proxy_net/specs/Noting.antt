@@ -15,6 +15,10 @@ is_bus_number number = nat_lt number listeners_from && nat_eq (number % 2) 1
 abbrev pub reports_read : ℕ → Report → Bool
 reports_read number report = nat_eq report.number number && report.readable
 
+-- a report is of the socket of a number
+abbrev pub reports_number : ℕ → Report → Bool
+reports_number number report = nat_eq report.number number
+
 -- both are of buses, or neither is
 abbrev pub same_side : Bool → Bool → Bool
 same_side one other = if one then other else not other

@@ -28,7 +28,7 @@ use Rattle.std.specs.VecDeque.{deque_len, deque_capacity}
 use Rattle.proxy_net.specs.Naming.{other_of, is_link_placed, is_listener_placed, is_link_unmarked, is_listener_unmarked, is_link_closed, is_to_fail}
 use Rattle.proxy_net.specs.declared.reports.Report.{Report}
 use Rattle.proxy_net.specs.Connecting.{is_pending, is_open, due_of, tried_path}
-use Rattle.proxy_net.specs.Delays.{is_time, is_overdue, connect_left, is_accept_due, is_accept_early, accept_left, is_put_off, IsWithin}
+use Rattle.proxy_net.specs.Delays.{is_time, is_overdue, connect_left, is_accept_due, accept_left, is_put_off, IsWithin}
 use Rattle.std.specs.String.{string_bytes}
 use Rattle.proxy_net.specs.Registering.{is_own_link, is_own_listener, listeners_from}
 use Rattle.proxy_net.specs.Noting.{is_link_noted, is_listener_noted, is_listener_named, is_link_named, is_bus_number, same_side}
@@ -36,6 +36,7 @@ use Rattle.proxy_net.specs.declared.link_sockets.LinkSocket.{LinkSocket}
 use Rattle.proxy_net.specs.declared.bound_files.BoundFile.{BoundFile}
 use Rattle.proxy_net.specs.declared.listeners.ListenerSocket.{ListenerSocket}
 use Rattle.proxy_net.specs.declared.sockets.SocketSet.{SocketSet}
+use Rattle.proxy_net.specs.declared.sockets.naming.TheConstants.{NAMED_BETWEEN_ASKS}
 use Rattle.proxy_net.specs.declared.starters.Starter.{Starter}
 
 -- the socket of a link that was made and isn't shut
@@ -259,9 +260,20 @@ delay_at sockets place = unwrap_or (option_map (λ (s : ListenerSocket _). s.del
 abbrev pub is_accept_due_at : {T L : Type 0} → SocketSet T L → Option Instant → ℕ → Bool
 is_accept_due_at sockets now place = unwrap_or (option_map (is_accept_due now) (slice_get sockets.listeners.items place)) false
 
--- the listener at a place is stalled, and it isn't time yet to try it again
-abbrev pub is_accept_early_at : {T L : Type 0} → SocketSet T L → Option Instant → ℕ → Bool
-is_accept_early_at sockets now place = unwrap_or (option_map (is_accept_early now) (slice_get sockets.listeners.items place)) false
+-- the same listeners are stalled, and each is tried again when it was to be
+pub record KeepsStalls {T L : Type 0} (old new : SocketSet T L) : Type 0 where
+  pub stalled : (place : ℕ) → is_stalled_at new place ≡ is_stalled_at old place
+  pub due : (now : Option Instant) (place : ℕ) → is_accept_due_at new now place ≡ is_accept_due_at old now place
+
+-- the listeners whose numbers weren't reported are as before
+pub record KeepsUnreported {T L : Type 0} (reported : ℕ → Bool) (old new : SocketSet T L) : Type 0 where
+  pub each : (place : ℕ) → reported (listeners_from + place) ≡ false → slice_get new.listeners.items place ≡ slice_get old.listeners.items place
+
+-- A listener is tried again when it was to be, unless it was reported, or it was time to try it, by a time that the
+-- clock showed.
+pub record KeepsAccepts {T L : Type 0} (Shows : Option Instant → Type 0) (reported : ℕ → Bool) (old new : SocketSet T L) : Type 0 where
+  pub each : (place : ℕ) → ((now : Option Instant) → is_accept_due_at new now place ≡ is_accept_due_at old now place)
+      ⊎ ((reported (listeners_from + place) ≡ true) ⊎ ((now : Option Instant) × Shows now × (is_accept_due_at old now place ≡ true)))
 
 abbrev pub left_in : {L : Type 0} → Option Instant → Option (ListenerSocket L) → Option ℕ
 left_in now None = None
@@ -357,6 +369,11 @@ pub record HasNoTries {T L : Type 0} (sockets : SocketSet T L) : Type 0 where
 -- nothing is left untried at a time that the clock showed, or nothing is to be tried again
 abbrev pub IsTried : {T L : Type 0} → (Option Instant → Type 0) → SocketSet T L → Type 0
 IsTried Shows sockets = HasNoTries sockets ⊎ ((now : Option Instant) × Shows now × IsTriedBy sockets now)
+
+-- What was named was named before the system was asked again, which is so at most sixteen times in a row; or what was
+-- refused for a time was tried since.
+abbrev pub IsNamedOrTried : {T L : Type 0} → (Option Instant → Type 0) → SocketSet T L → SocketSet T L → Type 0
+IsNamedOrTried Shows old new = ((old.named < NAMED_BETWEEN_ASKS) × (new.named ≡ old.named + 1)) ⊎ IsTried Shows new
 
 -- nothing was counted, and there is no link
 pub record IsUnused (net : NetView) : Type 0 where

@@ -1,7 +1,7 @@
 //! The sockets that listen.
 ghost use Rattle.std.specs.Prelude.{◌≡◌, ◌≢◌, ◌≤◌, ◌*◌, ◌&&◌, ◌||◌, ◌⊎◌, not, Some, None, true, false};
 ghost use Rattle.proxy_net.specs.Connecting.{IsLater};
-ghost use Rattle.proxy_net.specs.Delays.{next_delay, is_accept_due, is_accept_early, accept_left, nanos_of};
+ghost use Rattle.proxy_net.specs.Delays.{next_delay, is_accept_due, accept_left, nanos_of};
 ghost use Rattle.proxy_net.specs.Naming.{is_awaited, is_listener_placed};
 ghost use Rattle.proxy_net.specs.Noting.{is_listener_noted};
 ghost use Rattle.proxy_net.specs.Steps.{Steps, IsArrival, IsFileRemoval};
@@ -179,7 +179,6 @@ impl<L: Drop> ListenerSocket<L> {
         ensures placed { is_listener_placed (Some self.old) ≡ true → is_listener_placed (Some self.new) ≡ true }
         ensures noted { is_listener_noted (Some self.old) ≡ true → is_listener_noted (Some self.new) ≡ true }
         ensures done { is_accept_due now self.new ≡ false }
-        ensures early { is_accept_early now self.old ≡ true → is_accept_early now self.new ≡ true }
         ensures stays { result ≡ false → self.new.queued ≡ self.old.queued }
     {
         if !self.is_accept_due(now) {

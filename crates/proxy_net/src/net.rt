@@ -72,12 +72,15 @@ impl<'a> MioNet<SystemSockets<'a>> {
 }
 
 impl<S: Sockets + Drop> MioNet<S> {
-    ghost use Rattle.std.specs.Prelude.{ℕ, false, true, ◌≢◌, ◌↔◌, IsErrOf, OnErr, OnOk};
+    ghost use Rattle.std.specs.Prelude.{ℕ, ◌<◌, ◌+◌, false, true, ◌≢◌, ◌↔◌, IsErrOf, OnErr, OnOk};
+    ghost use Rattle.std.specs.List.{list_any};
     ghost use Rattle.proxy_net.specs.Answers.{IsUnanswered};
+    ghost use Rattle.proxy_net.specs.Noting.{reports_number};
+    ghost use Rattle.proxy_net.specs.declared.sockets.naming.TheConstants.{NAMED_BETWEEN_ASKS};
     ghost use Rattle.proxy_net.specs.Starters.{after_prepare, is_waiting};
     ghost use Rattle.proxy_net.specs.Steps.{Steps, AreWaits, AreRemovals, IsNoticed, IsOpened, IsPrepare, IsTurn, is_failed};
     ghost use Rattle.link_traits.specs.Views.{KeepsWishes};
-    ghost use Rattle.proxy_net.specs.Sockets.{IsTried, KeepsEarly, shown, RoseIn, GoesOn, IsUnused, IsWished, StaysClosed, HasLink, IsTriedTo, has_file_at, files_of};
+    ghost use Rattle.proxy_net.specs.Sockets.{IsTried, IsNamedOrTried, KeepsEarly, KeepsAccepts, KeepsStalls, shown, RoseIn, GoesOn, IsUnused, IsWished, StaysClosed, HasLink, IsTriedTo, has_file_at, files_of};
 
     /// A net over the sockets of a system, without listeners and links. No other net may have used that system.
     pub fn over(alloc: Global, system: S) -> Result<MioNet<S>, AllocError>
@@ -188,6 +191,10 @@ impl<S: Sockets + Drop> MioNet<S> {
         ensures once { is_waiting self.old.starter ≡ false → is_waiting self.new.starter ≡ false }
         ensures closed { StaysClosed self.old.sockets self.new.sockets }
         ensures early { KeepsEarly S.shows self.old.sockets self.new.sockets }
+        ensures accepts { result ≡ Turn.Again → KeepsAccepts S.shows (λ number. list_any (reports_number number) self.new.reports.items) self.old.sockets self.new.sockets }
+        ensures stalls { result ≢ Turn.Again → KeepsStalls self.old.sockets self.new.sockets }
+        ensures named { (ready : _) → result ≡ Turn.Named ready → (self.old.sockets.named < NAMED_BETWEEN_ASKS) × (self.new.sockets.named ≡ self.old.sockets.named + 1) }
+        ensures kept { (ready : _) → result ≡ Turn.Named ready → IsTried S.shows self.old.sockets → IsTried S.shows self.new.sockets }
         ensures asked { Steps (IsTurn (HasLink self.old.sockets) (IsTriedTo self.old.sockets) self.old.starter self.new.starter result) (S.journal self.old.system) (S.journal self.new.system) }
         ensures goes { GoesOn self.old.sockets self.new.sockets }
         ensures replaces { self.new.replaces ≡ self.old.replaces }
@@ -217,6 +224,7 @@ impl<S: Sockets + Drop> MioNet<S> {
         ensures once { is_waiting self.old.starter ≡ false → is_waiting self.new.starter ≡ false }
         ensures closed { StaysClosed self.old.sockets self.new.sockets }
         ensures early { KeepsEarly S.shows self.old.sockets self.new.sockets }
+        ensures tried { result ≢ Ready.Failed → result ≢ Ready.Quiet → IsNamedOrTried S.shows self.old.sockets self.new.sockets }
         ensures asked { Steps (AreWaits (HasLink self.old.sockets) (IsTriedTo self.old.sockets) self.old.starter self.new.starter (is_failed result)) (S.journal self.old.system) (S.journal self.new.system) }
         ensures goes { GoesOn self.old.sockets self.new.sockets }
         ensures replaces { self.new.replaces ≡ self.old.replaces }
@@ -241,6 +249,7 @@ impl<S: Sockets + Drop> MioNet<S> {
         ensures once { is_waiting self.old.starter ≡ false → is_waiting self.new.starter ≡ false }
         ensures closed { StaysClosed self.old.sockets self.new.sockets }
         ensures early { KeepsEarly S.shows self.old.sockets self.new.sockets }
+        ensures tried { result ≢ Ready.Failed → result ≢ Ready.Quiet → IsNamedOrTried S.shows self.old.sockets self.new.sockets }
         ensures failed { result ≡ Ready.Failed → RoseIn Count.Own self.old.sockets self.new.sockets }
         ensures asked { Steps (AreWaits (HasLink self.old.sockets) (IsTriedTo self.old.sockets) self.old.starter self.new.starter (is_failed result)) (S.journal self.old.system) (S.journal self.new.system) }
         ensures goes { GoesOn self.old.sockets self.new.sockets }
@@ -271,7 +280,7 @@ impl<S: Sockets + Drop> Net for MioNet<S> {
     ghost use Rattle.proxy_net.specs.Steps.{Steps, IsAnswered, IsPrepare, IsWait, IsFileKept, IsListen, IsAccept, IsMade, IsUnmade, IsConnect, IsRead, IsPolled, IsWrite, IsAsked, IsShut, is_failed};
     ghost use Rattle.proxy_net.specs.Starters.{after_prepare, is_waiting};
     ghost use Rattle.std.specs.Prelude.{List};
-    ghost use Rattle.proxy_net.specs.Sockets.{KeepsEarly, tried_path_at, file_at, path_at, is_put_off_at, delay_at, is_readable_at, StaysUnread, StaysClosed, KeepsReports, HasLink, IsTriedTo, has_link_at};
+    ghost use Rattle.proxy_net.specs.Sockets.{IsNamedOrTried, KeepsEarly, tried_path_at, file_at, path_at, is_put_off_at, delay_at, is_readable_at, StaysUnread, StaysClosed, KeepsReports, HasLink, IsTriedTo, has_link_at};
     ghost use Rattle.proxy_net.specs.Sockets.{shown, is_open_at, is_pending_in, is_closed_at, is_peer_closed_at, is_stalled_at, IsJudgedAt, IsWished};
 
     ghost view = { λ net. shown net.sockets (S.journal net.system) net.starter };
@@ -361,6 +370,9 @@ impl<S: Sockets + Drop> Net for MioNet<S> {
 
         // It leaves a connect that is tried again as it is until that is due, by a time that the clock showed.
         ensures early { KeepsEarly S.shows self.old.sockets self.new.sockets }
+
+        // Of seventeen in a row that name something, one asks the system, and then tries again all that is due.
+        ensures tried { result ≢ Ready.Failed → result ≢ Ready.Quiet → IsNamedOrTried S.shows self.old.sockets self.new.sockets }
 
         // What the system is asked for it, before the net notes its answer.
         ensures asked { Steps (IsAnswered (ready result) (IsWait (HasLink self.old.sockets) (IsTriedTo self.old.sockets) self.old.starter self.new.starter (is_failed result))) (S.journal self.old.system) (S.journal self.new.system) }

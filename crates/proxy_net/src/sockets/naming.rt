@@ -9,7 +9,7 @@ ghost use Rattle.std.specs.Ordering.{nat_cmp};
 ghost use Rattle.std.specs.BTreeMap as tree;
 ghost use Rattle.link_traits.specs.Numbers.{number_of as link_number};
 ghost use Rattle.proxy_net.specs.Delays.{IsWithin, connect_left, nanos_of};
-ghost use Rattle.proxy_net.specs.Noting.{is_link_noted, is_listener_noted, reports_read};
+ghost use Rattle.proxy_net.specs.Noting.{is_link_noted, is_listener_noted, reports_number, reports_read};
 ghost use Rattle.proxy_net.specs.Naming.{is_link_unmarked, is_listener_unmarked};
 ghost use Rattle.proxy_net.specs.Steps.{Steps, AreNoteCalls, IsAttemptOf};
 ghost use Rattle.proxy_net.specs.SystemCalls.{Tells, wait, fault_of};
@@ -52,7 +52,7 @@ fn is_bus(number: u64) -> bool
 }
 
 impl<T: Drop, L: Drop> SocketSet<T, L> {
-    ghost use Rattle.proxy_net.specs.Sockets.{due_at, is_retried, IsTried, KeepsEarly, is_stalled_at, GoesOn, IsTimeout, IsReadIf, KeepsReports, IsWished, is_noted, is_report_noted, is_side_noted, KeepsNotes};
+    ghost use Rattle.proxy_net.specs.Sockets.{due_at, is_retried, IsTried, KeepsEarly, is_stalled_at, GoesOn, IsTimeout, IsReadIf, KeepsReports, KeepsStalls, KeepsUnreported, KeepsAccepts, IsWished, is_noted, is_report_noted, is_side_noted, KeepsNotes};
 
     /// Asks the system what became ready, and waits for it if nothing is to be named yet.
     pub fn ask<S: Sockets<Stream = T, Listener = L>>(
@@ -66,6 +66,7 @@ impl<T: Drop, L: Drop> SocketSet<T, L> {
         ensures count { vec_len reports.new ≤ REPORTS }
         ensures capacity { vec_capacity reports.new ≡ vec_capacity reports.old }
         ensures reports { KeepsReports self.old self.new }
+        ensures listeners { self.new.listeners ≡ self.old.listeners }
         ensures told { (nanos : Option ℕ) × IsTimeout S.shows self.old nanos × Tells (S.journal system.old) (S.journal system.new) (wait reports.new.items nanos (fault_of error_kind result) ∷ []) }
         ensures goes { GoesOn self.old self.new }
     {
@@ -83,6 +84,7 @@ impl<T: Drop, L: Drop> SocketSet<T, L> {
         ensures noted { list_all (is_report_noted self.new) reports.now ≡ true }
         ensures tried { ((number : ℕ) → is_retried self.old number ≡ true) → IsTried S.shows self.new }
         ensures early { KeepsEarly S.shows self.old self.new }
+        ensures accepts { KeepsAccepts S.shows (λ number. list_any (reports_number number) reports.now) self.old self.new }
         ensures reported { IsReadIf (λ number. list_any (reports_read number) reports.now) self.old self.new }
         ensures kept { KeepsNotes self.old self.new }
         ensures told { ((number : ℕ) → is_link_registered self.old number ≡ true) → Steps (AreNoteCalls (HasLink self.old) (IsTriedTo self.old)) (S.journal system.old) (S.journal system.new) }
@@ -101,6 +103,7 @@ impl<T: Drop, L: Drop> SocketSet<T, L> {
         of_buses: bool,
     )
         ensures noted { list_all (is_side_noted of_buses self.new) reports.now ≡ true }
+        ensures listeners { KeepsUnreported (λ number. list_any (reports_number number) reports.now) self.old self.new }
         ensures reported { IsReadIf (λ number. list_any (reports_read number) reports.now) self.old self.new }
         ensures kept { KeepsNotes self.old self.new }
         ensures dues { (number : ℕ) → due_at self.new number ≡ due_at self.old number }
@@ -120,6 +123,7 @@ impl<T: Drop, L: Drop> SocketSet<T, L> {
         of_buses: bool,
     )
         ensures noted { is_side_noted of_buses self.new report.now ≡ true }
+        ensures listeners { KeepsUnreported (λ number. reports_number number report.now) self.old self.new }
         ensures reported { IsReadIf (λ number. reports_read number report.now) self.old self.new }
         ensures kept { KeepsNotes self.old self.new }
         ensures dues { (number : ℕ) → due_at self.new number ≡ due_at self.old number }
@@ -133,6 +137,7 @@ impl<T: Drop, L: Drop> SocketSet<T, L> {
 
     fn note_report<S: Sockets<Stream = T, Listener = L>>(&mut self, system: &mut S, report: &Report)
         ensures noted { is_report_noted self.new report.now ≡ true }
+        ensures listeners { KeepsUnreported (λ number. reports_number number report.now) self.old self.new }
         ensures reported { IsReadIf (λ number. reports_read number report.now) self.old self.new }
         ensures kept { KeepsNotes self.old self.new }
         ensures dues { (number : ℕ) → due_at self.new number ≡ due_at self.old number }
@@ -151,6 +156,7 @@ impl<T: Drop, L: Drop> SocketSet<T, L> {
         writable: bool,
     )
         ensures noted { is_noted self.new number readable writable ≡ true }
+        ensures listeners { KeepsUnreported (nat_eq number) self.old self.new }
         ensures reported { IsReadIf (λ other. nat_eq number other && readable) self.old self.new }
         ensures kept { KeepsNotes self.old self.new }
         ensures dues { (other : ℕ) → due_at self.new other ≡ due_at self.old other }
@@ -172,6 +178,7 @@ impl<T: Drop, L: Drop> SocketSet<T, L> {
         writable: bool,
     )
         ensures noted { is_link_noted readable writable (tree.get nat_cmp self.new.links number) ≡ true }
+        ensures listeners { self.new.listeners ≡ self.old.listeners }
         ensures reported { IsReadIf (λ other. nat_eq number other && readable) self.old self.new }
         ensures kept { KeepsNotes self.old self.new }
         ensures dues { (other : ℕ) → due_at self.new other ≡ due_at self.old other }
@@ -188,6 +195,7 @@ impl<T: Drop, L: Drop> SocketSet<T, L> {
     fn note_listener(&mut self, number: u64)
         requires { LISTENERS ≤ number }
         ensures noted { is_listener_noted (slice_get self.new.listeners.items (number - LISTENERS)) ≡ true }
+        ensures others { KeepsUnreported (nat_eq number) self.old self.new }
         ensures links { self.new.links ≡ self.old.links }
         ensures kept { KeepsNotes self.old self.new }
         ensures goes { GoesOn self.old self.new }
@@ -222,6 +230,7 @@ impl<T: Drop, L: Drop> SocketSet<T, L> {
         ensures uncounted { IfNone result (self.new.named ≡ self.old.named) }
         ensures wished { IfSome result (IsWished self.old self.new) }
         ensures reports { KeepsReports self.old self.new }
+        ensures stalls { KeepsStalls self.old self.new }
         ensures goes { GoesOn self.old self.new }
     {
         if self.named >= NAMED_BETWEEN_ASKS {
@@ -245,6 +254,7 @@ impl<T: Drop, L: Drop> SocketSet<T, L> {
         ensures uncounted { IfNone result (self.new.named ≡ self.old.named) }
         ensures wished { IfSome result (IsWished self.old self.new) }
         ensures reports { KeepsReports self.old self.new }
+        ensures stalls { KeepsStalls self.old self.new }
         ensures goes { GoesOn self.old self.new }
     {
         let Some(&number) = self.ready.front() else {
@@ -267,6 +277,7 @@ impl<T: Drop, L: Drop> SocketSet<T, L> {
         ensures uncounted { IfNone result (self.new.named ≡ self.old.named) }
         ensures wished { IfSome result (IsWished self.old self.new) }
         ensures reports { KeepsReports self.old self.new }
+        ensures stalls { KeepsStalls self.old self.new }
         ensures goes { GoesOn self.old self.new }
     {
         let Some(socket) = self.links.get_mut(&number) else {
@@ -293,6 +304,7 @@ impl<T: Drop, L: Drop> SocketSet<T, L> {
         ensures uncounted { IfNone result (self.new.named ≡ self.old.named) }
         ensures wished { IfSome result (IsWished self.old self.new) }
         ensures reports { KeepsReports self.old self.new }
+        ensures stalls { KeepsStalls self.old self.new }
         ensures goes { GoesOn self.old self.new }
     {
         let place = number - LISTENERS;
@@ -315,7 +327,7 @@ impl<T: Drop, L: Drop> SocketSet<T, L> {
 }
 
 impl<T: Drop, L: Drop> SocketSet<T, L> {
-    ghost use Rattle.proxy_net.specs.Sockets.{GoesOn, IsReadIf, KeepsNotes, IsTried, KeepsEarly, is_retried, is_overdue_at, due_at, IsDelay, IsIdleTimeout, IsFirstDue, IsFirstLeft, is_pending_at, accept_left_at, is_stalled_at, is_accept_due_at, is_accept_early_at};
+    ghost use Rattle.proxy_net.specs.Sockets.{GoesOn, IsReadIf, KeepsNotes, IsTried, KeepsEarly, KeepsAccepts, is_retried, is_overdue_at, due_at, IsDelay, IsIdleTimeout, IsFirstDue, IsFirstLeft, is_pending_at, accept_left_at, is_stalled_at, is_accept_due_at};
     ghost use Rattle.std.specs.declared.time.Duration.{Duration};
 
     /// How long the system is waited for: not at all if something is to be named, and otherwise until the next try to
@@ -418,6 +430,7 @@ impl<T: Drop, L: Drop> SocketSet<T, L> {
     fn retry_all<S: Sockets<Stream = T, Listener = L>>(&mut self, system: &mut S)
         ensures tried { ((number : ℕ) → is_retried self.old number ≡ true) → IsTried S.shows self.new }
         ensures early { KeepsEarly S.shows self.old self.new }
+        ensures accepts { KeepsAccepts S.shows (λ _. false) self.old self.new }
         ensures reported { IsReadIf (λ _. false) self.old self.new }
         ensures kept { KeepsNotes self.old self.new }
         ensures told { ((number : ℕ) → is_link_registered self.old number ≡ true) → Steps (AreNoteCalls (HasLink self.old) (IsTriedTo self.old)) (S.journal system.old) (S.journal system.new) }
@@ -434,7 +447,7 @@ impl<T: Drop, L: Drop> SocketSet<T, L> {
     /// Names the stalled listeners again whose delay is over.
     fn retry_accepts(&mut self, now: Option<Instant>)
         ensures retried { (place : ℕ) → is_accept_due_at self.new now place ≡ false }
-        ensures early { (place : ℕ) → is_accept_early_at self.old now place ≡ true → is_accept_early_at self.new now place ≡ true }
+        ensures others { (place : ℕ) → is_accept_due_at self.old now place ≡ false → slice_get self.new.listeners.items place ≡ slice_get self.old.listeners.items place }
         ensures links { self.new.links ≡ self.old.links }
         ensures kept { KeepsNotes self.old self.new }
         ensures goes { GoesOn self.old self.new }
@@ -447,8 +460,7 @@ impl<T: Drop, L: Drop> SocketSet<T, L> {
     fn retry_accept(&mut self, place: usize, now: Option<Instant>)
         requires { place < 2 ^ 63 }
         ensures retried { is_accept_due_at self.new now place ≡ false }
-        ensures others { (other : ℕ) → is_accept_due_at self.old now other ≡ false → is_accept_due_at self.new now other ≡ false }
-        ensures early { (other : ℕ) → is_accept_early_at self.old now other ≡ true → is_accept_early_at self.new now other ≡ true }
+        ensures others { (other : ℕ) → is_accept_due_at self.old now other ≡ false → slice_get self.new.listeners.items other ≡ slice_get self.old.listeners.items other }
         ensures number { vec_len self.new.listeners ≡ vec_len self.old.listeners }
         ensures links { self.new.links ≡ self.old.links }
         ensures kept { KeepsNotes self.old self.new }

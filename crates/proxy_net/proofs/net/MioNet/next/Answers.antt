@@ -1,6 +1,7 @@
-use Rattle.std.proofs.Common.{◌≡◌, Bool, false, true, refl, sym, subst, ◌∙◌, arith}
+use Rattle.std.proofs.Common.{◌≡◌, Bool, false, true, ap, inl, inr, refl, sym, subst, ◌∙◌, arith}
 use Rattle.proxy_net.specs.Steps.{Steps, AreWaits}
 use Rattle.proxy_net.specs.Sockets.{HasLink, IsTriedTo}
+use Rattle.proxy_net.specs.declared.sockets.SocketSet.{SocketSet}
 use Rattle.proxy_net.specs.declared.net.Turn.TheVariants.{Named, Ended, Again}
 use Rattle.proxy_net.proofs.Going.{goes_through, wished_before}
 use Rattle.proxy_net.proofs.Reading.{closed_through}
@@ -72,6 +73,7 @@ loop-turn-preserved g c =
       goes = goes_through c.loop-turn.invariant.goes c.turn.ensures.goes;
       closed = closed_through c.loop-turn.invariant.closed c.turn.ensures.closed;
       early = early_through c.loop-turn.invariant.early c.turn.ensures.early;
+      tried = inr (c.in-Again.ensures.tried refl);
       there = not_true _ (λ gone. absurd (let no : Again ≡ Ended = c.in-Again.ensures.ended.1 gone in cc));
       present = c.turn.ensures.present ∙ c.loop-turn.invariant.present;
       replaces = c.turn.ensures.replaces ∙ c.loop-turn.invariant.replaces;
@@ -87,3 +89,11 @@ returns-in-Ended-clause-early g c = early_through c.loop-turn.invariant.early c.
 
 pub returns-in-Failed-clause-early : goal.returns-in-Failed-clause-early
 returns-in-Failed-clause-early g c = early_through c.loop-turn.invariant.early c.turn.ensures.early
+
+pub returns-in-Named-clause-tried : goal.returns-in-Named-clause-tried
+returns-in-Named-clause-tried g c = λ _ _.
+    let named = c.in-Named.ensures.named c.in-Named.ready refl in
+    elim c.loop-turn.invariant.tried [
+      | inl same ↦ let number = ap (λ (s : SocketSet _ _). s.named) same in inl (omega (arith, number, named.0), omega (arith, number, named.1))
+      | inr tried ↦ inr (c.in-Named.ensures.kept c.in-Named.ready refl tried)
+    ]

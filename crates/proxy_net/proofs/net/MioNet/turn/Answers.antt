@@ -1,12 +1,14 @@
-use Rattle.std.proofs.Common.{◌≡◌, ◌≤◌, false, List, length, refl, ap, ◌∙◌, arith}
+use Rattle.std.proofs.Common.{◌≡◌, ◌≤◌, false, List, length, refl, ap, subst, ◌∙◌, arith}
+use Rattle.std.specs.List.{list_any}
+use Rattle.proxy_net.specs.Noting.{reports_number}
 use Rattle.proxy_net.specs.Starters.{after_reports}
 use Rattle.proxy_net.specs.Steps.{Steps, AreWaits}
 use Rattle.proxy_net.specs.SystemCalls.{SystemCall}
-use Rattle.proxy_net.specs.Sockets.{HasLink, IsTriedTo}
+use Rattle.proxy_net.specs.Sockets.{HasLink, IsTriedTo, KeepsAccepts}
 use Rattle.proxy_net.specs.declared.reports.Report.{Report}
 use Rattle.proxy_net.proofs.Answering.{bound_kept, consistent_goes, counted_kept, silent_none, silent_one, silent_through}
 use Rattle.proxy_net.proofs.Going.{goes_through}
-use Rattle.proxy_net.proofs.Retrying.{early_same, early_through}
+use Rattle.proxy_net.proofs.Retrying.{accepts_before, early_same, early_through, stalls_same, stalls_through, tried_kept}
 use Rattle.proxy_net.proofs.Telling.{steps_one, steps_through, steps_weaker}
 use Rattle.proxy_net.proofs.Waiting.{asked_in_vain, asked_once, noted_then, registered_after, waits_before, waits_silent}
 use Rattle.proxy_net.proofs.net.MioNet.turn.Goals as goal
@@ -94,3 +96,11 @@ returns-then-is_gone-clause-early g c = early_through (early_same c.args.self.no
 
 pub returns-else-is_gone-clause-early : goal.returns-else-is_gone-clause-early
 returns-else-is_gone-clause-early g c = early_through (early_same c.args.self.now.sockets c.next.new.self c.next.ensures.reports.dues) (early_through (early_same c.next.new.self c.ask.new.self c.ask.ensures.reports.dues) c.note_all.ensures.early)
+
+pub returns-in-Some-clause-kept : goal.returns-in-Some-clause-kept
+returns-in-Some-clause-kept g c = λ _ _. tried_kept c.args.self.now.sockets c.next.new.self c.next.ensures.reports.dues c.next.ensures.stalls
+
+pub returns-else-is_gone-clause-accepts : goal.returns-else-is_gone-clause-accepts
+returns-else-is_gone-clause-accepts g c = λ _.
+    let noted = subst (λ (reports : List Report). KeepsAccepts g.S.Sockets.shows (λ number. list_any (reports_number number) reports) c.ask.new.self c.note_all.new.self) c.deref-in-Ok.ensures.value c.note_all.ensures.accepts in
+    accepts_before (stalls_through c.next.ensures.stalls (stalls_same c.next.new.self c.ask.new.self c.ask.ensures.listeners)) noted

@@ -1,6 +1,6 @@
 use Rattle.std.proofs.Common.{refl, subst}
 use Rattle.link_traits.specs.Entries.{ready}
-use Rattle.proxy_net.specs.Sockets.{GoesOn, HasLink, IsTriedTo, KeepsEarly, StaysClosed}
+use Rattle.proxy_net.specs.Sockets.{GoesOn, HasLink, IsTriedTo, IsNamedOrTried, KeepsEarly, StaysClosed}
 use Rattle.proxy_net.specs.Steps.{Steps, AreWaits, is_failed}
 use Rattle.proxy_net.specs.declared.sockets.SocketSet.{SocketSet}
 use Rattle.proxy_net.proofs.Answering.{asked_then_told, bound_kept, told_one, counted_same, silent_through}
@@ -34,3 +34,6 @@ returns-clause-closed g c = subst (λ (s : SocketSet _ _). StaysClosed s c.next_
 
 pub returns-clause-early : goal.returns-clause-early
 returns-clause-early g c = subst (λ (s : SocketSet _ _). KeepsEarly g.S.Sockets.shows s c.next_or_end-ready.new.self.sockets) c.notify_starter.ensures.sockets c.next_or_end-ready.ensures.early
+
+pub returns-clause-tried : goal.returns-clause-tried
+returns-clause-tried g c = λ succeeds named. subst (λ (s : SocketSet _ _). IsNamedOrTried g.S.Sockets.shows s c.next_or_end-ready.new.self.sockets) c.notify_starter.ensures.sockets (c.next_or_end-ready.ensures.tried succeeds named)

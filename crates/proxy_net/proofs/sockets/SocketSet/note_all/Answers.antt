@@ -1,5 +1,5 @@
 use Rattle.proxy_net.proofs.Going.{goes_through}
-use Rattle.proxy_net.proofs.Retrying.{early_same, early_through}
+use Rattle.proxy_net.proofs.Retrying.{accepts_after, early_same, early_through, unreported_through}
 use Rattle.proxy_net.proofs.Notes.{both_sides, all_kept}
 use Rattle.proxy_net.proofs.Reading.{read_through, read_weaker}
 use Rattle.proxy_net.specs.Sockets.{HasLink, IsTriedTo}
@@ -33,3 +33,6 @@ returns-clause-told g c = λ own.
 
 pub returns-clause-early : goal.returns-clause-early
 returns-clause-early g c = early_through (early_same c.args.self.now c.note_side.new.self c.note_side.ensures.dues) (early_through (early_same c.note_side.new.self c.note_side-2.new.self c.note_side-2.ensures.dues) c.retry_all.ensures.early)
+
+pub returns-clause-accepts : goal.returns-clause-accepts
+returns-clause-accepts g c = accepts_after (unreported_through c.note_side.ensures.listeners c.note_side-2.ensures.listeners) c.retry_all.ensures.accepts

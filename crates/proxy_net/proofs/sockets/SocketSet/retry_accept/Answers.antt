@@ -1,12 +1,13 @@
-use Rattle.std.proofs.Common.{ℕ, ◌≡◌, ◌+◌, ◌∙◌, true, false, ap, length, refl, slice_get, unwrap_or, Vec, Global, arith}
+use Rattle.std.proofs.Common.{ℕ, ◌≡◌, ◌+◌, ◌∙◌, true, false, Option, Some, ap, sym, length, refl, slice_get, unwrap_or, Vec, Global, arith}
 use Rattle.std.specs.Option.{option_map}
 use Rattle.std.specs.Ordering.{nat_cmp}
 use Rattle.std.specs.BTreeMap as tree
 use Rattle.std.specs.BTreeMap.{BTreeMap}
-use Rattle.proxy_net.specs.Delays.{is_accept_due, is_accept_early}
+use Rattle.proxy_net.specs.Delays.{is_accept_due}
 use Rattle.proxy_net.specs.Noting.{is_link_noted, is_listener_noted}
 use Rattle.proxy_net.specs.declared.link_sockets.LinkSocket.{LinkSocket}
 use Rattle.proxy_net.proofs.Judging.{none_there}
+use Rattle.proxy_net.proofs.Retrying.{due_same}
 use Rattle.std.proofs.lemmas.Option.{slice_get_read}
 use Rattle.proxy_net.specs.Registering.{listeners_from}
 use Rattle.proxy_net.specs.Sockets.{has_place}
@@ -45,18 +46,15 @@ pub returns-in_default-clause-retried : goal.returns-in_default-clause-retried
 returns-in_default-clause-retried g c = none_there (is_accept_due c.args.now) c.args.self.now.listeners.items c.args.place (grind (arith, c.in_default.ensures.variant))
 
 pub returns-in-Some-clause-others : goal.returns-in-Some-clause-others
-returns-in-Some-clause-others g c = λ other before.
+returns-in-Some-clause-others g c = λ other early.
     let items = c.args.self.now.listeners.items in
     let found = slice_get_read items (length items) _ c.in-Some.socket.now refl c.in-Some.ensures.item.3.0 c.in-Some.ensures.value in
-    ap (λ (v : Vec (ListenerSocket _) Global). unwrap_or (option_map (is_accept_due c.args.now) (slice_get v.items other)) false) c.queue.ensures.listeners
-    ∙ at_each (λ _ o. unwrap_or (option_map (is_accept_due c.args.now) o) false ≡ false) items c.args.place c.in-Some.socket.now c.retry-is_new.new.self found (λ _. c.retry-is_new.ensures.done) other before
-
-pub returns-in-Some-clause-early : goal.returns-in-Some-clause-early
-returns-in-Some-clause-early g c = λ other before.
-    let items = c.args.self.now.listeners.items in
-    let found = slice_get_read items (length items) _ c.in-Some.socket.now refl c.in-Some.ensures.item.3.0 c.in-Some.ensures.value in
-    ap (λ (v : Vec (ListenerSocket _) Global). unwrap_or (option_map (is_accept_early c.args.now) (slice_get v.items other)) false) c.queue.ensures.listeners
-    ∙ at_each (λ _ o. unwrap_or (option_map (is_accept_early c.args.now) o) false ≡ true) items c.args.place c.in-Some.socket.now c.retry-is_new.new.self found c.retry-is_new.ensures.early other before
+    ap (λ (v : Vec (ListenerSocket _) Global). slice_get v.items other) c.queue.ensures.listeners
+    ∙ at_each (λ n (o : Option (ListenerSocket _)). unwrap_or (option_map (is_accept_due c.args.now) (slice_get items n)) false ≡ false → o ≡ slice_get items n) items c.args.place c.in-Some.socket.now c.retry-is_new.new.self found
+    (λ _ e. ap some_listener (c.retry-is_new.ensures.other (sym (due_same c.args.now found) ∙ e)) ∙ sym found) other (λ _. refl) early
+  where
+    some_listener : {L : Type 0} → ListenerSocket L → Option (ListenerSocket L)
+    some_listener s = Some s
 
 pub returns-in-Some-clause-kept : goal.returns-in-Some-clause-kept
 returns-in-Some-clause-kept g c =

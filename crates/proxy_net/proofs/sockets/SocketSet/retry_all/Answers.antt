@@ -8,7 +8,7 @@ use Rattle.proxy_net.specs.Sockets.{due_in}
 use Rattle.proxy_net.specs.declared.link_sockets.LinkSocket.{LinkSocket}
 use Rattle.proxy_net.specs.declared.listeners.ListenerSocket.{ListenerSocket}
 use Rattle.proxy_net.proofs.Going.{goes_through}
-use Rattle.proxy_net.proofs.Retrying.{early_kept, early_same, early_through}
+use Rattle.proxy_net.proofs.Retrying.{accepts_tried, early_kept, early_same, early_through}
 use Rattle.proxy_net.proofs.Waiting.{waits_before, registered_after}
 use Rattle.proxy_net.proofs.sockets.SocketSet.retry_all.Goals as goal
 
@@ -32,3 +32,7 @@ returns-clause-tried g c = λ own. inr (
 pub returns-clause-early : goal.returns-clause-early
 returns-clause-early g c =
     early_through (early_same c.args.self.now c.retry_accepts.new.self (λ number. ap (λ (m : BTreeMap ℕ (LinkSocket _)). due_in (tree.get nat_cmp m number)) c.retry_accepts.ensures.links)) (early_kept g.S.Sockets.shows c.retry_accepts.new.self c.retry_connects.new.self c.now-now.result c.now-now.ensures c.retry_connects.ensures.early)
+
+pub returns-clause-accepts : goal.returns-clause-accepts
+returns-clause-accepts g c = accepts_tried g.S.Sockets.shows c.args.self.now c.retry_connects.new.self c.now-now.result c.now-now.ensures
+    (λ place early. ap (λ (v : Vec (ListenerSocket _) Global). slice_get v.items place) c.retry_connects.ensures.listeners ∙ c.retry_accepts.ensures.others place early)
