@@ -1,5 +1,5 @@
 -- What is still to be read of the streams of a system in memory, and what was written to them.
-use Rattle.std.specs.Prelude.{ℕ, ◌≡◌, ◌≢◌, Bool, true, false, List, [], drop, Option, Some, None}
+use Rattle.std.specs.Prelude.{ℕ, ◌≡◌, ◌≢◌, nat_lt, Bool, true, false, List, [], drop, Option, Some, None}
 use Rattle.std.specs.Ordering.{nat_cmp}
 use Rattle.std.specs.BTreeMap as tree
 use Rattle.proxy_net.specs.declared.reports.Report.{Report}
@@ -24,6 +24,14 @@ written_at (Some row) = written_of row
 -- the next bytes of a number, whether they came or not
 abbrev pub coming_in : Streams → ℕ → List ℕ
 coming_in streams number = coming_at (tree.get nat_cmp streams.rows number)
+
+abbrev pub has_more_at : Option StreamInMemory → Bool
+has_more_at None = false
+has_more_at (Some row) = nat_lt row.read row.came
+
+-- bytes of a number came and weren't read
+abbrev pub has_more_in : Streams → ℕ → Bool
+has_more_in streams number = has_more_at (tree.get nat_cmp streams.rows number)
 
 -- what was written to the sockets of a number, in order
 abbrev pub written_in : Streams → ℕ → List ℕ

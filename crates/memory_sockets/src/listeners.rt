@@ -208,6 +208,7 @@ impl Listeners {
                 number: listener.number,
                 readable: true,
                 writable: false,
+                ending: false,
                 closed: false,
             }),
             _ => None,
@@ -224,6 +225,7 @@ impl Listeners {
                     number,
                     readable: true,
                     writable: false,
+                    ending: false,
                     closed: false,
                 });
             }

@@ -318,15 +318,14 @@ impl SocketScript {
         match &step.event {
             Event::Arrival(path) | Event::Nobody(path) => listeners.report(path.as_str()),
             Event::Again(number) => listeners.report_of(*number),
-            Event::Piece(number, _) | Event::End(number) => {
-                self.streams.report(*number, true, false)
-            }
+            Event::Piece(number, _) => self.streams.report(*number, true, false, false),
+            Event::End(number) => self.streams.report(*number, true, false, true),
             Event::HangUp(number) | Event::Reset(number) => {
-                self.streams.report(*number, true, true)
+                self.streams.report(*number, true, true, true)
             }
-            Event::Room(number) => self.streams.report(*number, false, true),
+            Event::Room(number) => self.streams.report(*number, false, true, false),
             Event::Spurious(number, readable, writable) => {
-                self.streams.report(*number, *readable, *writable)
+                self.streams.report(*number, *readable, *writable, false)
             }
             Event::StarterGone => self.starter_report(),
         }
@@ -350,6 +349,7 @@ impl SocketScript {
             number: STARTER,
             readable: false,
             writable: false,
+            ending: false,
             closed: true,
         })
     }

@@ -175,7 +175,7 @@ pub struct Streams {
 }
 
 impl Streams {
-    ghost use Rattle.memory_sockets.specs.Streams.{coming_in, written_in, KeepsStreams, KeepsOthers};
+    ghost use Rattle.memory_sockets.specs.Streams.{coming_in, has_more_in, written_in, KeepsStreams, KeepsOthers};
 
     /// No stream.
     pub fn new(alloc: Global) -> Streams
@@ -297,6 +297,16 @@ impl Streams {
         }
     }
 
+    /// Whether bytes of a stream came and weren't read.
+    pub fn has_more(&self, number: u64) -> bool
+        ensures { result ≡ has_more_in self.now number }
+    {
+        match self.rows.get(&number) {
+            Some(row) => row.read < row.came,
+            None => false,
+        }
+    }
+
     /// Writes a prefix of a piece to a stream.
     pub fn write(&mut self, number: u64, piece: &[u8]) -> Result<usize, ErrorKind>
         ensures within { IfOk result (λ n. n ≤ length piece.now) }
@@ -370,8 +380,14 @@ impl Streams {
         }
     }
 
-    /// What is reported of a stream: as far as its socket is open, and room is awaited.
-    pub fn report(&self, number: u64, readable: bool, writable: bool) -> Option<Report>
+    /// What is reported of a stream, if its socket is open: room only if it is awaited.
+    pub fn report(
+        &self,
+        number: u64,
+        readable: bool,
+        writable: bool,
+        ending: bool,
+    ) -> Option<Report>
         ensures { IfSome result (IsWatched self.now) }
     {
         match self.rows.get(&number) {
@@ -382,6 +398,7 @@ impl Streams {
                         number,
                         readable,
                         writable,
+                        ending,
                         closed: false,
                     })
                 } else {

@@ -3,9 +3,13 @@ use crate::calls::told_calls;
 use std::test::Fail;
 use test_tables::wrong_row;
 
-/// A link is named for what came, as long as that wasn't answered by a read that would wait. A report without anything
-/// there has one read that would wait.
+/// A link is named for what came, until a read leaves room in its buffer or would wait, and for its end until that is
+/// read. A report without anything there has one read that would wait.
 const NAMED: &str = "\
+arrival /p, piece c1 hi; open, want c1 r, wait, read c1 9, wait => New(1) Ok(()), c1, Bytes hi, Failed
+arrival /p, piece c1 hi, +end c1; open, want c1 r, wait, read c1 9, wait, read c1 9 => New(1) Ok(()), c1, Bytes hi, c1, Finished
+arrival /p, piece c1 hi, end c1; open, want c1 r, wait, read c1 9, wait, read c1 9 => New(1) Ok(()), c1, Bytes hi, c1, Finished
+arrival /p, piece c1 hi, piece c1 you; open, want c1 r, wait, read c1 9, wait, read c1 9, wait => New(1) Ok(()), c1, Bytes hi, c1, Bytes you, Failed
 arrival /p, piece c1 hello, end c1; open, want c1 r, wait, wait, read c1 9, read c1 9, wait, read c1 9, wait, want c1 , wait => New(1) Ok(()), c1, c1, Bytes hello, NotReady, c1, Finished, c1, Failed
 arrival /p, spurious c1 r, piece c1 hi; open, want c1 r, wait, read c1 9, wait, read c1 9 => New(1) Ok(()), c1, NotReady, c1, Bytes hi
 arrival /p, spurious b1 r, spurious c1 r; open, want c1 r, want b1 r, wait, read b1 9, wait, read c1 9, wait => New(1) Ok(()), b1, NotReady, c1, NotReady, Failed

@@ -21,7 +21,6 @@ fn both_ways(rt: HostRuntime) -> Result<(), Fail> {
     }
     assert_eq!(rt; net.read(client(1), &mut buffer), Got::Bytes(5));
     assert_eq!(rt; &buffer[..5], b"hello".as_slice());
-    assert_eq!(rt; net.wait(), Ready::Link(client(1)));
     assert_eq!(rt; net.read(client(1), &mut buffer), Got::NotReady);
     assert_eq!(rt; net.write(client(1), b"you"), Took::Bytes(3));
     let mut three = [0u8; 3];

@@ -1,9 +1,12 @@
 -- The shortest of the times that are left until listeners are tried again, found one listener after the other.
-use Rattle.std.proofs.Common.{ℕ, ◌≡◌, ◌+◌, ◌<◌, ◌⊎◌, zero, suc, inl, inr, nat_lt, List, [], ◌∷◌, length, slice_get, vec_len, Bool, true, false, Option, Some, None, refl, ap, ◌∙◌, subst, sym, arith}
+use Rattle.std.proofs.Common.{ℕ, ◌≡◌, ◌+◌, ◌<◌, ◌⊎◌, zero, suc, inl, inr, nat_lt, List, [], ◌∷◌, length, slice_get, vec_len, Bool, true, false, Option, Some, None, if◌then◌else◌, unwrap_or, refl, ap, ◌∙◌, subst, sym, arith}
+use Rattle.std.specs.Duration.{as_nanos}
+use Rattle.std.specs.Option.{option_map}
+use Rattle.std.specs.declared.time.Duration.{Duration}
 use Rattle.std.specs.declared.time.Instant.{Instant}
 use Rattle.std.proofs.lemmas.Bool.Decides.{nat_tests}
-use Rattle.proxy_net.specs.Delays.{IsWithin, connect_left}
-use Rattle.proxy_net.specs.Sockets.{accept_left_at, left_in, IsFirstLeft, IsDelay}
+use Rattle.proxy_net.specs.Delays.{IsWithin, accept_left, connect_left, nanos_of, nanos_until}
+use Rattle.proxy_net.specs.Sockets.{accept_left_at, is_stalled_at, left_in, IsFirstDue, IsFirstLeft, IsDelay, IsIdleTimeout}
 use Rattle.proxy_net.specs.declared.listeners.ListenerSocket.{ListenerSocket}
 use Rattle.proxy_net.specs.declared.sockets.SocketSet.{SocketSet}
 
@@ -56,13 +59,34 @@ module _ {T L : Type 0} (sockets : SocketSet T L) (due now : Option Instant) (un
   delay_is either nanos found = record {
     connect = λ time at. subst (λ (o : Option ℕ). IsWithin time o) found (by_connect time (is ∙ at));
     accept = λ place time at. subst (λ (o : Option ℕ). IsWithin time o) found (accept_within place time at);
-    one = elim either [ inl same ↦ inl (sym is ∙ sym same ∙ found) | inr same ↦ inr (inl (first.one nanos (sym same ∙ found))) ];
+    one = elim either [ inl same ↦ inl (sym is ∙ sym same ∙ found) | inr same ↦ inr (first.one nanos (sym same ∙ found)) ];
   }
 
   -- .. which is none
-  pub delay_blind : best ≡ None → IsDelay sockets due now 32000000
-  delay_blind none = record {
-    connect = λ time at. absurd (subst (λ (o : Option ℕ). IsWithin time o) none (by_connect time (is ∙ at)));
-    accept = λ place time at. absurd (subst (λ (o : Option ℕ). IsWithin time o) none (accept_within place time at));
-    one = inr (inr (sym is ∙ none_within until_connect (λ time at. subst (λ (o : Option ℕ). IsWithin time o) none (by_connect time at)), refl));
-  }
+  pub neither_due : best ≡ None → due ≡ None
+  neither_due none = by due (sym is ∙ none_within until_connect (λ time at. subst (λ (o : Option ℕ). IsWithin time o) none (by_connect time at)))
+    where
+      by : (o : Option Instant) → connect_left o now ≡ None → o ≡ None
+      by None e = refl
+      by (Some time) e = absurd (let no : Some (nanos_until (Some time) now) ≡ None = e in cc)
+
+  pub none_stalled : best ≡ None → (place : ℕ) → is_stalled_at sockets place ≡ false
+  none_stalled none place = by (slice_get sockets.listeners.items place) (no_left (accept_left_at sockets now place) refl)
+    where
+      no_left : (left : Option ℕ) → accept_left_at sockets now place ≡ left → accept_left_at sockets now place ≡ None
+      no_left None e = e
+      no_left (Some time) e = absurd (subst (λ (o : Option ℕ). IsWithin time o) none (accept_within place time e))
+
+      runs : (s : ListenerSocket L) (stalled : Bool) → s.stalled ≡ stalled → accept_left now s ≡ None → s.stalled ≡ false
+      runs s true e f = absurd (let no : Some (nanos_until s.due now) ≡ None = sym (ap (λ (b : Bool). if b then Some (nanos_until s.due now) else None) e) ∙ f in cc)
+      runs s false e f = e
+
+      by : (o : Option (ListenerSocket L)) → left_in now o ≡ None → unwrap_or (option_map (λ (s : ListenerSocket _). s.stalled) o) false ≡ false
+      by None e = refl
+      by (Some s) e = runs s s.stalled refl e
+
+-- how long it is waited if nothing is to be named
+pub idle_until : {T L : Type 0} (Shows : Option Instant → Type 0) (sockets : SocketSet T L) (due now : Option Instant) (delay : Option Duration) → Shows now → IsFirstDue sockets sockets.pending.items due
+    → ((nanos : ℕ) → nanos_of delay ≡ Some nanos → IsDelay sockets due now nanos) → (delay ≡ None → due ≡ None) → (delay ≡ None → (place : ℕ) → is_stalled_at sockets place ≡ false) → IsIdleTimeout Shows sockets (nanos_of delay)
+idle_until Shows sockets due now None shown first delay none stalled = (subst (λ (o : Option Instant). IsFirstDue sockets sockets.pending.items o) (none refl) first, stalled refl)
+idle_until Shows sockets due now (Some duration) shown first delay none stalled = (due, now, shown, first, delay (as_nanos duration) refl)

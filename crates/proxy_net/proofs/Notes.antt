@@ -8,11 +8,11 @@ use Rattle.proxy_net.specs.Sockets.{KeepsNotes, is_report_noted, is_side_noted}
 use Rattle.proxy_net.specs.declared.sockets.SocketSet.{SocketSet}
 
 pub notes_kept : {T L : Type 0} → (a : SocketSet T L) → KeepsNotes a a
-notes_kept a = record { links = λ number readable writable noted. noted; listeners = λ place noted. noted }
+notes_kept a = record { links = λ number readable writable ending noted. noted; listeners = λ place noted. noted }
 
 pub notes_through : {T L : Type 0} → {a b c : SocketSet T L} → KeepsNotes a b → KeepsNotes b c → KeepsNotes a c
 notes_through p q = record {
-  links = λ number readable writable noted. q.links number readable writable (p.links number readable writable noted);
+  links = λ number readable writable ending noted. q.links number readable writable ending (p.links number readable writable ending noted);
   listeners = λ place noted. q.listeners place (p.listeners place noted);
 }
 
@@ -39,7 +39,7 @@ right_of false y e = cc
 -- what is noted of an report stays noted
 pub report_kept : {T L : Type 0} → (a b : SocketSet T L) → KeepsNotes a b → (report : Report) → is_report_noted a report ≡ true → is_report_noted b report ≡ true
 report_kept a b kept report = chosen_kept (nat_lt report.number listeners_from) _ _ _ _
-    (kept.links report.number report.readable report.writable) (kept.listeners (report.number - listeners_from))
+    (kept.links report.number report.readable report.writable report.ending) (kept.listeners (report.number - listeners_from))
 
 side_kept : {T L : Type 0} → (of_buses : Bool) (a b : SocketSet T L) → KeepsNotes a b → (report : Report) → is_side_noted of_buses a report ≡ true → is_side_noted of_buses b report ≡ true
 side_kept of_buses a b kept report = or_kept (not (same_side (is_bus_number report.number) of_buses)) (is_report_noted a report) (is_report_noted b report) (report_kept a b kept report)

@@ -23,11 +23,16 @@ reports_number number report = nat_eq report.number number
 abbrev pub same_side : Bool → Bool → Bool
 same_side one other = if one then other else not other
 
--- A link is marked as readable and as writable, as far as it was reported so. One whose peer closed
--- needn't be marked as writable.
-abbrev pub is_link_noted : {T : Type 0} → Bool → Bool → Option (LinkSocket T) → Bool
-is_link_noted readable writable socket =
-    unwrap_or (option_map (λ (s : LinkSocket _). (not readable || s.readable) && (not writable || (s.writable || s.peer_closed))) socket) true
+-- A link is marked as readable, as writable and as ending, as far as it was reported so. One whose peer
+-- closed needn't be marked as writable.
+abbrev pub is_link_noted : {T : Type 0} → Bool → Bool → Bool → Option (LinkSocket T) → Bool
+is_link_noted readable writable ending socket =
+    unwrap_or (option_map (λ (s : LinkSocket _). (not readable || s.readable) && ((not writable || (s.writable || s.peer_closed)) && (not ending || s.ending))) socket) true
+
+-- Something of a link may be left after a read of this many bytes into this much room: the bytes filled the room, or
+-- the link's end is to be read after them.
+abbrev pub may_have_more : {T : Type 0} → ℕ → ℕ → LinkSocket T → Bool
+may_have_more n room s = not (nat_lt n room) || (s.ending || s.peer_closed)
 
 -- a listener is to be named, since a client came
 abbrev pub is_listener_noted : {L : Type 0} → Option (ListenerSocket L) → Bool

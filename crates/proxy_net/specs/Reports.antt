@@ -12,9 +12,13 @@ tells_read event = (is_error event || is_readable event) || is_read_closed event
 abbrev pub tells_write : Event → Bool
 tells_write event = (is_error event || is_writable event) || is_write_closed event
 
+-- no bytes come after those that are there
+abbrev pub tells_end : Event → Bool
+tells_end event = is_error event || is_read_closed event
+
 -- nobody reads what is written any more
 abbrev pub tells_close : Event → Bool
 tells_close event = is_error event || is_write_closed event
 
 abbrev pub report_of : Event → Report
-report_of event = record { number = (event_token event).0; readable = tells_read event; writable = tells_write event; closed = tells_close event }
+report_of event = record { number = (event_token event).0; readable = tells_read event; writable = tells_write event; ending = tells_end event; closed = tells_close event }

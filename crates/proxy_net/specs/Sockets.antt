@@ -31,7 +31,7 @@ use Rattle.proxy_net.specs.Connecting.{is_pending, is_open, due_of, tried_path}
 use Rattle.proxy_net.specs.Delays.{is_time, is_overdue, connect_left, is_accept_due, accept_left, is_put_off, IsWithin}
 use Rattle.std.specs.String.{string_bytes}
 use Rattle.proxy_net.specs.Registering.{is_own_link, is_own_listener, listeners_from}
-use Rattle.proxy_net.specs.Noting.{is_link_noted, is_listener_noted, is_listener_named, is_link_named, is_bus_number, same_side}
+use Rattle.proxy_net.specs.Noting.{is_link_noted, is_listener_noted, is_listener_named, is_link_named, is_bus_number, may_have_more, same_side}
 use Rattle.proxy_net.specs.declared.link_sockets.LinkSocket.{LinkSocket}
 use Rattle.proxy_net.specs.declared.bound_files.BoundFile.{BoundFile}
 use Rattle.proxy_net.specs.declared.listeners.ListenerSocket.{ListenerSocket}
@@ -222,6 +222,10 @@ is_peer_closed_at sockets number = unwrap_or (option_map (λ (s : LinkSocket _).
 abbrev pub is_readable_at : {T L : Type 0} → SocketSet T L → ℕ → Bool
 is_readable_at sockets number = unwrap_or (option_map (λ (s : LinkSocket _). s.readable) (tree.get nat_cmp sockets.links number)) false
 
+-- something of the link of a number may be left after a read of this many bytes into this much room
+abbrev pub may_have_more_at : {T L : Type 0} → SocketSet T L → ℕ → ℕ → ℕ → Bool
+may_have_more_at sockets number n room = unwrap_or (option_map (may_have_more n room) (tree.get nat_cmp sockets.links number)) false
+
 -- no link became readable
 pub record StaysUnread {T L : Type 0} (old new : SocketSet T L) : Type 0 where
   pub each : (number : ℕ) → is_readable_at new number ≡ true → is_readable_at old number ≡ true
@@ -335,11 +339,11 @@ pub record IsFirstDue {T L : Type 0} (sockets : SocketSet T L) (numbers : List �
   pub one : (time : Instant) → first ≡ Some time → (number : ℕ) × (list_any (nat_eq number) numbers ≡ true) × (due_at sockets number ≡ Some time)
 
 -- For how many nanoseconds the system is waited for, if the first connect is due then: until that one or the first
--- accept is tried again, whichever is earlier. It is 32 milliseconds if the clock can't be read.
+-- accept is tried again, whichever is earlier.
 pub record IsDelay {T L : Type 0} (sockets : SocketSet T L) (due now : Option Instant) (nanos : ℕ) : Type 0 where
   pub connect : (left : ℕ) → connect_left due now ≡ Some left → nanos ≤ left
   pub accept : (place left : ℕ) → accept_left_at sockets now place ≡ Some left → nanos ≤ left
-  pub one : (connect_left due now ≡ Some nanos) ⊎ (((place : ℕ) × (accept_left_at sockets now place ≡ Some nanos)) ⊎ ((connect_left due now ≡ None) × (nanos ≡ 32000000)))
+  pub one : (connect_left due now ≡ Some nanos) ⊎ ((place : ℕ) × (accept_left_at sockets now place ≡ Some nanos))
 
 -- .. if nothing is to be named: without end only if no connect is to be tried again and no listener is stalled
 abbrev pub IsIdleTimeout : {T L : Type 0} → (Option Instant → Type 0) → SocketSet T L → Option ℕ → Type 0
@@ -389,15 +393,15 @@ IsWished old new Quiet = ⊥
 IsWished old new Failed = ⊥
 
 -- what the system reported of the socket of a number is noted, if there is such a socket
-abbrev pub is_noted : {T L : Type 0} → SocketSet T L → ℕ → Bool → Bool → Bool
-is_noted sockets number readable writable =
+abbrev pub is_noted : {T L : Type 0} → SocketSet T L → ℕ → Bool → Bool → Bool → Bool
+is_noted sockets number readable writable ending =
     if nat_lt number listeners_from
-    then is_link_noted readable writable (tree.get nat_cmp sockets.links number)
+    then is_link_noted readable writable ending (tree.get nat_cmp sockets.links number)
     else is_listener_noted (slice_get sockets.listeners.items (number - listeners_from))
 
 -- what is reported is noted
 abbrev pub is_report_noted : {T L : Type 0} → SocketSet T L → Report → Bool
-is_report_noted sockets report = is_noted sockets report.number report.readable report.writable
+is_report_noted sockets report = is_noted sockets report.number report.readable report.writable report.ending
 
 -- what is reported is noted, if it is of a bus, or if it is of anything else
 abbrev pub is_side_noted : {T L : Type 0} → Bool → SocketSet T L → Report → Bool
@@ -405,5 +409,5 @@ is_side_noted of_buses sockets report = not (same_side (is_bus_number report.num
 
 -- what was noted stays noted
 pub record KeepsNotes {T L : Type 0} (old new : SocketSet T L) : Type 0 where
-  pub links : (number : ℕ) (readable writable : Bool) → is_link_noted readable writable (tree.get nat_cmp old.links number) ≡ true → is_link_noted readable writable (tree.get nat_cmp new.links number) ≡ true
+  pub links : (number : ℕ) (readable writable ending : Bool) → is_link_noted readable writable ending (tree.get nat_cmp old.links number) ≡ true → is_link_noted readable writable ending (tree.get nat_cmp new.links number) ≡ true
   pub listeners : (place : ℕ) → is_listener_noted (slice_get old.listeners.items place) ≡ true → is_listener_noted (slice_get new.listeners.items place) ≡ true

@@ -5,7 +5,7 @@ ghost use Rattle.link_traits.specs.Tables.{HasWish};
 ghost use Rattle.link_traits.specs.Answers.{no_wishes};
 ghost use Rattle.proxy_net.specs.Naming.{is_ready, is_link_placed, is_link_closed, is_to_fail};
 ghost use Rattle.proxy_net.specs.Registering.{is_registered_by, is_connected_by};
-ghost use Rattle.proxy_net.specs.Noting.{is_link_noted};
+ghost use Rattle.proxy_net.specs.Noting.{is_link_noted, may_have_more};
 ghost use Rattle.proxy_net.specs.Delays.{is_overdue};
 ghost use Rattle.proxy_net.specs.Connecting.{IsLater, is_open, is_pending, is_given_up as is_failed, due_of, tried_path};
 ghost use Rattle.std.specs.Prelude.{List};
@@ -91,10 +91,11 @@ pub enum LinkWrite {
 
 /// A link that was made and isn't shut.
 ///
-/// The system reports each change once. So a link is kept as readable until a read answers that it would wait, and as
-/// writable until a write does. It is readable again once the system reports something new of it, and once more if a
-/// write finds for the first time that its peer closed. It is registered for reading alone; for writing too from a
-/// write that would have waited until there is room again.
+/// The system reports each change once. So a link is kept as readable until a read answers that it would wait or doesn't
+/// fill its buffer, and as writable until a write would wait. It is readable again once the system reports something new
+/// of it, and once more if a write finds for the first time that its peer closed. One whose end was reported stays
+/// readable until that is read. It is registered for reading alone; for writing too from a write that would have waited
+/// until there is room again.
 ///
 /// A write to a peer that closed isn't ready until what the peer wrote before was read to its end.
 #[derive(Drop)]
@@ -106,6 +107,8 @@ pub struct LinkSocket<T> {
     connection: Connection<T>,
     readable: bool,
     writable: bool,
+    // The system reported that no bytes come after those that are there.
+    ending: bool,
     peer_closed: bool,
     end_read: bool,
     given_up: bool,
@@ -216,6 +219,7 @@ impl<T: Drop> LinkSocket<T> {
             connection,
             readable: false,
             writable,
+            ending: false,
             peer_closed: false,
             end_read: false,
             given_up: false,
@@ -232,9 +236,11 @@ impl<T: Drop> LinkSocket<T> {
         ensures never { is_failed self.old.connection ≡ true → result ≡ Got.Failed }
         ensures finished { result ≡ Got.Finished → (self.new.end_read ≡ true) × (self.new.given_up ≡ self.old.peer_closed) }
         ensures goes_on { result ≢ Got.Finished → (self.new.end_read ≡ self.old.end_read) × (self.new.given_up ≡ self.old.given_up) }
-        ensures readable { result ≢ Got.NotReady → self.new.readable ≡ self.old.readable }
+        ensures left { (n : ℕ) → result ≡ Got.Bytes n → self.new.readable ≡ (self.old.readable && may_have_more n (length into.new) self.old) }
+        ensures readable { (result ≡ Got.Finished) ⊎ (result ≡ Got.Failed) → self.new.readable ≡ self.old.readable }
+        ensures unread { self.new.readable ≡ true → self.old.readable ≡ true }
         ensures waits { result ≡ Got.NotReady → self.new.readable ≡ false }
-        ensures rest { (self.new.writable ≡ self.old.writable) × (self.new.peer_closed ≡ self.old.peer_closed) }
+        ensures rest { (self.new.writable ≡ self.old.writable) × (self.new.ending ≡ self.old.ending) × (self.new.peer_closed ≡ self.old.peer_closed) }
         ensures queued { self.new.queued ≡ self.old.queued }
         ensures token { (token : ℕ) → is_registered_by token self.old.connection ≡ true → is_registered_by token self.new.connection ≡ true }
         ensures faults { self.old.faults ≤ self.new.faults }
@@ -244,7 +250,10 @@ impl<T: Drop> LinkSocket<T> {
         ensures connection { self.new.connection ≡ self.old.connection }
     {
         match self.read_connection(system, into) {
-            StreamRead::Bytes(n) => Got::Bytes(n),
+            StreamRead::Bytes(n) => {
+                self.note_read(n, into.len());
+                Got::Bytes(n)
+            }
             StreamRead::End => {
                 self.end_read = true;
                 self.given_up = self.peer_closed;
@@ -258,6 +267,16 @@ impl<T: Drop> LinkSocket<T> {
                 self.faults = raised(self.faults);
                 Got::Failed
             }
+        }
+    }
+
+    /// Notes that this many bytes were read into this much room. If there was room for more, all that had come was read
+    /// (epoll(7)), and what comes later is reported, but for an end that was reported already.
+    fn note_read(&mut self, n: usize, room: usize)
+        ensures { self.new ≡ record self.old { readable = self.old.readable && may_have_more n room self.old } }
+    {
+        if n < room && !self.ending && !self.peer_closed {
+            self.readable = false;
         }
     }
 
@@ -376,16 +395,24 @@ impl<T: Drop> LinkSocket<T> {
     }
 
     /// Notes what the system reports. One that can't be watched on counts a fault.
-    pub fn note<S: Sockets<Stream = T>>(&mut self, system: &mut S, readable: bool, writable: bool)
-        ensures noted { is_link_noted readable writable (Some self.new) ≡ true }
-        ensures kept { (read write : Bool) → is_link_noted read write (Some self.old) ≡ true → is_link_noted read write (Some self.new) ≡ true }
+    pub fn note<S: Sockets<Stream = T>>(
+        &mut self,
+        system: &mut S,
+        readable: bool,
+        writable: bool,
+        ending: bool,
+    )
+        ensures noted { is_link_noted readable writable ending (Some self.new) ≡ true }
+        ensures kept { (read write end : Bool) → is_link_noted read write end (Some self.old) ≡ true → is_link_noted read write end (Some self.new) ≡ true }
         ensures readable { self.new.readable ≡ (self.old.readable || readable) }
         ensures writable { self.new.writable ≡ (self.old.writable || (writable && not self.old.peer_closed)) }
-        ensures rest { self.new ≡ record self.old { faults = self.new.faults; readable = self.new.readable; writable = self.new.writable } }
+        ensures ending { self.new.ending ≡ (self.old.ending || ending) }
+        ensures rest { self.new ≡ record self.old { faults = self.new.faults; readable = self.new.readable; writable = self.new.writable; ending = self.new.ending } }
         ensures told { (number : ℕ) → is_registered_by number self.old.connection ≡ true → Steps (IsNoted number) (S.journal system.old) (S.journal system.new) }
         ensures faults { self.old.faults ≤ self.new.faults }
     {
         self.readable = self.readable || readable;
+        self.ending = self.ending || ending;
         if writable && !self.writable && !self.peer_closed {
             self.writable = true;
             if !self.watch(system, false) {
@@ -486,7 +513,7 @@ impl<T: Drop> LinkSocket<T> {
         now: Option<Instant>,
     ) -> Attempt
         ensures token { (token : ℕ) → is_registered_by token self.old.connection ≡ true → is_registered_by token self.new.connection ≡ true }
-        ensures noted { (read write : Bool) → is_link_noted read write (Some self.old) ≡ true → is_link_noted read write (Some self.new) ≡ true }
+        ensures noted { (read write end : Bool) → is_link_noted read write end (Some self.old) ≡ true → is_link_noted read write end (Some self.new) ≡ true }
         ensures other { is_pending self.old.connection ≡ false → self.new ≡ self.old }
         ensures early { (time due : Instant) → now ≡ Some time → due_of self.old.connection ≡ Some due → instant_nanos time < instant_nanos due → (result ≡ Attempt.NotDue) × (self.new ≡ self.old) }
         ensures done { result ≡ Attempt.Done → is_pending self.new.connection ≡ false }

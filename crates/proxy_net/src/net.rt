@@ -31,7 +31,6 @@ use std::io;
 /// Until then reads and writes of that link aren't ready, and afterwards they fail.
 ///
 /// A starter gets its byte when the net waits for the first time. Once it is gone, waits are quiet.
-#[derive(Drop)]
 pub struct MioNet<S: Sockets + Drop> {
     alloc: Global,
     system: S,
@@ -44,6 +43,20 @@ pub struct MioNet<S: Sockets + Drop> {
     ghost room: { REPORTS ≤ vec_capacity reports },
     ghost counted: { IsCounted (S.journal system) (vec_len sockets.listeners) sockets.sessions },
     ghost bound: { AreBound (S.journal system) sockets },
+}
+
+// Its drop is a call, so that a function that drops one is short to prove.
+impl<S: Sockets + Drop> Drop for MioNet<S> {
+    fn drop(self) {
+        let MioNet {
+            alloc: _alloc,
+            system: _system,
+            sockets: _sockets,
+            reports: _reports,
+            replaces: _replaces,
+            starter: _starter,
+        } = self;
+    }
 }
 
 /// What came of naming, or of asking the system once.
@@ -267,7 +280,7 @@ impl<S: Sockets + Drop> MioNet<S> {
 }
 
 impl<S: Sockets + Drop> Net for MioNet<S> {
-    ghost use Rattle.std.specs.Prelude.{◌≢◌, ◌≤◌, ◌<◌, ◌+◌, ◌⊎◌, ◌↔◌, ℕ, [], ◌∷◌, length, None, Some, OnOk, OnErr, IsErrOf, IsSome, true, false};
+    ghost use Rattle.std.specs.Prelude.{◌≢◌, ◌≤◌, ◌<◌, ◌+◌, ◌⊎◌, ◌↔◌, ◌&&◌, ℕ, [], ◌∷◌, length, None, Some, OnOk, OnErr, IsErrOf, IsSome, true, false};
     ghost use Rattle.link_traits.specs.Entries.{ready, shut};
     ghost use Rattle.link_traits.specs.Journals.{Journal, accepts, listens};
     ghost use Rattle.link_traits.specs.Answers.{listen_entry, accept_entry, connect_entry, read_entry, write_entry, no_wishes, client_link, bus_link, AfterAccept};
@@ -280,7 +293,7 @@ impl<S: Sockets + Drop> Net for MioNet<S> {
     ghost use Rattle.proxy_net.specs.Steps.{Steps, IsAnswered, IsPrepare, IsWait, IsFileKept, IsListen, IsAccept, IsMade, IsUnmade, IsConnect, IsRead, IsPolled, IsWrite, IsAsked, IsShut, is_failed};
     ghost use Rattle.proxy_net.specs.Starters.{after_prepare, is_waiting};
     ghost use Rattle.std.specs.Prelude.{List};
-    ghost use Rattle.proxy_net.specs.Sockets.{IsNamedOrTried, KeepsEarly, tried_path_at, file_at, path_at, is_put_off_at, delay_at, is_readable_at, StaysUnread, StaysClosed, KeepsReports, HasLink, IsTriedTo, has_link_at};
+    ghost use Rattle.proxy_net.specs.Sockets.{IsNamedOrTried, KeepsEarly, tried_path_at, file_at, path_at, is_put_off_at, delay_at, is_readable_at, may_have_more_at, StaysUnread, StaysClosed, KeepsReports, HasLink, IsTriedTo, has_link_at};
     ghost use Rattle.proxy_net.specs.Sockets.{shown, is_open_at, is_pending_in, is_closed_at, is_peer_closed_at, is_stalled_at, IsJudgedAt, IsWished};
 
     ghost view = { λ net. shown net.sockets (S.journal net.system) net.starter };
@@ -494,9 +507,10 @@ impl<S: Sockets + Drop> Net for MioNet<S> {
         // The setting stays.
         ensures setting { (self.new.replaces ≡ self.old.replaces) × (self.new.starter ≡ self.old.starter) }
 
-        // A link that answers that it would wait isn't readable any more. A read makes no link readable, and forgets no
-        // close.
+        // A link that answers that it would wait isn't readable any more, and neither is one whose bytes left room in the
+        // buffer, unless its end is to be read after them. A read makes no link readable, and forgets no close.
         ensures waits { result ≡ Got.NotReady → is_readable_at self.new.sockets (number_of link) ≡ false }
+        ensures left { (n : ℕ) → result ≡ Got.Bytes n → is_readable_at self.new.sockets (number_of link) ≡ (is_readable_at self.old.sockets (number_of link) && may_have_more_at self.old.sockets (number_of link) n (length into.new)) }
         ensures unread { StaysUnread self.old.sockets self.new.sockets }
         ensures closed { StaysClosed self.old.sockets self.new.sockets }
 

@@ -9,6 +9,8 @@ pub struct Report {
     pub readable: bool,
     /// A write wouldn't wait.
     pub writable: bool,
+    /// No bytes come after those that are there: the stream ended or failed.
+    pub ending: bool,
     /// Nobody reads what is written any more.
     pub closed: bool,
 }

@@ -346,6 +346,7 @@ fn reported(event: &Event) -> Report
         number: event.token().0 as u64,
         readable: event.is_error() || event.is_readable() || event.is_read_closed(),
         writable: event.is_error() || event.is_writable() || event.is_write_closed(),
+        ending: event.is_error() || event.is_read_closed(),
         closed: event.is_error() || event.is_write_closed(),
     }
 }

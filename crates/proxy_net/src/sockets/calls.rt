@@ -1,5 +1,5 @@
 //! What is done with links that stand: their wishes, reads, writes and ends.
-ghost use Rattle.std.specs.Prelude.{◌≡◌, ◌≤◌, ◌<◌, ℕ, None, length, false, true, unwrap_or, vec_len};
+ghost use Rattle.std.specs.Prelude.{◌≡◌, ◌≤◌, ◌<◌, ◌&&◌, ℕ, None, length, false, true, unwrap_or, vec_len};
 ghost use Rattle.std.specs.Option.{option_map};
 ghost use Rattle.link_traits.specs.Numbers.{number_of as link_number};
 ghost use Rattle.proxy_net.specs.Naming.{other_of};
@@ -12,7 +12,7 @@ use link_traits::tables::number_of;
 use link_traits::{Count, Got, Link, Took, Wishes};
 
 impl<T: Drop, L: Drop> SocketSet<T, L> {
-    ghost use Rattle.proxy_net.specs.Sockets.{is_stalled_at, is_peer_closed_at, is_readable_at, StaysUnread, StaysClosed, KeepsReports, IsJudgedAt, wishes_in, is_pending_in, given_up_at, is_closed_at, is_to_fail_at, is_link_registered, is_open_at, RoseIn, Grows, GoesOn, KeepsOthersIn};
+    ghost use Rattle.proxy_net.specs.Sockets.{is_stalled_at, is_peer_closed_at, is_readable_at, may_have_more_at, StaysUnread, StaysClosed, KeepsReports, IsJudgedAt, wishes_in, is_pending_in, given_up_at, is_closed_at, is_to_fail_at, is_link_registered, is_open_at, RoseIn, Grows, GoesOn, KeepsOthersIn};
     ghost use Rattle.link_traits.specs.declared.links.Wishes.{Wishes};
 
     /// Replaces the wishes of a link.
@@ -45,6 +45,7 @@ impl<T: Drop, L: Drop> SocketSet<T, L> {
         ensures not_ready { result ≡ Got.NotReady → RoseIn Count.Waits self.old self.new }
         ensures finished { result ≡ Got.Finished → is_closed_at self.new (link_number link) ≡ true }
         ensures waits { result ≡ Got.NotReady → is_readable_at self.new (link_number link) ≡ false }
+        ensures left { (n : ℕ) → result ≡ Got.Bytes n → is_readable_at self.new (link_number link) ≡ (is_readable_at self.old (link_number link) && may_have_more_at self.old (link_number link) n (length into.new)) }
         ensures unread { StaysUnread self.old self.new }
         ensures closed { StaysClosed self.old self.new }
         ensures told { is_link_registered self.old (link_number link) ≡ true → Steps (IsRead (is_open_at self.old (link_number link)) (link_number link) into.new result) (S.journal system.old) (S.journal system.new) }
@@ -72,6 +73,7 @@ impl<T: Drop, L: Drop> SocketSet<T, L> {
         ensures failed { result ≡ Got.Failed → RoseIn (Count.Link link) self.old self.new }
         ensures finished { result ≡ Got.Finished → is_closed_at self.new (link_number link) ≡ true }
         ensures waits { result ≡ Got.NotReady → is_readable_at self.new (link_number link) ≡ false }
+        ensures left { (n : ℕ) → result ≡ Got.Bytes n → is_readable_at self.new (link_number link) ≡ (is_readable_at self.old (link_number link) && may_have_more_at self.old (link_number link) n (length into.new)) }
         ensures unread { StaysUnread self.old self.new }
         ensures closed { StaysClosed self.old self.new }
         ensures uncounted { self.new.waits ≡ self.old.waits }

@@ -17,7 +17,7 @@ ghost use Rattle.std.specs.IoError.{error_kind};
 ghost use Rattle.proxy_net.specs.Sockets.{HasLink, IsTriedTo, is_link_registered};
 
 use super::{LISTENERS, SocketSet};
-use crate::delays::{BLIND_DELAY, delay_until};
+use crate::delays::delay_until;
 use crate::link_sockets::{Attempt, raised};
 use crate::reports::Report;
 use crate::system::{REPORTS, Sockets};
@@ -144,7 +144,14 @@ impl<T: Drop, L: Drop> SocketSet<T, L> {
         ensures told { ((number : ℕ) → is_link_registered self.old number ≡ true) → Steps (AreNoteCalls (HasLink self.old) (IsTriedTo self.old)) (S.journal system.old) (S.journal system.new) }
         ensures goes { GoesOn self.old self.new }
     {
-        self.note(system, report.number, report.readable, report.writable);
+        let Report {
+            number,
+            readable,
+            writable,
+            ending,
+            ..
+        } = *report;
+        self.note(system, number, readable, writable, ending);
     }
 
     /// Notes that a listener has a client, or what a link is ready for.
@@ -154,8 +161,9 @@ impl<T: Drop, L: Drop> SocketSet<T, L> {
         number: u64,
         readable: bool,
         writable: bool,
+        ending: bool,
     )
-        ensures noted { is_noted self.new number readable writable ≡ true }
+        ensures noted { is_noted self.new number readable writable ending ≡ true }
         ensures listeners { KeepsUnreported (nat_eq number) self.old self.new }
         ensures reported { IsReadIf (λ other. nat_eq number other && readable) self.old self.new }
         ensures kept { KeepsNotes self.old self.new }
@@ -166,7 +174,7 @@ impl<T: Drop, L: Drop> SocketSet<T, L> {
         if number >= LISTENERS {
             self.note_listener(number);
         } else {
-            self.note_link(system, number, readable, writable);
+            self.note_link(system, number, readable, writable, ending);
         }
     }
 
@@ -176,8 +184,9 @@ impl<T: Drop, L: Drop> SocketSet<T, L> {
         number: u64,
         readable: bool,
         writable: bool,
+        ending: bool,
     )
-        ensures noted { is_link_noted readable writable (tree.get nat_cmp self.new.links number) ≡ true }
+        ensures noted { is_link_noted readable writable ending (tree.get nat_cmp self.new.links number) ≡ true }
         ensures listeners { self.new.listeners ≡ self.old.listeners }
         ensures reported { IsReadIf (λ other. nat_eq number other && readable) self.old self.new }
         ensures kept { KeepsNotes self.old self.new }
@@ -186,7 +195,7 @@ impl<T: Drop, L: Drop> SocketSet<T, L> {
         ensures goes { GoesOn self.old self.new }
     {
         if let Some(socket) = self.links.get_mut(&number) {
-            socket.note(system, readable, writable);
+            socket.note(system, readable, writable, ending);
             let is_new = socket.take_place();
             self.queue(number, is_new);
         }
@@ -346,17 +355,17 @@ impl<T: Drop, L: Drop> SocketSet<T, L> {
         if due.is_none() && !self.has_stalled() {
             return None;
         }
-        Some(self.delay(due, system.now()))
+        self.delay(due, system.now())
     }
 
-    /// How long it is until the connect that is due then, or the first accept that failed, is tried again.
-    fn delay(&self, due: Option<Instant>, now: Option<Instant>) -> Duration
-        ensures { IsDelay self.now due now (as_nanos result) }
+    /// How long it is until the connect that is due then, or the first accept that failed, is tried again, whichever is
+    /// earlier. `None` if there is neither.
+    fn delay(&self, due: Option<Instant>, now: Option<Instant>) -> Option<Duration>
+        ensures delay { (nanos : ℕ) → nanos_of result ≡ Some nanos → IsDelay self.now due now nanos }
+        ensures none { result ≡ None → due ≡ None }
+        ensures none_stalled { result ≡ None → (place : ℕ) → is_stalled_at self.now place ≡ false }
     {
-        match shorter(connect_delay(due, now), self.accept_delay(now)) {
-            Some(delay) => delay,
-            None => Duration::from_millis(BLIND_DELAY),
-        }
+        shorter(connect_delay(due, now), self.accept_delay(now))
     }
 
     /// How long it is until the first accept that failed is tried again, if there is one.

@@ -14,7 +14,7 @@ use Rattle.proxy_net.proofs.sockets.SocketSet.note_side.Goals as goal
 
 pub loop-report-preserved : goal.loop-report-preserved
 loop-report-preserved g c =
-    let none : Report = record { number = 0; readable = false; writable = false; closed = false } in
+    let none : Report = record { number = 0; readable = false; writable = false; ending = false; closed = false } in
     let report = get_or c.args.reports.now c.loop-report.report-index none in
     let rest = drop (c.loop-report.report-index + 1) c.args.reports.now in
     let step = drop_more c.args.reports.now c.loop-report.report-index none c.loop-report-test.true in

@@ -61,7 +61,7 @@ returns-in-Some-clause-kept g c =
     let items = c.args.self.now.listeners.items in
     let found = slice_get_read items (length items) _ c.in-Some.socket.now refl c.in-Some.ensures.item.3.0 c.in-Some.ensures.value in
     record {
-      links = λ number readable writable noted. ap (λ (m : BTreeMap ℕ (LinkSocket _)). is_link_noted readable writable (tree.get nat_cmp m number)) c.queue.ensures.links ∙ noted;
+      links = λ number readable writable ending noted. ap (λ (m : BTreeMap ℕ (LinkSocket _)). is_link_noted readable writable ending (tree.get nat_cmp m number)) c.queue.ensures.links ∙ noted;
       listeners = λ place noted. ap (λ (v : Vec (ListenerSocket _) Global). is_listener_noted (slice_get v.items place)) c.queue.ensures.listeners
           ∙ at_each (λ _ o. is_listener_noted o ≡ true) items c.args.place c.in-Some.socket.now c.retry-is_new.new.self found c.retry-is_new.ensures.noted place noted;
     }
