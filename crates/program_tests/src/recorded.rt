@@ -56,11 +56,21 @@ unix:path=/bus /p --filter --talk=org.a.T --record=/r --sessions=2; ; \
 ";
 
 /// How a run over no files and the net of a script ended.
-#[derive(Drop)]
 pub struct Run {
     pub ended: Ended,
     pub files: MemFiles,
     pub net: MemNet,
+}
+
+// Its drop is a call, so that a function that drops one is short to prove.
+impl Drop for Run {
+    fn drop(self) {
+        let Run {
+            ended: _ended,
+            files: _files,
+            net: _net,
+        } = self;
+    }
 }
 
 /// A run of the words with which a row begins. They are followed by its appends and its script.

@@ -6,11 +6,21 @@ use std::thread::Threads;
 use test_nets::net_of;
 
 /// How a run ended.
-#[derive(Drop)]
 pub struct Ended {
     pub code: u8,
     pub out: MemSink,
     pub err: MemSink,
+}
+
+// Its drop is a call, so that a function that drops one is short to prove.
+impl Drop for Ended {
+    fn drop(self) {
+        let Ended {
+            code: _code,
+            out: _out,
+            err: _err,
+        } = self;
+    }
 }
 
 /// A run of words, separated by spaces, over these files, with room for this many bytes of output and enough room for a

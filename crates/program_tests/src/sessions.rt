@@ -149,7 +149,7 @@ fn run_two<R: Threads + Sync>(
     let mut files = Vec::new(alloc);
     files.push(file(alloc, "two", TWO)?)?;
     let ended = run_over(rt, alloc, words, files, room)?;
-    Ok((ended.code, ended.out.bytes))
+    Ok((ended.code, Vec::from_slice(alloc, &ended.out.bytes)?))
 }
 
 #[test]
