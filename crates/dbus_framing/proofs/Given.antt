@@ -12,7 +12,7 @@ use Rattle.dbus_header.proofs.FaultStays.{fault_front, split_none}
 use Rattle.dbus_header.specs.declared.Malformed.{Malformed}
 use Rattle.dbus_framing.specs.Framing.{Takes, Gives, Stands, Follows}
 use Rattle.dbus_framing.specs.declared.Next.{Next}
-use Rattle.dbus_framing.specs.declared.Next.TheVariants.{Whole, Rest, Bad}
+use Rattle.dbus_framing.specs.declared.Next.TheVariants.{Whole, Incomplete, Bad}
 
 split-given : (given : List Message) (left : List ℕ) → AllByRecursion Valid given → split (flat_map spell given ++ left) ≡ (given ++ messages left, rest left)
 split-given [] left each = refl
@@ -66,7 +66,7 @@ stays pushed given old new e s = record { parts = s.parts ∙ ap (λ (x : List �
 
 pub next-follows : (pushed : List ℕ) (given : List Message) (old : List ℕ) (next : Next) (new : List ℕ) → Stands pushed given old → Gives old next new → Follows pushed given next new
 next-follows pushed given old (Whole frame) new s g = (g.0, g.1.spelled, given-more pushed given old frame new g.0 s g.1)
-next-follows pushed given old Rest new s g =
+next-follows pushed given old Incomplete new s g =
     let all = all-given pushed given old s g.1 in
     (stays pushed given old new g.3 s, all.0, all.1 ∙ g.2)
 next-follows pushed given old (Bad f) new s g =
@@ -79,5 +79,5 @@ the_bad f = Bad f
 -- a fault is reported again
 pub bad-again : (old : List ℕ) (f : Malformed) (next : Next) (new : List ℕ) → fault old ≡ Some f → Gives old next new → (next ≡ Bad f) × (fault new ≡ Some f)
 bad-again old f (Whole frame) new e g = absurd (none-some (g.0, new) (sym (fault_front old f e) ∙ g.1.in_front))
-bad-again old f Rest new e g = absurd (none-some f (sym g.2 ∙ e))
+bad-again old f Incomplete new e g = absurd (none-some f (sym g.2 ∙ e))
 bad-again old f (Bad h) new e g = (ap the_bad (same_Some h f (sym g.0 ∙ e)), ap fault g.1 ∙ e)

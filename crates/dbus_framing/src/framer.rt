@@ -54,11 +54,11 @@ pub(crate) fn looked(state: State, left: &[u8]) -> Front
     ensures { Looks left.now result }
 {
     match state {
-        State::AwaitsHead => Front::Rest,
+        State::AwaitsHead => Front::Incomplete,
         State::Bad(fault) => Front::Bad(fault),
         State::AwaitsMessage(len) => {
             if left.len() < len {
-                return Front::Rest;
+                return Front::Incomplete;
             }
             Front::Whole(len)
         }
@@ -176,7 +176,7 @@ impl Framer {
         let state = self.state.with_head(self.bytes.as_slice());
         self.state = state;
         let front = looked(state, self.bytes.as_slice());
-        if let Front::Rest = front {
+        if let Front::Incomplete = front {
             self.bytes.release();
         }
         front
@@ -225,7 +225,7 @@ impl Framer {
     {
         let len = match self.front() {
             Front::Whole(len) => len,
-            Front::Rest => return Ok(Next::Rest),
+            Front::Incomplete => return Ok(Next::Incomplete),
             Front::Bad(fault) => return Ok(Next::Bad(fault)),
         };
         let frame = match self.message(len, &mut KnownTexts::none()) {

@@ -21,7 +21,7 @@ pub fn more_is_pushed()
         → Stands (pushed ++ piece) given (left ++ piece) }
 {}
 
-/// `next` gives the next message of all that was pushed. At `Rest` and `Bad` all messages were given.
+/// `next` gives the next message of all that was pushed. At `Incomplete` and `Bad` all messages were given.
 pub fn next_is_given()
     ensures { (pushed : List ℕ) (given : List Message) (old : List ℕ) (next : Given) (new : List ℕ) → Stands pushed given old
         → Gives old next new → Follows pushed given next new }

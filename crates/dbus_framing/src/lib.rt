@@ -24,7 +24,7 @@ pub enum Front {
     /// The whole message was received; this is the length that its head states. Whether it is valid isn't checked yet.
     Whole(usize),
     /// At most the beginning of a message: fewer than 16 bytes, or fewer than its head states.
-    Rest,
+    Incomplete,
     /// The head isn't that of a valid message.
     Bad(Malformed),
 }
@@ -35,7 +35,7 @@ pub enum Next {
     /// A valid message, which is removed from the stream.
     Whole(Bytes),
     /// At most the beginning of a message: fewer than 16 bytes, or fewer than its head states.
-    Rest,
+    Incomplete,
     /// No valid message. The stream stays there.
     Bad(Malformed),
 }

@@ -71,8 +71,8 @@ impl KnownHeader {
             && self.is_alike(bytes)
     }
 
-    /// Whether these header fields equal the kept ones except for REPLY_SERIAL's number. If so, their parts have the same
-    /// places.
+    /// Whether these header fields equal the kept ones except for REPLY_SERIAL's number. If so, their parts have the
+    /// same places.
     pub(crate) fn has(&self, order: Order, fields_len: u32, bytes: &[u8]) -> bool
         requires { length bytes.now + 16 ≡ body_place fields_len }
         ensures within { result ≡ true → AreWithin bytes.now self.now.places }

@@ -10,7 +10,7 @@ use test_tables::{add_text, plain, text_of, wrong_row};
 
 /// A client's stream, and its lines, each followed by a `|`, then the answer, and what is left.
 const CLIENT: &str = "\
-~ => [~|] Rest []
+~ => [~|] Incomplete []
 A => [] NoNul 0 [A]
 AUTH%0D%0A => [] NoNul 0 [AUTH%0D%0A]
 ~%1F => [~|] BadByte 1 [%1F]
@@ -18,13 +18,13 @@ AUTH%0D%0A => [] NoNul 0 [AUTH%0D%0A]
 ~A%0DB%0D%0A => [~|] BadByte 3 [A%0DB%0D%0A]
 ~A%0D%0D%0A => [~|] BadByte 3 [A%0D%0D%0A]
 ~A%0AB%0D%0A => [~|] BadByte 2 [A%0AB%0D%0A]
-~A%0D => [~|] Rest [A%0D]
-~%0D%0A%0D%0A => [~|%0D%0A|%0D%0A|] Rest []
-~BEGIN => [~|] Rest [BEGIN]
+~A%0D => [~|] Incomplete [A%0D]
+~%0D%0A%0D%0A => [~|%0D%0A|%0D%0A|] Incomplete []
+~BEGIN => [~|] Incomplete [BEGIN]
 ~BEGIN%0D%0A => [~|BEGIN%0D%0A|] Begin []
 ~BEGIN now%0D%0Al%01~ => [~|BEGIN now%0D%0A|] Begin [l%01~]
-~BEGINS%0D%0AX => [~|BEGINS%0D%0A|] Rest [X]
-~ BEGIN%0D%0A => [~| BEGIN%0D%0A|] Rest []
+~BEGINS%0D%0AX => [~|BEGINS%0D%0A|] Incomplete [X]
+~ BEGIN%0D%0A => [~| BEGIN%0D%0A|] Incomplete []
 ~DATA BEGIN%0D%0ADATA%0D%0ABEGIN%0D%0AAUTH%0D%0A => [~|DATA BEGIN%0D%0A|DATA%0D%0A|BEGIN%0D%0A|] Begin [AUTH%0D%0A]
 ~AUTH EXTERNAL 31%0D%0ANEGOTIATE_UNIX_FD%0D%0ABEGIN%0D%0Al%01~%01 => [~|AUTH EXTERNAL 31%0D%0A|NEGOTIATE_UNIX_FD%0D%0A|BEGIN%0D%0A|] Begin [l%01~%01]
 ";
@@ -34,9 +34,9 @@ const BUS: &str = "\
 0 false O => [] EarlyBus 0 [O]
 0 false ~ => [] EarlyBus 0 [~]
 1 false OK%0D%0AX => [OK%0D%0A|] EarlyBus 4 [X]
-1 false OK%0D%0A => [OK%0D%0A|] Rest []
+1 false OK%0D%0A => [OK%0D%0A|] Incomplete []
 1 true OK%0D%0Al%02 => [OK%0D%0A|] Done [l%02]
-2 true OK%0D%0ADA => [OK%0D%0A|] Rest [DA]
+2 true OK%0D%0ADA => [OK%0D%0A|] Incomplete [DA]
 0 true l%02 => [] Done [l%02]
 1 false ~ => [] BadByte 0 [~]
 2 false OK%0D%0ADATA%0A => [OK%0D%0A|] BadByte 8 [DATA%0A]
@@ -123,7 +123,7 @@ fn client_told(alloc: Global, stream: &[u8], size: usize) -> Result<Told, AllocE
 {
     let mut lines = Lines::new(alloc);
     let mut given = Vec::new(alloc);
-    let mut last = NextLine::Rest;
+    let mut last = NextLine::Incomplete;
     let mut rest = stream;
     while !rest.is_empty() && !matches!(last, NextLine::Begin(_)) {
         let (piece, behind) = rest.split_at(size.min(rest.len()));
@@ -185,7 +185,7 @@ fn bus_told(
 {
     let mut lines = Lines::new(alloc);
     let mut given = Vec::new(alloc);
-    let mut last = NextLine::Rest;
+    let mut last = NextLine::Incomplete;
     let mut unanswered = asked;
     let mut rest = stream;
     while !rest.is_empty() {
@@ -216,7 +216,7 @@ fn told_next(alloc: Global, next: &NextLine) -> Result<String, AllocError> {
         NextLine::Line(_) => String::from_str(alloc, "Line"),
         NextLine::Begin(_) => String::from_str(alloc, "Begin"),
         NextLine::Done => String::from_str(alloc, "Done"),
-        NextLine::Rest => String::from_str(alloc, "Rest"),
+        NextLine::Incomplete => String::from_str(alloc, "Incomplete"),
         NextLine::Bad(fault) => format!(in alloc; "{:?} {}", fault.kind, fault.at),
     }
 }
@@ -315,7 +315,7 @@ fn bus_last_in(alloc: Global, stream: &[u8], size: usize, asked: u64) -> Result<
 fn told_last(alloc: Global, given: &Told) -> Result<String, AllocError> {
     let (lines, last, _) = given;
     match (lines.last(), last) {
-        (Some(line), NextLine::Rest) => format!(in alloc; "{}", line.len()),
+        (Some(line), NextLine::Incomplete) => format!(in alloc; "{}", line.len()),
         (_, last) => told_next(alloc, last),
     }
 }
@@ -395,7 +395,7 @@ fn add_left(told: &mut String, alloc: Global, lines: &mut Lines) -> Result<(), A
 
 #[test]
 fn an_early_byte_is_told_again(rt: HostRuntime) -> Result<(), Fail> {
-    let expected = "Rest, EarlyBus 0, EarlyBus 0, EarlyBus 0, 4 OK%0D%0A 0";
+    let expected = "Incomplete, EarlyBus 0, EarlyBus 0, EarlyBus 0, 4 OK%0D%0A 0";
     assert_eq!(rt; told_early(rt.alloc())?.as_str(), expected);
     Ok(())
 }

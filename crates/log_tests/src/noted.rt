@@ -15,6 +15,6 @@ pub fn noted(
     framer.push(bytes)?;
     match framer.next()? {
         Next::Whole(frame) => Ok(Note::new(number, side, frame, decision)),
-        Next::Rest | Next::Bad(_) => Err(AllocError),
+        Next::Incomplete | Next::Bad(_) => Err(AllocError),
     }
 }

@@ -215,8 +215,8 @@ impl SocketsInMemory {
         }
     }
 
-    /// Reads what a stream gives at once. If that leaves room in the buffer and bytes that came, the next wait reports the
-    /// stream again.
+    /// Reads what a stream gives at once. If that leaves room in the buffer and bytes that came, the next wait reports
+    /// the stream again.
     fn read_part(&mut self, number: u64, into: &mut [u8]) -> Result<usize, ErrorKind>
         ensures notes { self.new.notes ≡ self.old.notes }
         ensures within { IfOk result (λ n. n ≤ length into.new) }

@@ -13,23 +13,23 @@ use test_tables::wrong_row;
 /// The size of the pieces of a stream and the messages in it; and the length of each message that is taken of it, and
 /// what follows them. The number of a long call is the length of its body.
 const STREAMS: &str = "\
-1, call, return => 80 56 Rest
-1000, call, return, call cut=40 => 80 56 Rest
-100, call, call, return => 80 80 56 Rest
-15, call cut=15 => Rest
-4, newer cut=15 => Rest
+1, call, return => 80 56 Incomplete
+1000, call, return, call cut=40 => 80 56 Incomplete
+100, call, call, return => 80 80 56 Incomplete
+15, call cut=15 => Incomplete
+4, newer cut=15 => Incomplete
 4, newer => Version 3
 16, newer, call => Version 3
 7, call, unnumbered => 80 Serial 8
 200, stray, call => Body 24
-65536, call, long 200000, return => 80 200060 56 Rest
-65536, long 70000, call, long 70000, return => 70060 80 70060 56 Rest
-300, call, call, long 100000, call => 80 80 100060 80 Rest
-5000, return, long 65476, long 65475, call cut=79 => 56 65536 65535 Rest
+65536, call, long 200000, return => 80 200060 56 Incomplete
+65536, long 70000, call, long 70000, return => 70060 80 70060 56 Incomplete
+300, call, call, long 100000, call => 80 80 100060 80 Incomplete
+5000, return, long 65476, long 65475, call cut=79 => 56 65536 65535 Incomplete
 40000, long 100000, newer, call => 100060 Version 3
-20, longest => Rest
-65536, call, longest => 80 Rest
-100, call, longest => 80 Rest
+20, longest => Incomplete
+65536, call, longest => 80 Incomplete
+100, call, longest => 80 Incomplete
 ";
 
 fn stream_of(alloc: Global, messages: &str) -> Result<Vec<u8>, AllocError> {
@@ -82,7 +82,7 @@ fn next_in_place(
 ) -> Result<Next, AllocError> {
     let len = match messages.front() {
         Front::Whole(len) => len,
-        Front::Rest => return Ok(Next::Rest),
+        Front::Incomplete => return Ok(Next::Incomplete),
         Front::Bad(fault) => return Ok(Next::Bad(fault)),
     };
     let frame = match messages.message(len, known) {
@@ -103,7 +103,7 @@ fn taken_in_place(alloc: Global, stream: &[u8], size: usize) -> Result<Taken, Al
     let mut framer = Framer::new(alloc);
     let mut known = KnownTexts::new(alloc);
     let mut frames = Vec::new(alloc);
-    let mut last = Next::Rest;
+    let mut last = Next::Incomplete;
     for piece in stream.chunks(size) {
         let mut messages = with_piece(alloc, &mut framer, piece)?;
         for _ in 0..3 {
@@ -124,7 +124,7 @@ fn taken(alloc: Global, stream: &[u8], size: usize, shares: bool) -> Result<Take
     let mut framer = Framer::new(alloc);
     let mut known = KnownTexts::new(alloc);
     let mut frames = Vec::new(alloc);
-    let mut last = Next::Rest;
+    let mut last = Next::Incomplete;
     for piece in stream.chunks(size) {
         framer.push(piece)?;
         for _ in 0..3 {
@@ -166,7 +166,7 @@ fn told_frames(
 fn told_next(alloc: Global, next: &Next) -> Result<String, AllocError> {
     match next {
         Next::Whole(_) => String::from_str(alloc, "Whole"),
-        Next::Rest => String::from_str(alloc, "Rest"),
+        Next::Incomplete => String::from_str(alloc, "Incomplete"),
         Next::Bad(fault) => format!(in alloc; "{:?} {}", fault.kind, fault.at),
     }
 }

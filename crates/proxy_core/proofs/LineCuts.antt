@@ -9,7 +9,7 @@ use Rattle.sasl_watch.specs.Following.{ClientFollows, ClientEnds, ClientWaits, C
 use Rattle.sasl_watch.specs.declared.LineFault.{LineFault}
 use Rattle.sasl_watch.specs.declared.LineKind.{LineKind}
 use Rattle.sasl_watch.specs.declared.LineKind.TheVariants.{NoNul, EarlyBus}
-use Rattle.sasl_watch.specs.declared.NextLine.TheVariants.{Nul, Line, Begin, Done, Rest, Bad}
+use Rattle.sasl_watch.specs.declared.NextLine.TheVariants.{Nul, Line, Begin, Done, Incomplete, Bad}
 use Rattle.sasl_watch.proofs.Givens.{client_ahead-lines, same_head}
 use Rattle.sasl_watch.proofs.Followed.{client-next, bus-next}
 
@@ -154,7 +154,7 @@ cut_is c o l f = ap₂ (λ (ls : List (List ℕ)) (x : Option LineFault). record
 
 pub client_waits : (pushed : List ℕ) (given : List (List ℕ)) (place : ℕ) (left : List ℕ) → ClientFollows pushed given (sound_at place left)
     → (client_ahead (sound_at place left)).lines ≡ [] → (client_ahead (sound_at place left)).fault ≡ None → ClientWaits pushed given (sound_at place left)
-client_waits pushed given place left f l o = client-next pushed given (sound_at place left) Rest (sound_at place left) f (record { sound = refl; same = refl; cut = cut_is (client_ahead (sound_at place left)) None l o })
+client_waits pushed given place left f l o = client-next pushed given (sound_at place left) Incomplete (sound_at place left) f (record { sound = refl; same = refl; cut = cut_is (client_ahead (sound_at place left)) None l o })
 
 pub client_fails : (pushed : List ℕ) (given : List (List ℕ)) (place : ℕ) (left : List ℕ) (x : LineFault) → ClientFollows pushed given (sound_at place left)
     → (client_ahead (sound_at place left)).lines ≡ [] → (client_ahead (sound_at place left)).fault ≡ Some x → ClientFails pushed given x (record { place = place; left = left; bad = Some x })
@@ -178,10 +178,10 @@ module _ (pushed : List ℕ) (given : List (List ℕ)) (n : ℕ) (begun : Bool) 
       record { some = t.0; parts = t.1.parts; few = tells.0; more = tells.1 }
 
   pub bus_waits : 0 < n - length given → (bus_ahead (sound_at place left)).lines ≡ [] → (bus_ahead (sound_at place left)).fault ≡ None → BusWaits pushed given n begun (sound_at place left)
-  bus_waits pos l o = bus-next pushed given n begun (sound_at place left) Rest (sound_at place left) few f (inl (pos, record { sound = refl; same = refl; cut = cut_is (bus_ahead (sound_at place left)) None l o }))
+  bus_waits pos l o = bus-next pushed given n begun (sound_at place left) Incomplete (sound_at place left) few f (inl (pos, record { sound = refl; same = refl; cut = cut_is (bus_ahead (sound_at place left)) None l o }))
 
   pub bus_waits_for_begin : n - length given ≡ 0 → begun ≡ false → left ≡ [] → BusWaits pushed given n begun (sound_at place left)
-  bus_waits_for_begin none unseen empty = bus-next pushed given n begun (sound_at place left) Rest (sound_at place left) few f (inr (record { none = none; unseen = unseen; sound = refl; empty = empty; same = refl }))
+  bus_waits_for_begin none unseen empty = bus-next pushed given n begun (sound_at place left) Incomplete (sound_at place left) few f (inr (record { none = none; unseen = unseen; sound = refl; empty = empty; same = refl }))
 
   pub bus_ends : n - length given ≡ 0 → begun ≡ true → BusEnds pushed given n begun (sound_at place left)
   bus_ends none seen = bus-next pushed given n begun (sound_at place left) Done (sound_at place left) few f (record { none = none; seen = seen; sound = refl; same = refl })

@@ -2,7 +2,7 @@
 use Rattle.std.proofs.Common.{ℕ, ◌≡◌, ◌+◌, refl, ap, ◌∙◌, sym, subst, arith}
 use Rattle.sasl_watch.specs.Watching.{Watch}
 use Rattle.sasl_watch.specs.declared.NextLine.{NextLine}
-use Rattle.sasl_watch.specs.declared.NextLine.TheVariants.{Nul, Line, Begin, Done, Rest, Bad}
+use Rattle.sasl_watch.specs.declared.NextLine.TheVariants.{Nul, Line, Begin, Done, Incomplete, Bad}
 use Rattle.proxy_core.specs.Streams.{StreamView, InLines, counted, GaveLine, phase_of, left_in}
 use Rattle.proxy_core.specs.declared.stream.Content.{Content}
 use Rattle.proxy_core.specs.declared.stream.Content.TheVariants as of
@@ -15,7 +15,7 @@ none_counted Nul line other all = refl
 none_counted (Line x) line other all = let (y, e) = all x in absurd (other y e)
 none_counted (Begin x) line other all = refl
 none_counted Done line other all = refl
-none_counted Rest line other all = refl
+none_counted Incomplete line other all = refl
 none_counted (Bad f) line other all = refl
 
 line_gave : (G : Watch → NextLine → Watch → Type 0) (came lines n : ℕ) (old new : Watch) (v : StreamView) (next : NextLine) → record { came = came; phase = InLines old.place old.bad; left = old.left; lines = lines } ≡ v

@@ -46,7 +46,7 @@ counted gives.Nul = 0
 counted (gives.Line line) = 1
 counted (gives.Begin line) = 0
 counted gives.Done = 0
-counted gives.Rest = 0
+counted gives.Incomplete = 0
 counted (gives.Bad f) = 0
 
 -- the stream, which was in its lines, gave this

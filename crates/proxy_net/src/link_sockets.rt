@@ -91,11 +91,11 @@ pub enum LinkWrite {
 
 /// A link that was made and isn't shut.
 ///
-/// The system reports each change once. So a link is kept as readable until a read answers that it would wait or doesn't
-/// fill its buffer, and as writable until a write would wait. It is readable again once the system reports something new
-/// of it, and once more if a write finds for the first time that its peer closed. One whose end was reported stays
-/// readable until that is read. It is registered for reading alone; for writing too from a write that would have waited
-/// until there is room again.
+/// The system reports each change once. So a link is kept as readable until a read answers that it would wait or
+/// doesn't fill its buffer, and as writable until a write would wait. It is readable again once the system reports
+/// something new of it, and once more if a write finds for the first time that its peer closed. One whose end was
+/// reported stays readable until that is read. It is registered for reading alone; for writing too from a write that
+/// would have waited until there is room again.
 ///
 /// A write to a peer that closed isn't ready until what the peer wrote before was read to its end.
 #[derive(Drop)]

@@ -507,8 +507,8 @@ impl<S: Sockets + Drop> Net for MioNet<S> {
         // The setting stays.
         ensures setting { (self.new.replaces ≡ self.old.replaces) × (self.new.starter ≡ self.old.starter) }
 
-        // A link that answers that it would wait isn't readable any more, and neither is one whose bytes left room in the
-        // buffer, unless its end is to be read after them. A read makes no link readable, and forgets no close.
+        // A link that answers that it would wait isn't readable any more, and neither is one whose bytes left room in
+        // the buffer, unless its end is to be read after them. A read makes no link readable, and forgets no close.
         ensures waits { result ≡ Got.NotReady → is_readable_at self.new.sockets (number_of link) ≡ false }
         ensures left { (n : ℕ) → result ≡ Got.Bytes n → is_readable_at self.new.sockets (number_of link) ≡ (is_readable_at self.old.sockets (number_of link) && may_have_more_at self.old.sockets (number_of link) n (length into.new)) }
         ensures unread { StaysUnread self.old.sockets self.new.sockets }

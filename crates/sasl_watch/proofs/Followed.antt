@@ -11,7 +11,7 @@ use Rattle.byte_lists.proofs.Options.{some}
 use Rattle.sasl_watch.specs.declared.LineKind.TheVariants.{NoNul, EarlyBus}
 use Rattle.sasl_watch.specs.declared.LineFault.{LineFault}
 use Rattle.sasl_watch.specs.declared.NextLine.{NextLine}
-use Rattle.sasl_watch.specs.declared.NextLine.TheVariants.{Nul, Line, Begin, Done, Rest, Bad}
+use Rattle.sasl_watch.specs.declared.NextLine.TheVariants.{Nul, Line, Begin, Done, Incomplete, Bad}
 use Rattle.sasl_watch.specs.Lines.{Cut, with_line, cut_from, joined, through, is_begin, agrees, client_cut, client_lines, has_begun, asked, client_fault, bus_cut, bus_lines, after_lines, bus_fault, line_fault}
 use Rattle.sasl_watch.specs.Watching.{Watch, at_start, client_ahead, bus_ahead, Takes, Waits, TellsAgain, Tells, TellsEarly, WaitsForBegin, Ends, ClientGives, BusGives}
 use Rattle.sasl_watch.specs.Following.{behind, only_fault, ClientFollows, ClientEnds, ClientWaits, ClientFails, ClientTells, IsTold, BusFollows, BusEnds, BusWaits, BusFails, BusTells, BusFault}
@@ -193,7 +193,7 @@ client-next pushed given old Nul new s g =
     (none, subst (λ (ls : List (List ℕ)). ClientFollows pushed (ls ++ (0 ∷ []) ∷ []) new) none (client-takes pushed given old s (0 ∷ []) new refl g.1))
 client-next pushed given old (Line line) new s g = client-takes pushed given old s line new g.1 g.2
 client-next pushed given old (Begin line) new s g = client-ends pushed given old s line new g.1 g.2
-client-next pushed given old Rest new s g = client-waits pushed given old s new g
+client-next pushed given old Incomplete new s g = client-waits pushed given old s new g
 client-next pushed given old (Bad f) new s (inl t) = client-fails pushed given old s f new (s.told f t.0) (client-stays pushed given old s new t.1) (ap (λ (w : Watch). w.bad) t.1 ∙ t.0)
 client-next pushed given old (Bad f) new s (inr t) = client-tells pushed given old s f new t
 client-next pushed given old Done new s g = absurd g
@@ -363,8 +363,8 @@ pub bus-next : (pushed : List ℕ) (given : List (List ℕ)) (n : ℕ) (begun : 
     → BusGives (n - length given) begun old next new → BusTells pushed given n begun old next new
 bus-next pushed given n begun old (Line line) new le s g = (omega (arith, length-append given (line ∷ []), le, g.0), bus-takes pushed given old s line new g.1)
 bus-next pushed given n begun old Done new le s g = bus-ends pushed given old s n begun le new g
-bus-next pushed given n begun old Rest new le s (inl w) = bus-waits pushed given old s n begun le new w.0 w.1
-bus-next pushed given n begun old Rest new le s (inr w) = bus-waits_for_begin pushed given old s n begun le new w
+bus-next pushed given n begun old Incomplete new le s (inl w) = bus-waits pushed given old s n begun le new w.0 w.1
+bus-next pushed given n begun old Incomplete new le s (inr w) = bus-waits_for_begin pushed given old s n begun le new w
 bus-next pushed given n begun old (Bad f) new le s (inl t) = bus-tells_again pushed given old s n begun le f new t
 bus-next pushed given n begun old (Bad f) new le s (inr (inl t)) = bus-tells pushed given old s n begun le f new t.0 t.1
 bus-next pushed given n begun old (Bad f) new le s (inr (inr t)) = bus-tells_early pushed given old s n begun le f new t
@@ -380,7 +380,7 @@ pub client-again : (old : Watch) (f : LineFault) (next : NextLine) (new : Watch)
 client-again old f Nul new e g = absurd (not_told old.bad f g.1.sound e)
 client-again old f (Line line) new e g = absurd (not_told old.bad f g.2.sound e)
 client-again old f (Begin line) new e g = absurd (not_told old.bad f g.2.sound e)
-client-again old f Rest new e g = absurd (not_told old.bad f g.sound e)
+client-again old f Incomplete new e g = absurd (not_told old.bad f g.sound e)
 client-again old f (Bad h) new e (inl t) = (ap the_bad (same_Some h f (sym t.0 ∙ e)), t.1)
 client-again old f (Bad h) new e (inr t) = absurd (not_told old.bad f t.sound e)
 client-again old f Done new e g = absurd g
@@ -388,8 +388,8 @@ client-again old f Done new e g = absurd g
 pub bus-again : (unanswered : ℕ) (begun : Bool) (old : Watch) (f : LineFault) (next : NextLine) (new : Watch) → old.bad ≡ Some f → BusGives unanswered begun old next new → (next ≡ Bad f) × (new ≡ old)
 bus-again unanswered begun old f (Line line) new e g = absurd (not_told old.bad f g.1.sound e)
 bus-again unanswered begun old f Done new e g = absurd (not_told old.bad f g.sound e)
-bus-again unanswered begun old f Rest new e (inl w) = absurd (not_told old.bad f w.1.sound e)
-bus-again unanswered begun old f Rest new e (inr w) = absurd (not_told old.bad f w.sound e)
+bus-again unanswered begun old f Incomplete new e (inl w) = absurd (not_told old.bad f w.1.sound e)
+bus-again unanswered begun old f Incomplete new e (inr w) = absurd (not_told old.bad f w.sound e)
 bus-again unanswered begun old f (Bad h) new e (inl t) = (ap the_bad (same_Some h f (sym t.0 ∙ e)), t.1)
 bus-again unanswered begun old f (Bad h) new e (inr (inl t)) = absurd (not_told old.bad f t.1.sound e)
 bus-again unanswered begun old f (Bad h) new e (inr (inr t)) = absurd (not_told old.bad f t.sound e)

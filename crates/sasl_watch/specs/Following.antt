@@ -4,7 +4,7 @@ use Rattle.std.specs.List.{list_any}
 use Rattle.sasl_watch.specs.declared.LineKind.TheVariants.{EarlyBus}
 use Rattle.sasl_watch.specs.declared.LineFault.{LineFault}
 use Rattle.sasl_watch.specs.declared.NextLine.{NextLine}
-use Rattle.sasl_watch.specs.declared.NextLine.TheVariants.{Nul, Line, Begin, Done, Rest, Bad}
+use Rattle.sasl_watch.specs.declared.NextLine.TheVariants.{Nul, Line, Begin, Done, Incomplete, Bad}
 use Rattle.sasl_watch.specs.Lines.{Cut, joined, is_begin, client_cut, client_lines, has_begun, after_begin, asked, client_fault, bus_cut, bus_lines, after_lines, bus_fault}
 use Rattle.sasl_watch.specs.Watching.{Watch, client_ahead, bus_ahead}
 
@@ -55,7 +55,7 @@ abbrev pub ClientTells : List ℕ → List (List ℕ) → NextLine → Watch →
 ClientTells pushed given Nul new = (given ≡ []) × ClientFollows pushed ((0 ∷ []) ∷ []) new
 ClientTells pushed given (Line line) new = ClientFollows pushed (given ++ line ∷ []) new
 ClientTells pushed given (Begin line) new = ClientEnds pushed given line new
-ClientTells pushed given Rest new = ClientWaits pushed given new
+ClientTells pushed given Incomplete new = ClientWaits pushed given new
 ClientTells pushed given (Bad f) new = ClientFails pushed given f new
 ClientTells pushed given Done new = ⊥
 
@@ -100,7 +100,7 @@ pub record BusFails (pushed : List ℕ) (given : List (List ℕ)) (n : ℕ) (beg
 abbrev pub BusTells : List ℕ → List (List ℕ) → ℕ → Bool → Watch → NextLine → Watch → Type 0
 BusTells pushed given n begun old (Line line) new = (length (given ++ line ∷ []) ≤ n) × BusFollows pushed (given ++ line ∷ []) new
 BusTells pushed given n begun old Done new = BusEnds pushed given n begun new
-BusTells pushed given n begun old Rest new = BusWaits pushed given n begun new
+BusTells pushed given n begun old Incomplete new = BusWaits pushed given n begun new
 BusTells pushed given n begun old (Bad f) new = BusFails pushed given n begun old f new
 BusTells pushed given n begun old Nul new = ⊥
 BusTells pushed given n begun old (Begin line) new = ⊥

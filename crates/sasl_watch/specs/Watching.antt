@@ -3,7 +3,7 @@ use Rattle.std.specs.Prelude.{◌≡◌, ℕ, ◌+◌, ◌<◌, Bool, true, fals
 use Rattle.sasl_watch.specs.declared.LineKind.TheVariants.{EarlyBus}
 use Rattle.sasl_watch.specs.declared.LineFault.{LineFault}
 use Rattle.sasl_watch.specs.declared.NextLine.{NextLine}
-use Rattle.sasl_watch.specs.declared.NextLine.TheVariants.{Nul, Line, Begin, Done, Rest, Bad}
+use Rattle.sasl_watch.specs.declared.NextLine.TheVariants.{Nul, Line, Begin, Done, Incomplete, Bad}
 use Rattle.sasl_watch.specs.Lines.{Cut, with_line, cut_from, client_cut, is_begin, agrees}
 
 -- the number of bytes that were taken, the bytes received after them, and the fault that was reported
@@ -75,7 +75,7 @@ is_taken Nul = true
 is_taken (Line line) = true
 is_taken (Begin line) = true
 is_taken Done = false
-is_taken Rest = false
+is_taken Incomplete = false
 is_taken (Bad f) = false
 
 -- the number of bytes of the stream that were received
@@ -87,7 +87,7 @@ abbrev pub ClientGives : Watch → NextLine → Watch → Type 0
 ClientGives old Nul new = (old.place ≡ 0) × Takes client_ahead old (0 ∷ []) new
 ClientGives old (Line line) new = (0 < old.place) × (is_begin line ≡ false) × Takes client_ahead old line new
 ClientGives old (Begin line) new = (0 < old.place) × (is_begin line ≡ true) × Takes client_ahead old line new
-ClientGives old Rest new = Waits client_ahead old new
+ClientGives old Incomplete new = Waits client_ahead old new
 ClientGives old (Bad f) new = TellsAgain old f new ⊎ Tells client_ahead old f new
 ClientGives old Done new = ⊥
 
@@ -95,7 +95,7 @@ ClientGives old Done new = ⊥
 abbrev pub BusGives : ℕ → Bool → Watch → NextLine → Watch → Type 0
 BusGives unanswered begun old (Line line) new = (0 < unanswered) × Takes bus_ahead old line new
 BusGives unanswered begun old Done new = Ends unanswered begun old new
-BusGives unanswered begun old Rest new = ((0 < unanswered) × Waits bus_ahead old new) ⊎ WaitsForBegin unanswered begun old new
+BusGives unanswered begun old Incomplete new = ((0 < unanswered) × Waits bus_ahead old new) ⊎ WaitsForBegin unanswered begun old new
 BusGives unanswered begun old (Bad f) new = TellsAgain old f new ⊎ (((0 < unanswered) × Tells bus_ahead old f new) ⊎ TellsEarly unanswered begun old f new)
 BusGives unanswered begun old Nul new = ⊥
 BusGives unanswered begun old (Begin line) new = ⊥

@@ -10,7 +10,7 @@ use std::alloc::AllocError;
 
 impl Lines {
     /// Takes what is first in the stream. `unanswered` is the number of the client's lines that wait for an answer, and
-    /// `begun` says whether the client has sent BEGIN. At `Rest` and `Done` nothing changes, and after `Bad` each
+    /// `begun` says whether the client has sent BEGIN. At `Incomplete` and `Done` nothing changes, and after `Bad` each
     /// answer is the same. `Nul` and `Begin` are never returned. An error says that memory ran out for a line; then
     /// nothing changes, and no fault was reported.
     pub fn next_of_bus(&mut self, unanswered: u64, begun: bool) -> Result<NextLine, AllocError>
@@ -29,7 +29,7 @@ impl Lines {
             return Ok(self.next_unasked(begun));
         }
         match self.front() {
-            Front::Partial => Ok(NextLine::Rest),
+            Front::Partial => Ok(NextLine::Incomplete),
             Front::Faulty(kind, ahead) => Ok(NextLine::Bad(self.fail(kind, ahead))),
             Front::Whole(len) => self.next_answer(len),
         }
@@ -45,7 +45,7 @@ impl Lines {
         if begun {
             NextLine::Done
         } else if self.len() == 0 {
-            NextLine::Rest
+            NextLine::Incomplete
         } else {
             NextLine::Bad(self.fail(LineKind::EarlyBus, 0))
         }

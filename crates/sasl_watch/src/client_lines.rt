@@ -8,9 +8,9 @@ use crate::{LineKind, Lines, NextLine};
 use std::alloc::AllocError;
 
 impl Lines {
-    /// Takes what is first in the stream: the NUL, and then each line up to the one whose word is `BEGIN`. At `Rest`
-    /// nothing changes, and after `Bad` each answer is the same. `Done` is never returned. An error says that memory
-    /// ran out for a line; then nothing changes, and no fault was reported.
+    /// Takes what is first in the stream: the NUL, and then each line up to the one whose word is `BEGIN`. At
+    /// `Incomplete` nothing changes, and after `Bad` each answer is the same. `Done` is never returned. An error says
+    /// that memory ran out for a line; then nothing changes, and no fault was reported.
     pub fn next_of_client(&mut self) -> Result<NextLine, AllocError>
         ensures gives { IfOk result (λ next. ClientGives self.old next self.new) }
         ensures shorter { IfOk result (λ next. is_taken next ≡ true → length self.new.left < length self.old.left) }
@@ -26,7 +26,7 @@ impl Lines {
             return Ok(self.next_nul());
         }
         match self.front() {
-            Front::Partial => Ok(NextLine::Rest),
+            Front::Partial => Ok(NextLine::Incomplete),
             Front::Faulty(kind, ahead) => Ok(NextLine::Bad(self.fail(kind, ahead))),
             Front::Whole(len) => {
                 let line = self.take(len)?;
@@ -48,7 +48,7 @@ impl Lines {
         ensures came { came self.new ≡ came self.old }
     {
         match self.first() {
-            None => NextLine::Rest,
+            None => NextLine::Incomplete,
             Some(0) => {
                 self.skip(1);
                 NextLine::Nul

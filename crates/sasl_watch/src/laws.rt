@@ -42,7 +42,7 @@ pub fn client_is_pushed()
 {}
 
 /// `Lines::next_of_client` gives the next line of all that was pushed. At `Begin` it is the last, and what is left
-/// follows it. At `Rest` and `Bad` all whole lines were given, and `Bad` has the stream's fault.
+/// follows it. At `Incomplete` and `Bad` all whole lines were given, and `Bad` has the stream's fault.
 pub fn client_next_is_given()
     ensures { (pushed : List ℕ) (given : List (List ℕ)) (old : Watch) (next : Given) (new : Watch)
         → ClientFollows pushed given old → ClientGives old next new → ClientTells pushed given next new }
@@ -67,8 +67,8 @@ pub fn bus_is_pushed()
 {}
 
 /// `Lines::next_of_bus` gives the next line of all that was pushed, whose first `n` lines answer the client's. At
-/// `Done` these were given, and what is left follows them. At `Rest` and `Bad` all whole lines among them were given,
-/// and the first `Bad` has the stream's fault.
+/// `Done` these were given, and what is left follows them. At `Incomplete` and `Bad` all whole lines among them were
+/// given, and the first `Bad` has the stream's fault.
 pub fn bus_next_is_given()
     ensures { (pushed : List ℕ) (given : List (List ℕ)) (n : ℕ) (begun : Bool) (old : Watch) (next : Given) (new : Watch)
         → length given ≤ n → BusFollows pushed given old → BusGives (n - length given) begun old next new

@@ -128,7 +128,7 @@ impl Session {
     {
         match messages.front() {
             Front::Whole(len) => self.process_stated(policy, side, messages, len),
-            Front::Rest => false,
+            Front::Incomplete => false,
             Front::Bad(fault) => self.end_malformed(side, fault),
         }
     }

@@ -159,7 +159,7 @@ impl Session {
             Ok(NextLine::Line(line)) => self.send_line(&line),
             Ok(NextLine::Begin(line)) => self.send_begin(line),
             Ok(NextLine::Done) => unreachable!(),
-            Ok(NextLine::Rest) => false,
+            Ok(NextLine::Incomplete) => false,
             Ok(NextLine::Bad(fault)) => {
                 self.end_with(End::ClientMalformed(Fault::Line(fault)));
                 false
@@ -186,7 +186,7 @@ impl Session {
             Ok(NextLine::Line(line)) => self.show_line(&line),
             Ok(NextLine::Done) => self.end_bus_lines(),
             Ok(NextLine::Nul | NextLine::Begin(_)) => unreachable!(),
-            Ok(NextLine::Rest) => false,
+            Ok(NextLine::Incomplete) => false,
             Ok(NextLine::Bad(fault)) => {
                 self.end_with(End::BusMalformed(Fault::Line(fault)));
                 false
