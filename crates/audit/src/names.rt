@@ -2,6 +2,7 @@
 ghost use Rattle.std.specs.Prelude.{◌≡◌, ◌==◌, ◌&&◌, ◌++◌, List, OnOk, codes};
 ghost use Rattle.dbus_names.specs.Names.{bus_name};
 ghost use Rattle.dbus_names.specs.Texts.{Text};
+ghost use Rattle.dbus_header.specs.Read.{message_seen};
 ghost use Rattle.dbus_header.specs.Seen.{text_seen};
 ghost use Rattle.dbus_header.specs.Contents.{message_in};
 ghost use Rattle.policy_view.specs.Sent.{is_bus_or_absent as is_name_of_bus_or_absent};
@@ -27,11 +28,11 @@ fn is_bus_or_absent(name: Option<&str>) -> bool
 
 /// Whether a message is a call to the bus, by its own interface or by none.
 fn is_bus_call(message: &Message<'_>) -> bool
-    ensures { result ≡ (message.now.kind == 1 && is_name_of_bus_or_absent (text_seen message.now.destination) && is_name_of_bus_or_absent (text_seen message.now.interface)) }
+    ensures { result ≡ (message.now.kind == 1 && is_name_of_bus_or_absent (message_seen message.now).parts.destination && is_name_of_bus_or_absent (message_seen message.now).parts.interface) }
 {
     message.is_method_call()
-        && is_bus_or_absent(message.destination)
-        && is_bus_or_absent(message.interface)
+        && is_bus_or_absent(message.destination())
+        && is_bus_or_absent(message.interface())
 }
 
 /// Whether there is a text, and it is this one.
@@ -46,12 +47,12 @@ fn is_text(text: Option<&str>, wanted: &str) -> bool
 
 /// Whether a message is the signal NameOwnerChanged of the bus.
 fn is_owner_change(message: &Message<'_>) -> bool
-    ensures { result ≡ (message.now.kind == 4 && (has_text (text_seen message.now.sender) bus_name && has_text (text_seen message.now.interface) bus_name && has_text (text_seen message.now.member) (codes "NameOwnerChanged"))) }
+    ensures { result ≡ (message.now.kind == 4 && (has_text (message_seen message.now).parts.sender bus_name && has_text (message_seen message.now).parts.interface bus_name && has_text (message_seen message.now).parts.member (codes "NameOwnerChanged"))) }
 {
     message.is_signal()
-        && is_text(message.sender, BUS_NAME)
-        && is_text(message.interface, BUS_NAME)
-        && is_text(message.member, "NameOwnerChanged")
+        && is_text(message.sender(), BUS_NAME)
+        && is_text(message.interface(), BUS_NAME)
+        && is_text(message.member(), "NameOwnerChanged")
 }
 
 /// Marks the entries that cover a text, if there is one.
@@ -93,7 +94,7 @@ pub fn mark_client_names(
 ) -> Result<(), AllocError>
     ensures { (names : List Text) → Marked policy.now.entries names marks.old → OnOk result (Marked policy.now.entries (names ++ named_by_client (message_in message.now.bytes.now)) marks.new) }
 {
-    mark_destination(alloc, policy, message.destination, marks)?;
+    mark_destination(alloc, policy, message.destination(), marks)?;
     if is_bus_call(message) {
         mark_text(alloc, policy, message.first_text(), marks)?;
     }

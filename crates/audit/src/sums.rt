@@ -8,6 +8,7 @@ ghost use Rattle.audit.specs.Tallies.{SumsOf};
 use crate::counters::Counters;
 use crate::marks::Marks;
 use crate::names::{mark_bus_names, mark_client_names};
+use dbus_header::Places;
 use explain_log::reason_entry_number;
 use policy_args::Policy;
 use policy_view::{Decision, Note, Reason, Showing, Verdict};
@@ -95,14 +96,17 @@ impl Sums {
     pub fn count(&mut self, alloc: Global, policy: &Policy, note: &Note) -> Result<(), AllocError>
         ensures { (notes : List NoteValue) → SumsOf policy.now notes self.old → OnOk result (SumsOf policy.now (notes ++ note.now ∷ []) self.new) }
     {
+        let mut places = Places::none();
         match note.decision() {
             Decision::Judged(Verdict::Pass) => {
-                mark_client_names(alloc, policy, &note.message(), &mut self.named)
+                let message = note.message(&mut places);
+                mark_client_names(alloc, policy, &message, &mut self.named)
             }
             Decision::Judged(Verdict::Ping(_, reason)) => self.deny(reason),
             Decision::Judged(Verdict::Drop(reason)) => self.deny(reason),
             Decision::Shown(Showing::Whole) => {
-                mark_bus_names(alloc, policy, &note.message(), &mut self.named)
+                let message = note.message(&mut places);
+                mark_bus_names(alloc, policy, &message, &mut self.named)
             }
             Decision::Shown(_) => Ok(()),
         }

@@ -11,7 +11,7 @@ use crate::buffer::Buffer;
 use crate::state::State;
 use crate::{Front, Next};
 use bytes::Bytes;
-use dbus_header::{KnownTexts, Malformed, Message, decode_checked};
+use dbus_header::{KnownTexts, Malformed, Message, Places, decode_checked};
 use std::alloc::{AllocError, Global};
 use std::marker::Model;
 
@@ -71,6 +71,7 @@ pub(crate) fn message_in_front<'a>(
     left: &'a [u8],
     len: usize,
     known: &mut KnownTexts,
+    places: &'a mut Places,
 ) -> Result<Message<'a>, Malformed>
     requires { IsWhole left.now len }
     ensures bytes { IfOk result (λ message. message.bytes.now ≡ take len left.now) }
@@ -78,7 +79,7 @@ pub(crate) fn message_in_front<'a>(
     ensures bad { IfErr result (λ f. fault left.now ≡ Some f) }
 {
     let (message, _) = left.split_at(len);
-    decode_checked(message, known)
+    decode_checked(message, known, places)
 }
 
 impl Framer {
@@ -183,19 +184,20 @@ impl Framer {
     }
 
     /// Reads the first message in place; `front` has said its length. Headers and texts that `known` has aren't checked
-    /// again.
+    /// again. The places of its header's parts are put into `places`.
     #[inline(always)]
     pub fn message<'a>(
         &'a self,
         len: usize,
         known: &mut KnownTexts,
+        places: &'a mut Places,
     ) -> Result<Message<'a>, Malformed>
         requires { IsWhole self.now len }
         ensures bytes { IfOk result (λ message. message.bytes.now ≡ take len self.now) }
         ensures valid { IfOk result (λ message. (m : MessageTree) × Takes self.now message.bytes.now (drop len self.now) m) }
         ensures bad { IfErr result (λ f. fault self.now ≡ Some f) }
     {
-        message_in_front(self.bytes.as_slice(), len, known)
+        message_in_front(self.bytes.as_slice(), len, known, places)
     }
 
     /// Lends the bytes of the first message without a copy, if they are many and memory for that is left. `front` has
@@ -228,7 +230,8 @@ impl Framer {
             Front::Incomplete => return Ok(Next::Incomplete),
             Front::Bad(fault) => return Ok(Next::Bad(fault)),
         };
-        let frame = match self.message(len, &mut KnownTexts::none()) {
+        let mut places = Places::none();
+        let frame = match self.message(len, &mut KnownTexts::none(), &mut places) {
             Ok(message) => Bytes::copy_from_slice(self.alloc, message.bytes)?,
             Err(fault) => return Ok(Next::Bad(fault)),
         };

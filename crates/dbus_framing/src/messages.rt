@@ -9,7 +9,7 @@ use crate::Front;
 use crate::framer::Framer;
 use crate::passing::Passing;
 use bytes::Bytes;
-use dbus_header::{KnownTexts, Malformed, Message};
+use dbus_header::{KnownTexts, Malformed, Message, Places};
 use std::alloc::AllocError;
 use std::marker::Model;
 
@@ -74,12 +74,13 @@ impl<'a> Messages<'a> {
     }
 
     /// Reads the first message in place; `front` has said its length. Headers and texts that `known` has aren't checked
-    /// again.
+    /// again. The places of its header's parts are put into `places`.
     #[inline(always)]
     pub fn message<'m>(
         &'m self,
         len: usize,
         known: &mut KnownTexts,
+        places: &'m mut Places,
     ) -> Result<Message<'m>, Malformed>
         requires { IsWhole self.now len }
         ensures bytes { IfOk result (λ message. message.bytes.now ≡ take len self.now) }
@@ -87,8 +88,8 @@ impl<'a> Messages<'a> {
         ensures bad { IfErr result (λ f. fault self.now ≡ Some f) }
     {
         match &self.source {
-            Source::Kept(framer) => framer.message(len, known),
-            Source::Passed(passing) => passing.message(len, known),
+            Source::Kept(framer) => framer.message(len, known, places),
+            Source::Passed(passing) => passing.message(len, known, places),
         }
     }
 

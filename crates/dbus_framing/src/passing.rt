@@ -8,7 +8,7 @@ ghost use Rattle.dbus_framing.specs.Knows.{IsWhole};
 use crate::Front;
 use crate::framer::{Framer, looked, message_in_front};
 use crate::state::State;
-use dbus_header::{KnownTexts, Malformed, Message};
+use dbus_header::{KnownTexts, Malformed, Message, Places};
 use std::alloc::AllocError;
 use std::marker::Model;
 
@@ -83,13 +83,14 @@ impl<'a> Passing<'a> {
         &'m self,
         len: usize,
         known: &mut KnownTexts,
+        places: &'m mut Places,
     ) -> Result<Message<'m>, Malformed>
         requires { IsWhole self.now len }
         ensures bytes { IfOk result (λ message. message.bytes.now ≡ take len self.now) }
         ensures valid { IfOk result (λ message. (m : MessageTree) × Takes self.now message.bytes.now (drop len self.now) m) }
         ensures bad { IfErr result (λ f. fault self.now ≡ Some f) }
     {
-        message_in_front(self.left, len, known)
+        message_in_front(self.left, len, known, places)
     }
 
     /// Removes that many bytes from the start.

@@ -12,7 +12,7 @@ use Rattle.dbus_values.specs.declared.Order.{Order}
 use Rattle.dbus_header.specs.Message.{is_field_of, text_passes, is_a_path, is_a_signature, number_passes, text_in, number_in, types_in}
 use Rattle.dbus_header.specs.HeaderReading.{Part, some_text, some_number, some_signature, unread, type_code, known_value, has_type_at, known_part, unread_to, coded_part, part_at}
 use Rattle.dbus_header.specs.HeaderFields.{at_place}
-use Rattle.dbus_header.proofs.Places.{aligned_8, no_gap_4}
+use Rattle.dbus_header.proofs.Aligned.{aligned_8, no_gap_4}
 use Rattle.dbus_header.proofs.FieldSteps.{field, sound_field_at}
 use Rattle.dbus_header.proofs.FieldVariants.{Inner, field_with, typed_value, variant_field, as_variant, sound_at}
 use Rattle.dbus_header.proofs.FieldValues.{typed_as, parts, number_read, string_read, path_read, signature_read}

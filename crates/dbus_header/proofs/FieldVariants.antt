@@ -12,7 +12,7 @@ use Rattle.dbus_values.specs.declared.Order.{Order}
 use Rattle.dbus_header.specs.Message.{Field, is_field_of}
 use Rattle.dbus_header.specs.Malformed.{field_of}
 use Rattle.dbus_header.specs.HeaderFields.{at_place}
-use Rattle.dbus_header.proofs.Places.{no_gap_1}
+use Rattle.dbus_header.proofs.Aligned.{no_gap_1}
 use Rattle.dbus_header.proofs.FieldSteps.{field, sound_field_at, some_two, aligned_at, no_padding, byte_width}
 
 abbrev pub Inner : Type 0

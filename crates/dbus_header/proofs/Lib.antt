@@ -10,7 +10,7 @@ pub mod StreamSplits
 pub mod FaultStays
 pub mod StopLaws
 pub mod PingValid
-pub mod Places
+pub mod Aligned
 pub mod Texts
 pub mod FieldSteps
 pub mod FieldVariants

@@ -13,7 +13,7 @@ use Rattle.dbus_values.proofs.ValueLaws.{at}
 use Rattle.dbus_header.specs.Contents.{Contents, body_bytes, contents_of, message_of}
 use Rattle.dbus_header.specs.Message.{Message, Valid, body_place, only_of, signature, spelled_fields, stated}
 use Rattle.dbus_header.proofs.MessageAgain.{map_len, stated_complete, values_again}
-use Rattle.dbus_header.proofs.Places.{aligned_8}
+use Rattle.dbus_header.proofs.Aligned.{aligned_8}
 use denote.Bor.{Bor}
 
 -- ---- the body

@@ -13,7 +13,7 @@ use Rattle.dbus_values.proofs.ValueLaws.{wide_32}
 use Rattle.dbus_header.proofs.MessageAgain.{head, head_len, spelled_from}
 use Rattle.dbus_values.specs.declared.Order.{Order}
 use Rattle.dbus_values.specs.declared.Order.TheVariants.{Little, Big}
-use Rattle.dbus_header.proofs.Places.{aligned_8, no_gap_4, no_gap_1}
+use Rattle.dbus_header.proofs.Aligned.{aligned_8, no_gap_4, no_gap_1}
 
 abbrev pub set_reply : ℕ → Field → Field
 set_reply n f = set_field 5 (a_number uint32 n) f

@@ -10,3 +10,4 @@ pub mod Whole
 pub mod Kinds
 pub mod Read
 pub mod KnownHeaders
+pub mod Placed

@@ -2,11 +2,10 @@
 ghost use Rattle.std.specs.Prelude.{◌≡◌, ◌≢◌, ◌==◌, ◌||◌, ◌+◌, ◌<◌, true, false, Some, None, is_none, IfSome, option_map, length, if◌then◌else◌};
 ghost use Rattle.dbus_types.specs.Signature.{signature_fault};
 ghost use Rattle.dbus_header.specs.HeaderReading.{is_text_of as is_value_text, is_sound_of};
-ghost use Rattle.dbus_header.specs.KnownHeaders.{AllBeginIn, AreRead, AreWithin, found_at};
+ghost use Rattle.dbus_header.specs.KnownHeaders.{AreRead, AreWithin, found_at};
 ghost use Rattle.dbus_header.specs.Message.{body_place};
-ghost use Rattle.dbus_header.specs.Seen.{fields_seen};
 
-use crate::fields::{DESTINATION, ERROR_NAME, Fields, INTERFACE, MEMBER, PATH, SENDER, SIGNATURE};
+use crate::fields::{DESTINATION, ERROR_NAME, INTERFACE, MEMBER, PATH, SENDER, SIGNATURE};
 use crate::headers::KnownHeader;
 use crate::spans::Places;
 use dbus_names::{is_bus_name, is_error_name, is_interface, is_member, is_path};
@@ -200,21 +199,19 @@ impl Kept {
     }
 
     /// Keeps the header fields of a message that was read, if many were read and memory is left.
-    fn keep_header(&mut self, order: Order, fields_len: u32, bytes: &[u8], fields: &Fields<'_>)
-        requires read { AreRead order fields_len bytes.now (fields_seen fields.now) }
+    fn keep_header(&mut self, order: Order, fields_len: u32, bytes: &[u8], places: &Places)
+        requires read { AreRead order fields_len bytes.now (found_at order bytes.now places.now) }
         requires len { length bytes.now + 16 ≡ body_place fields_len }
-        requires begins { AllBeginIn bytes.now fields.now }
+        requires within { AreWithin bytes.now places.now }
     {
-        if bytes.len() > LONGEST_HEADER || !self.is_turn() {
+        // (no part of a header overlaps its REPLY_SERIAL's number, which isn't proved)
+        if bytes.len() > LONGEST_HEADER || !self.is_turn() || !places.are_apart() {
             return;
         }
-        let Some(places) = Places::of(order, bytes, fields) else {
-            return;
-        };
         let Some(place) = self.place() else {
             return;
         };
-        self.headers[place].keep(self.read, order, fields_len, bytes, &places);
+        self.headers[place].keep(self.read, order, fields_len, bytes, places);
     }
 }
 
@@ -297,14 +294,14 @@ impl KnownTexts {
         order: Order,
         fields_len: u32,
         bytes: &[u8],
-        fields: &Fields<'_>,
+        places: &Places,
     )
-        requires read { AreRead order fields_len bytes.now (fields_seen fields.now) }
+        requires read { AreRead order fields_len bytes.now (found_at order bytes.now places.now) }
         requires len { length bytes.now + 16 ≡ body_place fields_len }
-        requires begins { AllBeginIn bytes.now fields.now }
+        requires within { AreWithin bytes.now places.now }
     {
         if let Some(kept) = &mut self.kept {
-            kept.keep_header(order, fields_len, bytes, fields);
+            kept.keep_header(order, fields_len, bytes, places);
         }
     }
 

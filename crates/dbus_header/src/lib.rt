@@ -33,6 +33,7 @@ pub use kinds::{
 };
 pub use message::Message;
 pub use numbers::{SERIAL_PLACE, set_reply_serial, set_serial, write_u32};
+pub use spans::Places;
 use thiserror::Error;
 
 /// What is wrong with a message that isn't valid (D-Bus Specification, "Message Format").

@@ -2,7 +2,7 @@
 ghost use Rattle.std.specs.Prelude.{◌≡◌};
 ghost use Rattle.dbus_header.specs.Contents.{message_in};
 ghost use Rattle.dbus_header.specs.Message.{destination as destination_of, sender as sender_of};
-ghost use Rattle.dbus_header.specs.Seen.{AreBusNames, name_seen, text_seen};
+ghost use Rattle.dbus_header.specs.Seen.{AreBusNames, name_seen};
 
 use crate::bodies::is_valid;
 use crate::message::Message;
@@ -11,10 +11,11 @@ use dbus_names::BusName;
 
 // DESTINATION and SENDER are bus names.
 fn has_bus_names(message: &Message<'_>)
-    ensures destination { AreBusNames (text_seen message.now.destination) }
-    ensures sender { AreBusNames (text_seen message.now.sender) }
+    ensures destination { AreBusNames (destination_of (message_in message.now.bytes.now)) }
+    ensures sender { AreBusNames (sender_of (message_in message.now.bytes.now)) }
 {
     is_valid(message.bytes);
+    is_read(message);
 }
 
 impl<'a> Message<'a> {
@@ -23,9 +24,8 @@ impl<'a> Message<'a> {
     pub fn destination_name(&self) -> Option<BusName<'a>>
         ensures { name_seen result ≡ destination_of (message_in self.now.bytes.now) }
     {
-        is_read(self);
         has_bus_names(self);
-        let text = self.destination?;
+        let text = self.destination()?;
         Some(BusName { text })
     }
 
@@ -34,9 +34,8 @@ impl<'a> Message<'a> {
     pub fn sender_name(&self) -> Option<BusName<'a>>
         ensures { name_seen result ≡ sender_of (message_in self.now.bytes.now) }
     {
-        is_read(self);
         has_bus_names(self);
-        let text = self.sender?;
+        let text = self.sender()?;
         Some(BusName { text })
     }
 }

@@ -6,6 +6,7 @@ ghost use Rattle.dbus_header.specs.Contents.{message_of, IsSerialPlace, IsReplyS
 
 use crate::decoding::decode;
 use crate::head::order_in;
+use crate::spans::Places;
 use dbus_values::Order;
 
 /// The place of the serial's number in a message (D-Bus Specification, "Message Format").
@@ -42,8 +43,9 @@ fn found_place(bytes: &[u8]) -> Option<usize>
     requires { IsSome (message_of bytes.now) }
     ensures { result ≡ option_and_then reply_place (message_of bytes.now) }
 {
-    match decode(bytes) {
-        Ok(message) => message.reply_serial_place,
+    let mut places = Places::none();
+    match decode(bytes, &mut places) {
+        Ok(message) => message.reply_serial_place(),
         Err(_) => unreachable!(),
     }
 }

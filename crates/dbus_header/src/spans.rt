@@ -1,11 +1,11 @@
 //! The places of the parts of a header.
-ghost use Rattle.std.specs.Prelude.{◌≡◌, ◌+◌, ◌<◌, ◌≤◌, ◌^◌, ℕ, true, Some, IfSome, option_map, length};
+ghost use Rattle.std.specs.Prelude.{◌≡◌, ◌+◌, ◌<◌, ◌≤◌, ◌^◌, ℕ, true, Some, option_map, length};
 ghost use Rattle.dbus_header.specs.HeaderReading.{number_at as stated_number};
 ghost use Rattle.dbus_header.specs.KnownHeaders.{AllBeginIn, AreApart, AreWithin, BeginsIn, HasSignature, HasText, NumberIn, OfSignature, OfText, cut as cut_of, found_at, is_apart as has_none_of};
 ghost use Rattle.dbus_header.specs.Seen.{fields_seen, signature_seen, text_seen};
 ghost use Rattle.dbus_header.specs.declared.spans.Span.{Span as Stretch};
 
-use crate::fields::{Fields, Starts};
+use crate::fields::Fields;
 use crate::head::{HEAD_LEN, read_u32};
 use dbus_types::Signature;
 use dbus_values::Order;
@@ -20,7 +20,7 @@ pub(crate) struct Span {
 
 /// The places of the parts of a message's header fields, in the fields' bytes.
 #[derive(Clone, Copy)]
-pub(crate) struct Places {
+pub struct Places {
     pub(crate) path: Option<Span>,
     pub(crate) interface: Option<Span>,
     pub(crate) member: Option<Span>,
@@ -49,7 +49,7 @@ fn cut(part: Span, bytes: &[u8]) -> &[u8]
 
 /// The text at a place.
 #[inline(always)]
-fn text_at(place: Option<Span>, bytes: &[u8]) -> Option<&str>
+pub(crate) fn text_at(place: Option<Span>, bytes: &[u8]) -> Option<&str>
     requires { (s : Stretch) → place ≡ Some s → HasText bytes.now s }
     ensures { text_seen result ≡ option_map (cut_of bytes.now) place }
 {
@@ -61,7 +61,7 @@ fn text_at(place: Option<Span>, bytes: &[u8]) -> Option<&str>
 
 /// The signature at a place.
 #[inline(always)]
-fn signature_at(place: Option<Span>, bytes: &[u8]) -> Option<Signature<'_>>
+pub(crate) fn signature_at(place: Option<Span>, bytes: &[u8]) -> Option<Signature<'_>>
     requires { (s : Stretch) → place ≡ Some s → HasSignature bytes.now s }
     ensures { signature_seen result ≡ option_map (cut_of bytes.now) place }
 {
@@ -75,7 +75,7 @@ fn signature_at(place: Option<Span>, bytes: &[u8]) -> Option<Signature<'_>>
 
 /// The number at a place.
 #[inline(always)]
-fn number_at(order: Order, place: Option<u32>, bytes: &[u8]) -> Option<u32>
+pub(crate) fn number_at(order: Order, place: Option<u32>, bytes: &[u8]) -> Option<u32>
     requires { (at : ℕ) → place ≡ Some at → at + 4 ≤ length bytes.now }
     ensures { result ≡ option_map (stated_number order bytes.now) place }
 {
@@ -87,7 +87,7 @@ fn number_at(order: Order, place: Option<u32>, bytes: &[u8]) -> Option<u32>
 
 /// The place in the message of a part of its header fields.
 #[inline(always)]
-fn place_in_message(place: Option<u32>) -> Option<usize>
+pub(crate) fn place_in_message(place: Option<u32>) -> Option<usize>
     ensures { result ≡ option_map (λ at. 16 + at) place }
 {
     match place {
@@ -165,8 +165,8 @@ fn is_apart(place: Option<Span>, at: u32) -> bool
 }
 
 impl Places {
-    /// The places of no fields.
-    pub(crate) fn none() -> Places {
+    /// The places of no fields: room for those of a message that is read.
+    pub fn none() -> Places {
         Places {
             path: None,
             interface: None,
@@ -182,7 +182,7 @@ impl Places {
     }
 
     /// Whether no part overlaps REPLY_SERIAL's number.
-    fn are_apart(&self) -> bool
+    pub(crate) fn are_apart(&self) -> bool
         ensures { result ≡ true → AreApart self.now }
     {
         match self.reply_serial {
@@ -200,7 +200,7 @@ impl Places {
     }
 
     /// The places of the parts of a message whose fields have these bytes.
-    fn of_all(order: Order, bytes: &[u8], fields: &Fields<'_>) -> Places
+    pub(crate) fn of(order: Order, bytes: &[u8], fields: &Fields<'_>) -> Places
         requires short { length bytes.now < 2 ^ 31 }
         requires begins { AllBeginIn bytes.now fields.now }
         requires number { NumberIn order bytes.now fields.now.reply_serial fields.now.reply_serial_place }
@@ -219,46 +219,6 @@ impl Places {
             sender: text_span(bytes, starts.sender, fields.sender),
             signature: signature_span(bytes, starts.signature, fields.signature),
             descriptors: fields.descriptors,
-        }
-    }
-
-    /// The places of the parts of a message whose fields have these bytes. `None` if a part overlaps REPLY_SERIAL's
-    /// number, which doesn't happen.
-    pub(crate) fn of(order: Order, bytes: &[u8], fields: &Fields<'_>) -> Option<Places>
-        requires short { length bytes.now < 2 ^ 31 }
-        requires begins { AllBeginIn bytes.now fields.now }
-        requires number { NumberIn order bytes.now fields.now.reply_serial fields.now.reply_serial_place }
-        ensures within { IfSome result (λ p. AreWithin bytes.now p) }
-        ensures apart { IfSome result (λ p. AreApart p) }
-        ensures found { IfSome result (λ p. found_at order bytes.now p ≡ fields_seen fields.now) }
-    {
-        let places = Places::of_all(order, bytes, fields);
-        if places.are_apart() {
-            Some(places)
-        } else {
-            None
-        }
-    }
-
-    /// The header fields of a message whose fields have these bytes.
-    #[inline(always)]
-    pub(crate) fn fields<'a>(&self, order: Order, bytes: &'a [u8]) -> Fields<'a>
-        requires { AreWithin bytes.now self.now }
-        ensures { fields_seen result ≡ found_at order bytes.now self.now }
-    {
-        Fields {
-            path: text_at(self.path, bytes),
-            interface: text_at(self.interface, bytes),
-            member: text_at(self.member, bytes),
-            error_name: text_at(self.error_name, bytes),
-            reply_serial: number_at(order, self.reply_serial, bytes),
-            reply_serial_place: place_in_message(self.reply_serial),
-            has_unknown: self.has_unknown,
-            destination: text_at(self.destination, bytes),
-            sender: text_at(self.sender, bytes),
-            signature: signature_at(self.signature, bytes),
-            descriptors: self.descriptors,
-            starts: Starts::none(),
         }
     }
 }

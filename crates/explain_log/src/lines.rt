@@ -4,6 +4,7 @@ ghost use Rattle.explain_log.specs.Lines.{entry_line as line_of_entry, log_line}
 
 use crate::decisions::entry_number;
 use crate::pieces::{Numbers, pieces};
+use dbus_header::Places;
 use itoa::Buffer;
 use policy_args::Policy;
 use policy_view::Note;
@@ -25,7 +26,8 @@ fn length_of(pieces: &[&str]) -> usize {
 pub fn line(alloc: Global, session: u32, note: &Note) -> Result<String, AllocError>
     ensures { IfOk result (λ line. string_bytes line ≡ log_line session note.now) }
 {
-    let message = note.message();
+    let mut places = Places::none();
+    let message = note.message(&mut places);
     let mut numbers = Numbers::new();
     let pieces = pieces(&mut numbers, session, note, &message);
     let mut line = String::with_capacity(alloc, length_of(&pieces))?;

@@ -91,11 +91,11 @@ pub(crate) fn pieces<'a>(
 {
     let side: &'a str = side_word(note.side());
     let [kind, code] = kind_pieces(&mut numbers.kind, message.kind);
-    let sender = text_word(message.sender);
-    let destination = text_word(message.destination);
-    let path = text_word(message.path);
-    let interface = text_word(message.interface);
-    let member = text_word(message.member);
+    let sender = text_word(message.sender());
+    let destination = text_word(message.destination());
+    let path = text_word(message.path());
+    let interface = text_word(message.interface());
+    let member = text_word(message.member());
     let [decision, reason, entry, answer] = decision_pieces(&mut numbers.entry, note.decision());
     [
         numbers.session.format(session),
@@ -106,7 +106,7 @@ pub(crate) fn pieces<'a>(
         " serial=",
         numbers.serial.format(message.serial),
         " reply=",
-        number_word(&mut numbers.reply, message.reply_serial),
+        number_word(&mut numbers.reply, message.reply_serial()),
         " from=",
         sender,
         " dest=",

@@ -1,6 +1,7 @@
 //! Lines that are joined on their way to a sink.
 use crate::frames::TYPE_5;
 use crate::noted::noted;
+use dbus_header::Places;
 use explain_log::LineBuffer;
 use link_traits::SinkFault;
 use memory_links::MemSink;
@@ -30,7 +31,8 @@ fn note(alloc: Global) -> Result<Note, AllocError> {
 
 /// Puts the line of a note of session 3.
 fn put(lines: &mut LineBuffer, sink: &mut MemSink, note: &Note) -> Result<(), SinkFault> {
-    lines.put_line(sink, 3, note, &note.message())
+    let mut places = Places::none();
+    lines.put_line(sink, 3, note, &note.message(&mut places))
 }
 
 /// A path of one long element.

@@ -7,7 +7,7 @@ ghost use Rattle.message_files.specs.Files.{message_in, message_by_length, of_ma
 ghost use Rattle.message_files.specs.Gives.{Shows, IsMessageIn};
 
 use crate::{BadMessage, MESSAGE_LIMIT, MessageFault, ShowRefusal};
-use dbus_header::{Malformed, Message, decode, length};
+use dbus_header::{Malformed, Message, Places, decode, length};
 use message_text::print;
 use std::alloc::Global;
 
@@ -17,7 +17,8 @@ use std::alloc::Global;
 pub fn shown(alloc: Global, bytes: &[u8]) -> Result<Vec<u8>, ShowRefusal>
     ensures { Shows bytes.now result }
 {
-    match message(bytes) {
+    let mut places = Places::none();
+    match message(bytes, &mut places) {
         Ok(message) => match print(alloc, &message) {
             Ok(text) => Ok(text),
             Err(error) => Err(ShowRefusal::Memory(error)),
@@ -27,7 +28,7 @@ pub fn shown(alloc: Global, bytes: &[u8]) -> Result<Vec<u8>, ShowRefusal>
 }
 
 /// The message that a file's bytes are.
-fn message(bytes: &[u8]) -> Result<Message<'_>, BadMessage>
+fn message<'a>(bytes: &'a [u8], places: &'a mut Places) -> Result<Message<'a>, BadMessage>
     ensures read { IfOk result (λ x. IsMessageIn bytes.now x.bytes.now) }
     ensures bad { IfErr result (λ bad. message_in bytes.now ≡ Err bad) }
 {
@@ -44,13 +45,17 @@ fn message(bytes: &[u8]) -> Result<Message<'_>, BadMessage>
         });
     };
     match length(head) {
-        Ok(len) => message_of_length(len as usize, bytes),
+        Ok(len) => message_of_length(len as usize, bytes, places),
         Err(malformed) => Err(bad(malformed)),
     }
 }
 
 /// The message that bytes are whose first 16 state a length.
-fn message_of_length(len: usize, bytes: &[u8]) -> Result<Message<'_>, BadMessage>
+fn message_of_length<'a>(
+    len: usize,
+    bytes: &'a [u8],
+    places: &'a mut Places,
+) -> Result<Message<'a>, BadMessage>
     requires long { 16 ≤ length bytes.now }
     requires head { head_fault bytes.now ≡ None }
     requires len { len ≡ whole_len bytes.now }
@@ -69,7 +74,7 @@ fn message_of_length(len: usize, bytes: &[u8]) -> Result<Message<'_>, BadMessage
             at: len,
         });
     }
-    match decode(bytes) {
+    match decode(bytes, places) {
         Ok(message) => Ok(message),
         Err(malformed) => Err(bad(malformed)),
     }

@@ -1,6 +1,6 @@
 //! The strings of messages' bodies.
 use crate::messages::is_whole;
-use dbus_header::{Message, decode};
+use dbus_header::{Message, Places, decode};
 use std::alloc::{AllocError, Global};
 use std::test::Fail;
 use test_tables::{plain, wrong_row};
@@ -102,7 +102,8 @@ fn told_bodies(alloc: Global, row: &str) -> Result<String, AllocError> {
     if !is_whole(&bytes) {
         return String::from_str(alloc, "cut");
     }
-    match decode(&bytes) {
+    let mut places = Places::none();
+    match decode(&bytes, &mut places) {
         Ok(message) => told_texts(alloc, &message),
         Err(_) => String::from_str(alloc, "malformed"),
     }

@@ -4,7 +4,7 @@ ghost use Rattle.std.specs.Prelude.{◌≡◌, ◌<◌, ◌≤◌, [], OnOk, len
 use crate::messages::{changed, long_call};
 use bytes::Bytes;
 use dbus_framing::{Framer, Front, Messages, Next};
-use dbus_header::KnownTexts;
+use dbus_header::{KnownTexts, Places};
 use std::alloc::{AllocError, Global};
 use std::mem;
 use std::test::Fail;
@@ -49,7 +49,7 @@ fn stream_of(alloc: Global, messages: &str) -> Result<Vec<u8>, AllocError> {
 fn shared_next(framer: &mut Framer, known: &mut KnownTexts) -> Result<Next, AllocError> {
     if let Front::Whole(len) = framer.front() {
         if let Some(frame) = framer.shared(len) {
-            if let Err(fault) = framer.message(len, known) {
+            if let Err(fault) = framer.message(len, known, &mut Places::none()) {
                 return Ok(Next::Bad(fault));
             }
             framer.take(len);
@@ -85,7 +85,8 @@ fn next_in_place(
         Front::Incomplete => return Ok(Next::Incomplete),
         Front::Bad(fault) => return Ok(Next::Bad(fault)),
     };
-    let frame = match messages.message(len, known) {
+    let mut places = Places::none();
+    let frame = match messages.message(len, known, &mut places) {
         Ok(message) => Bytes::copy_from_slice(alloc, message.bytes)?,
         Err(fault) => return Ok(Next::Bad(fault)),
     };

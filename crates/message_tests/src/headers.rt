@@ -4,8 +4,8 @@ ghost use Rattle.dbus_header.specs.Malformed.{head_fault, whole_len};
 
 use crate::messages::{changed, deep_call, is_whole};
 use dbus_header::{
-    KnownTexts, Malformed, MalformedKind, Message, SERIAL_PLACE, decode, decode_knowing, length,
-    set_reply_serial, set_serial, write_u32,
+    KnownTexts, Malformed, MalformedKind, Message, Places, SERIAL_PLACE, decode, decode_knowing,
+    length, set_reply_serial, set_serial, write_u32,
 };
 use dbus_values::Order;
 use std::alloc::{AllocError, Global};
@@ -159,7 +159,7 @@ fn known_before(alloc: Global, row: &str) -> Result<KnownTexts, AllocError> {
     let mut known = KnownTexts::new(alloc);
     if is_whole(&bytes) {
         for _ in 0..TIMES {
-            let _is_valid = decode_knowing(&bytes, &mut known).is_ok();
+            let _is_valid = decode_knowing(&bytes, &mut known, &mut Places::none()).is_ok();
         }
     }
     Ok(known)
@@ -173,7 +173,7 @@ fn told_following(alloc: Global, row: &str) -> Result<String, AllocError> {
         for earlier in before.split(", ") {
             let bytes = changed(alloc, earlier)?;
             if is_whole(&bytes) {
-                let _is_valid = decode_knowing(&bytes, &mut known).is_ok();
+                let _is_valid = decode_knowing(&bytes, &mut known, &mut Places::none()).is_ok();
             }
         }
     }
@@ -189,8 +189,9 @@ fn told_twice(alloc: Global, bytes: &[u8], known: &mut KnownTexts) -> Result<Str
     requires long { 16 ≤ length bytes.now }
     requires whole { head_fault bytes.now ≡ None → length bytes.now ≡ whole_len bytes.now }
 {
-    let alone = told_message(alloc, decode(bytes))?;
-    let told = told_message(alloc, decode_knowing(bytes, known))?;
+    let (mut places, mut known_places) = (Places::none(), Places::none());
+    let alone = told_message(alloc, decode(bytes, &mut places))?;
+    let told = told_message(alloc, decode_knowing(bytes, known, &mut known_places))?;
     if alone.as_str() != told.as_str() {
         return format!(in alloc; "{alone} or {told}");
     }
@@ -202,7 +203,8 @@ fn told_validity_of(alloc: Global, row: &str) -> Result<String, AllocError> {
     if !is_whole(&bytes) {
         return String::from_str(alloc, "cut");
     }
-    told_validity(alloc, decode(&bytes))
+    let mut places = Places::none();
+    told_validity(alloc, decode(&bytes, &mut places))
 }
 
 fn told_validity_where_known(alloc: Global, row: &str) -> Result<String, AllocError> {
@@ -211,7 +213,8 @@ fn told_validity_where_known(alloc: Global, row: &str) -> Result<String, AllocEr
     if !is_whole(&bytes) {
         return String::from_str(alloc, "cut");
     }
-    told_validity(alloc, decode_knowing(&bytes, &mut known))
+    let mut places = Places::none();
+    told_validity(alloc, decode_knowing(&bytes, &mut known, &mut places))
 }
 
 fn told_message_of(alloc: Global, row: &str) -> Result<String, AllocError> {
@@ -219,7 +222,8 @@ fn told_message_of(alloc: Global, row: &str) -> Result<String, AllocError> {
     if !is_whole(&bytes) {
         return String::from_str(alloc, "cut");
     }
-    told_message(alloc, decode(&bytes))
+    let mut places = Places::none();
+    told_message(alloc, decode(&bytes, &mut places))
 }
 
 fn told_message_where_known(alloc: Global, row: &str) -> Result<String, AllocError> {
@@ -228,23 +232,24 @@ fn told_message_where_known(alloc: Global, row: &str) -> Result<String, AllocErr
     if !is_whole(&bytes) {
         return String::from_str(alloc, "cut");
     }
-    told_message(alloc, decode_knowing(&bytes, &mut known))
+    let mut places = Places::none();
+    told_message(alloc, decode_knowing(&bytes, &mut known, &mut places))
 }
 
 fn told_parts(alloc: Global, message: &Message<'_>) -> Result<String, AllocError> {
     let mut told = format!(in alloc; "{:?} {} {}", message.order, message.kind, message.serial)?;
     for text in [
-        message.path,
-        message.interface,
-        message.member,
-        message.destination,
-        message.sender,
+        message.path(),
+        message.interface(),
+        message.member(),
+        message.destination(),
+        message.sender(),
     ] {
         told.push(' ')?;
         told.push_str(text.unwrap_or("-"))?;
     }
-    let reply = message.reply_serial.unwrap_or(0);
-    let place = message.reply_serial_place.unwrap_or(0);
+    let reply = message.reply_serial().unwrap_or(0);
+    let place = message.reply_serial_place().unwrap_or(0);
     let signature = str::from_utf8(message.signature.as_bytes()).unwrap_or("-");
     let numbers = format!(in alloc; " {reply} {place} {signature} {}", message.body.len())?;
     told.push_str(&numbers)?;
@@ -255,9 +260,8 @@ fn renumbered(bytes: &mut [u8], serial: u32) -> bool {
     if serial == 0 || !is_whole(bytes) {
         return false;
     }
-    match decode(bytes) {
-        Ok(_) => (),
-        Err(_) => return false,
+    if decode(bytes, &mut Places::none()).is_err() {
+        return false;
     }
     set_serial(bytes, serial);
     true
@@ -267,8 +271,9 @@ fn answering(bytes: &mut [u8], serial: u32) -> bool {
     if serial == 0 || !is_whole(bytes) {
         return false;
     }
-    match decode(bytes) {
-        Ok(message) if message.reply_serial.is_some() => (),
+    let mut places = Places::none();
+    match decode(bytes, &mut places) {
+        Ok(message) if message.reply_serial().is_some() => (),
         _ => return false,
     }
     set_reply_serial(bytes, serial);

@@ -20,7 +20,7 @@ use Rattle.dbus_values.specs.declared.Order.TheVariants.{Little, Big}
 use Rattle.dbus_header.specs.Message.{Field, Message, Valid, field_value, spelled_list, spelled_fields, body_place, spell, stated, signature, are_valid, are_valid_fields}
 use Rattle.dbus_header.specs.Contents.{Contents, contents_of, message_of, body_bytes}
 use Rattle.dbus_header.proofs.MessageAgain.{spelled_from, head, head_len, stated_complete}
-use Rattle.dbus_header.proofs.Places.{no_gap_1}
+use Rattle.dbus_header.proofs.Aligned.{no_gap_1}
 use Rattle.message_text.specs.MessageText.{Text, said, said_field, value_text, field_line, message_text, text_of}
 use Rattle.message_text.specs.Printing.{taken, onward, number_in, Printed, Typed, print_typed, print_within, print_field, print_fields, print_values, head_line, fields_in, print_message, body_in}
 use Rattle.message_text.proofs.ShapeLaws.{type_same}

@@ -14,7 +14,7 @@ use Rattle.dbus_values.specs.declared.Order.{Order}
 use Rattle.dbus_values.specs.declared.Order.TheVariants.{Little, Big}
 use Rattle.dbus_header.specs.Message.{Field, Message, Valid, order_byte, field_value, spelled_list, spelled_fields, body_place, spell, are_valid, are_valid_fields}
 use Rattle.dbus_header.proofs.MessageAgain.{spelled_from, spell_is}
-use Rattle.dbus_header.proofs.Places.{no_gap_1}
+use Rattle.dbus_header.proofs.Aligned.{no_gap_1}
 use Rattle.message_text.specs.MessageText.{Text, SaidMessage, said, said_field, said_message, type_said, value_text, first_line, field_line, body_line, text_of, message_text, InShape}
 use Rattle.message_text.specs.Reading.{Bytes, order_at, head_bytes, read_head, or_none, read_body, read_message, with_len, with_gap, no_len}
 use Rattle.message_text.proofs.ShapeLaws.{said_shape}

@@ -8,7 +8,7 @@ ghost use Rattle.message_text.specs.Answers.{Answers};
 use crate::print_message::print;
 use crate::read_message::message;
 use crate::{BadText, TextRefusal};
-use dbus_header::{Message, decode, length};
+use dbus_header::{Message, Places, decode, length};
 use std::alloc::{AllocError, Global};
 
 /// Whether the bytes have the length that they state, if they state one.
@@ -27,14 +27,14 @@ fn is_whole(bytes: &[u8]) -> bool
 }
 
 /// The valid message that the bytes are.
-fn decoded(bytes: &[u8]) -> Option<Message<'_>>
+fn decoded<'a>(bytes: &'a [u8], places: &'a mut Places) -> Option<Message<'a>>
     ensures bytes { IfSome result (λ x. x.bytes.now ≡ bytes.now) }
     ensures none { result ≡ None → IsSome (message_of bytes.now) → ⊥ }
 {
     if !is_whole(bytes) {
         return None;
     }
-    match decode(bytes) {
+    match decode(bytes, places) {
         Ok(message) => Some(message),
         Err(_) => None,
     }
@@ -45,7 +45,8 @@ fn is_text_of(alloc: Global, bytes: &[u8], text: &[u8]) -> Result<bool, AllocErr
     ensures yes { IfOk result (λ is. IsTrue is → IsTextOf bytes.now text.now) }
     ensures no { IfOk result (λ is. is ≡ false → IsTextOf bytes.now text.now → ⊥) }
 {
-    match decoded(bytes) {
+    let mut places = Places::none();
+    match decoded(bytes, &mut places) {
         Some(message) => {
             let printed = print(alloc, &message)?;
             Ok(printed.as_slice() == text)

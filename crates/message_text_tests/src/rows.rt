@@ -2,7 +2,7 @@
 ghost use Rattle.std.specs.Prelude.{◌≡◌, ◌≤◌, None, IsTrue, length};
 ghost use Rattle.dbus_header.specs.Malformed.{head_fault, whole_len};
 
-use dbus_header::{decode, length};
+use dbus_header::{Places, decode, length};
 use message_text::{BadText, TextRefusal, print, read};
 use std::alloc::{AllocError, Global};
 use test_tables::{plain, text_of};
@@ -40,7 +40,8 @@ fn is_printed(alloc: Global, bytes: &[u8], text: &[u8]) -> Result<bool, AllocErr
     if !is_whole(bytes) {
         return Ok(false);
     }
-    match decode(bytes) {
+    let mut places = Places::none();
+    match decode(bytes, &mut places) {
         Ok(message) => Ok(print(alloc, &message)?.as_slice() == text),
         Err(_) => Ok(false),
     }

@@ -11,7 +11,7 @@ use Rattle.dbus_values.proofs.ValueLaws.{wide_32}
 use Rattle.dbus_header.specs.Contents.{body_bytes}
 use Rattle.dbus_header.specs.Message.{Message, Valid, body_place, reply_place, reply_serial, spell, spelled_fields, spelled_list, with_names, with_number, with_reply_serial}
 use Rattle.dbus_header.proofs.MessageAgain.{head, head_len}
-use Rattle.dbus_header.proofs.Places.{aligned_8}
+use Rattle.dbus_header.proofs.Aligned.{aligned_8}
 use Rattle.dbus_header.proofs.ReplyLaws.{fields_reply}
 use Rattle.name_filters.specs.Names.{names_bytes}
 use Rattle.name_filters.proofs.ListBodies.{array_spelled, names_array}

@@ -16,7 +16,7 @@ use Rattle.dbus_header.specs.Read.{message_seen}
 use Rattle.dbus_header.specs.declared.message.Message.{Message as Seen}
 use Rattle.dbus_header.proofs.MessageBodies.{message-read}
 use Rattle.dbus_header.proofs.NumberLaws.{reply_stands, some_true, there}
-use Rattle.dbus_header.proofs.Places.{aligned_8}
+use Rattle.dbus_header.proofs.Aligned.{aligned_8}
 use Rattle.policy_args.specs.Levels.{level_of}
 use Rattle.policy_args.specs.Policy.{Policy}
 use Rattle.policy_args.specs.declared.fact.Fact.{Fact}

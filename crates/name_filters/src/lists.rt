@@ -2,6 +2,7 @@
 ghost use Rattle.std.specs.Prelude.{◌≡◌, ◌≤◌, ◌<◌, ◌++◌, ◌+◌, ◌^◌, IsSome, List, OnErr, OnOk, Some, codes, length, take};
 ghost use Rattle.dbus_header.specs.Contents.{message_of};
 ghost use Rattle.dbus_header.specs.Message.{Message as MessageTree, spell, with_reply_serial};
+ghost use Rattle.dbus_header.specs.Read.{message_seen};
 ghost use Rattle.name_filters.specs.Names.{cut_parts, with_numbers};
 ghost use Rattle.policy_args.specs.Levels.{level_of};
 ghost use Rattle.policy_args.specs.declared.fact.Fact.{Fact};
@@ -33,7 +34,7 @@ pub fn cut(
     reply_serial: u32,
 ) -> Result<(), AllocError>
     requires list { message.now.signature.bytes.now ≡ codes "as" }
-    requires reply { IsSome message.now.reply_serial }
+    requires reply { IsSome (message_seen message.now).parts.reply_serial }
 
     // The message is appended as it is defined to be seen, given what the tracker keeps.
     ensures ok { OnOk result ((m : MessageTree) → message_of message.now.bytes.now ≡ Some m → into.new.items ≡ into.old.items ++ spell (with_reply_serial reply_serial (cut_by (kept_level policy.now tracker.now) m))) }
@@ -88,10 +89,10 @@ fn put_parts(
 
 /// The place of REPLY_SERIAL's number in a message that has one.
 fn place_of(message: &Message<'_>) -> usize
-    requires { IsSome message.now.reply_serial }
-    ensures { message.now.reply_serial_place ≡ Some result }
+    requires { IsSome (message_seen message.now).parts.reply_serial }
+    ensures { (message_seen message.now).reply_place ≡ Some result }
 {
-    match message.reply_serial_place {
+    match message.reply_serial_place() {
         Some(place) => place,
         None => unreachable!(),
     }

@@ -2,7 +2,7 @@
 use crate::known::{Known, everything, everything_under, nothing};
 use crate::messages::message;
 use crate::whole::is_whole;
-use dbus_header::{Message, decode};
+use dbus_header::{Message, Places, decode};
 use policy_view::Verdict;
 use std::alloc::{AllocError, Global};
 use std::test::Fail;
@@ -375,7 +375,8 @@ fn verdict_on(alloc: Global, known: &Known, row: &str) -> Result<Option<Verdict>
     if !is_whole(&bytes) {
         return Ok(None);
     }
-    match decode(&bytes) {
+    let mut places = Places::none();
+    match decode(&bytes, &mut places) {
         Ok(message) => Ok(Some(verdict_by(known, &message))),
         Err(_) => Ok(None),
     }

@@ -2,7 +2,7 @@
 use crate::policies::policy_of;
 use crate::whole::is_whole;
 use bytes::BytesMut;
-use dbus_header::{Message, decode};
+use dbus_header::{Message, Places, decode};
 use dbus_values::Order;
 use name_filters::cut;
 use policy_args::Policy;
@@ -70,7 +70,8 @@ fn cut_behind_abc(
     if !is_whole(message) {
         return Ok(into);
     }
-    let Ok(message) = decode(message) else {
+    let mut places = Places::none();
+    let Ok(message) = decode(message, &mut places) else {
         return Ok(into);
     };
     add_cut(&mut into, policy, tracker, &message)?;
@@ -84,7 +85,7 @@ fn add_cut(
     tracker: &Tracker,
     message: &Message<'_>,
 ) -> Result<(), AllocError> {
-    if message.signature.as_bytes() == b"as".as_slice() && message.reply_serial.is_some() {
+    if message.signature.as_bytes() == b"as".as_slice() && message.reply_serial().is_some() {
         cut(into, policy, tracker, message, 7)?;
     }
     Ok(())

@@ -3,7 +3,7 @@ use crate::name_lists::message;
 use crate::policies::policy_of;
 use crate::whole::is_whole;
 use bytes::BytesMut;
-use dbus_header::decode;
+use dbus_header::{Places, decode};
 use dbus_names::is_well_known;
 use dbus_values::{Order, Texts};
 use name_patterns::Pattern;
@@ -133,7 +133,8 @@ fn are_called_on(alloc: Global, policy: &Policy, answer: &[u8], text: &str) -> R
     if !is_whole(answer) {
         return Ok(false);
     }
-    let Ok(message) = decode(answer) else {
+    let mut places = Places::none();
+    let Ok(message) = decode(answer, &mut places) else {
         return Ok(false);
     };
     match message.text_list() {

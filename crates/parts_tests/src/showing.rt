@@ -2,7 +2,7 @@
 use crate::known::{Known, everything, everything_under};
 use crate::messages::message;
 use crate::whole::is_whole;
-use dbus_header::{Message, decode};
+use dbus_header::{Message, Places, decode};
 use policy_view::Showing;
 use std::alloc::{AllocError, Global};
 use std::test::Fail;
@@ -80,7 +80,8 @@ fn shown(alloc: Global, known: &Known, row: &str) -> Result<Option<Showing>, All
     if !is_whole(&bytes) {
         return Ok(None);
     }
-    match decode(&bytes) {
+    let mut places = Places::none();
+    match decode(&bytes, &mut places) {
         Ok(message) => Ok(Some(showing_by(known, &message))),
         Err(_) => Ok(None),
     }
@@ -88,7 +89,7 @@ fn shown(alloc: Global, known: &Known, row: &str) -> Result<Option<Showing>, All
 
 /// What is shown of a message, by what is known.
 fn showing_by(known: &Known, message: &Message<'_>) -> Showing {
-    let kind = known.ledger.peek(message.reply_serial.unwrap_or(0));
+    let kind = known.ledger.peek(message.reply_serial().unwrap_or(0));
     show(&known.options.policy, &known.tracker, kind, message)
 }
 

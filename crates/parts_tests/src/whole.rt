@@ -2,7 +2,7 @@
 ghost use Rattle.std.specs.Prelude.{◌≡◌, ◌≤◌, None, IsTrue, length};
 ghost use Rattle.dbus_header.specs.Malformed.{head_fault, whole_len};
 
-use dbus_header::{decode, length};
+use dbus_header::{Places, decode, length};
 
 /// Whether the bytes have the length that they state, if they state one.
 pub fn is_whole(bytes: &[u8]) -> bool
@@ -20,5 +20,5 @@ pub fn is_whole(bytes: &[u8]) -> bool
 
 /// Whether the bytes are a valid message.
 pub fn is_message(bytes: &[u8]) -> bool {
-    is_whole(bytes) && decode(bytes).is_ok()
+    is_whole(bytes) && decode(bytes, &mut Places::none()).is_ok()
 }

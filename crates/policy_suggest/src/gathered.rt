@@ -7,6 +7,7 @@ ghost use Rattle.policy_suggest.specs.Seen.{request_seen};
 ghost use Rattle.policy_suggest.specs.Suggest.{is_asked};
 
 use crate::requests::{Request, request_of};
+use dbus_header::Places;
 use indexmap::IndexSet;
 use policy_args::Asked;
 use policy_view::Note;
@@ -62,7 +63,8 @@ impl Requests {
         ensures added { OnOk result (self.new ≡ with_requests self.old (listed (asked_by note.now))) }
         ensures grammar { list_all is_asked (listed (asked_by note.now)) ≡ true }
     {
-        match request_of(note) {
+        let mut places = Places::none();
+        match request_of(note, &mut places) {
             Some(request) => self.add(alloc, request),
             None => Ok(()),
         }

@@ -13,7 +13,7 @@ ghost use Rattle.policy_view.specs.Verdicts.{demand_of, role_of_bus_call, role_o
 
 use crate::targets::Target;
 use crate::words::{push_call_word, push_name_word};
-use dbus_header::{METHOD_CALL, Message, SIGNAL};
+use dbus_header::{METHOD_CALL, Message, Places, SIGNAL};
 use dbus_names::{Name, is_bus, is_well_known};
 use policy_args::Asked;
 use policy_view::{Note, Side};
@@ -48,20 +48,21 @@ pub fn asked(alloc: Global, note: &Note) -> Result<Option<Asked>, AllocError>
     ensures exact { IfOk result (λ asked. asked ≡ asked_by note.now) }
     ensures grammar { IfOk result (λ asked. IfSome asked (λ a. is_asked a ≡ true)) }
 {
-    match request_of(note) {
+    let mut places = Places::none();
+    match request_of(note, &mut places) {
         Some(request) => Ok(Some(request.to_asked(alloc)?)),
         None => Ok(None),
     }
 }
 
-// The request in a note's message.
-pub(crate) fn request_of(note: &Note) -> Option<Request<'_>>
+// The request in a note's message. The places of its header's parts are put into `places`.
+pub(crate) fn request_of<'a>(note: &'a Note, places: &'a mut Places) -> Option<Request<'a>>
     ensures exact { option_map request_seen result ≡ asked_by note.now }
     ensures grammar { IfSome result (λ request. is_asked (request_seen request) ≡ true) }
 {
     match note.side() {
         Side::Client => {
-            let message = note.message();
+            let message = note.message(places);
             by_message(&message, message.first_text())
         }
         Side::Bus => None,
@@ -80,21 +81,21 @@ fn by_message<'a>(message: &Message<'a>, first: Option<&'a str>) -> Option<Reque
 }
 
 fn by_call<'a>(message: &Message<'a>, first: Option<&'a str>) -> Option<Request<'a>>
-    ensures { option_map request_seen result ≡ asked_as (role_of_call (text_seen message.now.destination) (text_seen message.now.interface)) (text_or_empty (text_seen message.now.path)) (text_seen message.now.interface) (text_or_empty (text_seen message.now.member)) (text_seen first.entry) }
+    ensures { option_map request_seen result ≡ asked_as (role_of_call ((message_seen message.now).parts.destination) ((message_seen message.now).parts.interface)) (text_or_empty ((message_seen message.now).parts.path)) ((message_seen message.now).parts.interface) (text_or_empty ((message_seen message.now).parts.member)) (text_seen first.entry) }
 {
-    match message.destination {
+    match message.destination() {
         Some(name) if !is_bus(name) => by_call_to(name, message),
         _ => by_call_of_bus(message, first),
     }
 }
 
 fn by_call_of_bus<'a>(message: &Message<'a>, first: Option<&'a str>) -> Option<Request<'a>>
-    ensures { option_map request_seen result ≡ asked_as (role_of_bus_call (text_seen message.now.interface)) (text_or_empty (text_seen message.now.path)) (text_seen message.now.interface) (text_or_empty (text_seen message.now.member)) (text_seen first.entry) }
+    ensures { option_map request_seen result ≡ asked_as (role_of_bus_call ((message_seen message.now).parts.interface)) (text_or_empty ((message_seen message.now).parts.path)) ((message_seen message.now).parts.interface) (text_or_empty ((message_seen message.now).parts.member)) (text_seen first.entry) }
 {
-    if !is_of_bus(message.interface) {
+    if !is_of_bus(message.interface()) {
         return None;
     }
-    by_bus_call(message.member.unwrap_or(""), first)
+    by_bus_call(message.member().unwrap_or(""), first)
 }
 
 // Whether a call of the bus is one of its own members.
@@ -108,23 +109,23 @@ fn is_of_bus(interface: Option<&str>) -> bool
 }
 
 fn by_call_to<'a>(name: &'a str, message: &Message<'a>) -> Option<Request<'a>>
-    ensures { option_map request_seen result ≡ of_peer name.entry.now (Call name.entry.now (text_or_empty (text_seen message.now.path)) (text_seen message.now.interface) (text_or_empty (text_seen message.now.member))) }
+    ensures { option_map request_seen result ≡ of_peer name.entry.now (Call name.entry.now (text_or_empty ((message_seen message.now).parts.path)) ((message_seen message.now).parts.interface) (text_or_empty ((message_seen message.now).parts.member))) }
 {
     if !is_peer(name) {
         return None;
     }
     Some(Request::Call {
         name,
-        path: message.path.unwrap_or(""),
-        interface: message.interface,
-        member: message.member.unwrap_or(""),
+        path: message.path().unwrap_or(""),
+        interface: message.interface(),
+        member: message.member().unwrap_or(""),
     })
 }
 
 fn by_signal<'a>(message: &Message<'a>) -> Option<Request<'a>>
-    ensures { (path : Text) (interface : Option Text) (member : Text) (first : Option Text) → option_map request_seen result ≡ asked_as (role_of_signal (text_seen message.now.destination)) path interface member first }
+    ensures { (path : Text) (interface : Option Text) (member : Text) (first : Option Text) → option_map request_seen result ≡ asked_as (role_of_signal ((message_seen message.now).parts.destination)) path interface member first }
 {
-    match message.destination {
+    match message.destination() {
         Some(name) if is_peer(name) => Some(Request::Signal(name)),
         _ => None,
     }

@@ -6,25 +6,25 @@ ghost use Rattle.dbus_header.specs.Read.{message_seen};
 
 use crate::{Decision, Side};
 use bytes::Bytes;
-use dbus_header::{KnownTexts, Message, read_valid};
+use dbus_header::{KnownTexts, Message, Places, read_valid};
 use std::marker::Model;
 
-/// Reads a frame, which is a valid message.
-pub fn message_of(frame: &[u8]) -> Message<'_>
+/// Reads a frame, which is a valid message. The places of its header's parts are put into `places`.
+pub fn message_of<'a>(frame: &'a [u8], places: &'a mut Places) -> Message<'a>
     requires { (m : MessageTree) × Valid m × (frame.now ≡ spell m) }
     ensures bytes { result.bytes.now ≡ frame.now }
     ensures contents { (m : MessageTree) → Valid m → frame.now ≡ spell m → message_seen result ≡ contents_of m }
 {
-    message_by(frame, &KnownTexts::none())
+    message_by(frame, &KnownTexts::none(), places)
 }
 
 /// Reads a frame, which is a valid message, if headers and texts of other messages are known.
-fn message_by<'a>(frame: &'a [u8], known: &KnownTexts) -> Message<'a>
+fn message_by<'a>(frame: &'a [u8], known: &KnownTexts, places: &'a mut Places) -> Message<'a>
     requires { (m : MessageTree) × Valid m × (frame.now ≡ spell m) }
     ensures bytes { result.bytes.now ≡ frame.now }
     ensures contents { (m : MessageTree) → Valid m → frame.now ≡ spell m → message_seen result ≡ contents_of m }
 {
-    read_valid(frame, known)
+    read_valid(frame, known, places)
 }
 
 /// What was decided on a message of a session: whether the client's message is sent to the bus, or what the client is
@@ -96,22 +96,22 @@ impl Note {
         self.frame.as_slice()
     }
 
-    /// Reads the message, which is valid.
-    pub fn message(&self) -> Message<'_>
+    /// Reads the message, which is valid. The places of its header's parts are put into `places`.
+    pub fn message<'a>(&'a self, places: &'a mut Places) -> Message<'a>
         ensures bytes { result.bytes.now ≡ self.now.frame }
         ensures contents { message_seen result ≡ contents_of (message_in self.now.frame) }
         ensures valid { Valid (message_in self.now.frame) × (self.now.frame ≡ spell (message_in self.now.frame)) }
     {
-        message_of(self.frame.as_slice())
+        message_of(self.frame.as_slice(), places)
     }
 
     /// Reads the message, if headers and texts of other messages of its stream are known.
-    pub fn message_knowing(&self, known: &KnownTexts) -> Message<'_>
+    pub fn message_knowing<'a>(&'a self, known: &KnownTexts, places: &'a mut Places) -> Message<'a>
         ensures bytes { result.bytes.now ≡ self.now.frame }
         ensures contents { message_seen result ≡ contents_of (message_in self.now.frame) }
         ensures valid { Valid (message_in self.now.frame) × (self.now.frame ≡ spell (message_in self.now.frame)) }
     {
-        message_by(self.frame.as_slice(), known)
+        message_by(self.frame.as_slice(), known, places)
     }
 
     /// What was decided on the message.

@@ -3,6 +3,7 @@ use Rattle.std.proofs.Common.{ℕ, ◌≡◌, Bool, true, false, cond, List, [],
 use denote.Bor.{Bor}
 use Rattle.std.specs.Option.{option_copied}
 use Rattle.std.specs.Prelude.{◌==◌, ◌||◌, is_some}
+use Rattle.dbus_header.specs.Read.{message_seen}
 use Rattle.dbus_header.specs.Kinds.{Kind, Call, Return, Error, Signal, Other, kind_of}
 use Rattle.dbus_header.specs.Contents.{Contents}
 use Rattle.dbus_header.specs.Message.{Message, destination, reply_serial, spell, with_reply_serial}
@@ -105,11 +106,11 @@ elements_as policy ids ledger m answer s es role shown is =
     (shown ∙ ap (λ (r : BusRole). showing_at policy (kept policy ids ledger.owed) m r) role)
 
 -- with the reply serial that it came with, a cut list is as it was cut
-pub cut_kept : (level : Text → Level) (x : Seen) (position : ℕ) (bytes : List ℕ) → IsSpelled x.bytes.now → x.signature.bytes.now ≡ codes "as" → IsSome x.reply_serial → position ≡ position_of (tree x)
+pub cut_kept : (level : Text → Level) (x : Seen) (position : ℕ) (bytes : List ℕ) → IsSpelled x.bytes.now → x.signature.bytes.now ≡ codes "as" → IsSome (message_seen x).parts.reply_serial → position ≡ position_of (tree x)
     → bytes ≡ spell (with_reply_serial position (cut level (tree x))) → bytes ≡ spell (cut level (tree x))
-cut_kept level x position bytes spelled named has at is = by x.reply_serial refl has
+cut_kept level x position bytes spelled named has at is = by (message_seen x).parts.reply_serial refl has
   where
-    by : (o : Option ℕ) → x.reply_serial ≡ o → IsSome o → bytes ≡ spell (cut level (tree x))
+    by : (o : Option ℕ) → (message_seen x).parts.reply_serial ≡ o → IsSome o → bytes ≡ spell (cut level (tree x))
     by None e has = absurd cc
     by (Some r) e has =
         let valid = (spelled (tree x) (read x)).0 in

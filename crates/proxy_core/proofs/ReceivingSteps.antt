@@ -8,6 +8,7 @@ use Rattle.std.specs.declared.alloc.AllocError.{AllocError}
 use Rattle.std.proofs.lemmas.Bool.{eqb-true}
 use Rattle.byte_lists.proofs.Bytes.{bytes_eq-true}
 use Rattle.dbus_names.specs.Texts.{Text}
+use Rattle.dbus_header.specs.Read.{message_seen}
 use Rattle.dbus_header.specs.Contents.{Contents}
 use Rattle.dbus_header.specs.Kinds.{Kind, Call, Return, Error, Signal, Other, kind_by, kind_of}
 use Rattle.dbus_header.specs.Message.{Message, destination, reply_serial, sender, spell, text_list, three_texts}
@@ -150,7 +151,7 @@ used_reply_at m view r e at = by (m.kind == 2) refl (m.kind == 3) refl e
     by false two true three e = here m.kind (inr (ap kind_by (eqb-true m.kind 3 three)))
     by false two false three e = absurd cc
 
-pub used_reply : (x : Seen) (view : SessionView) (r : ℕ) → (x.kind == 2 || x.kind == 3) ≡ true → x.reply_serial ≡ Some r → used_one view r ≡ with_used (tree x) view
+pub used_reply : (x : Seen) (view : SessionView) (r : ℕ) → (x.kind == 2 || x.kind == 3) ≡ true → (message_seen x).parts.reply_serial ≡ Some r → used_one view r ≡ with_used (tree x) view
 used_reply x view r reply at = used_reply_at (tree x) view r (replies_is x true reply) (reply_serial_is x ∙ at)
 
 -- what is learned from an answer
@@ -167,23 +168,23 @@ some_seen : (o : Option (Bor (List ℕ))) → is_some (text_seen o) ≡ is_some 
 some_seen None = refl
 some_seen (Some t) = refl
 
-has_destination : (x : Seen) (b : Bool) → is_some x.destination ≡ b → is_some (destination (tree x)) ≡ b
-has_destination x b e = ap is_some (destination_is x) ∙ some_seen x.destination ∙ e
+has_destination : (x : Seen) (text : Option (Bor (List ℕ))) (b : Bool) → text_seen text ≡ (message_seen x).parts.destination → is_some text ≡ b → is_some (destination (tree x)) ≡ b
+has_destination x text b of e = ap is_some (destination_is x ∙ sym of) ∙ some_seen text ∙ e
 
 pub told_change : (policy : Policy) (x : Seen) (view : SessionView) → is_owner_change (tree x) ≡ true →
     with_facts policy (owners_of policy (three_texts (tree x))) view ≡ with_told policy (tree x) (role_of_signal (tree x)) view
 told_change policy x view e =
     ap (λ (b : Bool). with_told policy (tree x) (cond b OwnerChange (cond (is_some (destination (tree x))) SignalIn BroadcastIn)) view) (sym e)
 
-pub told_signal : (policy : Policy) (x : Seen) (view : SessionView) → is_owner_change (tree x) ≡ false → is_some x.destination ≡ true →
+pub told_signal : (policy : Policy) (x : Seen) (view : SessionView) (text : Option (Bor (List ℕ))) → text_seen text ≡ (message_seen x).parts.destination → is_owner_change (tree x) ≡ false → is_some text ≡ true →
     with_facts policy (fact_of Met (if_unique (sender (tree x)))) view ≡ with_told policy (tree x) (role_of_signal (tree x)) view
-told_signal policy x view e d =
-    ap₂ (λ (a b : Bool). with_told policy (tree x) (cond a OwnerChange (cond b SignalIn BroadcastIn)) view) (sym e) (sym (has_destination x true d))
+told_signal policy x view text of e d =
+    ap₂ (λ (a b : Bool). with_told policy (tree x) (cond a OwnerChange (cond b SignalIn BroadcastIn)) view) (sym e) (sym (has_destination x text true of d))
 
-pub told_broadcast : (policy : Policy) (x : Seen) (view : SessionView) → is_owner_change (tree x) ≡ false → is_some x.destination ≡ false →
+pub told_broadcast : (policy : Policy) (x : Seen) (view : SessionView) (text : Option (Bor (List ℕ))) → text_seen text ≡ (message_seen x).parts.destination → is_owner_change (tree x) ≡ false → is_some text ≡ false →
     view ≡ with_told policy (tree x) (role_of_signal (tree x)) view
-told_broadcast policy x view e d =
-    ap₂ (λ (a b : Bool). with_told policy (tree x) (cond a OwnerChange (cond b SignalIn BroadcastIn)) view) (sym e) (sym (has_destination x false d))
+told_broadcast policy x view text of e d =
+    ap₂ (λ (a b : Bool). with_told policy (tree x) (cond a OwnerChange (cond b SignalIn BroadcastIn)) view) (sym e) (sym (has_destination x text false of d))
 
 -- ---- what is shown
 
@@ -211,7 +212,7 @@ list_signed x names e = by (bytes_eq x.signature.bytes.now (codes "as")) refl
     by false is =
         absurd (let none : Some names ≡ None = sym e ∙ list-none (tree x).body (λ s. differ x.signature.bytes.now (codes "as") is (sym (ap (λ (q : Contents). q.signature) (seen x)) ∙ s)) in cc)
 
-shown_at : (known : Knowledge) (policy : Policy) (x : Seen) (role : BusRole) → (IsAnswerRole role → IsSome x.reply_serial) → ShownBy x (showing_at policy known (tree x) role)
+shown_at : (known : Knowledge) (policy : Policy) (x : Seen) (role : BusRole) → (IsAnswerRole role → IsSome (message_seen x).parts.reply_serial) → ShownBy x (showing_at policy known (tree x) role)
 shown_at known policy x NoRole h = tt
 shown_at known policy x Unexpected h = tt
 shown_at known policy x MatchAnswer h = tt

@@ -4,6 +4,7 @@ use Rattle.std.specs.Prelude.{◌&&◌, ◌||◌, ◌==◌, not, unwrap_or}
 use Rattle.std.proofs.Math.Bool.{or-false, or-true}
 use Rattle.std.proofs.lemmas.Bool.{eqb-true}
 use Rattle.std.proofs.lemmas.Bool.Decides.{nat_tests}
+use Rattle.dbus_header.specs.Read.{message_seen}
 use Rattle.dbus_header.specs.Kinds.{Call, Return, Error, Signal, Other, kind_by, kind_of}
 use Rattle.dbus_header.specs.Message.{Message, destination, interface}
 use Rattle.dbus_names.specs.Names.{is_bus}
@@ -148,17 +149,17 @@ own_reply m e = by (m.kind == 1) refl (m.kind == 2) refl (m.kind == 3) refl e
     by false a false b false g e = absurd cc
 
 -- a reply that passes is no longer owed
-pub replied_to : (x : Seen) (view : SessionView) (to : Bor (List ℕ)) (n : ℕ) → (x.kind == 2 || x.kind == 3) ≡ true → x.destination ≡ Some to → n ≡ unwrap_or x.reply_serial 0 →
-    record view { ledger = record view.ledger { owed = one_less view.ledger.owed to.now n } } ≡ with_replied (replied_on (tree x) (client_role (tree x)) Pass) view
+pub replied_to : (x : Seen) (view : SessionView) (to : Text) (n : ℕ) → (x.kind == 2 || x.kind == 3) ≡ true → (message_seen x).parts.destination ≡ Some to → n ≡ unwrap_or (message_seen x).parts.reply_serial 0 →
+    record view { ledger = record view.ledger { owed = one_less view.ledger.owed to n } } ≡ with_replied (replied_on (tree x) (client_role (tree x)) Pass) view
 replied_to x view to n reply at number =
     ap₂ (λ (o : Option Text) (k : ℕ). record view { ledger = record view.ledger { owed = less_to view.ledger.owed o k } })
-    (sym (destination_is x ∙ ap text_seen at)) (number ∙ sym (ap number_or_0 (reply_serial_is x) ∙ number_is x.reply_serial))
+    (sym (destination_is x ∙ at)) (number ∙ sym (ap number_or_0 (reply_serial_is x) ∙ number_is (message_seen x).parts.reply_serial))
     ∙ ap (λ (xs : List Exchange). with_replied xs view) (sym (own_reply (tree x) (replies_is x true reply)))
 
 -- a reply to nobody replies to nothing
-pub replied_none : (x : Seen) (view : SessionView) → (x.kind == 2 || x.kind == 3) ≡ true → x.destination ≡ None → view ≡ with_replied (replied_on (tree x) (client_role (tree x)) Pass) view
+pub replied_none : (x : Seen) (view : SessionView) → (x.kind == 2 || x.kind == 3) ≡ true → (message_seen x).parts.destination ≡ None → view ≡ with_replied (replied_on (tree x) (client_role (tree x)) Pass) view
 replied_none x view reply at =
-    ap (λ (o : Option Text). record view { ledger = record view.ledger { owed = less_to view.ledger.owed o (reply_to (tree x)).number } }) (sym (destination_is x ∙ ap text_seen at))
+    ap (λ (o : Option Text). record view { ledger = record view.ledger { owed = less_to view.ledger.owed o (reply_to (tree x)).number } }) (sym (destination_is x ∙ at))
     ∙ ap (λ (xs : List Exchange). with_replied xs view) (sym (own_reply (tree x) (replies_is x true reply)))
 
 -- ---- the owners of names

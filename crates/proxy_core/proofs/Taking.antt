@@ -10,7 +10,6 @@ use Rattle.dbus_header.proofs.NumberLaws.{reply_patched, reply_stands, serial_pa
 use Rattle.dbus_header.specs.Kinds.{Kind, Call, Return, Error, Signal, Other, kind_by, kind_of}
 use Rattle.policy_view.specs.Past.{if_return, returned_names, returned_text}
 use Rattle.std.proofs.lemmas.Bool.{eqb-true}
-use Rattle.dbus_header.specs.Seen.{text_seen}
 use Rattle.policy_view.specs.Sent.{Passed, asks_names, expected_of, is_hello}
 use Rattle.policy_view.specs.Texts.{has_text}
 use Rattle.policy_view.specs.Verdicts.{number_or_0}
@@ -47,20 +46,20 @@ with_serial_bytes x n is =
     ap₂ (λ o bytes. with_number o 8 n bytes) (sym (ap (λ (q : Contents). q.order) (seen x))) (bytes_in x is)
     ∙ sym (serial_patched n (tree x))
 
-pub with_reply_bytes : (x : Seen) (place n : ℕ) → IsSpelled x.bytes.now → IsSome x.reply_serial → x.reply_serial_place ≡ Some place → with_number x.order place n x.bytes.now ≡ spell (with_reply_serial n (tree x))
-with_reply_bytes x place n spelled has at = by x.reply_serial refl has
+pub with_reply_bytes : (x : Seen) (place n : ℕ) → IsSpelled x.bytes.now → IsSome (message_seen x).parts.reply_serial → (message_seen x).reply_place ≡ Some place → with_number x.order place n x.bytes.now ≡ spell (with_reply_serial n (tree x))
+with_reply_bytes x place n spelled has at = by (message_seen x).parts.reply_serial refl has
   where
-    by : (o : Option ℕ) → x.reply_serial ≡ o → IsSome o → with_number x.order place n x.bytes.now ≡ spell (with_reply_serial n (tree x))
+    by : (o : Option ℕ) → (message_seen x).parts.reply_serial ≡ o → IsSome o → with_number x.order place n x.bytes.now ≡ spell (with_reply_serial n (tree x))
     by None is has = absurd cc
     by (Some r) is has =
         ap₂ (λ o bytes. with_number o place n bytes) (sym (ap (λ (q : Contents). q.order) (seen x))) (bytes_in x spelled)
         ∙ sym (reply_patched n r place (tree x) (spelled (tree x) (read x)).0 (ap (λ (q : Contents). q.parts.reply_serial) (seen x) ∙ is) (ap (λ (q : Contents). q.reply_place) (seen x) ∙ at)).bytes
 
 -- if there is a reply serial, its number has a place
-pub has_place : (x : Seen) → IsSome x.reply_serial → x.reply_serial_place ≡ None → ⊥
-has_place x has none = by x.reply_serial refl has
+pub has_place : (x : Seen) → IsSome (message_seen x).parts.reply_serial → (message_seen x).reply_place ≡ None → ⊥
+has_place x has none = by (message_seen x).parts.reply_serial refl has
   where
-    by : (o : Option ℕ) → x.reply_serial ≡ o → IsSome o → ⊥
+    by : (o : Option ℕ) → (message_seen x).parts.reply_serial ≡ o → IsSome o → ⊥
     by None is has = absurd cc
     by (Some r) is has =
         let p = reply_stands (tree x) r (ap (λ (q : Contents). q.parts.reply_serial) (seen x) ∙ is) in
@@ -109,7 +108,7 @@ unfolding asks_names
 asks_is x = ap (λ (q : Contents). is_bus_member_by (codes "ListNames") q || is_bus_member_by (codes "ListActivatableNames") q) (seen x)
 
 no_member : (x : Seen) (name : List ℕ) → is_bus_call_by (message_seen x) ≡ false → is_bus_member_by name (message_seen x) ≡ false
-no_member x name e = ap (λ (b : Bool). b && has_text (text_seen x.member) name) e
+no_member x name e = ap (λ (b : Bool). b && has_text (message_seen x).parts.member name) e
 
 -- a call that isn't of the bus is answered as any other
 pub asks_nothing : (x : Seen) → is_bus_call_by (message_seen x) ≡ false → expected_of (Passed (tree x)) ≡ expects.Call x.serial
@@ -123,10 +122,10 @@ asks_nothing x e =
 pub replies_is : (x : Seen) (b : Bool) → (x.kind == 2 || x.kind == 3) ≡ b → ((tree x).kind == 2 || (tree x).kind == 3) ≡ b
 replies_is x b e = ap (λ (k : ℕ). k == 2 || k == 3) (kind_is x) ∙ e
 
-pub destination_is : (x : Seen) → destination (tree x) ≡ text_seen x.destination
+pub destination_is : (x : Seen) → destination (tree x) ≡ (message_seen x).parts.destination
 destination_is x = ap (λ (q : Contents). q.parts.destination) (seen x)
 
-pub reply_serial_is : (x : Seen) → reply_serial (tree x) ≡ x.reply_serial
+pub reply_serial_is : (x : Seen) → reply_serial (tree x) ≡ (message_seen x).parts.reply_serial
 reply_serial_is x = ap (λ (q : Contents). q.parts.reply_serial) (seen x)
 
 pub number_is : (o : Option ℕ) → number_or_0 o ≡ unwrap_or o 0

@@ -16,7 +16,7 @@ use Rattle.dbus_header.specs.Kinds.{Kind, Call, Return, Error, Signal, Other, ki
 use Rattle.dbus_header.specs.Message.{Field, Message, Valid, body_place, field_value, has_field, is_field_of, may_all_follow, may_follow, reply_serial, spell, spelled_list, text_list, with_names, with_reply_serial, with_serial}
 use Rattle.dbus_header.specs.declared.Instead.{Instead}
 use Rattle.dbus_header.specs.declared.Instead.TheVariants.{AccessDenied, NameHasNoOwner, ServiceUnknown, False}
-use Rattle.dbus_header.proofs.Places.{aligned_8}
+use Rattle.dbus_header.proofs.Aligned.{aligned_8}
 use Rattle.dbus_header.proofs.ReplyLaws.{is_reply, reply_field, reply_len, set_reply}
 use Rattle.policy_args.specs.Policy.{Policy}
 use Rattle.policy_args.specs.declared.Level.{Level}

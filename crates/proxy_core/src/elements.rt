@@ -5,6 +5,7 @@ ghost use Rattle.dbus_header.specs.Message.{reply_serial as reply_serial_of, spe
 ghost use Rattle.dbus_header.specs.Seen.{text_seen};
 ghost use Rattle.policy_view.specs.Elements.{given_of};
 ghost use Rattle.dbus_header.specs.Contents.{message_in};
+ghost use Rattle.dbus_header.specs.Read.{message_seen};
 ghost use Rattle.policy_view.specs.Shown.{bus_role, cut as cut_by};
 ghost use Rattle.policy_view.specs.declared.visible.Visible.TheVariants as element;
 ghost use Rattle.policy_view.specs.Visible.{names_asked, position_of, visible_hidden};
@@ -85,7 +86,7 @@ fn shown_element(alloc: Global, message: &Message<'_>) -> Result<Option<Visible>
 fn position(message: &Message<'_>) -> u32
     ensures { result ≡ position_of (message_in message.now.bytes.now) }
 {
-    message.reply_serial.unwrap_or(0)
+    message.reply_serial().unwrap_or(0)
 }
 
 /// The message with its list of names cut to those that may be seen, and with its original REPLY_SERIAL.
@@ -96,7 +97,7 @@ fn cut_list(
     message: &Message<'_>,
 ) -> Result<Bytes, AllocError>
     requires list { message.now.signature.bytes.now ≡ codes "as" }
-    requires reply { IsSome message.now.reply_serial }
+    requires reply { IsSome (message_seen message.now).parts.reply_serial }
     ensures { IfOk result (λ bytes. bytes ≡ spell (cut_by (kept_level policy.now tracker.now) (message_in message.now.bytes.now))) }
 {
     is_spelled(message.bytes);
@@ -152,7 +153,7 @@ fn answered<'a>(ledger: &'a Ledger, message: &Message<'_>) -> Option<&'a Kind>
     if !message.is_reply() {
         return None;
     }
-    match message.reply_serial {
+    match message.reply_serial() {
         Some(serial) => ledger.peek(serial),
         None => None,
     }

@@ -4,6 +4,7 @@ ghost use Rattle.std.specs.Int.{w32};
 ghost use Rattle.dbus_values.specs.Values.{number_bytes};
 ghost use Rattle.dbus_header.specs.Contents.{message_in};
 ghost use Rattle.dbus_header.specs.Message.{spell, with_reply_serial, with_serial as serial_changed};
+ghost use Rattle.dbus_header.specs.Read.{message_seen};
 ghost use Rattle.policy_view.specs.Shown.{cut as cut_by};
 ghost use Rattle.proxy_core.specs.Incoming.{incoming_message};
 ghost use Rattle.unique_names.specs.Taught.{kept_level};
@@ -69,12 +70,12 @@ pub(crate) fn push_reply(
     incoming: &Incoming<'_, '_>,
     serial: u32,
 ) -> Result<(), AllocError>
-    requires { IsSome incoming.now.message.now.reply_serial }
+    requires { IsSome (message_seen incoming.now.message.now).parts.reply_serial }
     ensures ok { OnOk result (queue.new ≡ queue.old ++ spell (with_reply_serial serial (incoming_message incoming.now))) }
     ensures err { OnErr result (queue.new ≡ queue.old) }
 {
     is_spelled(incoming.message.bytes);
-    match incoming.message.reply_serial_place {
+    match incoming.message.reply_serial_place() {
         Some(place) => push_with(queue, incoming, place, serial),
         None => unreachable!(),
     }
@@ -113,7 +114,7 @@ pub(crate) fn push_cut(
     serial: u32,
 ) -> Result<(), AllocError>
     requires list { message.now.signature.bytes.now ≡ codes "as" }
-    requires reply { IsSome message.now.reply_serial }
+    requires reply { IsSome (message_seen message.now).parts.reply_serial }
     ensures ok { OnOk result (queue.new ≡ queue.old ++ spell (with_reply_serial serial (cut_by (kept_level policy.now tracker.now) (message_in message.now.bytes.now)))) }
     ensures err { OnErr result (queue.new ≡ queue.old) }
 {

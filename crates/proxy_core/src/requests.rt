@@ -34,15 +34,15 @@ fn is_bus_call(message: &Message<'_>) -> bool
     ensures { result ≡ is_bus_call_by (message_seen message.now) }
 {
     message.is_method_call()
-        && is_bus_or_absent(message.destination)
-        && is_bus_or_absent(message.interface)
+        && is_bus_or_absent(message.destination())
+        && is_bus_or_absent(message.interface())
 }
 
 /// Whether it is a call to the bus of this member, with the bus's interface or none.
 fn is_bus_member(message: &Message<'_>, member: &str) -> bool
     ensures { result ≡ is_bus_member_by member.now (message_seen message.now) }
 {
-    is_bus_call(message) && has_text(message.member, member)
+    is_bus_call(message) && has_text(message.member(), member)
 }
 
 /// Whether this asks the bus for a unique name (D-Bus Specification, "org.freedesktop.DBus.Hello").

@@ -25,7 +25,7 @@ mod watching;
 
 use crate::stream::Stream;
 use crate::watch::{Watch, next_of};
-use dbus_header::Message;
+use dbus_header::{Message, Places};
 use out_queue::OutQueue;
 use own_calls::after_hello_is_short;
 use policy_args::Policy;
@@ -301,13 +301,14 @@ impl Session {
     }
 
     /// Reads the message of a note of this session. Its header isn't checked again if its stream still knows it.
-    pub fn message_of<'a>(&self, note: &'a Note) -> Message<'a>
+    /// The places of its parts are put into `places`.
+    pub fn message_of<'a>(&self, note: &'a Note, places: &'a mut Places) -> Message<'a>
         ensures bytes { result.bytes.now ≡ note.now.frame }
         ensures contents { message_seen result ≡ contents_of (message_in note.now.frame) }
     {
         match note.side() {
-            Side::Client => self.client.message_of(note),
-            Side::Bus => self.bus.message_of(note),
+            Side::Client => self.client.message_of(note, places),
+            Side::Bus => self.bus.message_of(note, places),
         }
     }
 

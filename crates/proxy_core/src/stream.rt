@@ -12,7 +12,7 @@ ghost use Rattle.proxy_core.specs.Streams.{InMessages, GaveLine, is_in_lines as 
 
 use bytes::Bytes;
 use dbus_framing::{Framer, Messages};
-use dbus_header::{KnownTexts, Malformed, Message};
+use dbus_header::{KnownTexts, Malformed, Message, Places};
 use policy_view::Note;
 use sasl_watch::{Lines, NextLine};
 use std::alloc::{AllocError, Global};
@@ -228,6 +228,7 @@ impl Stream {
         &mut self,
         lent: &'a Messages<'_>,
         len: usize,
+        places: &'a mut Places,
     ) -> Result<Message<'a>, Malformed>
         requires { IsWhole lent.now len }
         ensures bytes { IfOk result (λ message. message.bytes.now ≡ take len lent.now) }
@@ -235,15 +236,15 @@ impl Stream {
         ensures bad { IfErr result (λ f. fault lent.now ≡ Some f) }
         ensures stays { self.new ≡ self.old }
     {
-        lent.message(len, &mut self.known)
+        lent.message(len, &mut self.known, places)
     }
 
     /// Reads the message of a note on one of this stream. Its header isn't checked again if it is still known.
-    pub(crate) fn message_of<'a>(&self, note: &'a Note) -> Message<'a>
+    pub(crate) fn message_of<'a>(&self, note: &'a Note, places: &'a mut Places) -> Message<'a>
         ensures bytes { result.bytes.now ≡ note.now.frame }
         ensures contents { message_seen result ≡ contents_of (message_in note.now.frame) }
     {
-        note.message_knowing(&self.known)
+        note.message_knowing(&self.known, places)
     }
 
     /// Puts what is left back into the stream.

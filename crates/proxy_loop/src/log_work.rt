@@ -2,6 +2,7 @@
 ghost use Rattle.std.specs.Prelude.{◌≡◌, true};
 ghost use Rattle.proxy_loop.specs.Logging.{Logs};
 
+use dbus_header::Places;
 use explain_log::LineBuffer;
 use link_traits::Sink;
 use policy_view::End;
@@ -15,7 +16,8 @@ pub fn log_new<S: Sink>(sink: &mut S, alloc: Global, number: u32, session: &mut 
 {
     let mut lines = LineBuffer::new(alloc);
     while let Some(note) = session.next_note() {
-        let message = session.message_of(&note);
+        let mut places = Places::none();
+        let message = session.message_of(&note, &mut places);
         if lines.put_line(sink, number, &note, &message).is_err() {
             session.stop(End::LogFault);
             return;

@@ -1,6 +1,7 @@
 //! The notes that a session makes of its messages.
 use crate::sessions::{asked, bytes_of, told_steps};
 use crate::texts::options_of;
+use dbus_header::Places;
 use policy_args::Options;
 use policy_view::{Mode, Note};
 use proxy_core::Session;
@@ -70,7 +71,8 @@ pub fn told_note(alloc: Global, note: Option<Note>) -> Result<String, AllocError
 /// The text of a note.
 pub fn told_parts(alloc: Global, note: &Note) -> Result<String, AllocError> {
     let (number, side, decision) = (note.number(), note.side(), note.decision());
-    let (message, length) = (note.message(), note.frame().len());
+    let mut places = Places::none();
+    let (message, length) = (note.message(&mut places), note.frame().len());
     format!(in alloc;
         "{number} {side:?} {} {} {length} {decision:?}; ",
         message.kind, message.serial

@@ -11,7 +11,7 @@ mod inputs;
 ghost use Rattle.std.specs.Prelude.{◌≡◌, ◌<◌, ◌≤◌, None, IsTrue, length};
 ghost use Rattle.dbus_header.specs.Malformed.{head_fault, whole_len};
 
-use dbus_header::{KnownTexts, decode_knowing, length};
+use dbus_header::{KnownTexts, Places, decode_knowing, length};
 use dbus_types::Signature;
 use dbus_values::{Order, value_end};
 use inputs::{byte_arrays, calls, dictionaries, members, replies};
@@ -66,6 +66,18 @@ fn is_whole(bytes: &[u8]) -> bool
     }
 }
 
+/// Reads a message, and gives its serial if it is valid.
+fn serial_of(bytes: &[u8], known: &mut KnownTexts) -> Option<u32>
+    requires long { 16 ≤ length bytes.now }
+    requires whole { head_fault bytes.now ≡ None → length bytes.now ≡ whole_len bytes.now }
+{
+    let mut places = Places::none();
+    match decode_knowing(bytes, known, &mut places) {
+        Ok(message) => Some(message.serial),
+        Err(_) => None,
+    }
+}
+
 /// Reads two messages in turn, whose serials tell which comes next.
 fn read(first: &[u8], second: &[u8], calls: u32, known: &mut KnownTexts) -> bool {
     if !is_whole(first) || !is_whole(second) {
@@ -73,14 +85,14 @@ fn read(first: &[u8], second: &[u8], calls: u32, known: &mut KnownTexts) -> bool
     }
     let mut serial = 0;
     for _ in 0..calls {
-        let message = if serial == 7 {
-            decode_knowing(second, known)
+        let next = if serial == 7 {
+            serial_of(second, known)
         } else {
-            decode_knowing(first, known)
+            serial_of(first, known)
         };
-        match message {
-            Ok(message) => serial = message.serial,
-            Err(_) => return false,
+        match next {
+            Some(next) => serial = next,
+            None => return false,
         }
     }
     serial == 8
@@ -99,7 +111,7 @@ fn read_stream(stream: &[u8], known: &mut KnownTexts) -> Option<u32> {
         if !is_whole(message) {
             return None;
         }
-        decode_knowing(message, known).ok()?;
+        decode_knowing(message, known, &mut Places::none()).ok()?;
         count = count.wrapping_add(1);
         rest = behind;
     }

@@ -16,7 +16,7 @@ ghost use Rattle.proxy_core.specs.Streams.{InMessages};
 use super::{Session, malformed};
 use crate::incoming::Incoming;
 use dbus_framing::{Framer, Front, Messages};
-use dbus_header::{Malformed, Message};
+use dbus_header::{Malformed, Message, Places};
 use policy_args::Policy;
 use policy_view::{End, Fault, Side};
 use std::alloc::AllocError;
@@ -61,6 +61,7 @@ impl Session {
         side: Side,
         messages: &'a Messages<'_>,
         len: usize,
+        places: &'a mut Places,
     ) -> Result<Message<'a>, Malformed>
         requires { IsWhole messages.now len }
         ensures valid { IfOk result (λ message. (m : MessageTree) × Takes messages.now message.bytes.now (drop len messages.now) m) }
@@ -68,8 +69,8 @@ impl Session {
         ensures stays { self.new ≡ self.old }
     {
         match side {
-            Side::Client => self.client.read_message(messages, len),
-            Side::Bus => self.bus.read_message(messages, len),
+            Side::Client => self.client.read_message(messages, len, places),
+            Side::Bus => self.bus.read_message(messages, len, places),
         }
     }
 
@@ -107,8 +108,8 @@ impl Session {
         ensures { TookFirst policy.now side messages.old messages.new self.old self.new result }
     {
         let shared = messages.shared(len);
-        // (the message stays where it was read: it is large)
-        let read = self.read_message(side, messages, len);
+        let mut places = Places::none();
+        let read = self.read_message(side, messages, len, &mut places);
         match &read {
             Ok(message) => {
                 let incoming = Incoming::new(message, shared.as_ref());

@@ -120,7 +120,7 @@ impl Session {
         ensures err { OnErr result (KeepsSides self.old self.new) }
     {
         self.learn_met(policy, unique_sender(message))?;
-        match message.sender {
+        match message.sender() {
             Some(sender) if message.expects_reply() => self.ledger.called(sender, message.serial),
             _ => Ok(()),
         }
@@ -134,7 +134,7 @@ impl Session {
     {
         if is_owner_change(message) {
             self.learn_owners(policy, message.three_texts())
-        } else if message.destination.is_some() {
+        } else if message.destination().is_some() {
             self.learn_met(policy, unique_sender(message))
         } else {
             Ok(())
@@ -239,7 +239,7 @@ impl Session {
         if !message.is_reply() {
             return None;
         }
-        match message.reply_serial {
+        match message.reply_serial() {
             Some(serial) => self.ledger.take(serial),
             None => None,
         }

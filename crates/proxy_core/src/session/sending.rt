@@ -71,9 +71,9 @@ impl Session {
         if !message.is_reply() {
             return;
         }
-        if let Some(destination) = message.destination {
+        if let Some(destination) = message.destination() {
             self.ledger
-                .answer(destination, message.reply_serial.unwrap_or(0));
+                .answer(destination, message.reply_serial().unwrap_or(0));
         }
     }
 

@@ -5,6 +5,15 @@ use Rattle.dbus_header.proofs.decoding.read_valid.Goals as goal
 pub order_in-order-requires : goal.order_in-order-requires
 order_in-order-requires c = (is_whole c.args.bytes.now (λ i. omega (arith, c.type_inv.bytes i)) c.requires).long
 
+pub header_fields_len-fields_len-requires-clause-long : goal.header_fields_len-fields_len-requires-clause-long
+header_fields_len-fields_len-requires-clause-long c = (is_whole c.args.bytes.now (λ i. omega (arith, c.type_inv.bytes i)) c.requires).long
+
+pub header_fields_len-fields_len-requires-clause-head : goal.header_fields_len-fields_len-requires-clause-head
+header_fields_len-fields_len-requires-clause-head c = (is_whole c.args.bytes.now (λ i. omega (arith, c.type_inv.bytes i)) c.requires).head
+
+pub header_fields_len-fields_len-requires-clause-whole : goal.header_fields_len-fields_len-requires-clause-whole
+header_fields_len-fields_len-requires-clause-whole c = (is_whole c.args.bytes.now (λ i. omega (arith, c.type_inv.bytes i)) c.requires).exact
+
 pub assembled-requires-clause-long : goal.assembled-requires-clause-long
 assembled-requires-clause-long c = (is_whole c.args.bytes.now (λ i. omega (arith, c.type_inv.bytes i)) c.requires).long
 

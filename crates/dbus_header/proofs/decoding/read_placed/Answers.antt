@@ -1,17 +1,7 @@
 use Rattle.std.proofs.Common.{◌≡◌, ◌∙◌, Some, sym, arith, rules}
 use Rattle.dbus_header.specs.Malformed.{fault}
-use Rattle.dbus_header.proofs.WholeMessage.{are_found, fault_of_whole, fields_wrong, whole_by}
-use Rattle.dbus_header.proofs.decoding.read_whole.Goals as goal
-
-pub returns-in_err-header_fields-clause-refusal : goal.returns-in_err-header_fields-clause-refusal
-returns-in_err-header_fields-clause-refusal c =
-    let whole = whole_by c.args.bytes.now (λ i. omega (arith, c.type_inv.bytes i)) c.requires.long (sym c.requires.head) (λ head. c.requires.whole) in
-    let is : fault c.args.bytes.now ≡ Some c.in_err-header_fields.field-0.0 =
-    fault_of_whole c.args.bytes.now whole ∙ fields_wrong c.args.bytes.now c.in_err-header_fields.field-0.0 c.in_err-header_fields.ensures.refusal in
-    search (rules, is)
-
-pub check_fields-requires-clause-found : goal.check_fields-requires-clause-found
-check_fields-requires-clause-found c = are_found c.args.bytes.now _ c.in_ok-header_fields.ensures.found
+use Rattle.dbus_header.proofs.WholeMessage.{fault_of_whole, whole_by}
+use Rattle.dbus_header.proofs.decoding.read_placed.Goals as goal
 
 pub returns-in_err-check_fields-clause-refusal : goal.returns-in_err-check_fields-clause-refusal
 returns-in_err-check_fields-clause-refusal c =
