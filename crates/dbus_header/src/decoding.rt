@@ -164,7 +164,8 @@ fn find_places(
     }
 }
 
-/// What else is wrong with a message whose header fields have parts at these places, and whose body begins at this place.
+/// What else is wrong with a message whose header fields have parts at these places, and whose body begins at this
+/// place.
 #[inline(always)]
 fn check_rest(
     order: Order,
