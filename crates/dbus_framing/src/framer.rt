@@ -2,6 +2,7 @@
 ghost use Rattle.std.specs.Prelude.{◌≡◌, ◌==◌, ◌^◌, ◌<◌, ◌≤◌, ◌++◌, [], Some, IfOk, IfErr, IfSome, OnOk, OnErr, length, take, drop};
 ghost use Rattle.dbus_header.specs.Message.{Message as MessageTree};
 ghost use Rattle.dbus_header.specs.Malformed.{fault};
+ghost use Rattle.dbus_header.specs.Placed.{IsPlaced};
 ghost use Rattle.dbus_header.specs.declared.Malformed.{Malformed as Fault};
 ghost use Rattle.dbus_framing.specs.Framing.{Gives, Looks, Takes};
 ghost use Rattle.dbus_framing.specs.Knows.{IsWhole, Knows};
@@ -11,7 +12,7 @@ use crate::buffer::Buffer;
 use crate::state::State;
 use crate::{Front, Next};
 use bytes::Bytes;
-use dbus_header::{KnownTexts, Malformed, Message, Places, decode_checked};
+use dbus_header::{KnownTexts, Malformed, Message, Places, check_whole, placed};
 use std::alloc::{AllocError, Global};
 use std::marker::Model;
 
@@ -65,21 +66,32 @@ pub(crate) fn looked(state: State, left: &[u8]) -> Front
     }
 }
 
-/// The first message, which has that length, or what is wrong with it.
+/// Checks the first message, which has that length, and puts the places of its header's parts into `places`.
 #[inline(always)]
-pub(crate) fn message_in_front<'a>(
-    left: &'a [u8],
+pub(crate) fn check_in_front(
+    left: &[u8],
     len: usize,
     known: &mut KnownTexts,
-    places: &'a mut Places,
-) -> Result<Message<'a>, Malformed>
+    places: &mut Places,
+) -> Result<(), Malformed>
     requires { IsWhole left.now len }
-    ensures bytes { IfOk result (λ message. message.bytes.now ≡ take len left.now) }
-    ensures valid { IfOk result (λ message. (m : MessageTree) × Takes left.now message.bytes.now (drop len left.now) m) }
+    ensures placed { OnOk result (IsPlaced (take len left.now) places.new) }
     ensures bad { IfErr result (λ f. fault left.now ≡ Some f) }
 {
     let (message, _) = left.split_at(len);
-    decode_checked(message, known, places)
+    check_whole(message, known, places)
+}
+
+/// The first message, which has that length and was checked.
+#[inline(always)]
+pub(crate) fn checked_in_front<'a>(left: &'a [u8], len: usize, places: &'a Places) -> Message<'a>
+    requires whole { IsWhole left.now len }
+    requires placed { IsPlaced (take len left.now) places.now }
+    ensures bytes { result.bytes.now ≡ take len left.now }
+    ensures valid { (m : MessageTree) × Takes left.now result.bytes.now (drop len left.now) m }
+{
+    let (message, _) = left.split_at(len);
+    placed(message, places)
 }
 
 impl Framer {
@@ -185,7 +197,6 @@ impl Framer {
 
     /// Reads the first message in place; `front` has said its length. Headers and texts that `known` has aren't checked
     /// again. The places of its header's parts are put into `places`.
-    #[inline(always)]
     pub fn message<'a>(
         &'a self,
         len: usize,
@@ -197,7 +208,35 @@ impl Framer {
         ensures valid { IfOk result (λ message. (m : MessageTree) × Takes self.now message.bytes.now (drop len self.now) m) }
         ensures bad { IfErr result (λ f. fault self.now ≡ Some f) }
     {
-        message_in_front(self.bytes.as_slice(), len, known, places)
+        self.check(len, known, places)?;
+        Ok(self.checked(len, places))
+    }
+
+    /// Checks the first message in place; `front` has said its length. Headers and texts that `known` has aren't checked
+    /// again. The places of its header's parts are put into `places`.
+    #[inline(always)]
+    pub(crate) fn check(
+        &self,
+        len: usize,
+        known: &mut KnownTexts,
+        places: &mut Places,
+    ) -> Result<(), Malformed>
+        requires { IsWhole self.now len }
+        ensures placed { OnOk result (IsPlaced (take len self.now) places.new) }
+        ensures bad { IfErr result (λ f. fault self.now ≡ Some f) }
+    {
+        check_in_front(self.bytes.as_slice(), len, known, places)
+    }
+
+    /// The first message, which `check` has checked.
+    #[inline(always)]
+    pub(crate) fn checked<'a>(&'a self, len: usize, places: &'a Places) -> Message<'a>
+        requires whole { IsWhole self.now len }
+        requires placed { IsPlaced (take len self.now) places.now }
+        ensures bytes { result.bytes.now ≡ take len self.now }
+        ensures valid { (m : MessageTree) × Takes self.now result.bytes.now (drop len self.now) m }
+    {
+        checked_in_front(self.bytes.as_slice(), len, places)
     }
 
     /// Lends the bytes of the first message without a copy, if they are many and memory for that is left. `front` has

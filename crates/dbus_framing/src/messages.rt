@@ -1,7 +1,8 @@
 //! The messages of a stream that weren't taken yet, in a framer or in a piece of the stream.
-ghost use Rattle.std.specs.Prelude.{◌≡◌, ◌≤◌, [], Some, IfOk, IfErr, IfSome, length, take, drop};
+ghost use Rattle.std.specs.Prelude.{◌≡◌, ◌≤◌, [], Some, IfOk, IfErr, IfSome, OnOk, length, take, drop};
 ghost use Rattle.dbus_header.specs.Message.{Message as MessageTree};
 ghost use Rattle.dbus_header.specs.Malformed.{fault};
+ghost use Rattle.dbus_header.specs.Placed.{IsPlaced};
 ghost use Rattle.dbus_framing.specs.Framing.{Looks, Takes};
 ghost use Rattle.dbus_framing.specs.Knows.{IsWhole};
 
@@ -23,7 +24,7 @@ pub(crate) enum Source<'a> {
 }
 
 /// The messages of a stream that weren't taken yet, in a framer or in a piece that was received with nothing left
-/// before it. Call `front`, `message` and `take`, and then `put_back`, which gives the rest to the stream's framer.
+/// before it. Call `front`, `check`, `checked` and `take`, and then `put_back`, which gives the rest to the stream's framer.
 #[derive(Drop)]
 pub struct Messages<'a> {
     source: Source<'a>,
@@ -73,23 +74,36 @@ impl<'a> Messages<'a> {
         }
     }
 
-    /// Reads the first message in place; `front` has said its length. Headers and texts that `known` has aren't checked
+    /// Checks the first message in place; `front` has said its length. Headers and texts that `known` has aren't checked
     /// again. The places of its header's parts are put into `places`.
     #[inline(always)]
-    pub fn message<'m>(
-        &'m self,
+    pub fn check(
+        &self,
         len: usize,
         known: &mut KnownTexts,
-        places: &'m mut Places,
-    ) -> Result<Message<'m>, Malformed>
+        places: &mut Places,
+    ) -> Result<(), Malformed>
         requires { IsWhole self.now len }
-        ensures bytes { IfOk result (λ message. message.bytes.now ≡ take len self.now) }
-        ensures valid { IfOk result (λ message. (m : MessageTree) × Takes self.now message.bytes.now (drop len self.now) m) }
+        ensures placed { OnOk result (IsPlaced (take len self.now) places.new) }
         ensures bad { IfErr result (λ f. fault self.now ≡ Some f) }
     {
         match &self.source {
-            Source::Kept(framer) => framer.message(len, known, places),
-            Source::Passed(passing) => passing.message(len, known, places),
+            Source::Kept(framer) => framer.check(len, known, places),
+            Source::Passed(passing) => passing.check(len, known, places),
+        }
+    }
+
+    /// The first message, which `check` has checked. It is read in place.
+    #[inline(always)]
+    pub fn checked<'m>(&'m self, len: usize, places: &'m Places) -> Message<'m>
+        requires whole { IsWhole self.now len }
+        requires placed { IsPlaced (take len self.now) places.now }
+        ensures bytes { result.bytes.now ≡ take len self.now }
+        ensures valid { (m : MessageTree) × Takes self.now result.bytes.now (drop len self.now) m }
+    {
+        match &self.source {
+            Source::Kept(framer) => framer.checked(len, places),
+            Source::Passed(passing) => passing.checked(len, places),
         }
     }
 

@@ -1,12 +1,13 @@
 //! A piece of a stream whose messages are read in place.
-ghost use Rattle.std.specs.Prelude.{◌≡◌, ◌≤◌, [], Some, IfOk, IfErr, length, take, drop, vec_capacity};
+ghost use Rattle.std.specs.Prelude.{◌≡◌, ◌≤◌, [], Some, IfOk, IfErr, OnOk, length, take, drop, vec_capacity};
 ghost use Rattle.dbus_header.specs.Message.{Message as MessageTree};
 ghost use Rattle.dbus_header.specs.Malformed.{fault};
+ghost use Rattle.dbus_header.specs.Placed.{IsPlaced};
 ghost use Rattle.dbus_framing.specs.Framing.{Looks, Takes};
 ghost use Rattle.dbus_framing.specs.Knows.{IsWhole};
 
 use crate::Front;
-use crate::framer::{Framer, looked, message_in_front};
+use crate::framer::{Framer, check_in_front, checked_in_front, looked};
 use crate::state::State;
 use dbus_header::{KnownTexts, Malformed, Message, Places};
 use std::alloc::AllocError;
@@ -77,20 +78,30 @@ impl<'a> Passing<'a> {
         looked(state, self.left)
     }
 
-    /// Reads the first message, whose length `front` has said.
+    /// Checks the first message, whose length `front` has said.
     #[inline(always)]
-    pub(crate) fn message<'m>(
-        &'m self,
+    pub(crate) fn check(
+        &self,
         len: usize,
         known: &mut KnownTexts,
-        places: &'m mut Places,
-    ) -> Result<Message<'m>, Malformed>
+        places: &mut Places,
+    ) -> Result<(), Malformed>
         requires { IsWhole self.now len }
-        ensures bytes { IfOk result (λ message. message.bytes.now ≡ take len self.now) }
-        ensures valid { IfOk result (λ message. (m : MessageTree) × Takes self.now message.bytes.now (drop len self.now) m) }
+        ensures placed { OnOk result (IsPlaced (take len self.now) places.new) }
         ensures bad { IfErr result (λ f. fault self.now ≡ Some f) }
     {
-        message_in_front(self.left, len, known, places)
+        check_in_front(self.left, len, known, places)
+    }
+
+    /// The first message, which `check` has checked.
+    #[inline(always)]
+    pub(crate) fn checked<'m>(&'m self, len: usize, places: &'m Places) -> Message<'m>
+        requires whole { IsWhole self.now len }
+        requires placed { IsPlaced (take len self.now) places.now }
+        ensures bytes { result.bytes.now ≡ take len self.now }
+        ensures valid { (m : MessageTree) × Takes self.now result.bytes.now (drop len self.now) m }
+    {
+        checked_in_front(self.left, len, places)
     }
 
     /// Removes that many bytes from the start.

@@ -9,7 +9,7 @@ ghost use Rattle.dbus_header.specs.HeaderReading.{has_required_parts};
 ghost use Rattle.dbus_header.specs.KnownHeaders.{AreWithin, fields_bytes as bytes_of_fields, found_at};
 ghost use Rattle.dbus_header.specs.Contents.{message_of};
 ghost use Rattle.dbus_header.specs.Message.{body_place};
-ghost use Rattle.dbus_header.specs.Placed.{HasPlaces};
+ghost use Rattle.dbus_header.specs.Placed.{HasPlaces, IsPlaced};
 ghost use Rattle.dbus_header.specs.Whole.{body_fault_at, stated_in, HasParts, IsFieldsLen, fields_fault, fields_found, rest_fault};
 
 use crate::fields::{Fields, read_fields};
@@ -229,14 +229,14 @@ fn check_fields(
     )
 }
 
-/// Reads a whole message whose first sixteen bytes are valid and whose header fields have parts at these places.
+/// Checks a whole message whose first sixteen bytes are valid and whose header fields have parts at these places.
 #[inline(always)]
-fn read_placed<'a>(
+fn check_placed(
     order: Order,
     fields_len: u32,
-    bytes: &'a [u8],
-    places: &'a Places,
-) -> Result<Message<'a>, Malformed>
+    bytes: &[u8],
+    places: &Places,
+) -> Result<(), Malformed>
     requires order { order ≡ stated_order bytes.now }
     requires long { 16 ≤ length bytes.now }
     requires head { head_fault bytes.now ≡ None }
@@ -244,25 +244,31 @@ fn read_placed<'a>(
     requires len { IsFieldsLen bytes.now fields_len }
     requires placed { HasPlaces order fields_len bytes.now places.now }
     ensures refusal { refusal result ≡ fault bytes.now }
-    ensures bytes { IfOk result (λ m. m.bytes.now ≡ bytes.now) }
+    ensures placed { OnOk result (IsPlaced bytes.now places.now) }
 {
     let fields = fields_bytes(fields_len, bytes);
-    check_fields(order, fields_len, bytes, fields, places)?;
-    Ok(assembled(order, bytes, fields, places))
+    check_fields(order, fields_len, bytes, fields, places)
 }
 
 /// The valid message with these bytes, whose header fields have these bytes and parts at these places.
 #[inline(always)]
-fn assembled<'a>(order: Order, bytes: &'a [u8], fields: &'a [u8], places: &'a Places) -> Message<'a>
+fn assembled<'a>(
+    order: Order,
+    fields_len: u32,
+    bytes: &'a [u8],
+    fields: &'a [u8],
+    places: &'a Places,
+) -> Message<'a>
     requires long { 16 ≤ length bytes.now }
     requires head { head_fault bytes.now ≡ None }
     requires whole { length bytes.now ≡ whole_len bytes.now }
     requires order { order ≡ stated_order bytes.now }
+    requires len { IsFieldsLen bytes.now fields_len }
     requires within { AreWithin fields.now places.now }
     requires parts { HasParts bytes.now (found_at order fields.now places.now) }
     ensures { result.bytes.now ≡ bytes.now }
 {
-    let start = body_start(read_u32(order, bytes, 12)) as usize;
+    let start = body_start(fields_len) as usize;
     let (_, body) = bytes.split_at(start);
     Message {
         order,
@@ -316,10 +322,40 @@ pub fn decode_checked<'a>(
     ensures refusal { refusal result ≡ fault bytes.now }
     ensures bytes { IfOk result (λ m. m.bytes.now ≡ bytes.now) }
 {
+    check_whole(bytes, known, places)?;
+    Ok(placed(bytes, places))
+}
+
+/// Does the first half of `decode_checked`: checks the message, and puts the places of the header's parts into
+/// `places`. `placed` then gives the message. A caller that does both moves no message through a result.
+pub fn check_whole(
+    bytes: &[u8],
+    known: &mut KnownTexts,
+    places: &mut Places,
+) -> Result<(), Malformed>
+    requires long { 16 ≤ length bytes.now }
+    requires head { head_fault bytes.now ≡ None }
+    requires whole { length bytes.now ≡ whole_len bytes.now }
+    ensures refusal { refusal result ≡ fault bytes.now }
+    ensures placed { OnOk result (IsPlaced bytes.now places.new) }
+{
     let order = order_in(bytes);
     let fields_len = header_fields_len(order, bytes);
     find_places(known, order, fields_len, bytes, places)?;
-    read_placed(order, fields_len, bytes, places)
+    check_placed(order, fields_len, bytes, places)
+}
+
+/// The message with these bytes, which `check_whole` has checked, and whose header's parts it has put into `places`.
+#[inline(always)]
+pub fn placed<'a>(bytes: &'a [u8], places: &'a Places) -> Message<'a>
+    requires { IsPlaced bytes.now places.now }
+    ensures bytes { result.bytes.now ≡ bytes.now }
+    ensures sound { fault bytes.now ≡ None }
+{
+    let order = order_in(bytes);
+    let fields_len = header_fields_len(order, bytes);
+    let fields = fields_bytes(fields_len, bytes);
+    assembled(order, fields_len, bytes, fields, places)
 }
 
 /// Finds the places of the parts of a valid message's header fields.
@@ -356,5 +392,11 @@ pub fn read_valid<'a>(bytes: &'a [u8], known: &KnownTexts, places: &'a mut Place
     let order = order_in(bytes);
     let fields_len = header_fields_len(order, bytes);
     valid_places(known, order, fields_len, bytes, places);
-    assembled(order, bytes, fields_bytes(fields_len, bytes), places)
+    assembled(
+        order,
+        fields_len,
+        bytes,
+        fields_bytes(fields_len, bytes),
+        places,
+    )
 }

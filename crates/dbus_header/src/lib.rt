@@ -25,7 +25,7 @@ ghost use Rattle.dbus_header.specs.Malformed.{front};
 ghost use Rattle.dbus_header.specs.Stream.{Splits, split, messages, bad};
 ghost use Rattle.dbus_header.specs.declared.Malformed.{Malformed as Fault};
 
-pub use decoding::{decode, decode_checked, decode_knowing, read_valid};
+pub use decoding::{check_whole, decode, decode_checked, decode_knowing, placed, read_valid};
 pub use grammars::KnownTexts;
 pub use head::length;
 pub use kinds::{

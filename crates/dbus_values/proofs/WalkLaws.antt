@@ -17,7 +17,7 @@ use Rattle.dbus_types.proofs.BehindLaws.{type_in_front}
 use Rattle.dbus_values.specs.Values.{Value, a_variant, an_array, a_struct, an_entry, Values, no_values, value, width, alignment, padding}
 use Rattle.dbus_values.specs.Reading.{At, ◌>>=◌, when, some_bytes, aligned, a_width, signature_at, to_the_end, each_of, one_type, element_at, value_by, value_within, value_at, values_at, and_then_all}
 use Rattle.dbus_values.specs.Ends.{end_of, values_end}
-use Rattle.dbus_values.specs.Walk.{Walk, alignment_by, front_code, behind_entry, walk_entry, walk_element, has_more, walk_to_end, numbers_fill, elements_fill, walk_array, walk_members, walk_struct, walk_variant, with_types, walk_by, walk_within, walk_types, walked, end_at}
+use Rattle.dbus_values.specs.Walk.{Walk, alignment_by, front_code, behind_entry, walk_text, walk_entry, walk_element, has_more, walk_to_end, numbers_fill, elements_fill, walk_array, walk_members, walk_struct, walk_variant, with_types, walk_by, walk_within, walk_types, walked, end_at}
 use Rattle.dbus_values.proofs.ValueRead.{some_bytes-takes, aligned-takes, width-takes, signature-takes, read_32}
 use Rattle.dbus_values.proofs.ValueIs.{elem_is, within-is}
 use Rattle.dbus_values.proofs.ValueAgain.{basic_complete}
@@ -370,3 +370,26 @@ values_walked o ts types at bytes rest valid is from h =
     ap (λ (s : List ℕ). end_at (walk_types (walk_within 65 o) (suc (length s)) s (record { place = at; bytes = rest }))) is
     ∙ ap (λ (r : List ℕ). end_at (walk_types (walk_within 65 o) (suc (length (spelled_types ts))) (spelled_types ts) (record { place = at; bytes = r }))) from
     ∙ types_walked o ts (suc (length (spelled_types ts))) (record { place = at; bytes = drop at bytes }) (all_complete ts (ap signature_fault (sym is) ∙ valid)) (omega arith) (AreBytes-drop at bytes h)
+
+-- a body without values ends where it begins
+pub nothing_walked : (o : Order) (types : List ℕ) (a : At) → length types ≡ 0 → end_at (walk_types (walk_within 65 o) (suc (length types)) types a) ≡ Ok a.place
+nothing_walked o [] a none = refl
+nothing_walked o (c ∷ types) a none = absurd (omega (arith, none))
+
+-- a body that is one string ends where the string does
+abbrev pub text_end : At → Option At → Result ℕ BadValue
+text_end a None = Err (record { at = a.place })
+text_end a (Some b) = Ok b.place
+
+pub text_walked : (o : Order) (a : At) → text_end a (walk_text o a) ≡ end_at (walk_types (walk_within 65 o) 2 (115 ∷ []) a)
+unfolding walk_within
+text_walked o a = go (walk_text o a)
+  where
+    go : (x : Option At) → text_end a x ≡ end_at (walked (with_types [] x) (115 ∷ [], a) (walk_types (walk_within 65 o) 1))
+    go None = refl
+    go (Some b) = refl
+
+pub one_type_walked : (types : List ℕ) → length types ≡ 1 → front_code types ≡ 115 → types ≡ 115 ∷ []
+one_type_walked [] one code = absurd (omega (arith, one))
+one_type_walked (c ∷ d ∷ types) one code = absurd (omega (arith, one))
+one_type_walked (c ∷ []) one code = ap (λ (d : ℕ). d ∷ []) code

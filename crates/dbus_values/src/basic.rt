@@ -136,7 +136,7 @@ impl<'a> Cursor<'a> {
     }
 
     #[inline(always)]
-    fn text(self, order: Order) -> Option<Cursor<'a>>
+    pub(crate) fn text(self, order: Order) -> Option<Cursor<'a>>
         ensures { option_map place_seen result ≡ walk_text order (place_seen self.entry) }
     {
         let (text, behind) = self.counted(order)?;

@@ -86,10 +86,10 @@ fn next_in_place(
         Front::Bad(fault) => return Ok(Next::Bad(fault)),
     };
     let mut places = Places::none();
-    let frame = match messages.message(len, known, &mut places) {
-        Ok(message) => Bytes::copy_from_slice(alloc, message.bytes)?,
-        Err(fault) => return Ok(Next::Bad(fault)),
-    };
+    if let Err(fault) = messages.check(len, known, &mut places) {
+        return Ok(Next::Bad(fault));
+    }
+    let frame = Bytes::copy_from_slice(alloc, messages.checked(len, &places).bytes)?;
     messages.take(len);
     Ok(Next::Whole(frame))
 }

@@ -8,8 +8,7 @@ use Rattle.sasl_watch.proofs.LinesGrow.{no_bus_fault}
 use Rattle.sasl_watch.specs.Watching.{client_ahead}
 use Rattle.policy_args.specs.Policy.{Policy}
 use Rattle.policy_view.specs.Past.{Item, History}
-use Rattle.policy_view.specs.History.{Event, stream, lines, content, fault, line_fault, fault_of_line}
-use Rattle.policy_view.specs.declared.visible.Visible.TheVariants as element
+use Rattle.policy_view.specs.History.{Event, stream, lines, content, line_fault, fault_of_line}
 use Rattle.policy_view.specs.declared.Mode.{Mode}
 use Rattle.policy_view.specs.declared.Side.{Side}
 use Rattle.policy_view.specs.declared.Side.TheVariants.{Client, Bus}

@@ -13,8 +13,7 @@ use Rattle.sasl_watch.specs.declared.LineFault.{LineFault}
 use Rattle.sasl_watch.specs.declared.LineKind.TheVariants.{EarlyBus}
 use Rattle.policy_args.specs.Policy.{Policy}
 use Rattle.policy_view.specs.Past.{Item, Line, History}
-use Rattle.policy_view.specs.History.{Event, stream, lines, fault, followed_by}
-use Rattle.policy_view.specs.declared.visible.Visible.TheVariants as element
+use Rattle.policy_view.specs.History.{Event, stream, followed_by}
 use Rattle.policy_view.specs.declared.Fault.TheVariants.{Line as OfLine}
 use Rattle.policy_view.specs.declared.Mode.{Mode}
 use Rattle.policy_view.specs.declared.Side.TheVariants.{Client, Bus}

@@ -10,8 +10,7 @@ use Rattle.dbus_header.proofs.MessageRead.{front-is}
 use Rattle.dbus_header.proofs.StreamLaws.{front-shorter}
 use Rattle.policy_args.specs.Policy.{Policy}
 use Rattle.policy_view.specs.Past.{Item, Msg, History}
-use Rattle.policy_view.specs.History.{Event, lines, raw_item, fault, line_fault, fault_of, fault_end, new_in, followed_by, followed_by_all}
-use Rattle.policy_view.specs.declared.visible.Visible.TheVariants as element
+use Rattle.policy_view.specs.History.{Event, raw_item, fault, line_fault, fault_of, fault_end, new_in, followed_by, followed_by_all}
 use Rattle.policy_view.specs.declared.Fault.{Fault}
 use Rattle.policy_view.specs.declared.Fault.TheVariants.{Message as OfMessage}
 use Rattle.policy_view.specs.declared.Mode.{Mode}

@@ -6,8 +6,7 @@ use Rattle.dbus_header.specs.Message.{Message, Valid}
 use Rattle.sasl_watch.specs.Lines.{asked, has_begun as begins_in}
 use Rattle.policy_args.specs.Policy.{Policy}
 use Rattle.policy_view.specs.Past.{Item, Msg, History}
-use Rattle.policy_view.specs.History.{Event, stream, lines, fault, fault_end, malformed, new_in, followed_by, followed_by_all}
-use Rattle.policy_view.specs.declared.visible.Visible.TheVariants as element
+use Rattle.policy_view.specs.History.{Event, stream, fault, fault_end, malformed, new_in, followed_by, followed_by_all}
 use Rattle.policy_view.specs.declared.Fault.{Fault}
 use Rattle.policy_view.specs.declared.Mode.{Mode}
 use Rattle.policy_view.specs.declared.End.{End}

@@ -23,11 +23,9 @@ use Rattle.reply_ledger.specs.Ledger.{Ledger}
 use Rattle.policy_view.specs.declared.Verdict.{Verdict}
 use Rattle.policy_view.specs.declared.Verdict.TheVariants.{Pass, Ping, Drop}
 use Rattle.proxy_core.specs.Sessions.{SessionView}
-use Rattle.dbus_header.specs.Seen.{text_seen}
 use Rattle.dbus_header.specs.declared.message.Message.{Message as Seen}
 use Rattle.proxy_core.specs.Messages.{counted, ended_by, less_to, queued, sending, with_due, with_replied, with_sent, with_verdict}
 use Rattle.proxy_core.proofs.Taking.{destination_is, number_is, replies_is, reply_serial_is, tree}
-use denote.Bor.{Bor}
 
 -- ---- one message with the next serial
 

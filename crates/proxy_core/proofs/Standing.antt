@@ -47,7 +47,6 @@ use Rattle.proxy_core.proofs.Driving.{Steps, Final, LastOf, Midst, KnowsOther, p
 use Rattle.proxy_core.proofs.Driven.{drained_last}
 use Rattle.proxy_core.proofs.Followed.{end_followed, end_ignored, new_none, stream_holds}
 use Rattle.proxy_core.proofs.DrivenMessages.{same_stream, stream_runs}
-use Rattle.dbus_header.specs.Malformed.{front}
 use Rattle.proxy_core.proofs.Placing.{ended_holds, knows_still}
 use Rattle.proxy_core.proofs.Untouched.{other, Untouched, untouched_all, untouched_then, ended_untouched, finished_remembers, drained_untouched}
 use Rattle.proxy_core.proofs.StreamPieces.{other_follows, own_follows, knows_other, piece_goes, both_streams, same_follows}

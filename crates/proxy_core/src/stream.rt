@@ -1,10 +1,9 @@
 //! The stream of a side: the lines of authentication, if the session begins with them, and then messages.
-ghost use Rattle.std.specs.Prelude.{◌≡◌, ◌≤◌, ◌<◌, ◌+◌, ◌^◌, [], true, Some, IsTrue, IfOk, IfErr, OnOk, OnErr, length, take, drop};
-ghost use Rattle.dbus_framing.specs.Framing.{Takes};
+ghost use Rattle.std.specs.Prelude.{◌≡◌, ◌≤◌, ◌<◌, ◌+◌, ◌^◌, [], true, Some, IsTrue, IfOk, IfErr, OnOk, OnErr, length, take};
 ghost use Rattle.dbus_framing.specs.Knows.{IsWhole};
 ghost use Rattle.dbus_header.specs.Contents.{contents_of, message_in};
 ghost use Rattle.dbus_header.specs.Malformed.{fault};
-ghost use Rattle.dbus_header.specs.Message.{Message as MessageTree};
+ghost use Rattle.dbus_header.specs.Placed.{IsPlaced};
 ghost use Rattle.dbus_header.specs.Read.{message_seen};
 ghost use Rattle.sasl_watch.specs.Watching.{BusGives, ClientGives};
 ghost use Rattle.policy_view.specs.History.{longest_stream};
@@ -221,22 +220,21 @@ impl Stream {
         }
     }
 
-    /// Reads the first message of what was moved out; its head states its length. What is known of its texts is kept
+    /// Checks the first message of what was moved out; its head states its length. What is known of its header is kept
     /// here; nothing else changes.
     #[inline(always)]
-    pub(crate) fn read_message<'a>(
+    pub(crate) fn check_message(
         &mut self,
-        lent: &'a Messages<'_>,
+        lent: &Messages<'_>,
         len: usize,
-        places: &'a mut Places,
-    ) -> Result<Message<'a>, Malformed>
+        places: &mut Places,
+    ) -> Result<(), Malformed>
         requires { IsWhole lent.now len }
-        ensures bytes { IfOk result (λ message. message.bytes.now ≡ take len lent.now) }
-        ensures valid { IfOk result (λ message. (m : MessageTree) × Takes lent.now message.bytes.now (drop len lent.now) m) }
+        ensures placed { OnOk result (IsPlaced (take len lent.now) places.new) }
         ensures bad { IfErr result (λ f. fault lent.now ≡ Some f) }
         ensures stays { self.new ≡ self.old }
     {
-        lent.message(len, &mut self.known, places)
+        lent.check(len, &mut self.known, places)
     }
 
     /// Reads the message of a note on one of this stream. Its header isn't checked again if it is still known.

@@ -1,22 +1,24 @@
 //! The first message of a side's stream. The rest of the stream is moved out of the session meanwhile, so that the
 //! message is read in place and once.
-ghost use Rattle.std.specs.Prelude.{◌≡◌, ◌==◌, ◌≤◌, ◌+◌, [], false, true, None, Some, IfOk, IfErr, OnOk, OnErr, length, drop};
+ghost use Rattle.std.specs.Prelude.{◌≡◌, ◌==◌, ◌≤◌, ◌+◌, [], false, true, None, Some, IfOk, IfErr, OnOk, OnErr, length, take, drop};
 ghost use Rattle.dbus_framing.specs.Framing.{Takes};
 ghost use Rattle.dbus_framing.specs.Knows.{IsWhole};
+ghost use Rattle.dbus_header.specs.Contents.{message_in};
 ghost use Rattle.dbus_header.specs.Malformed.{fault};
 ghost use Rattle.dbus_header.specs.Message.{Message as MessageTree};
+ghost use Rattle.dbus_header.specs.Placed.{IsPlaced};
 ghost use Rattle.policy_view.specs.History.{malformed as malformed_by, longest_stream};
 ghost use Rattle.policy_view.specs.declared.Fault.TheVariants.{Message as OfMessage};
-ghost use Rattle.proxy_core.specs.Messages.{ended_by};
+ghost use Rattle.proxy_core.specs.Messages.{ended_by, with_watched_message};
 ghost use Rattle.proxy_core.specs.Seen.{TookFirst, IsLent, with_came};
 ghost use Rattle.proxy_core.specs.Sessions.{stream_of};
-ghost use Rattle.proxy_core.specs.Steps.{with_left, with_bytes, with_pushed, drained, Took, IsLight};
+ghost use Rattle.proxy_core.specs.Steps.{with_left, with_bytes, with_pushed, drained, Took, TookMessage, IsLight};
 ghost use Rattle.proxy_core.specs.Streams.{InMessages};
 
 use super::{Session, malformed};
 use crate::incoming::Incoming;
 use dbus_framing::{Framer, Front, Messages};
-use dbus_header::{Malformed, Message, Places};
+use dbus_header::{Malformed, Places};
 use policy_args::Policy;
 use policy_view::{End, Fault, Side};
 use std::alloc::AllocError;
@@ -24,6 +26,9 @@ use std::alloc::AllocError;
 /// One read of a link gives no more bytes. A longer piece may hold long messages, whose bytes can only be shared if a
 /// framer holds them.
 const LONGEST_IN_PLACE: usize = 65_536;
+
+/// Shorter messages aren't shared: to copy one costs less.
+const LONG: usize = 65_536;
 
 impl Session {
     /// Moves what is left of the messages of a side's stream out of the session.
@@ -54,23 +59,23 @@ impl Session {
         }
     }
 
-    /// Reads the first message of what was moved out of a side's stream; its head states its length.
+    /// Checks the first message of what was moved out of a side's stream; its head states its length.
     #[inline(always)]
-    fn read_message<'a>(
+    fn check_message(
         &mut self,
         side: Side,
-        messages: &'a Messages<'_>,
+        messages: &Messages<'_>,
         len: usize,
-        places: &'a mut Places,
-    ) -> Result<Message<'a>, Malformed>
+        places: &mut Places,
+    ) -> Result<(), Malformed>
         requires { IsWhole messages.now len }
-        ensures valid { IfOk result (λ message. (m : MessageTree) × Takes messages.now message.bytes.now (drop len messages.now) m) }
+        ensures placed { OnOk result (IsPlaced (take len messages.now) places.new) }
         ensures bad { IfErr result (λ f. fault messages.now ≡ Some f) }
         ensures stays { self.new ≡ self.old }
     {
         match side {
-            Side::Client => self.client.read_message(messages, len, places),
-            Side::Bus => self.bus.read_message(messages, len, places),
+            Side::Client => self.client.check_message(messages, len, places),
+            Side::Bus => self.bus.check_message(messages, len, places),
         }
     }
 
@@ -94,41 +99,113 @@ impl Session {
         false
     }
 
+    /// Processes the first message, which is long and was checked. Its bytes are shared if they can be.
+    #[inline(never)]
+    fn process_long(
+        &mut self,
+        policy: &Policy,
+        side: Side,
+        messages: &mut Messages<'_>,
+        len: usize,
+        places: &Places,
+    )
+        requires running { self.old.ended ≡ None }
+        requires whole { IsWhole messages.old len }
+        requires placed { IsPlaced (take len messages.old) places.now }
+        ensures took { TookMessage (with_watched_message policy.now side (message_in (take len messages.old)) self.old) self.old self.new }
+        ensures valid { (m : MessageTree) × Takes messages.old (take len messages.old) (drop len messages.old) m }
+        ensures stays { messages.new ≡ messages.old }
+    {
+        let shared = messages.shared(len);
+        let message = messages.checked(len, places);
+        let incoming = Incoming::new(&message, shared.as_ref());
+        self.process_message(policy, side, &incoming);
+    }
+
+    /// Processes the first message, which is short and was checked.
+    #[inline(always)]
+    fn process_short<'a>(
+        &mut self,
+        policy: &Policy,
+        side: Side,
+        messages: &'a Messages<'_>,
+        len: usize,
+        places: &'a Places,
+    )
+        requires running { self.old.ended ≡ None }
+        requires whole { IsWhole messages.now len }
+        requires placed { IsPlaced (take len messages.now) places.now }
+        ensures took { TookMessage (with_watched_message policy.now side (message_in (take len messages.now)) self.old) self.old self.new }
+        ensures valid { (m : MessageTree) × Takes messages.now (take len messages.now) (drop len messages.now) m }
+    {
+        let message = messages.checked(len, places);
+        let incoming = Incoming::new(&message, None);
+        self.process_message(policy, side, &incoming);
+    }
+
+    /// Processes the first message, which was checked.
+    #[inline(always)]
+    fn process_checked(
+        &mut self,
+        policy: &Policy,
+        side: Side,
+        messages: &mut Messages<'_>,
+        len: usize,
+        places: &Places,
+    )
+        requires running { self.old.ended ≡ None }
+        requires whole { IsWhole messages.old len }
+        requires placed { IsPlaced (take len messages.old) places.now }
+        ensures took { TookMessage (with_watched_message policy.now side (message_in (take len messages.old)) self.old) self.old self.new }
+        ensures valid { (m : MessageTree) × Takes messages.old (take len messages.old) (drop len messages.old) m }
+        ensures stays { messages.new ≡ messages.old }
+    {
+        if len < LONG {
+            self.process_short(policy, side, messages, len, places);
+        } else {
+            self.process_long(policy, side, messages, len, places);
+        }
+    }
+
     /// Processes the first message, whose head states its length, or ends the session if it is malformed. Returns
     /// whether more may follow.
+    #[inline(always)]
     fn process_stated(
         &mut self,
         policy: &Policy,
         side: Side,
         messages: &mut Messages<'_>,
         len: usize,
+        places: &mut Places,
     ) -> bool
         requires running { self.old.ended ≡ None }
         requires whole { IsWhole messages.old len }
         ensures { TookFirst policy.now side messages.old messages.new self.old self.new result }
     {
-        let shared = messages.shared(len);
-        let mut places = Places::none();
-        let read = self.read_message(side, messages, len, &mut places);
-        match &read {
-            Ok(message) => {
-                let incoming = Incoming::new(message, shared.as_ref());
-                self.process_message(policy, side, &incoming);
+        match self.check_message(side, messages, len, places) {
+            Ok(()) => {
+                self.process_checked(policy, side, messages, len, places);
                 messages.take(len);
                 self.ended.is_none()
             }
-            Err(fault) => self.end_malformed(side, *fault),
+            Err(fault) => self.end_malformed(side, fault),
         }
     }
 
     /// Processes the first of a side's messages, or ends the session if its head is wrong. Returns whether more
     /// messages may follow.
-    fn process_first(&mut self, policy: &Policy, side: Side, messages: &mut Messages<'_>) -> bool
+    fn process_first(
+        &mut self,
+        policy: &Policy,
+        side: Side,
+        messages: &mut Messages<'_>,
+        places: &mut Places,
+    ) -> bool
         requires { self.old.ended ≡ None }
         ensures { TookFirst policy.now side messages.old messages.new self.old self.new result }
     {
         match messages.front() {
-            Front::Whole(len) => self.process_stated(policy, side, messages, len),
+            Front::Whole(len) => self.process_stated(policy, side, messages, len, places),
             Front::Incomplete => false,
             Front::Bad(fault) => self.end_malformed(side, fault),
         }
@@ -150,9 +227,11 @@ impl Session {
         ensures light { IsLight policy.now 0 (with_left side messages.old self.old) (with_left side messages.new self.new) }
         ensures lent { IsLent side self.new }
     {
+        // The places of a message's parts, which each message overwrites.
+        let mut places = Places::none();
         let mut left = most;
         while left > 0 {
-            if !self.process_first(policy, side, messages) {
+            if !self.process_first(policy, side, messages, &mut places) {
                 return;
             }
             left -= 1;

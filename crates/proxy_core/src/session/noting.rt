@@ -17,6 +17,7 @@ use std::mem;
 
 impl Session {
     /// Processes a message of a side. Returns what was decided on it.
+    #[inline(always)]
     fn process_of_side(
         &mut self,
         policy: &Policy,
@@ -56,6 +57,7 @@ impl Session {
     }
 
     /// Processes a message of a side and makes a note of it. If the session ends instead, there is no note.
+    #[inline(never)]
     fn process_noted(&mut self, policy: &Policy, side: Side, incoming: &Incoming<'_, '_>)
         requires running { self.old.ended ≡ None }
         requires notes { self.old.mode.notes ≡ true }
@@ -80,6 +82,7 @@ impl Session {
     }
 
     /// Processes a message of a side, and makes a note of it if the session makes notes.
+    #[inline(always)]
     pub(super) fn process_unwatched(
         &mut self,
         policy: &Policy,

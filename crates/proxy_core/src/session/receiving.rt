@@ -1,12 +1,13 @@
 //! What the proxy learns from a message of the bus, what the client is shown of it, and what the proxy then asks.
 ghost use Rattle.std.specs.Prelude.{◌≡◌, ◌≤◌, ◌+◌, ◌==◌, ◌||◌, true, None, All, IfSome, OnOk, OnErr, length, map};
-ghost use Rattle.dbus_header.specs.Message.{reply_serial as reply_serial_of};
+ghost use Rattle.dbus_header.specs.Message.{reply_serial as reply_serial_of, three_texts as three_texts_of};
 ghost use Rattle.dbus_names.specs.Names.{is_well_known as is_well_known_name};
 ghost use Rattle.dbus_header.specs.Seen.{text_seen, texts_seen};
 ghost use Rattle.policy_args.specs.declared.fact.Fact.TheVariants.{Owned, SelfId, Met};
 ghost use Rattle.policy_view.specs.History.{most_sent};
 ghost use Rattle.policy_view.specs.Past.{fact_of, learned_at, owners_of};
 ghost use Rattle.policy_view.specs.Sent.{OwnOwner, asked as names_asked};
+ghost use Rattle.policy_view.specs.declared.Showing.TheVariants.{Cut, Instead as InPlace};
 ghost use Rattle.policy_view.specs.Shown.{CallIn, NamesAnswer, bus_role, role_of_reply, role_of_signal, showing_at};
 ghost use Rattle.proxy_core.specs.Incoming.{incoming_message};
 ghost use Rattle.proxy_core.specs.Messages.{KeepsSides, known, own_names, sending, with_bus_message, with_facts, with_role, with_sent, with_shown, with_told, with_used};
@@ -20,8 +21,8 @@ use crate::facts::{is_covered, returned_id, returned_names, unique, unique_sende
 use crate::incoming::Incoming;
 use crate::queue::{push_cut, push_reply, push_whole};
 use bytes::BytesMut;
-use dbus_header::Message;
-use dbus_values::Texts;
+use dbus_header::{Instead, Message};
+use dbus_values::{Order, Texts};
 use own_calls::{after_names, asked};
 use ping_rewrite::answer_in_place;
 use policy_args::Policy;
@@ -88,6 +89,15 @@ impl Session {
         self.learn_owner(policy, name, unique(Some(after)))
     }
 
+    /// Learns from a signal that says that a name's owner changed.
+    #[inline(never)]
+    fn learn_change(&mut self, policy: &Policy, message: &Message<'_>) -> Result<(), AllocError>
+        ensures ok { OnOk result (self.new ≡ with_facts policy.now (owners_of policy.now (three_texts_of (message_in message.now.bytes.now))) self.old) }
+        ensures err { OnErr result (KeepsSides self.old self.new) }
+    {
+        self.learn_owners(policy, message.three_texts())
+    }
+
     /// Learns from an answer: the client's own name, or the owner of a name.
     fn learn_answer(
         &mut self,
@@ -133,7 +143,7 @@ impl Session {
         ensures err { OnErr result (KeepsSides self.old self.new) }
     {
         if is_owner_change(message) {
-            self.learn_owners(policy, message.three_texts())
+            self.learn_change(policy, message)
         } else if message.destination().is_some() {
             self.learn_met(policy, unique_sender(message))
         } else {
@@ -162,6 +172,46 @@ impl Session {
         }
     }
 
+    /// Sends the client a list of names without those that it may not see.
+    #[inline(never)]
+    fn show_cut(
+        &mut self,
+        policy: &Policy,
+        message: &Message<'_>,
+        serial: u32,
+    ) -> Result<(), AllocError>
+        requires { ShownBy message.now (Cut serial) }
+        ensures ok { OnOk result (self.new ≡ with_shown policy.now (message_in message.now.bytes.now) (Cut serial) self.old) }
+        ensures err { OnErr result (self.new ≡ self.old) }
+    {
+        push_cut(
+            self.alloc,
+            &mut self.to_client,
+            policy,
+            &self.tracker,
+            message,
+            serial,
+        )
+    }
+
+    /// Sends the client the answer to its refused call, when the answer to the ping in its place has come.
+    #[inline(never)]
+    fn show_instead(
+        &mut self,
+        policy: &Policy,
+        message: &Message<'_>,
+        order: Order,
+        reply: u32,
+        what: Instead,
+    ) -> Result<(), AllocError>
+        ensures ok { OnOk result (self.new ≡ with_shown policy.now (message_in message.now.bytes.now) (InPlace order reply what) self.old) }
+        ensures err { OnErr result (self.new ≡ self.old) }
+    {
+        // (only the contract needs the policy)
+        let _policy = policy;
+        self.to_client.push_slice(answer_in_place(order, reply, message.serial, what).as_slice())
+    }
+
     /// Sends the client what it is shown of a message.
     fn show_as(
         &mut self,
@@ -176,21 +226,9 @@ impl Session {
         match showing {
             Showing::Whole => push_whole(&mut self.to_client, incoming),
             Showing::Reply(serial) => push_reply(&mut self.to_client, incoming, serial),
-            Showing::Cut(serial) => push_cut(
-                self.alloc,
-                &mut self.to_client,
-                policy,
-                &self.tracker,
-                incoming.message,
-                serial,
-            ),
+            Showing::Cut(serial) => self.show_cut(policy, incoming.message, serial),
             Showing::Instead { order, reply, what } => {
-                self.to_client.push_slice(answer_in_place(
-                    order,
-                    reply,
-                    incoming.message.serial,
-                    what,
-                ).as_slice())
+                self.show_instead(policy, incoming.message, order, reply, what)
             }
             Showing::Hide(_) => Ok(()),
         }
@@ -246,6 +284,7 @@ impl Session {
     }
 
     /// Processes the answer to the proxy's own ListNames: asks for the owners of its names.
+    #[inline(never)]
     fn process_names(&mut self, policy: &Policy, message: &Message<'_>)
         requires { self.old.ended ≡ None }
         ensures { TookMessage (with_role policy.now (message_in message.now.bytes.now) NamesAnswer self.old) self.old self.new }
@@ -293,6 +332,7 @@ impl Session {
     }
 
     /// Processes a message of the bus. Returns what the client is shown of it.
+    #[inline(never)]
     pub(super) fn process_bus_message(
         &mut self,
         policy: &Policy,

@@ -179,6 +179,7 @@ impl Session {
     }
 
     /// Judges a message of the client, and applies and returns the verdict.
+    #[inline(never)]
     pub(super) fn process_client_message(
         &mut self,
         policy: &Policy,

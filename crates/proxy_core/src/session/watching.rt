@@ -72,6 +72,7 @@ impl Session {
 
     /// Processes a message of a side, and keeps what is left of it. The memory for that is taken first, so that either
     /// it is kept and the message has its effects, or neither; if the session ends instead, nothing is kept.
+    #[inline(never)]
     fn process_watched(
         &mut self,
         policy: &Policy,

@@ -1,6 +1,6 @@
 use Rattle.std.proofs.Common.{ap, sym, ◌∙◌}
 use Rattle.policy_args.specs.declared.fact.Fact.TheVariants.{Met}
-use Rattle.policy_view.specs.Past.{fact_of, owners_of}
+use Rattle.policy_view.specs.Past.{fact_of}
 use Rattle.proxy_core.specs.Messages.{with_facts}
 use Rattle.proxy_core.proofs.ReceivingSteps.{told_broadcast, told_change, told_signal}
 use Rattle.proxy_core.proofs.Taking.{on_ok}
@@ -8,9 +8,8 @@ use Rattle.proxy_core.proofs.session.Session.learn_signal.Goals as goal
 
 pub returns-then-is_owner_change-clause-ok : goal.returns-then-is_owner_change-clause-ok
 returns-then-is_owner_change-clause-ok c =
-    on_ok c.learn_owners.result _ _ (λ is.
-    is ∙ ap (λ texts. with_facts c.args.policy.now (owners_of c.args.policy.now texts) c.args.self.now) c.three_texts.ensures
-    ∙ told_change c.args.policy.now c.args.message.now c.args.self.now (sym c.is_owner_change.ensures ∙ c.if-is_owner_change.true)) c.learn_owners.ensures.ok
+    on_ok c.learn_change.result _ _ (λ is.
+    is ∙ told_change c.args.policy.now c.args.message.now c.args.self.now (sym c.is_owner_change.ensures ∙ c.if-is_owner_change.true)) c.learn_change.ensures.ok
 
 pub returns-then-is_some-clause-ok : goal.returns-then-is_some-clause-ok
 returns-then-is_some-clause-ok c =

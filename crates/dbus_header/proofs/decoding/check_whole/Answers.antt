@@ -1,7 +1,7 @@
 use Rattle.std.proofs.Common.{◌≡◌, ◌∙◌, Some, sym, arith, rules}
 use Rattle.dbus_header.specs.Malformed.{fault}
 use Rattle.dbus_header.proofs.WholeMessage.{fault_of_whole, fields_wrong, whole_by}
-use Rattle.dbus_header.proofs.decoding.decode_checked.Goals as goal
+use Rattle.dbus_header.proofs.decoding.check_whole.Goals as goal
 
 pub returns-in_err-find_places-clause-refusal : goal.returns-in_err-find_places-clause-refusal
 returns-in_err-find_places-clause-refusal c =
