@@ -161,6 +161,25 @@ fn remove<L: StepLedger>(
     if is_first(queue, position) {
         return kind_of(queue.pop_front());
     }
+    remove_later(queue, others, position, steps)
+}
+
+/// Does as `remove` does, for an answer that isn't the next one to be expected. It is a call, so that no room is cleared
+/// for its results while the bus answers in order.
+#[inline(never)]
+fn remove_later<L: StepLedger>(
+    queue: &mut VecDeque<Awaited>,
+    others: &mut BTreeMap<u32, Kind>,
+    position: u32,
+    steps: &mut Steps<L>,
+) -> Option<Kind>
+    requires { IsInOrder (kinds_of others.old.entries) queue.old.items }
+    ensures order { IsInOrder (kinds_of others.new.entries) queue.new.items }
+    ensures was { result ≡ map.get (with_queue (kinds_of others.old.entries) queue.old.items) position }
+    ensures left { with_queue (kinds_of others.new.entries) queue.new.items ≡ map.remove (with_queue (kinds_of others.old.entries) queue.old.items) position }
+    ensures cost { TakeCost (with_queue (kinds_of others.old.entries) queue.old.items) position steps.old steps.new }
+    ensures once { steps.new + length queue.new.items ≤ steps.old + 2 + length queue.old.items }
+{
     steps.tick();
     if let Some(kind) = others.remove(&position) {
         return Some(kind);
